@@ -1,6 +1,6 @@
 //! Access masks, and the numbers of registered entities.
 ghost use Rattle.std.specs.Prelude.{◌≡◌, IsTrue, ◌↔◌};
-ghost use Rattle.ang_kinds.specs.Masks.{Meets};
+ghost use Rattle.ang_kinds.specs.Masks.{Meets, meets};
 
 /// An access mask: 32 bit positions, of which each stands for one profile of scripts.
 ///
@@ -14,6 +14,7 @@ impl Mask {
     /// of the other. The order of the two does not matter, and the mask 0 meets none.
     pub fn meets(self, other: Mask) -> bool
         ensures exact { IsTrue result ↔ Meets self.0 other.0 }
+        ensures test { result ≡ meets self.0 other.0 }
     {
         self.0 & other.0 != 0
     }
