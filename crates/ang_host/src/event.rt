@@ -1,0 +1,42 @@
+//! What the host was asked, and which keys ended.
+use crate::answer::HostReply;
+use ang_kinds::{EntityNo, List, Value};
+
+/// One thing that happened between the engine and a driver, in the order in which it happened.
+#[derive(Drop, Debug)]
+pub enum HostEvent {
+    /// A driver was asked, whatever it answered.
+    Called {
+        /// The name of the module whose script asked.
+        caller: List<u8>,
+        /// The registered entity: a factory, function, method or property.
+        entity: EntityNo,
+        /// The driver's number in the list, from 0.
+        driver: u32,
+        /// The key of the object that it was asked of, if any.
+        object: Option<u64>,
+        /// The arguments; of a property none where it was read, and the new value where it was written.
+        args: List<Value>,
+        /// The driver's answer.
+        reply: HostReply,
+    },
+    /// The last reference to an object was released.
+    Ended {
+        /// The driver's number in the list, from 0.
+        driver: u32,
+        /// The key, which is no longer live.
+        key: u64,
+    },
+}
+
+/// What asking a registered entity means: which method of its driver, with which function number.
+/// A property is written where there is an argument, and else read.
+#[derive(Clone, Copy, PartialEq, Eq, Debug)]
+pub enum Role {
+    /// A factory: `make`.
+    Making(u32),
+    /// A function or method: `call`.
+    Calling(u32),
+    /// A property: `read` or `write`.
+    Property(u32),
+}
