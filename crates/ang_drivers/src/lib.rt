@@ -1,0 +1,8 @@
+//! Sample drivers, which keep the laws of `Driver`.
+#![tactic(auto)]
+
+mod console;
+#[cfg(test)]
+mod tests;
+
+pub use console::Console;
