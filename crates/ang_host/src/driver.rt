@@ -30,24 +30,28 @@ pub trait Driver: Drop {
     /// `Key` answers a key that was not live and has now one reference.
     fn make(&mut self, f: u32, args: &[Value]) -> Made
         requires args_live { AreLive (meaning.state self.old) args.now }
-        ensures law { WasMade meaning.fits (meaning.state self.old) (make f args.now) result (meaning.state self.new) };
+        ensures law { WasMade meaning.fits (meaning.state self.old) (make f args.now) result
+            (meaning.state self.new) };
 
     /// Calls the function of the number `f`, as a method where there is an object.
     fn call(&mut self, f: u32, object: Option<u64>, args: &[Value]) -> Answer
         requires object_live { IsLiveOption (meaning.state self.old) object }
         requires args_live { AreLive (meaning.state self.old) args.now }
-        ensures law { Answered meaning.fits (meaning.state self.old) (call f object args.now) result (meaning.state self.new) };
+        ensures law { Answered meaning.fits (meaning.state self.old) (call f object args.now) result
+            (meaning.state self.new) };
 
     /// Reads the property of the number `f`, of the object where there is one.
     fn read(&mut self, f: u32, object: Option<u64>) -> Answer
         requires object_live { IsLiveOption (meaning.state self.old) object }
-        ensures law { Answered meaning.fits (meaning.state self.old) (read f object) result (meaning.state self.new) };
+        ensures law { Answered meaning.fits (meaning.state self.old) (read f object) result
+            (meaning.state self.new) };
 
     /// Writes the property of the number `f`, of the object where there is one.
     fn write(&mut self, f: u32, object: Option<u64>, value: Value) -> Answer
         requires object_live { IsLiveOption (meaning.state self.old) object }
         requires value_live { IsLiveValue (meaning.state self.old) value }
-        ensures law { Answered meaning.fits (meaning.state self.old) (write f object value) result (meaning.state self.new) };
+        ensures law { Answered meaning.fits (meaning.state self.old) (write f object value) result
+            (meaning.state self.new) };
 
     /// Adds a reference to the key. False, with nothing done, only where a tally is full.
     /// It takes no memory.

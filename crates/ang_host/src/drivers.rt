@@ -85,7 +85,9 @@ impl Drivers {
     /// `Driver::idle` of the driver of that number.
     pub fn idle(&self, driver: u32) -> bool
         requires in_list { driver < length (members self.now) }
-        ensures law { IsIdleTest (state_at (states_of (λ v. (⟦<dyn Driver as Driver>⟧ v).meaning) (members self.now)) driver) result }
+        ensures law { IsIdleTest
+            (state_at (states_of (λ v. (⟦<dyn Driver as Driver>⟧ v).meaning) (members self.now)) driver)
+            result }
     {
         one::idle_at(&self.boxes[driver as usize])
     }
@@ -93,8 +95,11 @@ impl Drivers {
     /// `Driver::make` of the driver of that number. The others stay as they are.
     pub fn make(&mut self, driver: u32, f: u32, args: &[Value]) -> Made
         requires in_list { driver < length (members self.old) }
-        requires args_live { AreLive (state_at (states_of (λ v. (⟦<dyn Driver as Driver>⟧ v).meaning) (members self.old)) driver) args.now }
-        ensures moved { DriverMoved (λ v. (⟦<dyn Driver as Driver>⟧ v).meaning) (members self.old) driver (λ r s t. WasMade r s (make f args.now) result t) (members self.new) }
+        requires args_live { AreLive
+            (state_at (states_of (λ v. (⟦<dyn Driver as Driver>⟧ v).meaning) (members self.old)) driver)
+            args.now }
+        ensures moved { DriverMoved (λ v. (⟦<dyn Driver as Driver>⟧ v).meaning) (members self.old) driver
+            (λ r s t. WasMade r s (make f args.now) result t) (members self.new) }
     {
         let b = &mut self.boxes[driver as usize];
         one::make_at(b, f, args)
@@ -103,9 +108,14 @@ impl Drivers {
     /// `Driver::call` of the driver of that number. The others stay as they are.
     pub fn call(&mut self, driver: u32, f: u32, object: Option<u64>, args: &[Value]) -> Answer
         requires in_list { driver < length (members self.old) }
-        requires object_live { IsLiveOption (state_at (states_of (λ v. (⟦<dyn Driver as Driver>⟧ v).meaning) (members self.old)) driver) object }
-        requires args_live { AreLive (state_at (states_of (λ v. (⟦<dyn Driver as Driver>⟧ v).meaning) (members self.old)) driver) args.now }
-        ensures moved { DriverMoved (λ v. (⟦<dyn Driver as Driver>⟧ v).meaning) (members self.old) driver (λ r s t. Answered r s (call f object args.now) result t) (members self.new) }
+        requires object_live { IsLiveOption
+            (state_at (states_of (λ v. (⟦<dyn Driver as Driver>⟧ v).meaning) (members self.old)) driver)
+            object }
+        requires args_live { AreLive
+            (state_at (states_of (λ v. (⟦<dyn Driver as Driver>⟧ v).meaning) (members self.old)) driver)
+            args.now }
+        ensures moved { DriverMoved (λ v. (⟦<dyn Driver as Driver>⟧ v).meaning) (members self.old) driver
+            (λ r s t. Answered r s (call f object args.now) result t) (members self.new) }
     {
         let b = &mut self.boxes[driver as usize];
         one::call_at(b, f, object, args)
@@ -114,8 +124,11 @@ impl Drivers {
     /// `Driver::read` of the driver of that number. The others stay as they are.
     pub fn read(&mut self, driver: u32, f: u32, object: Option<u64>) -> Answer
         requires in_list { driver < length (members self.old) }
-        requires object_live { IsLiveOption (state_at (states_of (λ v. (⟦<dyn Driver as Driver>⟧ v).meaning) (members self.old)) driver) object }
-        ensures moved { DriverMoved (λ v. (⟦<dyn Driver as Driver>⟧ v).meaning) (members self.old) driver (λ r s t. Answered r s (read f object) result t) (members self.new) }
+        requires object_live { IsLiveOption
+            (state_at (states_of (λ v. (⟦<dyn Driver as Driver>⟧ v).meaning) (members self.old)) driver)
+            object }
+        ensures moved { DriverMoved (λ v. (⟦<dyn Driver as Driver>⟧ v).meaning) (members self.old) driver
+            (λ r s t. Answered r s (read f object) result t) (members self.new) }
     {
         let b = &mut self.boxes[driver as usize];
         one::read_at(b, f, object)
@@ -124,9 +137,14 @@ impl Drivers {
     /// `Driver::write` of the driver of that number. The others stay as they are.
     pub fn write(&mut self, driver: u32, f: u32, object: Option<u64>, value: Value) -> Answer
         requires in_list { driver < length (members self.old) }
-        requires object_live { IsLiveOption (state_at (states_of (λ v. (⟦<dyn Driver as Driver>⟧ v).meaning) (members self.old)) driver) object }
-        requires value_live { IsLiveValue (state_at (states_of (λ v. (⟦<dyn Driver as Driver>⟧ v).meaning) (members self.old)) driver) value }
-        ensures moved { DriverMoved (λ v. (⟦<dyn Driver as Driver>⟧ v).meaning) (members self.old) driver (λ r s t. Answered r s (write f object value) result t) (members self.new) }
+        requires object_live { IsLiveOption
+            (state_at (states_of (λ v. (⟦<dyn Driver as Driver>⟧ v).meaning) (members self.old)) driver)
+            object }
+        requires value_live { IsLiveValue
+            (state_at (states_of (λ v. (⟦<dyn Driver as Driver>⟧ v).meaning) (members self.old)) driver)
+            value }
+        ensures moved { DriverMoved (λ v. (⟦<dyn Driver as Driver>⟧ v).meaning) (members self.old) driver
+            (λ r s t. Answered r s (write f object value) result t) (members self.new) }
     {
         let b = &mut self.boxes[driver as usize];
         one::write_at(b, f, object, value)
@@ -136,8 +154,11 @@ impl Drivers {
     /// It takes no memory.
     pub fn add_ref(&mut self, driver: u32, key: u64) -> bool
         requires in_list { driver < length (members self.old) }
-        requires key_live { IsLive (state_at (states_of (λ v. (⟦<dyn Driver as Driver>⟧ v).meaning) (members self.old)) driver) key }
-        ensures moved { DriverMoved (λ v. (⟦<dyn Driver as Driver>⟧ v).meaning) (members self.old) driver (λ r s t. WasAdded s key result t) (members self.new) }
+        requires key_live { IsLive
+            (state_at (states_of (λ v. (⟦<dyn Driver as Driver>⟧ v).meaning) (members self.old)) driver)
+            key }
+        ensures moved { DriverMoved (λ v. (⟦<dyn Driver as Driver>⟧ v).meaning) (members self.old) driver
+            (λ r s t. WasAdded s key result t) (members self.new) }
     {
         let b = &mut self.boxes[driver as usize];
         one::add_ref_at(b, key)
@@ -147,8 +168,11 @@ impl Drivers {
     /// It takes no memory.
     pub fn release(&mut self, driver: u32, key: u64) -> bool
         requires in_list { driver < length (members self.old) }
-        requires key_live { IsLive (state_at (states_of (λ v. (⟦<dyn Driver as Driver>⟧ v).meaning) (members self.old)) driver) key }
-        ensures moved { DriverMoved (λ v. (⟦<dyn Driver as Driver>⟧ v).meaning) (members self.old) driver (λ r s t. WasReleased r s key result t) (members self.new) }
+        requires key_live { IsLive
+            (state_at (states_of (λ v. (⟦<dyn Driver as Driver>⟧ v).meaning) (members self.old)) driver)
+            key }
+        ensures moved { DriverMoved (λ v. (⟦<dyn Driver as Driver>⟧ v).meaning) (members self.old) driver
+            (λ r s t. WasReleased r s key result t) (members self.new) }
     {
         let b = &mut self.boxes[driver as usize];
         one::release_at(b, key)

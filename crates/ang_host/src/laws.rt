@@ -9,5 +9,8 @@ use crate::driver::Driver;
 
 /// A driver that follows some events and then others follows them all, one list after the other.
 pub fn follows_join<D: Driver>()
-    ensures joined { (roles : List Role) (s t u : State) (xs ys : List HostEvent) → Follows roles D.meaning.fits s xs t → Follows roles D.meaning.fits t ys u → Follows roles D.meaning.fits s (xs ++ ys) u }
+    ensures joined { (roles : List Role) (s t u : State) (xs ys : List HostEvent)
+        → Follows roles D.meaning.fits s xs t
+        → Follows roles D.meaning.fits t ys u
+        → Follows roles D.meaning.fits s (xs ++ ys) u }
 {}

@@ -33,12 +33,17 @@ pub fn make_listed(
 ) -> Made
     requires in_list { driver < length (members drivers.old) }
     requires room { vec_len events.old < vec_capacity events.old }
-    requires args_live { AreLive (state_at (states_of (λ v. (⟦<dyn Driver as Driver>⟧ v).meaning) (members drivers.old)) driver) args }
+    requires args_live { AreLive
+        (state_at (states_of (λ v. (⟦<dyn Driver as Driver>⟧ v).meaning) (members drivers.old)) driver)
+        args }
     ensures listed { events.new.items ≡ events.old.items ++ Called caller entity driver None args (Making result) ∷ [] }
     ensures len { vec_len events.new ≡ vec_len events.old + 1 }
     ensures capacity { vec_capacity events.new ≡ vec_capacity events.old }
-    ensures moved { DriverMoved (λ v. (⟦<dyn Driver as Driver>⟧ v).meaning) (members drivers.old) driver (λ r s t. WasMade r s (make f args) result t) (members drivers.new) }
-    ensures follow { (roles : List Role) → role_at roles entity.0 ≡ MakingRole f → DriversFollow (λ v. (⟦<dyn Driver as Driver>⟧ v).meaning) roles (members drivers.old) (Called caller entity driver None args (Making result) ∷ []) (members drivers.new) }
+    ensures moved { DriverMoved (λ v. (⟦<dyn Driver as Driver>⟧ v).meaning) (members drivers.old) driver
+        (λ r s t. WasMade r s (make f args) result t) (members drivers.new) }
+    ensures follow { (roles : List Role) → role_at roles entity.0 ≡ MakingRole f
+        → DriversFollow (λ v. (⟦<dyn Driver as Driver>⟧ v).meaning) roles (members drivers.old)
+        (Called caller entity driver None args (Making result) ∷ []) (members drivers.new) }
 {
     let answer = drivers.make(driver, f, args.as_slice());
     events.push_reserved(HostEvent::Called {
@@ -66,13 +71,20 @@ pub fn call_listed(
 ) -> Answer
     requires in_list { driver < length (members drivers.old) }
     requires room { vec_len events.old < vec_capacity events.old }
-    requires object_live { IsLiveOption (state_at (states_of (λ v. (⟦<dyn Driver as Driver>⟧ v).meaning) (members drivers.old)) driver) object }
-    requires args_live { AreLive (state_at (states_of (λ v. (⟦<dyn Driver as Driver>⟧ v).meaning) (members drivers.old)) driver) args }
+    requires object_live { IsLiveOption
+        (state_at (states_of (λ v. (⟦<dyn Driver as Driver>⟧ v).meaning) (members drivers.old)) driver)
+        object }
+    requires args_live { AreLive
+        (state_at (states_of (λ v. (⟦<dyn Driver as Driver>⟧ v).meaning) (members drivers.old)) driver)
+        args }
     ensures listed { events.new.items ≡ events.old.items ++ Called caller entity driver object args (Asking result) ∷ [] }
     ensures len { vec_len events.new ≡ vec_len events.old + 1 }
     ensures capacity { vec_capacity events.new ≡ vec_capacity events.old }
-    ensures moved { DriverMoved (λ v. (⟦<dyn Driver as Driver>⟧ v).meaning) (members drivers.old) driver (λ r s t. Answered r s (call f object args) result t) (members drivers.new) }
-    ensures follow { (roles : List Role) → role_at roles entity.0 ≡ CallingRole f → DriversFollow (λ v. (⟦<dyn Driver as Driver>⟧ v).meaning) roles (members drivers.old) (Called caller entity driver object args (Asking result) ∷ []) (members drivers.new) }
+    ensures moved { DriverMoved (λ v. (⟦<dyn Driver as Driver>⟧ v).meaning) (members drivers.old) driver
+        (λ r s t. Answered r s (call f object args) result t) (members drivers.new) }
+    ensures follow { (roles : List Role) → role_at roles entity.0 ≡ CallingRole f
+        → DriversFollow (λ v. (⟦<dyn Driver as Driver>⟧ v).meaning) roles (members drivers.old)
+        (Called caller entity driver object args (Asking result) ∷ []) (members drivers.new) }
 {
     let answer = drivers.call(driver, f, object, args.as_slice());
     events.push_reserved(HostEvent::Called {
@@ -101,12 +113,17 @@ pub fn read_listed(
     requires in_list { driver < length (members drivers.old) }
     requires room { vec_len events.old < vec_capacity events.old }
     requires no_args { args ≡ [] }
-    requires object_live { IsLiveOption (state_at (states_of (λ v. (⟦<dyn Driver as Driver>⟧ v).meaning) (members drivers.old)) driver) object }
+    requires object_live { IsLiveOption
+        (state_at (states_of (λ v. (⟦<dyn Driver as Driver>⟧ v).meaning) (members drivers.old)) driver)
+        object }
     ensures listed { events.new.items ≡ events.old.items ++ Called caller entity driver object args (Asking result) ∷ [] }
     ensures len { vec_len events.new ≡ vec_len events.old + 1 }
     ensures capacity { vec_capacity events.new ≡ vec_capacity events.old }
-    ensures moved { DriverMoved (λ v. (⟦<dyn Driver as Driver>⟧ v).meaning) (members drivers.old) driver (λ r s t. Answered r s (read f object) result t) (members drivers.new) }
-    ensures follow { (roles : List Role) → role_at roles entity.0 ≡ PropertyRole f → DriversFollow (λ v. (⟦<dyn Driver as Driver>⟧ v).meaning) roles (members drivers.old) (Called caller entity driver object args (Asking result) ∷ []) (members drivers.new) }
+    ensures moved { DriverMoved (λ v. (⟦<dyn Driver as Driver>⟧ v).meaning) (members drivers.old) driver
+        (λ r s t. Answered r s (read f object) result t) (members drivers.new) }
+    ensures follow { (roles : List Role) → role_at roles entity.0 ≡ PropertyRole f
+        → DriversFollow (λ v. (⟦<dyn Driver as Driver>⟧ v).meaning) roles (members drivers.old)
+        (Called caller entity driver object args (Asking result) ∷ []) (members drivers.new) }
 {
     let answer = drivers.read(driver, f, object);
     events.push_reserved(HostEvent::Called {
@@ -135,13 +152,20 @@ pub fn write_listed(
     requires in_list { driver < length (members drivers.old) }
     requires room { vec_len events.old < vec_capacity events.old }
     requires one_arg { length args ≡ 1 }
-    requires object_live { IsLiveOption (state_at (states_of (λ v. (⟦<dyn Driver as Driver>⟧ v).meaning) (members drivers.old)) driver) object }
-    requires args_live { AreLive (state_at (states_of (λ v. (⟦<dyn Driver as Driver>⟧ v).meaning) (members drivers.old)) driver) args }
+    requires object_live { IsLiveOption
+        (state_at (states_of (λ v. (⟦<dyn Driver as Driver>⟧ v).meaning) (members drivers.old)) driver)
+        object }
+    requires args_live { AreLive
+        (state_at (states_of (λ v. (⟦<dyn Driver as Driver>⟧ v).meaning) (members drivers.old)) driver)
+        args }
     ensures listed { events.new.items ≡ events.old.items ++ Called caller entity driver object args (Asking result) ∷ [] }
     ensures len { vec_len events.new ≡ vec_len events.old + 1 }
     ensures capacity { vec_capacity events.new ≡ vec_capacity events.old }
-    ensures moved { DriverMoved (λ v. (⟦<dyn Driver as Driver>⟧ v).meaning) (members drivers.old) driver (λ r s t. Answered r s (ask_of (PropertyRole f) object args) result t) (members drivers.new) }
-    ensures follow { (roles : List Role) → role_at roles entity.0 ≡ PropertyRole f → DriversFollow (λ v. (⟦<dyn Driver as Driver>⟧ v).meaning) roles (members drivers.old) (Called caller entity driver object args (Asking result) ∷ []) (members drivers.new) }
+    ensures moved { DriverMoved (λ v. (⟦<dyn Driver as Driver>⟧ v).meaning) (members drivers.old) driver
+        (λ r s t. Answered r s (ask_of (PropertyRole f) object args) result t) (members drivers.new) }
+    ensures follow { (roles : List Role) → role_at roles entity.0 ≡ PropertyRole f
+        → DriversFollow (λ v. (⟦<dyn Driver as Driver>⟧ v).meaning) roles (members drivers.old)
+        (Called caller entity driver object args (Asking result) ∷ []) (members drivers.new) }
 {
     let value = args.as_slice()[0];
     let answer = drivers.write(driver, f, object, value);
@@ -165,12 +189,17 @@ pub fn release_listed(
 ) -> bool
     requires in_list { driver < length (members drivers.old) }
     requires room { vec_len events.old < vec_capacity events.old }
-    requires key_live { IsLive (state_at (states_of (λ v. (⟦<dyn Driver as Driver>⟧ v).meaning) (members drivers.old)) driver) key }
+    requires key_live { IsLive
+        (state_at (states_of (λ v. (⟦<dyn Driver as Driver>⟧ v).meaning) (members drivers.old)) driver)
+        key }
     ensures listed { events.new.items ≡ events.old.items ++ ends driver key result }
     ensures len { vec_len events.new ≡ vec_len events.old + length (ends driver key result) }
     ensures capacity { vec_capacity events.new ≡ vec_capacity events.old }
-    ensures moved { DriverMoved (λ v. (⟦<dyn Driver as Driver>⟧ v).meaning) (members drivers.old) driver (λ r s t. WasReleased r s key result t) (members drivers.new) }
-    ensures follow { (roles : List Role) → DriversFollow (λ v. (⟦<dyn Driver as Driver>⟧ v).meaning) roles (members drivers.old) (ends driver key result) (members drivers.new) }
+    ensures moved { DriverMoved (λ v. (⟦<dyn Driver as Driver>⟧ v).meaning) (members drivers.old) driver
+        (λ r s t. WasReleased r s key result t) (members drivers.new) }
+    ensures follow { (roles : List Role)
+        → DriversFollow (λ v. (⟦<dyn Driver as Driver>⟧ v).meaning) roles (members drivers.old)
+        (ends driver key result) (members drivers.new) }
 {
     let ended = drivers.release(driver, key);
     if ended {

@@ -22,7 +22,8 @@ pub fn idle_at(b: &Box<dyn Driver>) -> bool
 
 fn make_in(d: &mut dyn Driver, f: u32, args: &[Value]) -> Made
     requires { AreLive ((⟦<dyn Driver as Driver>⟧ d.old.0).meaning.state d.old.1) args.now }
-    ensures law { WasMade (⟦<dyn Driver as Driver>⟧ d.old.0).meaning.fits ((⟦<dyn Driver as Driver>⟧ d.old.0).meaning.state d.old.1) (make f args.now) result ((⟦<dyn Driver as Driver>⟧ d.new.0).meaning.state d.new.1) }
+    ensures law { WasMade (⟦<dyn Driver as Driver>⟧ d.old.0).meaning.fits ((⟦<dyn Driver as Driver>⟧ d.old.0).meaning.state d.old.1)
+        (make f args.now) result ((⟦<dyn Driver as Driver>⟧ d.new.0).meaning.state d.new.1) }
     ensures kind { d.new.0 ≡ d.old.0 }
 {
     d.make(f, args)
@@ -30,7 +31,8 @@ fn make_in(d: &mut dyn Driver, f: u32, args: &[Value]) -> Made
 
 pub fn make_at(b: &mut Box<dyn Driver>, f: u32, args: &[Value]) -> Made
     requires { AreLive ((⟦<dyn Driver as Driver>⟧ b.old.vtable).meaning.state b.old.value) args.now }
-    ensures law { WasMade (⟦<dyn Driver as Driver>⟧ b.old.vtable).meaning.fits ((⟦<dyn Driver as Driver>⟧ b.old.vtable).meaning.state b.old.value) (make f args.now) result ((⟦<dyn Driver as Driver>⟧ b.new.vtable).meaning.state b.new.value) }
+    ensures law { WasMade (⟦<dyn Driver as Driver>⟧ b.old.vtable).meaning.fits ((⟦<dyn Driver as Driver>⟧ b.old.vtable).meaning.state b.old.value)
+        (make f args.now) result ((⟦<dyn Driver as Driver>⟧ b.new.vtable).meaning.state b.new.value) }
     ensures kind { b.new.vtable ≡ b.old.vtable }
 {
     let d: &mut dyn Driver = b.as_mut();
@@ -40,7 +42,8 @@ pub fn make_at(b: &mut Box<dyn Driver>, f: u32, args: &[Value]) -> Made
 fn call_in(d: &mut dyn Driver, f: u32, object: Option<u64>, args: &[Value]) -> Answer
     requires object_live { IsLiveOption ((⟦<dyn Driver as Driver>⟧ d.old.0).meaning.state d.old.1) object }
     requires args_live { AreLive ((⟦<dyn Driver as Driver>⟧ d.old.0).meaning.state d.old.1) args.now }
-    ensures law { Answered (⟦<dyn Driver as Driver>⟧ d.old.0).meaning.fits ((⟦<dyn Driver as Driver>⟧ d.old.0).meaning.state d.old.1) (call f object args.now) result ((⟦<dyn Driver as Driver>⟧ d.new.0).meaning.state d.new.1) }
+    ensures law { Answered (⟦<dyn Driver as Driver>⟧ d.old.0).meaning.fits ((⟦<dyn Driver as Driver>⟧ d.old.0).meaning.state d.old.1)
+        (call f object args.now) result ((⟦<dyn Driver as Driver>⟧ d.new.0).meaning.state d.new.1) }
     ensures kind { d.new.0 ≡ d.old.0 }
 {
     d.call(f, object, args)
@@ -49,7 +52,8 @@ fn call_in(d: &mut dyn Driver, f: u32, object: Option<u64>, args: &[Value]) -> A
 pub fn call_at(b: &mut Box<dyn Driver>, f: u32, object: Option<u64>, args: &[Value]) -> Answer
     requires object_live { IsLiveOption ((⟦<dyn Driver as Driver>⟧ b.old.vtable).meaning.state b.old.value) object }
     requires args_live { AreLive ((⟦<dyn Driver as Driver>⟧ b.old.vtable).meaning.state b.old.value) args.now }
-    ensures law { Answered (⟦<dyn Driver as Driver>⟧ b.old.vtable).meaning.fits ((⟦<dyn Driver as Driver>⟧ b.old.vtable).meaning.state b.old.value) (call f object args.now) result ((⟦<dyn Driver as Driver>⟧ b.new.vtable).meaning.state b.new.value) }
+    ensures law { Answered (⟦<dyn Driver as Driver>⟧ b.old.vtable).meaning.fits ((⟦<dyn Driver as Driver>⟧ b.old.vtable).meaning.state b.old.value)
+        (call f object args.now) result ((⟦<dyn Driver as Driver>⟧ b.new.vtable).meaning.state b.new.value) }
     ensures kind { b.new.vtable ≡ b.old.vtable }
 {
     let d: &mut dyn Driver = b.as_mut();
@@ -58,7 +62,8 @@ pub fn call_at(b: &mut Box<dyn Driver>, f: u32, object: Option<u64>, args: &[Val
 
 fn read_in(d: &mut dyn Driver, f: u32, object: Option<u64>) -> Answer
     requires { IsLiveOption ((⟦<dyn Driver as Driver>⟧ d.old.0).meaning.state d.old.1) object }
-    ensures law { Answered (⟦<dyn Driver as Driver>⟧ d.old.0).meaning.fits ((⟦<dyn Driver as Driver>⟧ d.old.0).meaning.state d.old.1) (read f object) result ((⟦<dyn Driver as Driver>⟧ d.new.0).meaning.state d.new.1) }
+    ensures law { Answered (⟦<dyn Driver as Driver>⟧ d.old.0).meaning.fits ((⟦<dyn Driver as Driver>⟧ d.old.0).meaning.state d.old.1)
+        (read f object) result ((⟦<dyn Driver as Driver>⟧ d.new.0).meaning.state d.new.1) }
     ensures kind { d.new.0 ≡ d.old.0 }
 {
     d.read(f, object)
@@ -66,7 +71,8 @@ fn read_in(d: &mut dyn Driver, f: u32, object: Option<u64>) -> Answer
 
 pub fn read_at(b: &mut Box<dyn Driver>, f: u32, object: Option<u64>) -> Answer
     requires { IsLiveOption ((⟦<dyn Driver as Driver>⟧ b.old.vtable).meaning.state b.old.value) object }
-    ensures law { Answered (⟦<dyn Driver as Driver>⟧ b.old.vtable).meaning.fits ((⟦<dyn Driver as Driver>⟧ b.old.vtable).meaning.state b.old.value) (read f object) result ((⟦<dyn Driver as Driver>⟧ b.new.vtable).meaning.state b.new.value) }
+    ensures law { Answered (⟦<dyn Driver as Driver>⟧ b.old.vtable).meaning.fits ((⟦<dyn Driver as Driver>⟧ b.old.vtable).meaning.state b.old.value)
+        (read f object) result ((⟦<dyn Driver as Driver>⟧ b.new.vtable).meaning.state b.new.value) }
     ensures kind { b.new.vtable ≡ b.old.vtable }
 {
     let d: &mut dyn Driver = b.as_mut();
@@ -76,7 +82,8 @@ pub fn read_at(b: &mut Box<dyn Driver>, f: u32, object: Option<u64>) -> Answer
 fn write_in(d: &mut dyn Driver, f: u32, object: Option<u64>, value: Value) -> Answer
     requires object_live { IsLiveOption ((⟦<dyn Driver as Driver>⟧ d.old.0).meaning.state d.old.1) object }
     requires value_live { IsLiveValue ((⟦<dyn Driver as Driver>⟧ d.old.0).meaning.state d.old.1) value }
-    ensures law { Answered (⟦<dyn Driver as Driver>⟧ d.old.0).meaning.fits ((⟦<dyn Driver as Driver>⟧ d.old.0).meaning.state d.old.1) (write f object value) result ((⟦<dyn Driver as Driver>⟧ d.new.0).meaning.state d.new.1) }
+    ensures law { Answered (⟦<dyn Driver as Driver>⟧ d.old.0).meaning.fits ((⟦<dyn Driver as Driver>⟧ d.old.0).meaning.state d.old.1)
+        (write f object value) result ((⟦<dyn Driver as Driver>⟧ d.new.0).meaning.state d.new.1) }
     ensures kind { d.new.0 ≡ d.old.0 }
 {
     d.write(f, object, value)
@@ -85,7 +92,8 @@ fn write_in(d: &mut dyn Driver, f: u32, object: Option<u64>, value: Value) -> An
 pub fn write_at(b: &mut Box<dyn Driver>, f: u32, object: Option<u64>, value: Value) -> Answer
     requires object_live { IsLiveOption ((⟦<dyn Driver as Driver>⟧ b.old.vtable).meaning.state b.old.value) object }
     requires value_live { IsLiveValue ((⟦<dyn Driver as Driver>⟧ b.old.vtable).meaning.state b.old.value) value }
-    ensures law { Answered (⟦<dyn Driver as Driver>⟧ b.old.vtable).meaning.fits ((⟦<dyn Driver as Driver>⟧ b.old.vtable).meaning.state b.old.value) (write f object value) result ((⟦<dyn Driver as Driver>⟧ b.new.vtable).meaning.state b.new.value) }
+    ensures law { Answered (⟦<dyn Driver as Driver>⟧ b.old.vtable).meaning.fits ((⟦<dyn Driver as Driver>⟧ b.old.vtable).meaning.state b.old.value)
+        (write f object value) result ((⟦<dyn Driver as Driver>⟧ b.new.vtable).meaning.state b.new.value) }
     ensures kind { b.new.vtable ≡ b.old.vtable }
 {
     let d: &mut dyn Driver = b.as_mut();
