@@ -1,4 +1,4 @@
--- What the console answers. Its core is the register's code and then the codes of what it noted.
+-- What the console answers (docs/EMBEDDING.md). Its core is the register's code and then the codes of what it noted.
 use Rattle.std.specs.Prelude.{ℕ, ℤ, pos, negsuc, ◌+ℤ◌, FitsSigned, ◌+◌, ◌*◌, ◌^◌, ◌≡◌, ◌<◌, ◌≤◌, ◌⊎◌, Bool, true, false, cond, nat_eq, List, [], ◌∷◌, ◌++◌, Some, None, map as list_map}
 use Rattle.std.specs.Int.{w64}
 use Rattle.std.specs.FinMap as map
@@ -20,6 +20,7 @@ code_of (Truth b) = cond b 11 3
 code_of (KeyValue None) = 4
 code_of (KeyValue (Some k)) = 8 * k + 5
 
+-- p where b is true, and else q
 abbrev pub When : Bool → Type 0 → Type 0 → Type 0
 When true p q = p
 When false p q = q
@@ -28,22 +29,22 @@ When false p q = q
 abbrev pub IsUnknown : Answer → Type 0
 IsUnknown r = r ≡ Fault 1
 
+-- call 1: the sum of two signed numbers, or the fault 2 where it does not fit into 64 bits
 abbrev pub IsSum : List Value → Answer → Type 0
 IsSum (Int a ∷ Int b ∷ []) r = ((r ≡ Gave (Int (a +ℤ b))) × FitsSigned w64 (a +ℤ b)) ⊎ ((r ≡ Fault 2) × (FitsSigned w64 (a +ℤ b) → ⊥))
 IsSum vs r = IsUnknown r
 
+-- call 2: the fault of the number that is handed in, if it is below 2^32
 abbrev pub IsFaultOf : List Value → Answer → Type 0
 IsFaultOf (Uint n ∷ []) r = ((r ≡ Fault n) × (n < 2 ^ 32)) ⊎ (IsUnknown r × (2 ^ 32 ≤ n))
 IsFaultOf vs r = IsUnknown r
 
+-- the core without the register
 abbrev pub rest : List ℕ → List ℕ
 rest [] = []
 rest (x ∷ xs) = xs
 
-abbrev pub IsAnswered : Answer → HostReply → Type 0
-IsAnswered a r = r ≡ Asking a
-
--- a call, over the core c
+-- a call, over the core c; call 0 notes its arguments, or has no memory for them
 abbrev pub CallFits : List ℕ → ℕ → List Value → HostReply → List ℕ → Type 0
 CallFits c f args (Making m) d = ⊥
 CallFits c f args (Asking a) d =
@@ -60,6 +61,7 @@ abbrev pub ReadFits : List ℕ → ℕ → HostReply → List ℕ → Type 0
 ReadFits c f (Making m) d = ⊥
 ReadFits c f (Asking a) d = When (nat_eq f 0) (IsRegister c a) (IsUnknown a) × (d ≡ c)
 
+-- a signed number written to the register
 abbrev pub IsWritten : List ℕ → Value → Answer → List ℕ → Type 0
 IsWritten c (Int z) a d = (a ≡ Void) × (d ≡ code_of (Int z) ∷ rest c)
 IsWritten c v a d = IsUnknown a × (d ≡ c)
@@ -68,6 +70,7 @@ abbrev pub WriteFits : List ℕ → ℕ → Value → HostReply → List ℕ →
 WriteFits c f v (Making m) d = ⊥
 WriteFits c f v (Asking a) d = When (nat_eq f 0) (IsWritten c v a d) (IsUnknown a × (d ≡ c))
 
+-- how the console's core moves; it makes nothing, so no key ends
 abbrev pub ConsoleFits : List ℕ → Ask → HostReply → List ℕ → Type 0
 ConsoleFits c (make f args) r d = (r ≡ Making (MadeFault 1)) × (d ≡ c)
 ConsoleFits c (call f o args) r d = CallFits c f args r d
@@ -75,6 +78,7 @@ ConsoleFits c (read f o) r d = ReadFits c f r d
 ConsoleFits c (write f o v) r d = WriteFits c f v r d
 ConsoleFits c (end k) r d = ⊥
 
+-- the state of a console with this register, these notes and so many askings
 abbrev pub console_state : ℤ → List Value → ℕ → State
 console_state register notes asked = record {
   counts = map.empty;

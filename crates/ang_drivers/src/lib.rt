@@ -2,6 +2,7 @@
 #![tactic(auto)]
 
 mod console;
+pub mod laws;
 #[cfg(test)]
 mod tests;
 
