@@ -9,13 +9,14 @@ use Rattle.std.specs.Ordering.{nat_cmp}
 use Rattle.std.specs.FinMap as map
 use Rattle.std.specs.FinMap.{get-empty}
 use Rattle.std.proofs.lemmas.Bool.{cases_eq, eq-eqb, ne_eqb}
+use Rattle.ang_host.specs.declared.answer.Made.{Made}
 use Rattle.ang_host.specs.declared.answer.Made.TheVariants.{Key as MadeKey}
 use Rattle.ang_host.specs.declared.answer.Answer.{Answer}
 use Rattle.ang_host.specs.State.{State, Ask, count_at, count_of}
 use Rattle.ang_host.specs.Laws.{Fits, IsLive, IsSound, WasAdded, WasReleased, WasMade, Answered}
 use Rattle.ang_host.specs.Members.{nothing, state_at, rule_at, OneMoved, AreFresh}
 use Rattle.ang_host.specs.Counts.{holds, Agrees, IsBalanced}
-use Rattle.ang_host.proofs.Counts.{one_if, Adds-count, Releases-count, Makes-count, Answers-counts, IsLive-held, IsBalanced-none}
+use Rattle.ang_host.proofs.Counts.{one_if, Adds-count, Releases-count, Makes-count, Makes-counts, Answers-counts, IsLive-held, IsBalanced-none}
 use Rattle.std.proofs.lemmas.List.Sums.{sum_by-append, get_or-le-sum_by}
 
 count_push : {P : Type 0} (test : P → Bool) (xs : List P) (y : P) → count_by test (xs ++ y ∷ []) ≡ count_by test xs + one_if (test y)
@@ -188,3 +189,38 @@ AreFresh-answered st kind rule xs ys i ask r f one =
 pub AreFresh-balanced : (ss : List State) → AreFresh ss → (i : ℕ) → i < length ss → IsBalanced (state_at ss i)
 AreFresh-balanced ss f i lt =
     IsBalanced-none (state_at ss i) (f.sound i lt) (λ k. ap (λ m. count_at m k) (f.idle i lt) ∙ ap count_of (get-empty nat_cmp k))
+
+-- a call that changes no count keeps the agreement
+pub Agrees-kept : {B V P : Type 0} (st : B → State) (kind : B → V) (rule : V → Fits) (xs ys : List B) (d key : P → ℕ) (ps : List P) (i : ℕ) (R : Fits → State → State → Type 0)
+    → Agrees d key ps (list_map st xs) → OneMoved st kind rule xs i R ys
+    → (state_at (list_map st ys) i).counts ≡ (state_at (list_map st xs) i).counts → IsSound (state_at (list_map st ys) i)
+    → Agrees d key ps (list_map st ys)
+Agrees-kept st kind rule xs ys d key ps i R a one kept sound =
+    record {
+      within = within_still st kind rule xs ys i R one d ps a.within;
+      counts = λ j q lt.
+          let same : count_at (state_at (list_map st ys) j).counts q ≡ count_at (state_at (list_map st xs) j).counts q =
+          elim (cases_eq j i) [
+            | inl e ↦ subst (λ k. count_at (state_at (list_map st ys) k).counts q ≡ count_at (state_at (list_map st xs) k).counts q) (sym e)
+                (ap (λ m. count_at m q) kept)
+            | inr ne ↦ ap (λ s. count_at s.counts q) (others_same st kind rule xs ys i R one j ne)
+          ] in
+          same ∙ a.counts j q (subst (λ n. j < n) (states_length st kind rule xs ys i R one) lt);
+      sound = each_sound st kind rule xs ys i R one sound a.sound;
+    }
+
+-- a reference that was not added
+pub Agrees-not_added : {B V P : Type 0} (st : B → State) (kind : B → V) (rule : V → Fits) (xs ys : List B) (d key : P → ℕ) (ps : List P) (i k : ℕ)
+    → Agrees d key ps (list_map st xs) → OneMoved st kind rule xs i (λ f s t. WasAdded s k false t) ys
+    → Agrees d key ps (list_map st ys)
+Agrees-not_added st kind rule xs ys d key ps i k a one =
+    Agrees-kept st kind rule xs ys d key ps i _ a one (ap (λ s. s.counts) one.moved.moved.0) one.moved.sound
+
+-- a making that answered no key
+pub Agrees-not_made : {B V P : Type 0} (st : B → State) (kind : B → V) (rule : V → Fits) (xs ys : List B) (d key : P → ℕ) (ps : List P) (i : ℕ) (ask : Ask) (r : Made)
+    → ((k : ℕ) → r ≡ MadeKey k → ⊥) → Agrees d key ps (list_map st xs) → OneMoved st kind rule xs i (λ f s t. WasMade f s ask r t) ys
+    → Agrees d key ps (list_map st ys)
+Agrees-not_made st kind rule xs ys d key ps i ask r none a one =
+    Agrees-kept st kind rule xs ys d key ps i _ a one
+    (Makes-counts (rule_at (list_map rule (list_map kind xs)) i) (state_at (list_map st xs) i) (state_at (list_map st ys) i) ask r none one.moved.moved)
+    one.moved.sound

@@ -6,7 +6,8 @@ use Rattle.std.specs.FinMap.{get-insert, get-remove, get-empty, len-empty, len-e
 use Rattle.std.proofs.lemmas.Cmp.{nat_cmp_total}
 use Rattle.std.proofs.Common.{refl, sym, ◌∙◌, ap, arith}
 use Rattle.std.proofs.lemmas.Bool.{eqb-true}
-use Rattle.ang_host.specs.declared.answer.Made.TheVariants.{Key as MadeKey}
+use Rattle.ang_host.specs.declared.answer.Made.{Made}
+use Rattle.ang_host.specs.declared.answer.Made.TheVariants.{Key as MadeKey, Nothing, Fault as MadeFault, Memory as MadeMemory, Full as MadeFull}
 use Rattle.ang_host.specs.declared.answer.Answer.{Answer}
 use Rattle.ang_host.specs.declared.answer.Answer.TheVariants.{Void, Gave, Fault, Memory, Full}
 use Rattle.ang_host.specs.State.{State, Ask, count_of, count_at, total}
@@ -98,3 +99,11 @@ Answers-counts fits s t a (Gave v) h = h.0
 Answers-counts fits s t a (Fault n) h = h.0
 Answers-counts fits s t a Memory h = h.0
 Answers-counts fits s t a Full h = ap (λ x. x.counts) h.0
+
+-- a making that answers no key changes no count
+pub Makes-counts : (fits : Fits) (s t : State) (a : Ask) (r : Made) → ((k : ℕ) → r ≡ MadeKey k → ⊥) → Makes fits s a r t → t.counts ≡ s.counts
+Makes-counts fits s t a (MadeKey k) none h = absurd (none k refl)
+Makes-counts fits s t a Nothing none h = h.0
+Makes-counts fits s t a (MadeFault n) none h = h.0
+Makes-counts fits s t a MadeMemory none h = h.0
+Makes-counts fits s t a MadeFull none h = ap (λ x. x.counts) h.0
