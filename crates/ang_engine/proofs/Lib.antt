@@ -1,0 +1,10 @@
+pub mod Reading
+pub mod Running
+pub mod Building
+pub mod Stepping
+pub mod Worlds
+pub mod OnModule
+pub mod Soundness
+pub mod States
+pub mod Calling
+pub mod Applying

@@ -1,0 +1,7 @@
+use Rattle.std.proofs.Common.{◌≡◌, ℕ, ◌<◌, Some}
+use Rattle.ang_registry.specs.declared.entry.Entry.{Entry}
+use Rattle.ang_registry.specs.Registration.{entry_at}
+use Rattle.ang_engine.proofs.engine.have_drivers.Given as goal
+
+abbrev pub invariant-loop-number : goal.invariant-loop-number
+invariant-loop-number l = (k : ℕ) (x : Entry) → k < l.number → entry_at l.registry.entries k ≡ Some x → x.driver < l.count

@@ -1,0 +1,12 @@
+pub mod Script
+pub mod Reading
+pub mod Build
+pub mod Answer
+pub mod World
+pub mod Meaning
+pub mod Asking
+pub mod Step
+pub mod Outcomes
+pub mod Sound
+pub mod Engines
+pub mod Applied

@@ -1,0 +1,183 @@
+//! The engine.
+ghost use Rattle.std.specs.Prelude.{◌≡◌, ◌<◌, ◌≤◌, ◌↔◌, [], List, All, IsTrue, IfOk, IfErr, length};
+ghost use Rattle.ang_host.specs.declared.event.Role.{Role};
+ghost use Rattle.ang_host.specs.Boxes.{members};
+ghost use Rattle.ang_host.specs.Members.{state_at, states_of, AreFresh};
+ghost use Rattle.ang_host.specs.Counts.{IsBalanced};
+ghost use Rattle.ang_host.specs.Events.{DriversFollow};
+ghost use Rattle.ang_registry.specs.Roles.{roles_of};
+ghost use Rattle.ang_engine.specs.declared.command.Command.TheVariants.{NewModule, AddSection, Build, Call};
+ghost use Rattle.ang_engine.specs.Step.{Takes, IsEntitled};
+ghost use Rattle.ang_engine.specs.Sound.{IsSound, HaveDrivers};
+
+use crate::command::Command;
+use crate::commands::{
+    MOST_MODULES, add_module, add_section, answer, build, build_reply, called, ended, reply,
+};
+use crate::module::Module;
+use crate::reply::{NewError, NewRefused, Outcome, Reply};
+use crate::run::run_body;
+use ang_host::{Driver, Drivers};
+use ang_kinds::{EntityNo, List, Mask, Value};
+use ang_registry::Registry;
+use std::alloc::Global;
+
+/// Modules of scripts over one registration list and the drivers that answer for it
+/// (docs/EMBEDDING.md).
+///
+/// An engine can't be dropped: `discard` ends it, and gives the drivers back.
+pub struct Engine {
+    alloc: Global,
+    registry: Registry,
+    drivers: Drivers,
+    modules: Vec<Module>,
+}
+
+/// Whether each entry's driver is in a list of so many.
+fn have_drivers(registry: &Registry, count: usize) -> bool
+    ensures { IsTrue result ↔ HaveDrivers registry.now.entries count }
+{
+    for number in 0..registry.len() as u32 {
+        if let Some(entry) = registry.get(EntityNo(number)) {
+            if entry.driver as usize >= count {
+                return false;
+            }
+        }
+    }
+    true
+}
+
+impl Engine {
+    ghost use Rattle.ang_engine.specs.Applied.{Applied};
+    ghost use Rattle.ang_engine.specs.Engines.{registrations, modules_in, drivers_in};
+
+    /// An engine without modules.
+    ///
+    /// # Errors
+    /// Gives back the registry and the drivers as they were, with `NoDriver` where an entry names a
+    /// driver that is not in the list, or with `Memory` where a growth was refused.
+    pub fn new(alloc: Global, registry: Registry, drivers: Drivers) -> Result<Engine, NewRefused>
+        requires fresh { AreFresh (states_of (λ v. (⟦<dyn Driver as Driver>⟧ v).meaning) (members drivers)) }
+        ensures registrations { IfOk result (λ e. registrations e ≡ registry.entries) }
+        ensures no_modules { IfOk result (λ e. modules_in e ≡ []) }
+        ensures drivers { IfOk result (λ e. drivers_in e ≡ members drivers) }
+        ensures sound { IfOk result (λ e. IsSound (registrations e) (modules_in e) (states_of (λ v. (⟦<dyn Driver as Driver>⟧ v).meaning) (drivers_in e))) }
+        ensures registry_back { IfErr result (λ r. r.registry ≡ registry) }
+        ensures drivers_back { IfErr result (λ r. members r.drivers ≡ members drivers) }
+        ensures why { IfErr result (λ r. r.why ≡ NewError.NoDriver ↔ (HaveDrivers registry.entries (length (members drivers)) → ⊥)) }
+    {
+        if !have_drivers(&registry, drivers.len()) {
+            return Err(NewRefused {
+                why: NewError::NoDriver,
+                registry,
+                drivers,
+            });
+        }
+        match Vec::with_capacity(alloc, MOST_MODULES) {
+            Ok(modules) => Ok(Engine {
+                alloc,
+                registry,
+                drivers,
+                modules,
+            }),
+            Err(_) => Err(NewRefused {
+                why: NewError::Memory,
+                registry,
+                drivers,
+            }),
+        }
+    }
+
+    /// Does one command, and answers how it ended.
+    ///
+    /// The reply and the modules after it are those of the source meaning, where each build sees what
+    /// the module's mask meets, told what the drivers answered and whether there was memory. Each host
+    /// call is of an entity that its caller saw when it was built, and the drivers follow the events.
+    pub fn apply(&mut self, command: Command) -> Reply
+        requires sound { IsSound (registrations self.old) (modules_in self.old) (states_of (λ v. (⟦<dyn Driver as Driver>⟧ v).meaning) (drivers_in self.old)) }
+        ensures takes { Takes (registrations self.old) (modules_in self.old) command result (modules_in self.new) }
+        ensures entitled { All (IsEntitled (registrations self.new) (modules_in self.new)) result.events }
+        ensures follow { DriversFollow (λ v. (⟦<dyn Driver as Driver>⟧ v).meaning) (roles_of (registrations self.old)) (drivers_in self.old) result.events (drivers_in self.new) }
+        ensures sound { IsSound (registrations self.new) (modules_in self.new) (states_of (λ v. (⟦<dyn Driver as Driver>⟧ v).meaning) (drivers_in self.new)) }
+        ensures registrations { registrations self.new ≡ registrations self.old }
+    {
+        match command {
+            Command::NewModule { name, mask } => self.new_module(name, mask),
+            Command::AddSection { name, text } => self.add_section(name, text),
+            Command::Build { name, budget } => self.build(name, budget),
+            Command::Call {
+                name,
+                decl,
+                args,
+                budget,
+            } => self.call(name, decl, args, budget),
+        }
+    }
+
+    fn new_module(&mut self, name: List<u8>, mask: Mask) -> Reply
+        requires sound { IsSound (registrations self.old) (modules_in self.old) (states_of (λ v. (⟦<dyn Driver as Driver>⟧ v).meaning) (drivers_in self.old)) }
+        ensures applied { Applied (λ v. (⟦<dyn Driver as Driver>⟧ v).meaning) (registrations self.old) (modules_in self.old) (drivers_in self.old) (NewModule name mask) result (modules_in self.new) (drivers_in self.new) }
+        ensures registrations { registrations self.new ≡ registrations self.old }
+    {
+        let done = add_module(self.alloc, &mut self.modules, name, mask);
+        answer(self.alloc, ended(done))
+    }
+
+    fn add_section(&mut self, name: List<u8>, text: List<u8>) -> Reply
+        requires sound { IsSound (registrations self.old) (modules_in self.old) (states_of (λ v. (⟦<dyn Driver as Driver>⟧ v).meaning) (drivers_in self.old)) }
+        ensures applied { Applied (λ v. (⟦<dyn Driver as Driver>⟧ v).meaning) (registrations self.old) (modules_in self.old) (drivers_in self.old) (AddSection name text) result (modules_in self.new) (drivers_in self.new) }
+        ensures registrations { registrations self.new ≡ registrations self.old }
+    {
+        let done = add_section(&mut self.modules, name, text);
+        answer(self.alloc, ended(done))
+    }
+
+    fn build(&mut self, name: List<u8>, budget: u64) -> Reply
+        requires sound { IsSound (registrations self.old) (modules_in self.old) (states_of (λ v. (⟦<dyn Driver as Driver>⟧ v).meaning) (drivers_in self.old)) }
+        ensures applied { Applied (λ v. (⟦<dyn Driver as Driver>⟧ v).meaning) (registrations self.old) (modules_in self.old) (drivers_in self.old) (Build name budget) result (modules_in self.new) (drivers_in self.new) }
+        ensures registrations { registrations self.new ≡ registrations self.old }
+    {
+        let done = build(self.alloc, &self.registry, &mut self.modules, name, budget);
+        build_reply(self.alloc, done)
+    }
+
+    fn call(&mut self, name: List<u8>, decl: List<u8>, args: List<Value>, budget: u64) -> Reply
+        requires sound { IsSound (registrations self.old) (modules_in self.old) (states_of (λ v. (⟦<dyn Driver as Driver>⟧ v).meaning) (drivers_in self.old)) }
+        ensures applied { Applied (λ v. (⟦<dyn Driver as Driver>⟧ v).meaning) (registrations self.old) (modules_in self.old) (drivers_in self.old) (Call name decl args budget) result (modules_in self.new) (drivers_in self.new) }
+        ensures registrations { registrations self.new ≡ registrations self.old }
+    {
+        let alloc = self.alloc;
+        let (caller, function) = match called(alloc, &self.modules, name, decl, args, budget) {
+            Ok((caller, function)) => (caller, function),
+            Err(refusal) => return answer(alloc, Outcome::Refused(refusal)),
+        };
+        let ran = run_body(
+            alloc,
+            &mut self.drivers,
+            caller.name.as_slice(),
+            function.body.as_slice(),
+        );
+        reply(
+            alloc,
+            ran.outcome,
+            ran.events,
+            List::from_vec(Vec::new(alloc)),
+        )
+    }
+
+    /// Ends the engine, and gives its drivers back in their order. It takes no memory, asks no driver
+    /// anything, and always succeeds.
+    pub fn discard(self) -> Vec<Box<dyn Driver>>
+        requires sound { IsSound (registrations self) (modules_in self) (states_of (λ v. (⟦<dyn Driver as Driver>⟧ v).meaning) (drivers_in self)) }
+        ensures same { result.items ≡ drivers_in self }
+        ensures balanced { All IsBalanced (states_of (λ v. (⟦<dyn Driver as Driver>⟧ v).meaning) result.items) }
+    {
+        let Engine {
+            alloc: _,
+            registry: _,
+            drivers,
+            modules: _,
+        } = self;
+        drivers.into_boxes()
+    }
+}

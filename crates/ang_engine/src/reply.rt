@@ -1,0 +1,81 @@
+//! What the engine answers.
+use ang_host::{Drivers, HostEvent};
+use ang_kinds::{Denial, Error, Fault, List, Value};
+use ang_registry::Registry;
+
+/// The answer to one command: what the host was asked meanwhile, what a build refused, and how the
+/// command ended (docs/EMBEDDING.md, "Replies").
+#[derive(Drop, Debug)]
+pub struct Reply {
+    /// How the command ended.
+    pub outcome: Outcome,
+    /// What the drivers were asked, in order.
+    pub events: List<HostEvent>,
+    /// The errors of a refused build, in order; empty elsewhere.
+    pub errors: List<Error>,
+    /// The hidden entities by which refused uses would have resolved; empty elsewhere.
+    pub denials: List<Denial>,
+}
+
+/// How a command ended.
+#[derive(Clone, Copy, PartialEq, Eq, Debug)]
+pub enum Outcome {
+    /// It was done; a call of a function with a result has its value.
+    Done(Option<Value>),
+    /// The script was cut short by a fault. What it changed stands, and the module stays built.
+    Failed(Fault),
+    /// It was refused. `BuildMemory`, `BuildErrors` and `InitFailed` leave the module unbuilt and
+    /// without sections; after every other refusal the engine is as it was.
+    Refused(Refusal),
+}
+
+/// Why a command was refused, in the order in which the causes are looked for. `Memory` may come in
+/// the place of any other.
+#[derive(Clone, Copy, PartialEq, Eq, Debug)]
+pub enum Refusal {
+    /// The name of a new module is no identifier.
+    BadName,
+    /// There is a module of that name.
+    ModuleExists,
+    /// One module or one waiting section too many.
+    Limit,
+    /// There is no module of that name.
+    NoModule,
+    /// The module is not built.
+    NotBuilt,
+    /// The budget is 0 or above 2,147,483,647.
+    BadBudget,
+    /// A growth of memory was refused while the module was built.
+    BuildMemory,
+    /// The sections have errors, which the reply lists.
+    BuildErrors,
+    /// An initialiser of a global failed.
+    InitFailed(Fault),
+    /// The module has no function of that declaration.
+    NoFunction,
+    /// A parameter or the result of the function can't come from or go to the host.
+    NotCallable,
+    /// The arguments are not values of the parameters.
+    BadArguments,
+    /// A growth of memory was refused before anything was changed.
+    Memory,
+}
+
+/// Why no engine was made, with what was handed in, unchanged.
+pub struct NewRefused {
+    /// The cause.
+    pub why: NewError,
+    /// The registration list.
+    pub registry: Registry,
+    /// The drivers.
+    pub drivers: Drivers,
+}
+
+/// The causes for which no engine is made.
+#[derive(Clone, Copy, PartialEq, Eq, Debug)]
+pub enum NewError {
+    /// An entry names a driver that is not in the list.
+    NoDriver,
+    /// A growth of memory was refused.
+    Memory,
+}

@@ -1,0 +1,7 @@
+pub mod Bytes
+pub mod Cuts
+pub mod Fronts
+pub mod Numbers
+pub mod Spelling
+pub mod Tokens
+pub mod Words

@@ -1,0 +1,5 @@
+pub mod Registration
+pub mod Roles
+pub mod Overloads
+pub mod Declarations
+pub mod Refusals
