@@ -1,0 +1,80 @@
+//! The options of the command line.
+ghost use Rattle.std.specs.Prelude.{◌≡◌, ◌≤◌, Some, IfOk, IfSome, codes, option_map, string_bytes};
+ghost use Rattle.clap.specs.Words.{app_of, first_value, found_of};
+ghost use Rattle.asrun.specs.Options.{program, budget_given};
+
+use crate::fields::decimal;
+use clap::{Arg, ArgMatches, Command};
+use std::alloc::{AllocError, Global};
+
+/// The most ticks that `--budget` may give.
+const MOST_TICKS: u64 = 2_147_483_647;
+
+/// The ticks where `--budget` is not given.
+const DEFAULT_TICKS: u64 = 1_000_000;
+
+/// What the command line says.
+#[derive(Debug, Drop)]
+pub struct Options {
+    /// The path of the profile.
+    pub profile: String,
+    /// The path of the session.
+    pub session: String,
+    /// The ticks that each command may take, from 1 to 2,147,483,647.
+    pub budget: u64,
+}
+
+/// The program's command line.
+pub fn command_line<'a>(alloc: Global) -> Result<Command<'a>, AllocError>
+    ensures exact { IfOk result (λ c. app_of c ≡ program) }
+{
+    let profile = Arg::new(alloc, "profile").long("profile").required(true);
+    let session = Arg::new(alloc, "session").long("session").required(true);
+    let budget = Arg::new(alloc, "budget").long("budget");
+    Command::new(alloc, "asrun")
+        .arg(profile)?
+        .arg(session)?
+        .arg(budget)
+}
+
+/// The budget that is given, or the one where none is. None where it is no number from 1 to the most.
+#[tactic(auto, unfolding(crate::specs::Options::budget_given))]
+fn budget_of(text: Option<&str>) -> Option<u64>
+    ensures exact { result ≡ budget_given (option_map (λ s. s.now) text.entry) }
+    ensures least { IfSome result (λ n. 1 ≤ n) }
+    ensures most { IfSome result (λ n. n ≤ 2147483647) }
+{
+    let Some(text) = text else {
+        return Some(DEFAULT_TICKS);
+    };
+    let ticks = decimal(text.as_bytes(), 10)?;
+    if 1 <= ticks && ticks <= MOST_TICKS {
+        Some(ticks)
+    } else {
+        None
+    }
+}
+
+/// The options of a command line that was read. None where the budget is no number from 1 to the most.
+pub fn chosen(alloc: Global, matches: &ArgMatches<'_>) -> Result<Option<Options>, AllocError>
+    ensures profile { IfOk result (λ r. IfSome r (λ o. first_value (found_of matches.now) (codes "profile") ≡ Some (string_bytes o.profile))) }
+    ensures session { IfOk result (λ r. IfSome r (λ o. first_value (found_of matches.now) (codes "session") ≡ Some (string_bytes o.session))) }
+    ensures budget { IfOk result (λ r. IfSome r (λ o. budget_given (first_value (found_of matches.now) (codes "budget")) ≡ Some o.budget)) }
+    ensures least { IfOk result (λ r. IfSome r (λ o. 1 ≤ o.budget)) }
+    ensures most { IfOk result (λ r. IfSome r (λ o. o.budget ≤ 2147483647)) }
+{
+    let Some(budget) = budget_of(matches.get_str("budget")) else {
+        return Ok(None);
+    };
+    let Some(profile) = matches.get_str("profile") else {
+        return Ok(None);
+    };
+    let Some(session) = matches.get_str("session") else {
+        return Ok(None);
+    };
+    Ok(Some(Options {
+        profile: String::from_str(alloc, profile)?,
+        session: String::from_str(alloc, session)?,
+        budget,
+    }))
+}

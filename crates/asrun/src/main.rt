@@ -1,0 +1,102 @@
+//! Runs a session of scripts over a profile of host functions, both read from files
+//! (docs/EMBEDDING.md, "The program").
+#![tactic(auto)]
+
+mod action;
+mod command;
+mod ending;
+mod fields;
+mod lines;
+mod options;
+mod profile;
+mod profile_line;
+mod reading;
+mod run;
+mod session;
+mod session_line;
+#[cfg(test)]
+mod tests;
+mod text;
+mod values;
+mod writing;
+
+use crate::command::Options;
+use crate::ending::{IoFault, Status};
+use crate::session::SessionEnd;
+use ang_drivers::Console;
+use ang_host::Driver;
+use std::alloc::AllocError;
+use std::fs::File;
+use std::process::ExitCode;
+use std::{env, io};
+
+/// The exit status of what was read and written without a fault.
+fn code_of(status: Status) -> u8 {
+    match status {
+        Status::AllOk => 0,
+        Status::SomeRefused => 1,
+        Status::BadInput => 2,
+        Status::Memory => 3,
+    }
+}
+
+fn no_memory(rt: &impl Eprint) -> u8 {
+    let _ = eprintln!(rt; "asrun: no memory");
+    3
+}
+
+/// Opens the files and runs the session. Gives the exit status.
+fn run_files(rt: &HostRuntime, options: &Options) -> Result<u8, AllocError> {
+    let Ok(mut profile) = File::open(rt, options.profile.as_str()) else {
+        let _ = eprintln!(rt; "asrun: cannot open {}", options.profile);
+        return Ok(2);
+    };
+    let Ok(mut session) = File::open(rt, options.session.as_str()) else {
+        let _ = eprintln!(rt; "asrun: cannot open {}", options.session);
+        return Ok(2);
+    };
+    let alloc = rt.alloc();
+    let mut boxes: Vec<Box<dyn Driver>> = Vec::new(alloc);
+    boxes.push(Box::new(alloc, Console::new(alloc)?)?)?;
+    let mut out = io::writer(rt);
+    let SessionEnd { outcome, drivers } = session::session(
+        alloc,
+        &mut profile,
+        &mut session,
+        &mut out,
+        boxes,
+        options.budget,
+    );
+    drop(drivers);
+    match outcome {
+        Ok(Status::Memory) => Ok(no_memory(rt)),
+        Ok(status) => Ok(code_of(status)),
+        Err(fault) => {
+            let _ = eprintln!(rt; "asrun: {fault}");
+            Ok(2)
+        }
+    }
+}
+
+/// Reads the command line. Gives the exit status.
+fn run_words(rt: &HostRuntime) -> io::Result<u8> {
+    let alloc = rt.alloc();
+    let words: Vec<String> = env::args(rt)?.collect(alloc)?;
+    let words: Vec<&str> = words.iter().map(|word| word.as_str()).collect(alloc)?;
+    match options::options(alloc, words.as_slice()) {
+        Ok(options) => Ok(run_files(rt, &options)?),
+        Err(error) if error.kind() == clap::error::ErrorKind::OutOfMemory => Ok(no_memory(rt)),
+        Err(error) => {
+            let _ = error.print(rt);
+            Ok(error.exit_code() as u8)
+        }
+    }
+}
+
+fn main(rt: HostRuntime) -> ExitCode {
+    let code = match run_words(&rt) {
+        Ok(code) => code,
+        Err(_) => no_memory(&rt),
+    };
+    ExitCode::from(code)
+}

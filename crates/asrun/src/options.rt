@@ -1,0 +1,32 @@
+//! Reading the command line.
+ghost use Rattle.std.specs.Prelude.{◌≡◌, ◌≤◌, Some, IfOk, codes, map, string_bytes};
+ghost use Rattle.asrun.specs.Options.{given, budget_given};
+
+use crate::command;
+use crate::command::{chosen, command_line};
+use clap::Error;
+use clap::error::ErrorKind;
+use std::alloc::Global;
+
+/// What the words of the command line say; the first is the program's name.
+///
+/// # Errors
+/// The error of `clap`: an option that is missing, unknown, given twice or without a value, a budget
+/// that is no number from 1 to 2,147,483,647, a wish for help, or want of memory.
+pub fn options<'a>(alloc: Global, words: &'a [&'a str]) -> Result<command::Options, Error>
+    ensures profile { IfOk result (λ o. given (codes "profile") (map (λ w. w.now) words.now) ≡ Some (string_bytes o.profile)) }
+    ensures session { IfOk result (λ o. given (codes "session") (map (λ w. w.now) words.now) ≡ Some (string_bytes o.session)) }
+    ensures budget { IfOk result (λ o. budget_given (given (codes "budget") (map (λ w. w.now) words.now)) ≡ Some o.budget) }
+    ensures most { IfOk result (λ o. o.budget ≤ 2147483647) }
+    ensures least { IfOk result (λ o. 1 ≤ o.budget) }
+{
+    let mut command = command_line(alloc)?;
+    let matches = command.try_get_matches_from_mut(words)?;
+    match chosen(alloc, &matches)? {
+        Some(options) => Ok(options),
+        None => {
+            let text = "--budget takes a number from 1 to 2147483647";
+            Err(command.error(ErrorKind::ValueValidation, text)?)
+        }
+    }
+}

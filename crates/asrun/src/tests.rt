@@ -1,0 +1,275 @@
+//! Whole runs, with readers and writers of their own.
+use crate::ending::{IoFault, Status};
+use crate::session::{SessionEnd, session};
+use ang_drivers::Console;
+use ang_host::Driver;
+use std::alloc::{AllocError, Global};
+use std::io;
+use std::io::{Error, ErrorKind, Read, Write};
+use std::test::Fail;
+
+const PROFILE: &str = "mask 00000001\nfunction 0 0 void print(int)\n";
+
+const SESSION: &str =
+    "module a 00000001\nsection a 1\nvoid main(){ print(1+2); }\nbuild a\ncall a () void main()\n";
+
+const OUTPUT: &str = "ok\nok\nok\nhost a 0 0 - (3) void\nok\n";
+
+/// Gives the text in pieces of at most `step` bytes, and fails at call `fails`, counted from 1.
+#[derive(Drop)]
+struct Pieces<'a> {
+    left: &'a [u8],
+    step: usize,
+    calls: u64,
+    fails: u64,
+}
+
+impl<'a> Pieces<'a> {
+    fn new(text: &'a str, step: usize, fails: u64) -> Pieces<'a> {
+        Pieces {
+            left: text.as_bytes(),
+            step,
+            calls: 0,
+            fails,
+        }
+    }
+}
+
+impl Read for Pieces<'_> {
+    fn read(&mut self, buf: &mut [u8]) -> io::Result<usize> {
+        self.calls = self.calls.saturating_add(1);
+        if self.calls == self.fails {
+            return Err(Error::from(ErrorKind::Interrupted));
+        }
+        let count = self.left.len().min(buf.len()).min(self.step);
+        let (front, rest) = self.left.split_at(count);
+        buf[..count].copy_from_slice(front);
+        self.left = rest;
+        Ok(count)
+    }
+}
+
+/// Gives one LF for ever.
+#[derive(Drop)]
+struct LineFeeds;
+
+impl Read for LineFeeds {
+    fn read(&mut self, buf: &mut [u8]) -> io::Result<usize> {
+        if buf.is_empty() {
+            return Ok(0);
+        }
+        buf[0] = b'\n';
+        Ok(1)
+    }
+}
+
+/// Keeps what it takes, at most `step` bytes a call. At call `stops` it fails, or takes nothing.
+#[derive(Drop)]
+struct Sink {
+    kept: Vec<u8>,
+    step: usize,
+    calls: u64,
+    stops: u64,
+    fails: bool,
+}
+
+impl Sink {
+    fn new(alloc: Global, step: usize, stops: u64, fails: bool) -> Sink {
+        Sink {
+            kept: Vec::new(alloc),
+            step,
+            calls: 0,
+            stops,
+            fails,
+        }
+    }
+}
+
+impl Write for Sink {
+    fn write(&mut self, buf: &[u8]) -> io::Result<usize> {
+        self.calls = self.calls.saturating_add(1);
+        if self.calls == self.stops {
+            return if self.fails {
+                Err(Error::from(ErrorKind::Interrupted))
+            } else {
+                Ok(0)
+            };
+        }
+        let count = buf.len().min(self.step);
+        self.kept.extend_from_slice(&buf[..count])?;
+        Ok(count)
+    }
+
+    fn flush(&mut self) -> io::Result<()> {
+        Ok(())
+    }
+}
+
+/// A session with one console as its driver.
+fn run<P: Read, S: Read>(
+    alloc: Global,
+    profile: &mut P,
+    session_text: &mut S,
+    out: &mut Sink,
+) -> Result<Result<Status, IoFault>, AllocError> {
+    let mut boxes: Vec<Box<dyn Driver>> = Vec::new(alloc);
+    boxes.push(Box::new(alloc, Console::new(alloc)?)?)?;
+    let SessionEnd { outcome, drivers } = session(
+        alloc,
+        profile,
+        session_text,
+        out,
+        boxes,
+        1_000_000,
+    );
+    let idle = drivers.iter().all(|driver| driver.idle());
+    drop(drivers);
+    if idle {
+        Ok(outcome)
+    } else {
+        Ok(Err(IoFault::Read))
+    }
+}
+
+/// Profile, session, output and status.
+const RUNS: [(&str, &str, &str, Status); 12] = [
+    (PROFILE, SESSION, OUTPUT, Status::AllOk),
+    (
+        PROFILE,
+        "module a 00000002\nsection a 1\nvoid main(){ print(1+2); }\nbuild a\n",
+        "ok\nok\nerror UnknownName 0:1:14 print\nrefused BuildErrors\n",
+        Status::SomeRefused,
+    ),
+    (
+        "mask 80000000\nfunction 0 0 void print(int)\n",
+        "module a 80000000\nsection a 1\nvoid main(){ print(1+2); }\nbuild a\ncall a () void main()\n",
+        OUTPUT,
+        Status::AllOk,
+    ),
+    (PROFILE, "", "", Status::AllOk),
+    (
+        "mask 00000001\nmask 1\n",
+        SESSION,
+        "profile 2 BadLine\n",
+        Status::BadInput,
+    ),
+    (
+        "mask 00000001\nfunction 0 0 void p(int)\nmask 00000002\nfunction 0 0 void p(int)\n",
+        SESSION,
+        "profile 4 Duplicate\n",
+        Status::BadInput,
+    ),
+    (
+        "mask 00000000\nfunction 0 0 void p(int)\n",
+        SESSION,
+        "profile 2 EmptyMask\n",
+        Status::BadInput,
+    ),
+    (
+        "function 1 0 void p(int)\n",
+        SESSION,
+        "engine NoDriver\n",
+        Status::BadInput,
+    ),
+    (
+        PROFILE,
+        "# a comment\r\n\r\nmodule a 00000001\r\nsection a 2\nvoid main(){ print(\n1+2); }\nbuild a\ncall a () void main()",
+        OUTPUT,
+        Status::AllOk,
+    ),
+    (
+        PROFILE,
+        "budget 0\nmodule a 00000001\nsection a 1\nvoid main(){ print(1+2); }\nbuild a\n",
+        "ok\nok\nok\nrefused BadBudget\n",
+        Status::SomeRefused,
+    ),
+    (
+        PROFILE,
+        "module a 00000001\nmask a 00000002\n",
+        "ok\nline 2 BadLine\n",
+        Status::BadInput,
+    ),
+    (
+        PROFILE,
+        "module a 00000001\n\nsection a 2\nvoid main(){}\n",
+        "ok\nline 3 BadLine\n",
+        Status::BadInput,
+    ),
+];
+
+#[test]
+fn whole_runs(rt: HostRuntime) -> Result<(), Fail> {
+    for (profile, text, output, status) in RUNS {
+        let mut out = Sink::new(rt.alloc(), 4096, 0, false);
+        let mut profile = Pieces::new(profile, 4096, 0);
+        let mut text = Pieces::new(text, 4096, 0);
+        let outcome = run(rt.alloc(), &mut profile, &mut text, &mut out)?;
+        assert_eq!(rt; outcome, Ok(status), "{output}");
+        assert_eq!(rt; out.kept.as_slice(), output.as_bytes());
+    }
+    Ok(())
+}
+
+#[test]
+fn line_feeds_for_ever_are_a_read_fault(rt: HostRuntime) -> Result<(), Fail> {
+    let mut out = Sink::new(rt.alloc(), 4096, 0, false);
+    let mut text = Pieces::new(SESSION, 4096, 0);
+    let outcome = run(rt.alloc(), &mut LineFeeds, &mut text, &mut out)?;
+    assert_eq!(rt; outcome, Err(IoFault::Read));
+    assert_eq!(rt; out.kept.len(), 0);
+    let mut profile = Pieces::new(PROFILE, 4096, 0);
+    let outcome = run(rt.alloc(), &mut profile, &mut LineFeeds, &mut out)?;
+    assert_eq!(rt; outcome, Err(IoFault::Read));
+    assert_eq!(rt; out.kept.len(), 0);
+    Ok(())
+}
+
+#[test]
+fn byte_by_byte(rt: HostRuntime) -> Result<(), Fail> {
+    let mut out = Sink::new(rt.alloc(), 1, 0, false);
+    let mut profile = Pieces::new(PROFILE, 1, 0);
+    let mut text = Pieces::new(SESSION, 1, 0);
+    let outcome = run(rt.alloc(), &mut profile, &mut text, &mut out)?;
+    assert_eq!(rt; outcome, Ok(Status::AllOk));
+    assert_eq!(rt; out.kept.as_slice(), OUTPUT.as_bytes());
+    Ok(())
+}
+
+/// Each call of `read` fails in turn: of the profile at most 4, of the session at most 9.
+#[test]
+fn a_reader_fails_at_each_call(rt: HostRuntime) -> Result<(), Fail> {
+    for fails in 1..=4u64 {
+        let mut out = Sink::new(rt.alloc(), 4096, 0, false);
+        let mut profile = Pieces::new(PROFILE, 16, fails);
+        let mut text = Pieces::new(SESSION, 16, 0);
+        let outcome = run(rt.alloc(), &mut profile, &mut text, &mut out)?;
+        assert_eq!(rt; outcome, Err(IoFault::Read), "profile, call {fails}");
+        assert_eq!(rt; out.kept.len(), 0);
+    }
+    for fails in 1..=7u64 {
+        let mut out = Sink::new(rt.alloc(), 4096, 0, false);
+        let mut profile = Pieces::new(PROFILE, 16, 0);
+        let mut text = Pieces::new(SESSION, 16, fails);
+        let outcome = run(rt.alloc(), &mut profile, &mut text, &mut out)?;
+        assert_eq!(rt; outcome, Err(IoFault::Read), "session, call {fails}");
+        assert_eq!(rt; out.kept.len(), 0);
+    }
+    Ok(())
+}
+
+/// Each call of `write` fails or takes nothing in turn; what stands written is a front of the output.
+#[test]
+fn a_writer_stops_at_each_call(rt: HostRuntime) -> Result<(), Fail> {
+    for fails in [false, true] {
+        for stops in 1..=11u64 {
+            let mut out = Sink::new(rt.alloc(), 3, stops, fails);
+            let mut profile = Pieces::new(PROFILE, 4096, 0);
+            let mut text = Pieces::new(SESSION, 4096, 0);
+            let outcome = run(rt.alloc(), &mut profile, &mut text, &mut out)?;
+            assert_eq!(rt; outcome, Err(IoFault::Write), "call {stops}");
+            assert!(rt; OUTPUT.as_bytes().starts_with(out.kept.as_slice()));
+            assert!(rt; out.kept.len() < OUTPUT.len());
+        }
+    }
+    Ok(())
+}
