@@ -1,7 +1,8 @@
 //! A whole run: a profile, a session, and the text of the replies.
-ghost use Rattle.std.specs.Prelude.{◌≡◌, ◌<◌, ◌≤◌, ◌^◌, [], length, Ok, IfOk, IfSome, OnOk, OnErr};
+ghost use Rattle.std.specs.Prelude.{◌≡◌, ◌<◌, ◌≤◌, ◌^◌, ◌⊎◌, [], All, length, Ok, IfOk, IfSome, OnOk, OnErr};
 ghost use Rattle.std.specs.Io.KnownBytes.{Appends};
 ghost use Rattle.ang_host.specs.Boxes.{members};
+ghost use Rattle.ang_host.specs.Counts.{IsBalanced};
 ghost use Rattle.ang_host.specs.Members.{states_of, AreFresh};
 ghost use Rattle.ang_engine.specs.Engines.{registrations, modules_in, drivers_in};
 ghost use Rattle.ang_engine.specs.Sound.{IsSound};
@@ -154,6 +155,8 @@ fn run_engine<R: Read, W: Write>(
     ensures done { IfOk result.0 (λ status. IfSome (R.remaining reader.old) (λ text. Ends (Ok registry.entries) text budget (W.contents writer.old) (W.contents writer.new) status)) }
     ensures cut { OnErr result.0 (IfSome (R.remaining reader.old) (λ text. Stops (Ok registry.entries) text budget (W.contents writer.old) (W.contents writer.new))) }
     ensures order { kinds_of result.1.items ≡ kinds_of (members drivers) }
+    ensures returned { (result.1.items ≡ members drivers)
+        ⊎ All IsBalanced (states_of (λ v. (⟦<dyn Driver as Driver>⟧ v).meaning) result.1.items) }
 {
     match Engine::new(alloc, registry, drivers) {
         Ok(mut engine) => {
@@ -186,6 +189,8 @@ fn run_drivers<R: Read, W: Write>(
     ensures done { IfOk result.0 (λ status. IfSome (R.remaining reader.old) (λ text. Ends (Ok registry.entries) text budget (W.contents writer.old) (W.contents writer.new) status)) }
     ensures cut { OnErr result.0 (IfSome (R.remaining reader.old) (λ text. Stops (Ok registry.entries) text budget (W.contents writer.old) (W.contents writer.new))) }
     ensures order { kinds_of result.1.items ≡ kinds_of drivers.items }
+    ensures returned { (result.1.items ≡ drivers.items)
+        ⊎ All IsBalanced (states_of (λ v. (⟦<dyn Driver as Driver>⟧ v).meaning) result.1.items) }
 {
     match Drivers::new(drivers) {
         Ok(drivers) => run_engine(alloc, reader, writer, registry, drivers, budget),
@@ -224,6 +229,9 @@ pub fn session<P: Read, S: Read, W: Write>(
     ensures output { IfSome (P.remaining profile.old) (λ p. IfSome (S.remaining session.old) (λ s.
         Tells (start_of p) s budget (W.contents out.old) (W.contents out.new) result.outcome)) }
     ensures order { kinds_of result.drivers.items ≡ kinds_of drivers.items }
+    // Where no engine was made they are as they were.
+    ensures returned { (result.drivers.items ≡ drivers.items)
+        ⊎ All IsBalanced (states_of (λ v. (⟦<dyn Driver as Driver>⟧ v).meaning) result.drivers.items) }
 {
     let mut registry = Registry::new(alloc);
     match load_profile(alloc, profile, out, &mut registry) {
