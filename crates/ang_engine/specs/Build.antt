@@ -1,4 +1,5 @@
--- What a build gives (docs/MEANING.md, "A build"): the errors of the first phase that refuses something, or the program.
+-- What a build gives (docs/MEANING.md, "A build"; the AngelScript manual, "Script modules"): the errors of the first phase
+-- that refuses something, or the program.
 use Rattle.std.specs.Prelude.{ℕ, ◌==◌, Bool, true, false, if◌then◌else◌, List, [], ◌∷◌, ◌++◌, length, Option, Some, None, Result, Ok, Err, bytes_eq, option_to_list, map as list_map}
 use Rattle.ang_kinds.specs.declared.error.Error.{Error}
 use Rattle.ang_kinds.specs.declared.error.ErrorKind.{ErrorKind}
@@ -32,7 +33,7 @@ abbrev pub declares : List Declaration → List ℕ → Bool
 declares [] name = false
 declares (d ∷ ds) name = if bytes_eq d.name.text name then true else declares ds name
 
--- ---- phase 1: the names of the declarations
+-- ---- the names of the declarations
 
 abbrev pub most_functions : ℕ
 most_functions = 4096
@@ -48,9 +49,10 @@ abbrev pub name_errors : List Declaration → List Declaration → List Error
 name_errors before [] = []
 name_errors before (d ∷ ds) = option_to_list (name_error before d) ++ name_errors (before ++ d ∷ []) ds
 
--- ---- phase 6: the bodies
+-- ---- the bodies, looked at where no name is refused
 
--- what a call by that name with one `int` resolves to: the seen host function of the name; the script's functions take no argument
+-- Every entry is so far a host function of one `int`, and every script function has no parameter: so a call by a name resolves
+-- to the seen host function of the name, and a script function of the name takes no argument.
 abbrev pub use_error : Option ℕ → Bool → Option ErrorKind
 use_error (Some number) declared = None
 use_error None true = Some NoMatch

@@ -1,4 +1,5 @@
--- What a script does: the source meaning, by cases on its resolved tree (docs/MEANING.md, "What a script does").
+-- What a script does: the source meaning, by cases on its resolved tree (docs/MEANING.md, "What a script does"; the AngelScript
+-- manual, "Expressions" and "Functions").
 use Rattle.std.specs.Prelude.{ℕ, zero, suc, ℤ, ◌+ℤ◌, ◌-ℤ◌, Bool, true, false, List, [], ◌∷◌, ◌≡◌, ◌⊎◌, Option, Some, None, option_map}
 use Rattle.std.specs.Int.{int_wrap, w32}
 use Rattle.ang_kinds.specs.declared.value.Value.TheVariants.{Int}

@@ -120,7 +120,7 @@ abbrev pub with_declaration : Declaration → Option (List Declaration) → Opti
 with_declaration d None = None
 with_declaration d (Some ds) = Some (d ∷ ds)
 
--- the same where no more term, statement or function stands there
+-- what is read where no more term, statement or function stands there
 abbrev pub behind_terms : List ℕ → List Word → Option Rest
 behind_terms text (RightParen ∷ Semicolon ∷ ws) = none_in_front (statements text ws)
 behind_terms text _ = None
@@ -150,10 +150,11 @@ abbrev pub named_of : Word → Option Token
 named_of (Named t) = Some t
 named_of _ = None
 
--- the error that a section's first fault is; want of memory is none
+-- an error without a name
 abbrev pub fault_at : ErrorKind → Place → Error
 fault_at kind place = record { kind = kind; place = place; name = [] }
 
+-- the error that a section's first fault is; `tokens_of` never gives `Memory`
 abbrev pub section_fault : LexError → Error
 section_fault (lex.TooLong place) = fault_at TooLong place
 section_fault (lex.BadByte place) = fault_at BadByte place

@@ -9,11 +9,11 @@ use ang_registry::Registry;
 pub struct Reply {
     /// How the command ended.
     pub outcome: Outcome,
-    /// What the drivers were asked, in order.
+    /// What the drivers were asked, and which of their objects ended, in order.
     pub events: List<HostEvent>,
     /// The errors of a refused build, in order; empty elsewhere.
     pub errors: List<Error>,
-    /// The hidden entities by which refused uses would have resolved; empty elsewhere.
+    /// The hidden entities by which refused uses would have resolved. This version lists none.
     pub denials: List<Denial>,
 }
 
@@ -29,8 +29,8 @@ pub enum Outcome {
     Refused(Refusal),
 }
 
-/// Why a command was refused, in the order in which the causes are looked for. `Memory` may come in
-/// the place of any other.
+/// Why a command was refused. docs/EMBEDDING.md, "Commands", has the order in which each command looks
+/// for the causes. `Memory` may come in the place of any other.
 #[derive(Clone, Copy, PartialEq, Eq, Debug)]
 pub enum Refusal {
     /// The name of a new module is no identifier.
