@@ -1,0 +1,14 @@
+//! Values that pass between a script and its host.
+
+/// A value that is handed to a driver or that comes from one.
+#[derive(Clone, Copy, PartialEq, Eq, Debug)]
+pub enum Value {
+    /// A value of a signed integer type.
+    Int(i64),
+    /// A value of an unsigned integer type.
+    Uint(u64),
+    /// A truth value.
+    Bool(bool),
+    /// The key of a host object, or none for the null handle.
+    Key(Option<u64>),
+}
