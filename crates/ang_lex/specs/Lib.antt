@@ -1,0 +1,6 @@
+pub mod Bytes
+pub mod Fronts
+pub mod Numbers
+pub mod Spelling
+pub mod Tokens
+pub mod Words

@@ -1,0 +1,11 @@
+//! What a number is.
+
+use ang_kinds::Prim;
+
+/// The value of a number, and its type.
+#[derive(Clone, Copy, PartialEq, Eq, Debug)]
+pub struct Number {
+    /// In base 10 `int`, `int64` or `uint64`, in another base `uint` or `uint64`.
+    pub ty: Prim,
+    pub value: u64,
+}
