@@ -1,7 +1,12 @@
 pub mod Digits
 pub mod FirstBytes
+pub mod FoundIsLongest
 pub mod Longest
+pub mod NameLen
+pub mod NumberLen
 pub mod Reading
 pub mod Runs
 pub mod Shifted
+pub mod SignLen
 pub mod Tables
+pub mod TextLen

@@ -1,0 +1,15 @@
+use Rattle.std.proofs.Common.{◌≡◌, ◌<◌, ◌≤◌, length, sym, ◌∙◌, subst, take}
+use Rattle.ang_lex.specs.Fronts.{Found, found}
+use Rattle.ang_lex.specs.Spelling.{longest, kind_of}
+use Rattle.ang_lex.proofs.FoundIsLongest.{found-longest, found-kind}
+use Rattle.ang_lex.proofs.piece.longest_token.Goals as goal
+
+pub returns-clause-length : goal.returns-clause-length
+returns-clause-length c =
+    let is = c.found.ensures.value in
+    rw is (found-longest c.args.rest.now (rw is at c.found.ensures.within))
+
+pub returns-clause-kind : goal.returns-clause-kind
+returns-clause-kind c =
+    let is = c.found.ensures.value in
+    rw is (found-kind c.args.rest.now (rw is at c.found.ensures.within))
