@@ -1,0 +1,5 @@
+pub mod Turns
+pub mod Outcomes
+pub mod Tame
+pub mod Tokens
+pub mod Loops

@@ -1,0 +1,4 @@
+pub mod Read
+pub mod Gives
+pub mod From
+pub mod Tokens
