@@ -61,17 +61,17 @@ number_is_found : (b : ℕ) (bs : List ℕ) → is_name_start b ≡ false → is
 number_is_found b bs name start = record {
   longest = number_is_longest b bs start;
   kind = λ some. sym (kind_of_number (take (number_len (b ∷ bs)) (b ∷ bs))
-    (front_by (λ w. is_name w ≡ false) b bs (number_len (b ∷ bs)) some (λ w. no_name b w [] name))
-    (number_is b bs start));
+      (front_by (λ w. is_name w ≡ false) b bs (number_len (b ∷ bs)) some (λ w. no_name b w [] name))
+      (number_is b bs start));
 }
 
 text_is_found : (b : ℕ) (bs : List ℕ) → is_name_start b ≡ false → is_digit_in 10 b ≡ false → nat_eq b 34 ≡ true → IsFound (b ∷ bs) (k.Text, text_len (b ∷ bs))
 text_is_found b bs name digit start = record {
   longest = text_is_longest b bs start;
   kind = λ some. sym (kind_of_text (take (text_len (b ∷ bs)) (b ∷ bs))
-    (front_by (λ w. is_name w ≡ false) b bs (text_len (b ∷ bs)) some (λ w. no_name b w [] name))
-    (front_by (λ w. is_number w ≡ false) b bs (text_len (b ∷ bs)) some (λ w. no_number b w [] digit))
-    (text_is b bs start some));
+      (front_by (λ w. is_name w ≡ false) b bs (text_len (b ∷ bs)) some (λ w. no_name b w [] name))
+      (front_by (λ w. is_number w ≡ false) b bs (text_len (b ∷ bs)) some (λ w. no_number b w [] digit))
+      (text_is b bs start some));
 }
 
 not_is_kind : lookup signs not_is k.NotIs ≡ k.NotIs
@@ -109,8 +109,8 @@ module _ (b : ℕ) (bs : List ℕ) (name : is_name_start b ≡ false) (digit : i
           within = within;
           token = λ some. sign_of 3 some ∙ or_right _ _ begun;
           none_longer = λ m more most. sign_of m (omega arith) ∙ or_from _ _
-            (no_sign_at_not_is (b ∷ bs) m (omega arith) parts.0)
-            (and_left _ _ (false_from_ne_true _ (λ is. let three = not_is_of_three m most is in omega arith)));
+              (no_sign_at_not_is (b ∷ bs) m (omega arith) parts.0)
+              (and_left _ _ (false_from_ne_true _ (λ is. let three = not_is_of_three m most is in omega arith)));
         };
         kind = λ some. sym (sign_kind 3 some ∙ ap (λ w. lookup signs w k.NotIs) (sym same) ∙ not_is_kind);
       }
@@ -122,8 +122,8 @@ module _ (b : ℕ) (bs : List ℕ) (name : is_name_start b ≡ false) (digit : i
       within = within;
       token = λ some. sign_of (found_in signs (b ∷ bs)).1 some ∙ or_left _ _ (found_listed signs (b ∷ bs) some);
       none_longer = λ m more most. sign_of m (omega arith) ∙ or_from _ _
-        (no_longer_sign (b ∷ bs) m more most)
-        (no_not_is_at m most other);
+          (no_longer_sign (b ∷ bs) m more most)
+          (no_not_is_at m most other);
     };
     kind = λ some. sym (sign_kind (found_in signs (b ∷ bs)).1 some ∙ found_kind signs (b ∷ bs) k.NotIs some within);
   }

@@ -164,12 +164,15 @@ module _ (b : ℕ) (bs : List ℕ) (start : is_digit_in 10 b ≡ true) where
   with_prefix some =
       let p = prefixed_some (b ∷ bs) some in
       let len : number_len (b ∷ bs) ≡ prefixed_len (b ∷ bs) = or_some (prefixed_len (b ∷ bs)) (digits_len 10 (b ∷ bs)) some in
-      rw len
-      (some, p.within, some_by_second (are_digits 10 (take (prefixed_len (b ∷ bs)) (b ∷ bs))) _ _ p.is,
-       λ m more most. false_from_ne_true _ (λ is. ⊎_elim
-         (λ digits. both_ways _ (p.no_digits m (omega (arith, p.large))) digits)
-         (λ prefixed. both_ways _ (prefixed_no_longer (b ∷ bs) m more most) prefixed)
-         (number_cases (take m (b ∷ bs)) is)))
+      rw len (
+        some,
+        p.within,
+        some_by_second (are_digits 10 (take (prefixed_len (b ∷ bs)) (b ∷ bs))) _ _ p.is,
+        λ m more most. false_from_ne_true _ (λ is. ⊎_elim
+            (λ digits. both_ways _ (p.no_digits m (omega (arith, p.large))) digits)
+            (λ prefixed. both_ways _ (prefixed_no_longer (b ∷ bs) m more most) prefixed)
+            (number_cases (take m (b ∷ bs)) is)),
+      )
 
   digits_some : 0 < digits_len 10 (b ∷ bs)
   digits_some = rw start (omega arith)
@@ -177,12 +180,15 @@ module _ (b : ℕ) (bs : List ℕ) (start : is_digit_in 10 b ≡ true) where
   without_prefix : prefixed_len (b ∷ bs) ≡ 0 → number_is_at (number_len (b ∷ bs))
   without_prefix none =
       let len : number_len (b ∷ bs) ≡ digits_len 10 (b ∷ bs) = rw none refl in
-      rw len
-      (digits_some, prefix_len-le-length (is_digit_in 10) (b ∷ bs), some_by_first _ _ _ (digits_are 10 (b ∷ bs) digits_some),
-       λ m more most. false_from_ne_true _ (λ is. ⊎_elim
-         (λ digits. both_ways _ (digits_no_longer 10 (b ∷ bs) m more most) digits)
-         (λ prefixed. both_ways _ (prefixed_no_longer (b ∷ bs) m (omega arith) most) prefixed)
-         (number_cases (take m (b ∷ bs)) is)))
+      rw len (
+        digits_some,
+        prefix_len-le-length (is_digit_in 10) (b ∷ bs),
+        some_by_first _ _ _ (digits_are 10 (b ∷ bs) digits_some),
+        λ m more most. false_from_ne_true _ (λ is. ⊎_elim
+            (λ digits. both_ways _ (digits_no_longer 10 (b ∷ bs) m more most) digits)
+            (λ prefixed. both_ways _ (prefixed_no_longer (b ∷ bs) m (omega arith) most) prefixed)
+            (number_cases (take m (b ∷ bs)) is)),
+      )
 
   at_len : number_is_at (number_len (b ∷ bs))
   at_len = ⊎_elim (λ some. with_prefix some) (λ none. without_prefix (omega arith)) (order 0 (prefixed_len (b ∷ bs)))

@@ -54,6 +54,7 @@ none_longer_by e es rest m false is ordered later longer within =
     or_from _ _
     (false_from_ne_true _ (λ here. both_ways _ is (begins_from rest e.0 m within here).1))
     (later (rw (first_by e es rest false is) at longer))
+
 none_longer_in : (es : List Entry) (rest : List ℕ) (m : ℕ) → IsDescending es ≡ true → (found_in es rest).1 < m → m ≤ length rest → is_listed es (take m rest) ≡ false
 unfolding is_listed first_of_entries
 none_longer_in [] rest m ordered longer within = refl
@@ -90,7 +91,7 @@ found_kind_by e es rest other true is later some within = rw (first_by e es rest
 found_kind_by e es rest other false is later some within =
     let skip = first_by e es rest false is in
     let here : bytes_eq e.0 (take (found_in es rest).1 rest) ≡ false =
-        false_from_ne_true _ (λ same. both_ways _ is (begins_from rest e.0 (found_in es rest).1 (rw skip at within) same).1) in
+    false_from_ne_true _ (λ same. both_ways _ is (begins_from rest e.0 (found_in es rest).1 (rw skip at within) same).1) in
     rw (skip, here) (later (rw skip at some) (rw skip at within))
 
 pub found_kind : (es : List Entry) (rest : List ℕ) (other : TokenKind) → 0 < (found_in es rest).1 → (found_in es rest).1 ≤ length rest →

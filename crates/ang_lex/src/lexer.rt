@@ -2,13 +2,12 @@
 ghost use Rattle.std.specs.Prelude.{◌≡◌, ◌≢◌, ℕ, ◌+◌, ◌<◌, ◌≤◌, ◌^◌, length, drop, Ok, Err, IfOk, IfErr, OnOk};
 ghost use Rattle.ang_lex.specs.Tokens as spec;
 
-use ang_kinds::Place;
-use std::alloc::Global;
-
 use crate::error::LexError;
 use crate::piece::piece;
 use crate::shape::{Fault, Piece};
 use crate::token::{Span, Token};
+use ang_kinds::Place;
+use std::alloc::Global;
 
 /// The most bytes of a section.
 const MOST_BYTES: usize = 65_536;

@@ -6,10 +6,9 @@ ghost use Rattle.std.specs.Option.{SomeIff};
 ghost use Rattle.ang_lex.specs.Bytes as bytes;
 ghost use Rattle.ang_lex.specs.Numbers as spec;
 
-use ang_kinds::Prim;
-
 use crate::bytes::digit_value;
 use crate::numeral::Number;
+use ang_kinds::Prim;
 
 /// The base that the letter of a prefix stands for.
 pub fn base_of(letter: u8) -> Option<u8>

@@ -1,8 +1,7 @@
 //! The reserved words and the signs.
 
-use ang_kinds::Prim;
-
 use crate::token::TokenKind;
+use ang_kinds::Prim;
 
 /// The reserved words.
 pub const RESERVED_WORDS: [(&[u8], TokenKind); 54] = [

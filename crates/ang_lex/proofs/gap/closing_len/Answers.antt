@@ -1,5 +1,4 @@
-use Rattle.std.proofs.Common.{◌≡◌, ◌-◌, sym, ◌∙◌, arith, length, drop, false, nat_eq, codes}
-use Rattle.std.specs.List.{starts_with}
+use Rattle.std.proofs.Common.{sym, ◌∙◌, arith}
 use Rattle.std.proofs.lemmas.List.{take_rest}
 use Rattle.ang_lex.proofs.Shifted.{closing_later}
 use Rattle.ang_lex.proofs.gap.closing_len.Goals as goal

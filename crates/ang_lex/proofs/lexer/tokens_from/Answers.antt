@@ -1,4 +1,4 @@
-use Rattle.std.proofs.Common.{◌≡◌, ◌-◌, ◌+◌, ◌≤◌, length, take, drop, sym, ◌∙◌, arith, length-drop, length-take}
+use Rattle.std.proofs.Common.{◌-◌, length, take, drop, sym, arith, length-drop, length-take}
 use Rattle.std.proofs.lemmas.List.{take_rest}
 use Rattle.ang_lex.proofs.Reading.{reads_start, reads_round}
 use Rattle.ang_lex.proofs.lexer.tokens_from.Goals as goal

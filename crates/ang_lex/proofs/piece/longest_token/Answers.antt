@@ -1,6 +1,3 @@
-use Rattle.std.proofs.Common.{◌≡◌, ◌<◌, ◌≤◌, length, sym, ◌∙◌, subst, take}
-use Rattle.ang_lex.specs.Fronts.{Found, found}
-use Rattle.ang_lex.specs.Spelling.{longest, kind_of}
 use Rattle.ang_lex.proofs.FoundIsLongest.{found-longest, found-kind}
 use Rattle.ang_lex.proofs.piece.longest_token.Goals as goal
 
