@@ -72,8 +72,8 @@ fn text_len(rest: &[u8]) -> usize
     }
 }
 
-#[tactic(auto, unfolding(crate::specs::Words::lookup))]
 /// The kind of the spelling among the entries, and of any other text the kind `other`.
+#[tactic(auto, unfolding(crate::specs::Words::lookup))]
 fn lookup(mut entries: &[(&[u8], TokenKind)], text: &[u8], other: TokenKind) -> TokenKind
     ensures { result ≡ words.lookup (map (λ e. (e.0.now, e.1)) entries.entry.now) text.now other }
 {
@@ -102,8 +102,8 @@ fn begins_not_is(rest: &[u8]) -> bool
     rest.starts_with(b"!is") && !begins_name_byte(&rest[3..])
 }
 
-#[tactic(auto, unfolding(crate::specs::Fronts::first_of_entries))]
 /// The first entry that the rest begins with.
+#[tactic(auto, unfolding(crate::specs::Fronts::first_of_entries))]
 fn first_of_entries(mut entries: &[(&[u8], TokenKind)], rest: &[u8]) -> (TokenKind, usize)
     ensures value { result ≡ spec.entry_found (spec.first_of_entries (map (λ e. (e.0.now, e.1)) entries.entry.now) rest.now) }
     ensures within { result.1 ≤ length rest.now }
@@ -129,8 +129,8 @@ fn sign_found(rest: &[u8]) -> (TokenKind, usize)
     }
 }
 
-#[tactic(auto, unfolding(crate::specs::Fronts::found))]
 /// The kind and the length of the token at the front; the length is 0 where there is none.
+#[tactic(auto, unfolding(crate::specs::Fronts::found))]
 pub fn found(rest: &[u8]) -> (TokenKind, usize)
     ensures value { result ≡ spec.found rest.now }
     ensures within { result.1 ≤ length rest.now }

@@ -13,6 +13,8 @@ use crate::TokenKind::{
 };
 use crate::{LexError, Span, Token, TokenKind, is_name, lex, number};
 use ang_kinds::{Place, Prim};
+use std::alloc::Global;
+use std::process::Abort;
 use std::test::Fail;
 
 fn place(line: u32, column: u32) -> Place {
@@ -137,10 +139,14 @@ const SPELLINGS: [(&[u8], TokenKind); 106] = [
     (b"\"b c\"", Text),
 ];
 
-fn each_is_one_token(rt: &HostRuntime, spellings: &[(&[u8], TokenKind)]) -> Result<(), Fail> {
+fn each_is_one_token(
+    rt: &impl Abort,
+    alloc: Global,
+    spellings: &[(&[u8], TokenKind)],
+) -> Result<(), Fail> {
     for spelling in spellings {
         let (text, kind) = *spelling;
-        let tokens = lex(rt.alloc(), text, 0)?;
+        let tokens = lex(alloc, text, 0)?;
         assert_eq!(rt; tokens.len(), 1, "{text:?}");
         assert_eq!(rt; tokens[0].kind, kind, "{text:?}");
         assert_eq!(rt; tokens[0].span.start, 0);
@@ -152,7 +158,7 @@ fn each_is_one_token(rt: &HostRuntime, spellings: &[(&[u8], TokenKind)]) -> Resu
 
 #[test]
 fn each_spelling_is_one_token(rt: HostRuntime) -> Result<(), Fail> {
-    each_is_one_token(&rt, &SPELLINGS)
+    each_is_one_token(&rt, rt.alloc(), &SPELLINGS)
 }
 
 #[test]
