@@ -6,3 +6,4 @@ pub mod CompleteType
 pub mod Grip
 pub mod Stops
 pub mod Complete
+pub mod Exactly

@@ -3,3 +3,4 @@ pub mod Outcomes
 pub mod Tame
 pub mod Tokens
 pub mod Loops
+pub mod Whole

@@ -1,11 +1,11 @@
 -- What a parser reads, by its steps.
-use Rattle.std.proofs.Common.{◌≡◌, ℕ, zero, suc, ◌+◌, ◌-◌, ◌<◌, ◌≤◌, Bool, true, false, List, [], ◌∷◌, ◌++◌, length, Option, Some, None, Result, Ok, Err, refl, ap, sym, subst, ◌∙◌, append_assoc, arith}
+use Rattle.std.proofs.Common.{◌≡◌, ℕ, zero, suc, ◌-◌, ◌<◌, ◌≤◌, Bool, true, false, List, [], ◌∷◌, ◌++◌, length, Some, None, Ok, Err, refl, ap, sym, ◌∙◌, append_assoc, arith}
 use Rattle.std.specs.Prelude.{IfSome}
 use Rattle.std.proofs.lemmas.List.{length-append}
 use Rattle.ang_lex.specs.declared.token.Token.{Token}
 use Rattle.ang_lex.specs.declared.token.TokenKind.{TokenKind}
 use Rattle.ang_read.specs.From.{From}
-use Rattle.ang_read.specs.Read.{Fault, at, deep, Parser, Outcome, and_then, Choice, given, chosen, look, Turn, turned, repeat}
+use Rattle.ang_read.specs.Read.{at, deep, Parser, Outcome, and_then, Choice, given, chosen, look, Turn, turned, repeat}
 
 pub From-self : (ts : List Token) → From ts ts
 From-self ts = record { front = []; parts = refl }

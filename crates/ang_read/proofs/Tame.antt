@@ -1,8 +1,8 @@
 -- A reader looks no further than the token at which it stops: two lists that agree up to there are read alike.
-use Rattle.std.proofs.Common.{◌≡◌, ℕ, zero, suc, ◌+◌, ◌-◌, ◌<◌, ◌≤◌, ◌⊎◌, inl, inr, Bool, true, false, List, [], ◌∷◌, ◌++◌, length, Option, Some, None, Result, Ok, Err, refl, ap, sym, subst, ◌∙◌, append_assoc, arith}
+use Rattle.std.proofs.Common.{◌≡◌, ℕ, zero, suc, ◌≤◌, ◌⊎◌, inl, inr, Bool, true, false, List, [], ◌∷◌, ◌++◌, length, Some, None, Ok, Err, refl, ap, sym, subst, arith}
 use Rattle.ang_lex.specs.declared.token.Token.{Token}
 use Rattle.ang_lex.specs.declared.token.TokenKind.{TokenKind}
-use Rattle.ang_read.specs.Read.{Fault, at, deep, Parser, Outcome, and_then, pure, ◌>>=◌, refuse, Choice, given, chosen, look, Turn, turned, repeat}
+use Rattle.ang_read.specs.Read.{at, deep, Parser, Outcome, and_then, pure, ◌>>=◌, refuse, Choice, given, chosen, look, Turn, turned, repeat}
 
 abbrev pub Filled : List Token → Type 0
 Filled [] = ⊥

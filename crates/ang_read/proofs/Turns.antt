@@ -1,9 +1,9 @@
 -- The turns of a loop that counts up to the bound.
-use Rattle.std.proofs.Common.{◌≡◌, ℕ, zero, suc, ◌+◌, ◌-◌, ◌<◌, ◌≤◌, Bool, true, false, List, [], ◌∷◌, ◌++◌, Result, Ok, Err, refl, ap, sym, ◌∙◌, arith}
+use Rattle.std.proofs.Common.{◌≡◌, ℕ, suc, ◌+◌, ◌-◌, ◌<◌, ◌≤◌, Bool, true, false, List, Ok, Err, ap, sym, ◌∙◌, arith}
 use Rattle.ang_lex.specs.declared.token.Token.{Token}
 use Rattle.ang_read.specs.declared.error.ReadError.{ReadError}
 use Rattle.ang_read.specs.declared.error.ReadError.TheVariants as e
-use Rattle.ang_read.specs.Read.{Fault, at, deep, Parser, Outcome, and_then, Turn, turned, repeat}
+use Rattle.ang_read.specs.Read.{deep, Outcome, and_then, Turn, turned, repeat}
 use Rattle.ang_read.specs.Gives.{Fails}
 
 turn : (n i : ℕ) → i < n → n - i ≡ suc (n - (i + 1))

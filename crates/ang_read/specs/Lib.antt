@@ -2,3 +2,4 @@ pub mod Read
 pub mod Gives
 pub mod From
 pub mod Tokens
+pub mod Law
