@@ -1,15 +1,15 @@
 -- The first byte of a token says what it is.
-use Rattle.std.proofs.Common.{◌≡◌, ℕ, zero, suc, ◌+◌, ◌<◌, ◌≤◌, Bool, true, false, not, cond, ◌&&◌, ◌||◌, List, [], ◌∷◌, length, refl, ap, sym, ◌∙◌, subst, arith, ⊎_elim, nat_eq, nat_lt, Some, None, Option}
+use Rattle.std.proofs.Common.{◌≡◌, ℕ, ◌≤◌, Bool, true, false, not, cond, ◌&&◌, ◌||◌, List, [], ◌∷◌, length, refl, sym, subst, arith, ⊎_elim, nat_eq, nat_lt, Some, None, Option}
 use Rattle.std.specs.Prelude.{◌⊎◌, is_some}
 use Rattle.std.proofs.Common.{inl, inr}
 use Rattle.std.specs.List.{list_all, list_any}
 use Rattle.std.specs.Str.{bytes_eq}
-use Rattle.std.proofs.lemmas.Bool.{cases_Bool, false_from_ne_true, and_parts, and_from, and_left, or_cases, or_from, not-true, eqb-true, eq-eqb, ltb-true, leb-true, lt-ltb, both_ways, not_from_true, and_right}
+use Rattle.std.proofs.lemmas.Bool.{false_from_ne_true, and_parts, and_left, or_cases, eqb-true, ltb-true, both_ways, not_from_true, and_right}
 use Rattle.std.proofs.lemmas.Bool.Decides.{nat_tests}
 use Rattle.std.proofs.lemmas.Slice.Eq.{bytes_eq-Decides}
 use Rattle.std.proofs.lemmas.Str.Parse.{digit_from_value}
 use Rattle.ang_lex.specs.Bytes.{is_name_start, is_name_byte, is_digit_in, begins}
-use Rattle.ang_lex.specs.Numbers.{are_digits, prefixed_numeral, numeral_of, is_number}
+use Rattle.ang_lex.specs.Numbers.{are_digits, prefixed_numeral, is_number}
 use Rattle.ang_lex.specs.Words.{Entry, signs, is_listed, not_is}
 use Rattle.ang_lex.specs.Spelling.{is_name, is_text, is_token}
 

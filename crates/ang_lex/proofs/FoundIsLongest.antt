@@ -1,18 +1,16 @@
 -- The token that the lexer finds is the longest, and its kind is the kind of its bytes.
-use Rattle.std.proofs.Common.{◌≡◌, ℕ, zero, suc, ◌+◌, ◌<◌, ◌≤◌, Bool, true, false, not, cond, ◌&&◌, ◌||◌, List, [], ◌∷◌, length, take, drop, refl, ap, sym, ◌∙◌, subst, arith, ⊎_elim, nat_eq}
-use Rattle.std.specs.Prelude.{◌⊎◌}
+use Rattle.std.proofs.Common.{◌≡◌, ℕ, zero, suc, ◌<◌, ◌≤◌, Bool, true, false, not, ◌&&◌, ◌||◌, List, [], ◌∷◌, length, take, drop, refl, ap, sym, ◌∙◌, subst, arith, ⊎_elim, nat_eq}
 use Rattle.std.specs.List.{starts_with}
 use Rattle.std.specs.Str.{bytes_eq}
-use Rattle.std.proofs.lemmas.Bool.{cond-true, cond-false, cases_Bool, and_parts, and_from, and_left, or_from, or_left, or_right, both_ways, false_from_ne_true, not-true}
+use Rattle.std.proofs.lemmas.Bool.{cond-true, cond-false, cases_Bool, and_parts, and_left, or_from, or_left, or_right, both_ways, false_from_ne_true}
 use Rattle.std.proofs.lemmas.Slice.Eq.{bytes_eq-Decides}
 use Rattle.std.proofs.lemmas.List.{length-take-le}
-use Rattle.ang_lex.specs.declared.token.TokenKind.{TokenKind}
 use Rattle.ang_lex.specs.declared.token.TokenKind.TheVariants as k
 use Rattle.ang_lex.specs.Bytes.{is_name_start, is_name_byte, is_digit_in, begins}
 use Rattle.ang_lex.specs.Numbers.{is_number}
 use Rattle.ang_lex.specs.Words.{reserved_words, signs, not_is, is_listed, lookup}
 use Rattle.ang_lex.specs.Fronts.{Found, name_len, number_len, text_len, begins_not_is, name_found, sign_found, found}
-use Rattle.ang_lex.specs.Spelling.{is_name, is_text, is_token, is_token_of, longest, kind_of}
+use Rattle.ang_lex.specs.Spelling.{is_name, is_text, is_token_of, longest, kind_of}
 use Rattle.ang_lex.proofs.FirstBytes.{no_name, no_number, no_text, token_by_other}
 use Rattle.ang_lex.proofs.Longest.{IsLongest, longest_is}
 use Rattle.ang_lex.proofs.NameLen.{name_is, name_is_longest}

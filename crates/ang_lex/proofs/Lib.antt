@@ -1,9 +1,11 @@
+pub mod Cutting
 pub mod Digits
 pub mod FirstBytes
 pub mod FoundIsLongest
 pub mod Longest
 pub mod NameLen
 pub mod NumberLen
+pub mod PieceShapes
 pub mod Reading
 pub mod Runs
 pub mod Shifted

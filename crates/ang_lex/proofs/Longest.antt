@@ -1,8 +1,7 @@
 -- The greatest length of a token, by what it is.
-use Rattle.std.proofs.Common.{◌≡◌, ℕ, zero, suc, ◌+◌, ◌<◌, ◌≤◌, Bool, true, false, cond, List, [], ◌∷◌, length, take, drop, refl, ap, sym, ◌∙◌, subst, arith, ⊎_elim}
-use Rattle.std.specs.Prelude.{◌⊎◌}
+use Rattle.std.proofs.Common.{◌≡◌, ℕ, zero, suc, ◌<◌, ◌≤◌, true, false, List, length, sym, subst, arith, ⊎_elim}
 use Rattle.std.proofs.str.Laws.{order}
-use Rattle.ang_lex.specs.Spelling.{is_token, is_token_of, longest_within, longest}
+use Rattle.ang_lex.specs.Spelling.{is_token_of, longest_within, longest}
 
 -- n bytes of the rest are a token, or n is 0, and no more bytes are one
 pub record IsLongest (rest : List ℕ) (n : ℕ) : Type 0 where

@@ -1,14 +1,11 @@
 -- A name goes as far as its bytes.
-use Rattle.std.proofs.Common.{◌≡◌, ℕ, zero, suc, ◌+◌, ◌<◌, ◌≤◌, Bool, true, false, cond, ◌&&◌, ◌||◌, List, [], ◌∷◌, length, take, drop, refl, ap, sym, ◌∙◌, subst, arith, ⊎_elim, nat_eq}
-use Rattle.std.specs.Prelude.{◌⊎◌}
-use Rattle.std.specs.Char.{is_ascii_alphabetic, is_ascii_alphanumeric}
+use Rattle.std.proofs.Common.{◌≡◌, ℕ, zero, suc, ◌+◌, ◌<◌, ◌≤◌, true, false, List, ◌∷◌, length, take, drop, refl, ◌∙◌, arith}
 use Rattle.std.specs.List.{prefix_len, list_all}
-use Rattle.std.proofs.lemmas.Bool.{and_from, and_right, or_cases, or_left, or_right}
 use Rattle.std.proofs.lemmas.Bool.Decides.{nat_tests}
 use Rattle.std.proofs.lemmas.List.Sums.{prefix_len-le-length}
 use Rattle.ang_lex.specs.Bytes.{is_name_start, is_name_byte}
 use Rattle.ang_lex.specs.Fronts.{name_len}
-use Rattle.ang_lex.specs.Spelling.{is_name, is_token, is_token_of}
+use Rattle.ang_lex.specs.Spelling.{is_name, is_token_of}
 use Rattle.ang_lex.proofs.Runs.{run_all, run_longer}
 use Rattle.ang_lex.proofs.Longest.{IsLongest}
 use Rattle.ang_lex.proofs.FirstBytes.{token_by_name_start}

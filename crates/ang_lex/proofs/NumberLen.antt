@@ -1,17 +1,15 @@
 -- A number goes as far as the digits of its base.
-use Rattle.std.proofs.Common.{◌≡◌, ℕ, zero, suc, ◌+◌, ◌<◌, ◌≤◌, Bool, true, false, not, cond, ◌&&◌, ◌||◌, List, [], ◌∷◌, length, take, drop, refl, ap, sym, ◌∙◌, subst, arith, ⊎_elim, nat_eq, nat_lt, Option, Some, None, inl, inr}
+use Rattle.std.proofs.Common.{◌≡◌, ℕ, zero, suc, ◌<◌, ◌≤◌, Bool, true, false, cond, ◌&&◌, List, [], ◌∷◌, length, take, drop, refl, ap, sym, ◌∙◌, subst, arith, ⊎_elim, nat_eq, Option, Some, None, inl, inr}
 use Rattle.std.specs.Prelude.{◌⊎◌, is_some, option_and_then}
-use Rattle.std.specs.Char.{digit_value}
-use Rattle.std.specs.List.{prefix_len, list_all}
-use Rattle.std.proofs.lemmas.Bool.{and_parts, and_from, and_left, and_right, both_ways, cases_Bool, false_from_ne_true, lt-ltb, eqb-true}
+use Rattle.std.proofs.lemmas.Bool.{and_from, and_left, and_right, both_ways, cases_Bool, false_from_ne_true, lt-ltb}
 use Rattle.std.proofs.lemmas.Bool.Decides.{nat_tests}
 use Rattle.std.proofs.lemmas.List.{length-take-le}
 use Rattle.std.proofs.str.Laws.{order}
 use Rattle.std.proofs.lemmas.List.Sums.{prefix_len-le-length}
 use Rattle.ang_lex.specs.Bytes.{is_digit_in}
-use Rattle.ang_lex.specs.Numbers.{base_of, are_digits, digits_in, prefixed_numeral, numeral_of, is_number}
+use Rattle.ang_lex.specs.Numbers.{base_of, are_digits, digits_in, is_number}
 use Rattle.ang_lex.specs.Fronts.{digits_len, behind_prefix, digits_in_len, prefixed_len, or_else, number_len}
-use Rattle.ang_lex.specs.Spelling.{is_token, is_token_of}
+use Rattle.ang_lex.specs.Spelling.{is_token_of}
 use Rattle.ang_lex.proofs.Runs.{run_all, run_longer}
 use Rattle.ang_lex.proofs.Longest.{IsLongest}
 use Rattle.ang_lex.proofs.FirstBytes.{digit_range, is_prefixed, number_cases, token_by_digit}

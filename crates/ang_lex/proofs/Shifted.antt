@@ -1,5 +1,5 @@
 -- A length found in the rest, counted from an earlier point.
-use Rattle.std.proofs.Common.{◌≡◌, ℕ, zero, suc, ◌+◌, ◌<◌, Bool, true, false, cond, List, [], ◌∷◌, length, drop, Option, Some, None, refl, ap, ◌∙◌, sym, arith, codes, nat_eq, add-one, get_or, drop-cons}
+use Rattle.std.proofs.Common.{◌≡◌, ℕ, suc, ◌+◌, ◌<◌, false, cond, List, ◌∷◌, length, drop, Option, Some, None, refl, ap, ◌∙◌, arith, codes, nat_eq, add-one, get_or, drop-cons}
 use Rattle.std.specs.Prelude.{option_map}
 use Rattle.std.specs.List.{starts_with}
 use Rattle.ang_lex.specs.Tokens.{closing_len}

@@ -1,13 +1,12 @@
 -- The first sign that a rest begins with is the longest.
-use Rattle.std.proofs.Common.{◌≡◌, ℕ, zero, suc, ◌+◌, ◌<◌, ◌≤◌, Bool, true, false, not, cond, ◌&&◌, ◌||◌, List, [], ◌∷◌, length, take, drop, refl, ap, sym, ◌∙◌, subst, arith, ⊎_elim, nat_eq, Option, Some, None, inl, inr}
-use Rattle.std.specs.Prelude.{◌⊎◌, nat_le}
-use Rattle.std.specs.List.{list_all, list_any, starts_with}
+use Rattle.std.proofs.Common.{◌≡◌, ℕ, ◌<◌, ◌≤◌, Bool, true, false, not, cond, ◌&&◌, List, [], ◌∷◌, length, take, refl, ap, sym, ◌∙◌, subst, arith, nat_eq}
+use Rattle.std.specs.Prelude.{nat_le}
+use Rattle.std.specs.List.{list_all, starts_with}
 use Rattle.std.specs.Str.{bytes_eq}
-use Rattle.std.proofs.lemmas.Bool.{and_parts, and_left, or_from, or_left, or_right, or_cases, both_ways, cases_Bool, false_from_ne_true, leb-true, not-true}
+use Rattle.std.proofs.lemmas.Bool.{and_parts, or_from, or_left, or_right, both_ways, false_from_ne_true, leb-true, not-true}
 use Rattle.std.proofs.lemmas.Slice.Eq.{bytes_eq-Decides}
 use Rattle.std.proofs.lemmas.List.{length-take-le, take-take}
 use Rattle.ang_lex.specs.declared.token.TokenKind.{TokenKind}
-use Rattle.ang_lex.specs.declared.token.TokenKind.TheVariants as k
 use Rattle.ang_lex.specs.Words.{Entry, signs, not_is, is_listed, lookup}
 use Rattle.ang_lex.specs.Fronts.{first_of_entries, entry_found, Found}
 

@@ -1,13 +1,12 @@
 -- A text goes to the first byte that it can't have, where that is its quote.
-use Rattle.std.proofs.Common.{◌≡◌, ℕ, zero, suc, ◌+◌, ◌<◌, ◌≤◌, Bool, true, false, not, cond, ◌&&◌, ◌||◌, List, [], ◌∷◌, length, take, drop, refl, ap, sym, ◌∙◌, subst, arith, ⊎_elim, nat_eq, inl, inr}
-use Rattle.std.specs.Prelude.{◌⊎◌}
-use Rattle.std.specs.List.{prefix_len, list_all}
-use Rattle.std.proofs.lemmas.Bool.{and_parts, and_from, both_ways, cases_Bool, eqb-true, false_from_ne_true}
+use Rattle.std.proofs.Common.{◌≡◌, ℕ, zero, suc, ◌+◌, ◌<◌, ◌≤◌, Bool, true, false, ◌&&◌, List, [], ◌∷◌, length, take, drop, refl, ap, ◌∙◌, arith, ⊎_elim, nat_eq}
+use Rattle.std.specs.List.{prefix_len}
+use Rattle.std.proofs.lemmas.Bool.{and_parts, both_ways, cases_Bool, eqb-true, false_from_ne_true}
 use Rattle.std.proofs.lemmas.List.{drop_all}
 use Rattle.std.proofs.str.Laws.{order}
 use Rattle.ang_lex.specs.Bytes.{is_text_byte, begins}
 use Rattle.ang_lex.specs.Fronts.{text_len}
-use Rattle.ang_lex.specs.Spelling.{is_closed, is_text, is_token, is_token_of}
+use Rattle.ang_lex.specs.Spelling.{is_closed, is_text, is_token_of}
 use Rattle.ang_lex.proofs.Longest.{IsLongest}
 use Rattle.ang_lex.proofs.FirstBytes.{token_by_quote}
 

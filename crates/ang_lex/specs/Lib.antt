@@ -1,4 +1,5 @@
 pub mod Bytes
+pub mod Cuts
 pub mod Fronts
 pub mod Numbers
 pub mod Spelling

@@ -1,5 +1,5 @@
 -- Numbers: their spelling, their value and their type (docs/LANGUAGE.md, "Tokens").
-use Rattle.std.specs.Prelude.{ℕ, ◌^◌, Bool, true, false, ◌==◌, ◌||◌, ◌&&◌, length, nat_lt, if◌then◌else◌, List, [], ◌∷◌, Option, Some, None, is_some, option_and_then, unwrap_or}
+use Rattle.std.specs.Prelude.{ℕ, ◌^◌, Bool, ◌==◌, ◌||◌, ◌&&◌, length, nat_lt, if◌then◌else◌, List, [], ◌∷◌, Option, Some, None, is_some, option_and_then, unwrap_or}
 use Rattle.std.specs.List.{list_all}
 use Rattle.std.specs.Str.Parse.{digits_value}
 use Rattle.ang_kinds.specs.declared.primitive.Primitive.{Primitive}

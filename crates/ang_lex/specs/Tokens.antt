@@ -1,5 +1,5 @@
 -- The tokens of a section, or its first fault (docs/LANGUAGE.md, "Tokens").
-use Rattle.std.specs.Prelude.{◌≡◌, ℕ, zero, suc, ◌+◌, ◌<◌, Bool, true, false, ◌==◌, ◌||◌, ◌&&◌, not, nat_lt, is_none, if◌then◌else◌, List, [], ◌∷◌, ◌++◌, length, take, drop, Option, Some, None, option_map, Result, Ok, Err, codes, nat_eq}
+use Rattle.std.specs.Prelude.{ℕ, zero, suc, ◌+◌, ◌<◌, ◌≤◌, Bool, false, ◌==◌, ◌||◌, not, nat_lt, is_none, if◌then◌else◌, List, [], ◌∷◌, ◌++◌, length, take, drop, Option, Some, None, option_map, Result, Ok, Err, codes, nat_eq}
 use Rattle.std.specs.List.{prefix_len, starts_with}
 use Rattle.ang_kinds.specs.declared.place.Place.{Place}
 use Rattle.ang_lex.specs.declared.token.Token.{Token}
@@ -122,3 +122,7 @@ tokens_of sect text =
     let n = mark_len text in
     if nat_lt 65536 (length text) then Err (TooLong (start_of sect))
     else tokens_from (length text) n (place_after (start_of sect) (take n text)) (drop n text)
+
+-- the token has a byte at least, and its bytes are among so many
+abbrev pub IsWithin : ℕ → Token → Type 0
+IsWithin size t = (t.span.start < t.span.end) × (t.span.end ≤ size)

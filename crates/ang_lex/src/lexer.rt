@@ -1,5 +1,5 @@
 //! The tokens of a section.
-ghost use Rattle.std.specs.Prelude.{◌≡◌, ◌≢◌, ℕ, ◌+◌, ◌<◌, ◌≤◌, ◌^◌, length, drop, Ok, Err, IfOk, IfErr, OnOk};
+ghost use Rattle.std.specs.Prelude.{◌≡◌, ◌≢◌, ℕ, ◌+◌, ◌<◌, ◌≤◌, ◌^◌, length, drop, Ok, Err, IfOk, IfErr, OnOk, All};
 ghost use Rattle.ang_lex.specs.Tokens as spec;
 
 use crate::error::LexError;
@@ -128,13 +128,8 @@ fn mark_len(text: &[u8]) -> usize
     }
 }
 
-/// The tokens of the section `text`, whose number is `sect`, or the first fault in it.
-///
-/// Between tokens stand white space and comments. Each token is the longest one that begins where it
-/// begins, and its text is the slice of `text` at its span. Columns count bytes from 1, and only an LF
-/// ends a line (docs/LANGUAGE.md). The answer is `LexError::Memory` only where a growth was refused.
 #[tactic(auto, unfolding(crate::specs::Tokens::tokens_of))]
-pub fn lex(alloc: Global, text: &[u8], sect: u32) -> Result<Vec<Token>, LexError>
+fn section_tokens(alloc: Global, text: &[u8], sect: u32) -> Result<Vec<Token>, LexError>
     ensures tokens { IfOk result (λ v. spec.tokens_of sect text.now ≡ Ok v.items) }
     ensures fault { IfErr result (λ e. e ≢ LexError.Memory → spec.tokens_of sect text.now ≡ Err e) }
 {
@@ -148,4 +143,18 @@ pub fn lex(alloc: Global, text: &[u8], sect: u32) -> Result<Vec<Token>, LexError
     }
     let at = mark_len(text);
     tokens_from(alloc, text, at, place_after(start, &text[..at]))
+}
+
+/// The tokens of the section `text`, whose number is `sect`, or the first fault in it.
+///
+/// Between tokens stand white space and comments. Each token is the longest one that begins where it
+/// begins, and its text is the slice of `text` at its span. Columns count bytes from 1, and only an LF
+/// ends a line (docs/LANGUAGE.md). The answer is `LexError::Memory` only where a growth was refused.
+pub fn lex(alloc: Global, text: &[u8], sect: u32) -> Result<Vec<Token>, LexError>
+    ensures tokens { IfOk result (λ v. spec.tokens_of sect text.now ≡ Ok v.items) }
+    ensures fault { IfErr result (λ e. e ≢ LexError.Memory → spec.tokens_of sect text.now ≡ Err e) }
+    // so each token's text is a slice of the section
+    ensures spans { IfOk result (λ v. All (spec.IsWithin (length text.now)) v.items) }
+{
+    section_tokens(alloc, text, sect)
 }

@@ -4,6 +4,7 @@
 mod bytes;
 mod error;
 mod gap;
+pub mod laws;
 mod lexer;
 mod names;
 mod numbers;
