@@ -8,7 +8,7 @@ ghost use Rattle.ang_lex.specs.Words as words;
 use crate::bytes::{is_name_byte, is_name_start};
 use crate::piece::MOST_TOKEN_BYTES;
 use crate::token::TokenKind;
-use crate::words::RESERVED_WORDS;
+use crate::words::words_of_length;
 
 /// The text is one of the spellings.
 #[tactic(auto, unfolding(crate::specs::Words::is_listed))]
@@ -27,7 +27,7 @@ fn is_listed(mut entries: &[(&[u8], TokenKind)], text: &[u8]) -> bool
 fn is_reserved(text: &[u8]) -> bool
     ensures { result ≡ words.is_listed words.reserved_words text.now }
 {
-    is_listed(&RESERVED_WORDS, text)
+    is_listed(words_of_length(text.len()), text)
 }
 
 fn are_name_bytes(bytes: &[u8]) -> bool

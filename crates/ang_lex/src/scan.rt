@@ -1,5 +1,5 @@
 //! How far the token at the front of a rest goes.
-ghost use Rattle.std.specs.Prelude.{◌≡◌, ℕ, ◌+◌, ◌<◌, ◌≤◌, ◌^◌, length, map, not, IsTrue, IfSome};
+ghost use Rattle.std.specs.Prelude.{◌≡◌, ℕ, ◌+◌, ◌<◌, ◌≤◌, ◌^◌, length, map, IsTrue, true, ◌==◌};
 ghost use Rattle.std.specs.List.{prefix_len};
 ghost use Rattle.ang_lex.specs.Bytes as bytes;
 ghost use Rattle.ang_lex.specs.Fronts as spec;
@@ -8,7 +8,7 @@ ghost use Rattle.ang_lex.specs.Words as words;
 use crate::bytes::{begins_name_byte, digit_value, is_name_byte, is_name_start, is_text_byte};
 use crate::numbers::base_of;
 use crate::token::TokenKind;
-use crate::words::{RESERVED_WORDS, SIGNS};
+use crate::words::{signs_from, words_of_length};
 
 fn name_len(rest: &[u8]) -> usize
     ensures value { result ≡ spec.name_len rest.now }
@@ -86,13 +86,16 @@ fn lookup(mut entries: &[(&[u8], TokenKind)], text: &[u8], other: TokenKind) -> 
     other
 }
 
-#[tactic(auto, using(crate::proofs::Tables::reserved_words_are), unfolding(crate::specs::Fronts::name_found))]
+#[tactic(auto, unfolding(crate::specs::Fronts::name_found))]
 fn name_found(rest: &[u8]) -> (TokenKind, usize)
     ensures value { result ≡ spec.name_found rest.now }
     ensures within { result.1 ≤ length rest.now }
 {
     let len = name_len(rest);
-    (lookup(&RESERVED_WORDS, &rest[..len], TokenKind::Name), len)
+    (
+        lookup(words_of_length(len), &rest[..len], TokenKind::Name),
+        len,
+    )
 }
 
 fn begins_not_is(rest: &[u8]) -> bool
@@ -117,15 +120,16 @@ fn first_of_entries(mut entries: &[(&[u8], TokenKind)], rest: &[u8]) -> (TokenKi
     (TokenKind::NotIs, 0)
 }
 
-#[tactic(auto, using(crate::proofs::Tables::signs_are), unfolding(crate::specs::Fronts::sign_found))]
-fn sign_found(rest: &[u8]) -> (TokenKind, usize)
+#[tactic(auto, unfolding(crate::specs::Fronts::sign_found))]
+fn sign_found(first: u8, rest: &[u8]) -> (TokenKind, usize)
+    requires { bytes.begins (λ b. b == first) rest.now ≡ true }
     ensures value { result ≡ spec.sign_found rest.now }
     ensures within { result.1 ≤ length rest.now }
 {
     if begins_not_is(rest) {
         (TokenKind::NotIs, 3)
     } else {
-        first_of_entries(&SIGNS, rest)
+        first_of_entries(signs_from(first), rest)
     }
 }
 
@@ -140,6 +144,6 @@ pub fn found(rest: &[u8]) -> (TokenKind, usize)
         [b, ..] if is_name_start(*b) => name_found(rest),
         [b'0'..=b'9', ..] => (TokenKind::Number, number_len(rest)),
         [b'"', ..] => (TokenKind::Text, text_len(rest)),
-        _ => sign_found(rest),
+        [b, ..] => sign_found(*b, rest),
     }
 }
