@@ -1,17 +1,15 @@
 -- What is spelled as an expression is read.
-use Rattle.std.proofs.Common.{◌≡◌, ℕ, zero, suc, ◌+◌, ◌-◌, ◌<◌, ◌≤◌, Bool, true, false, List, [], ◌∷◌, length, Option, Some, None, Ok, refl, ap, sym, ◌∙◌, arith}
+use Rattle.std.proofs.Common.{◌≡◌, ℕ, zero, suc, ◌+◌, ◌-◌, ◌<◌, ◌≤◌, true, false, List, ◌∷◌, Option, Some, None, Ok, refl, ap, sym, ◌∙◌, arith}
 use Rattle.ang_lex.specs.declared.token.Token.{Token}
 use Rattle.ang_lex.specs.declared.token.TokenKind.{TokenKind}
 use Rattle.ang_lex.specs.declared.token.TokenKind.TheVariants as k
 use Rattle.ang_tree.specs.declared.type_name.TypeName.{TypeName}
-use Rattle.ang_tree.specs.Kinds.{Is, IsA, IsComma, optional, literal_kind, primitive_kind, prefix_kind, step_kind, assignment_kind, precedence}
-use Rattle.ang_tree.specs.TypeNames.{spelled_type, FitsType}
-use Rattle.ang_tree.specs.Tree.{Tree, Args, Trees, literal, name, call, scoped_call, cast, convert, group, postfix, member, method_call, prefix, binary, conditional, assignment, arguments, none, more, added, spelled, spelled_args, listed, level, Fits, FitsArgs, AllFit, OthersFit}
-use Rattle.ang_read.specs.Read.{Parser, and_then, pure, ◌>>=◌, refuse, Choice, look, Turn, repeat}
+use Rattle.ang_tree.specs.Kinds.{Is, step_kind, precedence}
+use Rattle.ang_tree.specs.TypeNames.{spelled_type}
+use Rattle.ang_tree.specs.Tree.{Tree, Args, Trees, literal, name, call, scoped_call, cast, convert, group, postfix, member, method_call, prefix, binary, conditional, assignment, arguments, none, more, added, spelled, listed, level, Fits, FitsArgs, AllFit, OthersFit}
+use Rattle.ang_read.specs.Read.{Parser, and_then, repeat}
 use Rattle.ang_read.specs.Tokens.{is_const}
-use Rattle.ang_read.proofs.Tokens.{begins}
 use Rattle.ang_read.proofs.Loops.{repeat_stops, repeat_goes_on}
-use Rattle.ang_parse_expr.specs.ReadType.{a_type}
 use Rattle.ang_parse_expr.specs.ReadExpr as r
 use Rattle.ang_parse_expr.proofs.Sound.{precedence-top}
 use Rattle.ang_parse_expr.proofs.CompleteType.{is_at, EndsType, type_read}

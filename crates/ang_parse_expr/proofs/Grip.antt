@@ -1,12 +1,12 @@
 -- Which tokens continue an expression, and which begin one.
-use Rattle.std.proofs.Common.{◌≡◌, ℕ, zero, suc, ◌+◌, ◌-◌, ◌<◌, ◌≤◌, Bool, true, false, List, [], ◌∷◌, Option, Some, None, refl, ap, sym, subst, ◌∙◌, arith}
+use Rattle.std.proofs.Common.{◌≡◌, ℕ, zero, suc, ◌-◌, ◌≤◌, Bool, true, false, List, [], ◌∷◌, None, refl, ap, sym, subst, arith}
 use Rattle.std.proofs.lemmas.Bool.{le-leb, lt-leb}
 use Rattle.ang_lex.specs.declared.token.Token.{Token}
 use Rattle.ang_lex.specs.declared.token.TokenKind.{TokenKind}
 use Rattle.ang_lex.specs.declared.token.TokenKind.TheVariants as k
-use Rattle.ang_tree.specs.Kinds.{Is, IsA, literal_kind, primitive_kind, prefix_kind, step_kind, assignment_kind, precedence}
-use Rattle.ang_tree.specs.Tree.{Tree, Args, Trees, literal, name, call, scoped_call, cast, convert, group, postfix, member, method_call, prefix, binary, conditional, assignment, arguments, none, more, spelled, spelled_args, listed, level, Fits}
-use Rattle.ang_read.specs.Read.{Parser, Choice, chosen, look}
+use Rattle.ang_tree.specs.Kinds.{IsA, literal_kind, primitive_kind, prefix_kind, assignment_kind, precedence}
+use Rattle.ang_tree.specs.Tree.{Tree, literal, name, call, scoped_call, cast, convert, group, postfix, member, method_call, prefix, binary, conditional, assignment, spelled, spelled_args, level, Fits}
+use Rattle.ang_read.specs.Read.{Parser, Choice, look}
 use Rattle.ang_read.proofs.Tokens.{look_at}
 use Rattle.ang_parse_expr.specs.ReadExpr as r
 use Rattle.ang_parse_expr.proofs.Sound.{precedence-top}

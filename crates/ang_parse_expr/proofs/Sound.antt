@@ -1,6 +1,5 @@
 -- What is read is spelled so.
-use Rattle.std.proofs.Common.{◌≡◌, ℕ, zero, suc, ◌+◌, ◌-◌, ◌<◌, ◌≤◌, Bool, true, false, List, [], ◌∷◌, ◌++◌, length, Option, Some, None, Result, Ok, Err, refl, ap, sym, subst, ◌∙◌, arith}
-use Rattle.std.specs.Prelude.{IfSome}
+use Rattle.std.proofs.Common.{◌≡◌, ℕ, zero, suc, ◌+◌, ◌-◌, ◌<◌, ◌≤◌, Bool, true, false, List, [], ◌∷◌, length, Option, Some, None, refl, ap, sym, ◌∙◌, arith}
 use Rattle.std.proofs.lemmas.Bool.{leb-true, leb-false}
 use Rattle.ang_lex.specs.declared.token.Token.{Token}
 use Rattle.ang_lex.specs.declared.token.TokenKind.{TokenKind}
@@ -8,7 +7,7 @@ use Rattle.ang_lex.specs.declared.token.TokenKind.TheVariants as k
 use Rattle.ang_tree.specs.Kinds.{Is, IsA, IsComma, optional, literal_kind, primitive_kind, prefix_kind, step_kind, assignment_kind, precedence}
 use Rattle.ang_tree.specs.TypeNames.{spelled_type}
 use Rattle.ang_tree.specs.Tree.{Tree, Args, Trees, literal, name, call, scoped_call, cast, convert, group, postfix, member, method_call, prefix, binary, conditional, assignment, arguments, none, more, added, spelled, spelled_args, listed, level, Fits, FitsArgs, AllFit, OthersFit}
-use Rattle.ang_read.specs.Read.{Fault, at, deep, Parser, Outcome, and_then, pure, ◌>>=◌, refuse, Choice, given, look, Turn, turned, repeat}
+use Rattle.ang_read.specs.Read.{Parser, pure, ◌>>=◌, refuse, given, repeat}
 use Rattle.ang_read.specs.Tokens.{a_token, is_name, is_left_paren, is_right_paren, is_less, is_greater, is_colon}
 use Rattle.ang_read.proofs.Outcomes.{Reads, and_reads, along, behind, further, ChoiceReads, look_reads, look_or_pass_reads, given_reads, Passes, Turns, repeat_reads, From-self, From-one, From-length}
 use Rattle.ang_read.proofs.Tokens.{Always, Token_read, a_token_reads, name_is, left_paren_is, right_paren_is, less_is, greater_is, colon_is}

@@ -1,10 +1,10 @@
 -- What is read as a type is spelled so.
-use Rattle.std.proofs.Common.{◌≡◌, ℕ, suc, ◌+◌, ◌<◌, ◌≤◌, true, List, [], ◌∷◌, length, Option, Some, None, refl, ap, ◌∙◌, arith}
+use Rattle.std.proofs.Common.{◌≡◌, ℕ, ◌<◌, ◌≤◌, List, ◌∷◌, length, Option, Some, None, refl, ap, ◌∙◌, arith}
 use Rattle.ang_lex.specs.declared.token.Token.{Token}
 use Rattle.ang_lex.specs.declared.token.TokenKind.TheVariants as k
 use Rattle.ang_tree.specs.declared.type_name.TypeName.{TypeName}
 use Rattle.ang_tree.specs.declared.type_name.Handle.{Handle}
-use Rattle.ang_tree.specs.Kinds.{Is, IsA, IfWritten, optional, type_kind}
+use Rattle.ang_tree.specs.Kinds.{IsA, IfWritten, optional, type_kind}
 use Rattle.ang_tree.specs.TypeNames.{spelled_handle, spelled_type, FitsHandle, FitsType}
 use Rattle.ang_read.specs.Read.{pure}
 use Rattle.ang_read.specs.Tokens.{a_token, perhaps, is_const}

@@ -1,15 +1,14 @@
 -- The readers of types and expressions look no further than they read.
-use Rattle.std.proofs.Common.{◌≡◌, ℕ, zero, suc, ◌+◌, ◌<◌, ◌≤◌, Bool, true, false, List, [], ◌∷◌, Option, Some, None, refl, ap, sym, subst, arith}
+use Rattle.std.proofs.Common.{◌≡◌, ℕ, zero, suc, ◌+◌, ◌≤◌, Bool, true, false, List, ◌∷◌, Option, Some, None, ap, sym, subst, arith}
 use Rattle.ang_lex.specs.declared.token.Token.{Token}
 use Rattle.ang_lex.specs.declared.token.Span.{Span}
 use Rattle.ang_kinds.specs.declared.place.Place.{Place}
 use Rattle.ang_kinds.specs.declared.primitive.Primitive.{Primitive}
 use Rattle.ang_lex.specs.declared.token.TokenKind.{TokenKind}
 use Rattle.ang_lex.specs.declared.token.TokenKind.TheVariants as k
-use Rattle.ang_tree.specs.declared.type_name.TypeName.{TypeName}
 use Rattle.ang_tree.specs.Kinds.{Is, literal_kind, type_kind, prefix_kind, step_kind, assignment_kind, precedence}
-use Rattle.ang_tree.specs.Tree.{Tree, Args, Trees, literal, name, call, scoped_call, cast, convert, group, postfix, member, method_call, prefix, binary, conditional, assignment, arguments, none, more, added}
-use Rattle.ang_read.specs.Read.{Parser, pure, ◌>>=◌, refuse, Choice, given, look, Turn, repeat}
+use Rattle.ang_tree.specs.Tree.{Tree, Trees, literal, name, call, scoped_call, cast, convert, group, postfix, member, method_call, prefix, binary, conditional, assignment, arguments, none, more, added}
+use Rattle.ang_read.specs.Read.{Parser, pure, ◌>>=◌, refuse, Choice, given, look, Turn}
 use Rattle.ang_read.specs.Tokens.{a_token, perhaps, is_name, is_left_paren, is_right_paren, is_less, is_greater, is_colon, is_const}
 use Rattle.ang_read.proofs.Tame.{Tame, Both, both_given, tame_pure, tame_refuse, tame_bind, tame_look, tame_repeat}
 use Rattle.ang_read.proofs.Tokens.{a_token_tame, perhaps_tame}

@@ -7,7 +7,7 @@ use Rattle.ang_tree.specs.declared.expression.Expression.{Expression, fold-roll-
 use Rattle.ang_tree.specs.declared.expression.Expression.TheVariants.{Conditional, rolls-Conditional}
 use Rattle.ang_tree.specs.declared.expression.Expression.TheOpen.{Expression-F}
 use Rattle.ang_tree.specs.declared.expression.Argument.{Argument, roll-Argument, fold-roll-Argument}
-use Rattle.ang_tree.specs.Tree.{Tree, Args, Trees, more, added, conditional}
+use Rattle.ang_tree.specs.Tree.{Tree, Args, more, added, conditional}
 use Rattle.ang_tree.specs.View.{Item, expression_step, argument_step, arguments_step, view_expr, view_item, view_items}
 
 pub view_items_push : (es : List Argument) (e : Argument) → view_items (es ++ e ∷ []) ≡ added (view_items es) (view_item e).0 (view_item e).1

@@ -1,11 +1,11 @@
 -- Reading expressions.
-use Rattle.std.specs.Prelude.{ℕ, zero, suc, ◌+◌, nat_le, Bool, true, false, List, [], ◌∷◌, length, Option, Some, None, Ok, Err}
+use Rattle.std.specs.Prelude.{ℕ, zero, suc, ◌+◌, nat_le, Bool, true, false, Some, None}
 use Rattle.ang_lex.specs.declared.token.Token.{Token}
 use Rattle.ang_lex.specs.declared.token.TokenKind.{TokenKind}
 use Rattle.ang_lex.specs.declared.token.TokenKind.TheVariants as k
 use Rattle.ang_tree.specs.Kinds.{literal_kind, prefix_kind, step_kind, assignment_kind, precedence}
 use Rattle.ang_tree.specs.Tree.{Tree, Args, Trees, literal, name, call, scoped_call, cast, convert, group, postfix, member, method_call, prefix, binary, conditional, assignment, arguments, none, more, added}
-use Rattle.ang_read.specs.Read.{Fault, at, deep, Parser, ◌>>=◌, ◌>>◌, pure, refuse, out_of_depth, Choice, given, look, next, Turn, ready, repeat}
+use Rattle.ang_read.specs.Read.{Parser, ◌>>=◌, pure, out_of_depth, Choice, given, look, next, Turn, ready, repeat}
 use Rattle.ang_read.specs.Tokens.{a_token, is_name, is_left_paren, is_right_paren, is_less, is_greater, is_colon}
 use Rattle.ang_parse_expr.specs.ReadType.{a_type}
 

@@ -6,7 +6,7 @@ use Rattle.ang_lex.specs.declared.token.TokenKind.TheVariants as k
 use Rattle.ang_tree.specs.declared.type_name.TypeName.{TypeName}
 use Rattle.ang_tree.specs.declared.type_name.Handle.{Handle}
 use Rattle.ang_tree.specs.Kinds.{type_kind}
-use Rattle.ang_read.specs.Read.{Fault, at, deep, Parser, ◌>>=◌, ◌>>◌, pure, Choice, look}
+use Rattle.ang_read.specs.Read.{Parser, ◌>>=◌, pure, Choice, look}
 use Rattle.ang_read.specs.Tokens.{a_token, perhaps, is_const}
 
 abbrev pub handle_of : Token → Option Token → Handle

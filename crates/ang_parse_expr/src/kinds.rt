@@ -6,7 +6,7 @@ ghost use Rattle.ang_parse_expr.specs.ReadExpr as read;
 use ang_lex::TokenKind;
 
 /// Whether the token is a literal: a number, `true`, `false`, `null` or `this`.
-pub fn is_literal(kind: TokenKind) -> bool
+pub(crate) fn is_literal(kind: TokenKind) -> bool
     ensures { result ≡ kinds.literal_kind kind }
 {
     matches!(
@@ -26,7 +26,7 @@ pub fn is_type_name(kind: TokenKind) -> bool
 }
 
 /// Whether the token is an operator in front of an operand: `!`, `-`, `+`, `~`, `@`, `++` or `--`.
-pub fn is_prefix(kind: TokenKind) -> bool
+pub(crate) fn is_prefix(kind: TokenKind) -> bool
     ensures { result ≡ kinds.prefix_kind kind }
 {
     matches!(
@@ -42,14 +42,14 @@ pub fn is_prefix(kind: TokenKind) -> bool
 }
 
 /// Whether the token is `++` or `--`.
-pub fn is_step(kind: TokenKind) -> bool
+pub(crate) fn is_step(kind: TokenKind) -> bool
     ensures { result ≡ kinds.step_kind kind }
 {
     matches!(kind, TokenKind::Increment | TokenKind::Decrement)
 }
 
 /// Whether the token is `=` or a compound assignment.
-pub fn is_assignment(kind: TokenKind) -> bool
+pub(crate) fn is_assignment(kind: TokenKind) -> bool
     ensures { result ≡ kinds.assignment_kind kind }
 {
     matches!(
@@ -70,7 +70,7 @@ pub fn is_assignment(kind: TokenKind) -> bool
 }
 
 /// How tightly a binary operator binds, from 1 for `||` to 10 for `*`; 0 for any other token.
-pub fn precedence(kind: TokenKind) -> u32
+pub(crate) fn precedence(kind: TokenKind) -> u32
     ensures value { result ≡ kinds.precedence kind }
     ensures bound { result ≤ 10 }
 {

@@ -7,10 +7,12 @@
 mod build;
 mod expr;
 mod kinds;
+#[cfg(test)]
+mod tests;
 mod types;
 mod whole;
 
 pub use expr::{arguments, expression, expressions};
-pub use kinds::{is_assignment, is_literal, is_prefix, is_step, is_type_name, precedence};
+pub use kinds::is_type_name;
 pub use types::{handle, type_name, type_named};
 pub use whole::{one_tree, parse_expression};

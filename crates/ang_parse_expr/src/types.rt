@@ -1,6 +1,6 @@
 //! Reading types.
 ghost use Rattle.std.specs.Prelude.{◌≡◌, Ok};
-ghost use Rattle.ang_read.specs.Gives.{Gives};
+ghost use Rattle.ang_read.specs.Gives.{Gives, NeedsNoMemory};
 ghost use Rattle.ang_parse_expr.specs.ReadType as read;
 
 use crate::kinds::is_type_name;
@@ -41,7 +41,8 @@ pub fn type_named(constant: Option<Token>, name: Token, tokens: &[Token]) -> (Ty
 /// Reads a type.
 #[tactic(auto, unfolding(crate::specs::ReadType::a_type, ang_read::specs::Tokens::a_token))]
 pub fn type_name(tokens: &[Token]) -> Result<(TypeName, &[Token]), ReadError<'_>>
-    ensures { Gives (λ x. (x.0, x.1.now)) result (read.a_type tokens.now) }
+    ensures reads { Gives (λ x. (x.0, x.1.now)) result (read.a_type tokens.now) }
+    ensures no_memory { NeedsNoMemory result }
 {
     let (constant, rest) = perhaps_const(tokens);
     match rest {

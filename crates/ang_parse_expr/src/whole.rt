@@ -45,5 +45,4 @@ pub fn parse_expression(alloc: Global, tokens: &[Token]) -> Result<Expression, R
 /// No tokens are spelled by two expressions.
 pub fn one_tree()
     ensures { (x y : Tree) (tokens : List Token) → Spells x tokens → Spells y tokens → x ≡ y }
-{
-}
+{}

@@ -107,6 +107,6 @@ module _ (A : Type 0) where
     given_fault e.Deep ts g = never_deep ts g
 
     pub given_all : (X : Type 0) (view : X → A) (result : Result X ReadError) (ts : List Token) → Such ts → Gives (λ x. (view x, [])) result (all_of reader ts)
-      → IfOk result (λ x. Spells (view x) ts) × ((x : A) → Spells x ts → Gives (λ x. (view x, [])) result (Ok (x, []))) × IfErr result (λ f. Faulty Spells ts f)
+        → IfOk result (λ x. Spells (view x) ts) × ((x : A) → Spells x ts → Gives (λ x. (view x, [])) result (Ok (x, []))) × IfErr result (λ f. Faulty Spells ts f)
     given_all X view (Ok y) ts such g = (all_found ts such (view y, []) g, λ x h. sym (all_complete x ts h) ∙ g, tt)
     given_all X view (Err f) ts such g = (tt, λ x h. subst (λ v. Gives {X = X} (λ x. (view x, [])) (Err f) v) (all_complete x ts h) g, given_fault f ts g)

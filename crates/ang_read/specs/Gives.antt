@@ -14,3 +14,10 @@ Fails e.Deep read = read ≡ Err deep
 abbrev pub Gives : {X Y : Type 0} → (X → Y × List Token) → Result X ReadError → Outcome Y → Type 0
 Gives view (Ok x) read = read ≡ Ok (view x)
 Gives view (Err f) read = Fails f read
+
+-- It did not run out of memory.
+abbrev pub NeedsNoMemory : {X : Type 0} → Result X ReadError → Type 0
+NeedsNoMemory (Ok x) = Unit {0}
+NeedsNoMemory (Err e.Memory) = ⊥
+NeedsNoMemory (Err (e.Syntax rest)) = Unit {0}
+NeedsNoMemory (Err e.Deep) = Unit {0}

@@ -1,7 +1,7 @@
 //! Readers of single tokens. Each answers the token and the tokens behind it, or the fault at the
 //! first token where that is of another kind.
 ghost use Rattle.std.specs.Prelude.{◌≡◌, Ok};
-ghost use Rattle.ang_read.specs.Gives.{Gives};
+ghost use Rattle.ang_read.specs.Gives.{Gives, NeedsNoMemory};
 ghost use Rattle.ang_read.specs.Tokens.{a_token, perhaps, is_const, is_name, is_left_paren, is_right_paren, is_left_brace, is_right_brace, is_semicolon, is_colon, is_scope, is_less, is_greater, is_while, is_from, is_text};
 
 use crate::error::ReadError;
@@ -10,7 +10,8 @@ use ang_lex::{Token, TokenKind};
 /// Reads a name.
 #[tactic(auto, unfolding(crate::specs::Tokens::a_token))]
 pub fn a_name(tokens: &[Token]) -> Result<(Token, &[Token]), ReadError<'_>>
-    ensures { Gives (λ x. (x.0, x.1.now)) result (a_token is_name tokens.now) }
+    ensures reads { Gives (λ x. (x.0, x.1.now)) result (a_token is_name tokens.now) }
+    ensures no_memory { NeedsNoMemory result }
 {
     match tokens {
         [token, rest @ ..] if matches!(token.kind, TokenKind::Name) => Ok((*token, rest)),
@@ -21,7 +22,8 @@ pub fn a_name(tokens: &[Token]) -> Result<(Token, &[Token]), ReadError<'_>>
 /// Reads `(`.
 #[tactic(auto, unfolding(crate::specs::Tokens::a_token))]
 pub fn a_left_paren(tokens: &[Token]) -> Result<(Token, &[Token]), ReadError<'_>>
-    ensures { Gives (λ x. (x.0, x.1.now)) result (a_token is_left_paren tokens.now) }
+    ensures reads { Gives (λ x. (x.0, x.1.now)) result (a_token is_left_paren tokens.now) }
+    ensures no_memory { NeedsNoMemory result }
 {
     match tokens {
         [token, rest @ ..] if matches!(token.kind, TokenKind::LeftParen) => Ok((*token, rest)),
@@ -32,7 +34,8 @@ pub fn a_left_paren(tokens: &[Token]) -> Result<(Token, &[Token]), ReadError<'_>
 /// Reads `)`.
 #[tactic(auto, unfolding(crate::specs::Tokens::a_token))]
 pub fn a_right_paren(tokens: &[Token]) -> Result<(Token, &[Token]), ReadError<'_>>
-    ensures { Gives (λ x. (x.0, x.1.now)) result (a_token is_right_paren tokens.now) }
+    ensures reads { Gives (λ x. (x.0, x.1.now)) result (a_token is_right_paren tokens.now) }
+    ensures no_memory { NeedsNoMemory result }
 {
     match tokens {
         [token, rest @ ..] if matches!(token.kind, TokenKind::RightParen) => Ok((*token, rest)),
@@ -43,7 +46,8 @@ pub fn a_right_paren(tokens: &[Token]) -> Result<(Token, &[Token]), ReadError<'_
 /// Reads `{`.
 #[tactic(auto, unfolding(crate::specs::Tokens::a_token))]
 pub fn a_left_brace(tokens: &[Token]) -> Result<(Token, &[Token]), ReadError<'_>>
-    ensures { Gives (λ x. (x.0, x.1.now)) result (a_token is_left_brace tokens.now) }
+    ensures reads { Gives (λ x. (x.0, x.1.now)) result (a_token is_left_brace tokens.now) }
+    ensures no_memory { NeedsNoMemory result }
 {
     match tokens {
         [token, rest @ ..] if matches!(token.kind, TokenKind::LeftBrace) => Ok((*token, rest)),
@@ -54,7 +58,8 @@ pub fn a_left_brace(tokens: &[Token]) -> Result<(Token, &[Token]), ReadError<'_>
 /// Reads `}`.
 #[tactic(auto, unfolding(crate::specs::Tokens::a_token))]
 pub fn a_right_brace(tokens: &[Token]) -> Result<(Token, &[Token]), ReadError<'_>>
-    ensures { Gives (λ x. (x.0, x.1.now)) result (a_token is_right_brace tokens.now) }
+    ensures reads { Gives (λ x. (x.0, x.1.now)) result (a_token is_right_brace tokens.now) }
+    ensures no_memory { NeedsNoMemory result }
 {
     match tokens {
         [token, rest @ ..] if matches!(token.kind, TokenKind::RightBrace) => Ok((*token, rest)),
@@ -65,7 +70,8 @@ pub fn a_right_brace(tokens: &[Token]) -> Result<(Token, &[Token]), ReadError<'_
 /// Reads `;`.
 #[tactic(auto, unfolding(crate::specs::Tokens::a_token))]
 pub fn a_semicolon(tokens: &[Token]) -> Result<(Token, &[Token]), ReadError<'_>>
-    ensures { Gives (λ x. (x.0, x.1.now)) result (a_token is_semicolon tokens.now) }
+    ensures reads { Gives (λ x. (x.0, x.1.now)) result (a_token is_semicolon tokens.now) }
+    ensures no_memory { NeedsNoMemory result }
 {
     match tokens {
         [token, rest @ ..] if matches!(token.kind, TokenKind::Semicolon) => Ok((*token, rest)),
@@ -76,7 +82,8 @@ pub fn a_semicolon(tokens: &[Token]) -> Result<(Token, &[Token]), ReadError<'_>>
 /// Reads `:`.
 #[tactic(auto, unfolding(crate::specs::Tokens::a_token))]
 pub fn a_colon(tokens: &[Token]) -> Result<(Token, &[Token]), ReadError<'_>>
-    ensures { Gives (λ x. (x.0, x.1.now)) result (a_token is_colon tokens.now) }
+    ensures reads { Gives (λ x. (x.0, x.1.now)) result (a_token is_colon tokens.now) }
+    ensures no_memory { NeedsNoMemory result }
 {
     match tokens {
         [token, rest @ ..] if matches!(token.kind, TokenKind::Colon) => Ok((*token, rest)),
@@ -87,7 +94,8 @@ pub fn a_colon(tokens: &[Token]) -> Result<(Token, &[Token]), ReadError<'_>>
 /// Reads `::`.
 #[tactic(auto, unfolding(crate::specs::Tokens::a_token))]
 pub fn a_scope(tokens: &[Token]) -> Result<(Token, &[Token]), ReadError<'_>>
-    ensures { Gives (λ x. (x.0, x.1.now)) result (a_token is_scope tokens.now) }
+    ensures reads { Gives (λ x. (x.0, x.1.now)) result (a_token is_scope tokens.now) }
+    ensures no_memory { NeedsNoMemory result }
 {
     match tokens {
         [token, rest @ ..] if matches!(token.kind, TokenKind::Scope) => Ok((*token, rest)),
@@ -98,7 +106,8 @@ pub fn a_scope(tokens: &[Token]) -> Result<(Token, &[Token]), ReadError<'_>>
 /// Reads `<`.
 #[tactic(auto, unfolding(crate::specs::Tokens::a_token))]
 pub fn a_less(tokens: &[Token]) -> Result<(Token, &[Token]), ReadError<'_>>
-    ensures { Gives (λ x. (x.0, x.1.now)) result (a_token is_less tokens.now) }
+    ensures reads { Gives (λ x. (x.0, x.1.now)) result (a_token is_less tokens.now) }
+    ensures no_memory { NeedsNoMemory result }
 {
     match tokens {
         [token, rest @ ..] if matches!(token.kind, TokenKind::Less) => Ok((*token, rest)),
@@ -109,7 +118,8 @@ pub fn a_less(tokens: &[Token]) -> Result<(Token, &[Token]), ReadError<'_>>
 /// Reads `>`.
 #[tactic(auto, unfolding(crate::specs::Tokens::a_token))]
 pub fn a_greater(tokens: &[Token]) -> Result<(Token, &[Token]), ReadError<'_>>
-    ensures { Gives (λ x. (x.0, x.1.now)) result (a_token is_greater tokens.now) }
+    ensures reads { Gives (λ x. (x.0, x.1.now)) result (a_token is_greater tokens.now) }
+    ensures no_memory { NeedsNoMemory result }
 {
     match tokens {
         [token, rest @ ..] if matches!(token.kind, TokenKind::Greater) => Ok((*token, rest)),
@@ -120,7 +130,8 @@ pub fn a_greater(tokens: &[Token]) -> Result<(Token, &[Token]), ReadError<'_>>
 /// Reads the word `while`.
 #[tactic(auto, unfolding(crate::specs::Tokens::a_token))]
 pub fn a_while(tokens: &[Token]) -> Result<(Token, &[Token]), ReadError<'_>>
-    ensures { Gives (λ x. (x.0, x.1.now)) result (a_token is_while tokens.now) }
+    ensures reads { Gives (λ x. (x.0, x.1.now)) result (a_token is_while tokens.now) }
+    ensures no_memory { NeedsNoMemory result }
 {
     match tokens {
         [token, rest @ ..] if matches!(token.kind, TokenKind::While) => Ok((*token, rest)),
@@ -131,7 +142,8 @@ pub fn a_while(tokens: &[Token]) -> Result<(Token, &[Token]), ReadError<'_>>
 /// Reads the word `from`.
 #[tactic(auto, unfolding(crate::specs::Tokens::a_token))]
 pub fn a_from(tokens: &[Token]) -> Result<(Token, &[Token]), ReadError<'_>>
-    ensures { Gives (λ x. (x.0, x.1.now)) result (a_token is_from tokens.now) }
+    ensures reads { Gives (λ x. (x.0, x.1.now)) result (a_token is_from tokens.now) }
+    ensures no_memory { NeedsNoMemory result }
 {
     match tokens {
         [token, rest @ ..] if matches!(token.kind, TokenKind::From) => Ok((*token, rest)),
@@ -142,7 +154,8 @@ pub fn a_from(tokens: &[Token]) -> Result<(Token, &[Token]), ReadError<'_>>
 /// Reads a text in quotes.
 #[tactic(auto, unfolding(crate::specs::Tokens::a_token))]
 pub fn a_text(tokens: &[Token]) -> Result<(Token, &[Token]), ReadError<'_>>
-    ensures { Gives (λ x. (x.0, x.1.now)) result (a_token is_text tokens.now) }
+    ensures reads { Gives (λ x. (x.0, x.1.now)) result (a_token is_text tokens.now) }
+    ensures no_memory { NeedsNoMemory result }
 {
     match tokens {
         [token, rest @ ..] if matches!(token.kind, TokenKind::Text) => Ok((*token, rest)),

@@ -1,4 +1,3 @@
-use Rattle.std.proofs.Common.{◌≡◌}
 use Rattle.std.proofs.lemmas.Result.{err_from_is_err_and}
 use Rattle.ang_read.proofs.Turns.{fails, ends_at, goes_on_at, runs_out}
 use Rattle.ang_parse_expr.proofs.expr.+expression.Goals as goal

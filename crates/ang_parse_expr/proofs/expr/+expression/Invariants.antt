@@ -1,4 +1,4 @@
-use Rattle.std.proofs.Common.{◌≡◌, ℕ, List, ◌+◌, ◌-◌, ◌*◌, ◌<◌, ◌≤◌, length}
+use Rattle.std.proofs.Common.{◌≡◌, ◌+◌, ◌-◌, ◌*◌}
 use Rattle.ang_tree.specs.View.{view_expr, view_items}
 use Rattle.ang_read.specs.Read.{repeat}
 use Rattle.ang_parse_expr.specs.ReadExpr as read
