@@ -9,7 +9,7 @@ use Rattle.ang_lex.specs.declared.token.TokenKind.TheVariants as k
 use Rattle.ang_lex.specs.Bytes.{is_name_start, is_name_byte, is_digit_in, begins}
 use Rattle.ang_lex.specs.Numbers.{is_number}
 use Rattle.ang_lex.specs.Words.{reserved_words, signs, not_is, is_listed, lookup}
-use Rattle.ang_lex.specs.Fronts.{Found, name_len, number_len, text_len, begins_not_is, name_found, sign_found, found}
+use Rattle.ang_lex.specs.Fronts.{Front, name_len, number_len, text_len, begins_not_is, front_name, front_sign, front_token}
 use Rattle.ang_lex.specs.Spelling.{is_name, is_text, is_token_of, longest, kind_of}
 use Rattle.ang_lex.proofs.FirstBytes.{no_name, no_number, no_text, token_by_other}
 use Rattle.ang_lex.proofs.Longest.{IsLongest, longest_is}
@@ -19,7 +19,7 @@ use Rattle.ang_lex.proofs.TextLen.{text_is, text_is_longest}
 use Rattle.ang_lex.proofs.SignLen.{found_in, found_listed, found_kind, no_longer_sign, no_sign_at_not_is}
 
 -- the longest token, and its kind
-pub record IsFound (rest : List ℕ) (f : Found) : Type 0 where
+pub record IsFound (rest : List ℕ) (f : Front) : Type 0 where
   pub longest : IsLongest rest f.1
   pub kind : 0 < f.1 → f.0 ≡ kind_of (take f.1 rest)
 
@@ -48,8 +48,8 @@ front_by : (P : List ℕ → Type 0) (b : ℕ) (bs : List ℕ) (n : ℕ) → 0 <
 front_by P b bs zero some each = absurd (omega arith)
 front_by P b bs (suc n) some each = each (take n bs)
 
-name_is_found : (b : ℕ) (bs : List ℕ) → is_name_start b ≡ true → IsFound (b ∷ bs) (name_found (b ∷ bs))
-unfolding name_found
+name_is_found : (b : ℕ) (bs : List ℕ) → is_name_start b ≡ true → IsFound (b ∷ bs) (front_name (b ∷ bs))
+unfolding front_name
 name_is_found b bs start = record {
   longest = name_is_longest b bs start;
   kind = λ some. sym (kind_of_name (take (name_len (b ∷ bs)) (b ∷ bs)) (name_is b bs start));
@@ -126,8 +126,8 @@ module _ (b : ℕ) (bs : List ℕ) (name : is_name_start b ≡ false) (digit : i
     kind = λ some. sym (sign_kind (found_in signs (b ∷ bs)).1 some ∙ found_kind signs (b ∷ bs) k.NotIs some within);
   }
 
-  sign_is_found : (sign_found (b ∷ bs)).1 ≤ length (b ∷ bs) → IsFound (b ∷ bs) (sign_found (b ∷ bs))
-  unfolding sign_found
+  sign_is_found : (front_sign (b ∷ bs)).1 ≤ length (b ∷ bs) → IsFound (b ∷ bs) (front_sign (b ∷ bs))
+  unfolding front_sign
   sign_is_found within =
       ⊎_elim
       (λ yes. rw yes (not_is_found yes (rw yes at within)))
@@ -142,37 +142,37 @@ nothing_is_found = record {
 
 -- what is found, by the first byte
 module _ (b : ℕ) (bs : List ℕ) where
-  found-name : is_name_start b ≡ true → found (b ∷ bs) ≡ name_found (b ∷ bs)
-  unfolding found
-  found-name name = cond-true _ _ _ name
+  front_token-name : is_name_start b ≡ true → front_token (b ∷ bs) ≡ front_name (b ∷ bs)
+  unfolding front_token
+  front_token-name name = cond-true _ _ _ name
 
-  found-digit : is_name_start b ≡ false → is_digit_in 10 b ≡ true → found (b ∷ bs) ≡ (k.Number, number_len (b ∷ bs))
-  unfolding found
-  found-digit name digit = cond-false _ _ _ name ∙ cond-true _ _ _ digit
+  front_token-digit : is_name_start b ≡ false → is_digit_in 10 b ≡ true → front_token (b ∷ bs) ≡ (k.Number, number_len (b ∷ bs))
+  unfolding front_token
+  front_token-digit name digit = cond-false _ _ _ name ∙ cond-true _ _ _ digit
 
-  found-quote : is_name_start b ≡ false → is_digit_in 10 b ≡ false → nat_eq b 34 ≡ true → found (b ∷ bs) ≡ (k.Text, text_len (b ∷ bs))
-  unfolding found
-  found-quote name digit quote = cond-false _ _ _ name ∙ cond-false _ _ _ digit ∙ cond-true _ _ _ quote
+  front_token-quote : is_name_start b ≡ false → is_digit_in 10 b ≡ false → nat_eq b 34 ≡ true → front_token (b ∷ bs) ≡ (k.Text, text_len (b ∷ bs))
+  unfolding front_token
+  front_token-quote name digit quote = cond-false _ _ _ name ∙ cond-false _ _ _ digit ∙ cond-true _ _ _ quote
 
-  found-other : is_name_start b ≡ false → is_digit_in 10 b ≡ false → nat_eq b 34 ≡ false → found (b ∷ bs) ≡ sign_found (b ∷ bs)
-  unfolding found
-  found-other name digit quote = cond-false _ _ _ name ∙ cond-false _ _ _ digit ∙ cond-false _ _ _ quote
+  front_token-other : is_name_start b ≡ false → is_digit_in 10 b ≡ false → nat_eq b 34 ≡ false → front_token (b ∷ bs) ≡ front_sign (b ∷ bs)
+  unfolding front_token
+  front_token-other name digit quote = cond-false _ _ _ name ∙ cond-false _ _ _ digit ∙ cond-false _ _ _ quote
 
-found_by : (b : ℕ) (bs : List ℕ) (n d q : Bool) → is_name_start b ≡ n → is_digit_in 10 b ≡ d → nat_eq b 34 ≡ q → (found (b ∷ bs)).1 ≤ length (b ∷ bs) → IsFound (b ∷ bs) (found (b ∷ bs))
-found_by b bs true d q name digit quote within = subst (IsFound (b ∷ bs)) (sym (found-name b bs name)) (name_is_found b bs name)
-found_by b bs false true q name digit quote within = subst (IsFound (b ∷ bs)) (sym (found-digit b bs name digit)) (number_is_found b bs name digit)
-found_by b bs false false true name digit quote within = subst (IsFound (b ∷ bs)) (sym (found-quote b bs name digit quote)) (text_is_found b bs name digit quote)
+found_by : (b : ℕ) (bs : List ℕ) (n d q : Bool) → is_name_start b ≡ n → is_digit_in 10 b ≡ d → nat_eq b 34 ≡ q → (front_token (b ∷ bs)).1 ≤ length (b ∷ bs) → IsFound (b ∷ bs) (front_token (b ∷ bs))
+found_by b bs true d q name digit quote within = subst (IsFound (b ∷ bs)) (sym (front_token-name b bs name)) (name_is_found b bs name)
+found_by b bs false true q name digit quote within = subst (IsFound (b ∷ bs)) (sym (front_token-digit b bs name digit)) (number_is_found b bs name digit)
+found_by b bs false false true name digit quote within = subst (IsFound (b ∷ bs)) (sym (front_token-quote b bs name digit quote)) (text_is_found b bs name digit quote)
 found_by b bs false false false name digit quote within =
-    let is = found-other b bs name digit quote in
+    let is = front_token-other b bs name digit quote in
     subst (IsFound (b ∷ bs)) (sym is) (sign_is_found b bs name digit quote (subst (λ f. f.1 ≤ length (b ∷ bs)) is within))
 
-found_is : (rest : List ℕ) → (found rest).1 ≤ length rest → IsFound rest (found rest)
-unfolding found
+found_is : (rest : List ℕ) → (front_token rest).1 ≤ length rest → IsFound rest (front_token rest)
+unfolding front_token
 found_is [] within = nothing_is_found
 found_is (b ∷ bs) within = found_by b bs (is_name_start b) (is_digit_in 10 b) (nat_eq b 34) refl refl refl within
 
-pub found-longest : (rest : List ℕ) → (found rest).1 ≤ length rest → (found rest).1 ≡ longest rest
-found-longest rest within = sym (longest_is rest (found rest).1 (found_is rest within).longest)
+pub front_token-longest : (rest : List ℕ) → (front_token rest).1 ≤ length rest → (front_token rest).1 ≡ longest rest
+front_token-longest rest within = sym (longest_is rest (front_token rest).1 (found_is rest within).longest)
 
-pub found-kind : (rest : List ℕ) → (found rest).1 ≤ length rest → 0 < (found rest).1 → (found rest).0 ≡ kind_of (take (found rest).1 rest)
-found-kind rest within = (found_is rest within).kind
+pub front_token-kind : (rest : List ℕ) → (front_token rest).1 ≤ length rest → 0 < (front_token rest).1 → (front_token rest).0 ≡ kind_of (take (front_token rest).1 rest)
+front_token-kind rest within = (found_is rest within).kind

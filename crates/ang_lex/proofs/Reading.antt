@@ -7,7 +7,7 @@ use Rattle.ang_lex.specs.declared.error.LexError.{LexError}
 use Rattle.ang_lex.specs.declared.shape.Piece.{Piece}
 use Rattle.ang_lex.specs.declared.shape.Piece.TheVariants as piece
 use Rattle.ang_lex.specs.declared.shape.Fault.{Fault}
-use Rattle.ang_lex.specs.Tokens.{piece_of, piece_len, pushed, place_after, error_at, token_at, with_first, with_piece, tokens_from}
+use Rattle.ang_lex.specs.Tokens.{piece_of, piece_len, tokens_with, place_after, error_at, token_at, with_first, with_piece, tokens_from}
 
 abbrev pub Read : Type 0
 Read = Result (List Token) LexError
@@ -31,13 +31,13 @@ pub record Reads (front : List Token) (at : ℕ) (place : Place) (rest : List �
   pub same : with_front front (tokens_from rounds at place rest) ≡ read
 
 with_piece-front : (p : Piece) (front : List Token) (at : ℕ) (place : Place) (behind : ℕ → Read) →
-    with_front front (with_piece (Ok p) at place behind) ≡ with_front (pushed front p at place) (behind (piece_len p))
+    with_front front (with_piece (Ok p) at place behind) ≡ with_front (tokens_with front p at place) (behind (piece_len p))
 with_piece-front (piece.Gap n) front at place behind = refl
 with_piece-front (piece.Token kind n) front at place behind = with_front-with_first front (token_at kind n at place) (behind n)
 
 next_of : (rounds : ℕ) (front : List Token) (at : ℕ) (place : Place) (rest : List ℕ) (read : Read) (p : Piece) →
     length rest ≤ rounds → with_front front (tokens_from rounds at place rest) ≡ read → 0 < length rest → piece_of rest ≡ Ok p → 1 ≤ piece_len p →
-    Reads (pushed front p at place) (at + piece_len p) (place_after place (take (piece_len p) rest)) (drop (piece_len p) rest) read
+    Reads (tokens_with front p at place) (at + piece_len p) (place_after place (take (piece_len p) rest)) (drop (piece_len p) rest) read
 next_of rounds front at place [] read p enough same some is moves = absurd (omega arith)
 next_of zero front at place (b ∷ bs) read p enough same some is moves = absurd (omega arith)
 next_of (suc rounds) front at place (b ∷ bs) read p enough same some is moves =
@@ -59,7 +59,7 @@ fault_of (suc rounds) front at place (b ∷ bs) read f enough same some is =
 module _ {front : List Token} {at : ℕ} {place : Place} {rest : List ℕ} {read : Read} where
   -- a piece goes to the front
   pub reads_next : (p : Piece) → Reads front at place rest read → 0 < length rest → piece_of rest ≡ Ok p → 1 ≤ piece_len p →
-      Reads (pushed front p at place) (at + piece_len p) (place_after place (take (piece_len p) rest)) (drop (piece_len p) rest) read
+      Reads (tokens_with front p at place) (at + piece_len p) (place_after place (take (piece_len p) rest)) (drop (piece_len p) rest) read
   reads_next p r = next_of r.rounds front at place rest read p r.enough r.same
 
   -- a fault ends the reading
@@ -81,7 +81,7 @@ reads_start rounds at place rest enough = record {
 -- a round of the loop over the bytes of a text
 pub reads_round : {front : List Token} {at : ℕ} {place : Place} {read : Read} (text : List ℕ) (p : Piece) (new : List Token) (n : ℕ) (next : Place) →
     Reads front at place (drop at text) read → at < length text → piece_of (drop at text) ≡ Ok p → 1 ≤ piece_len p →
-    new ≡ pushed front p at place → n ≡ piece_len p → next ≡ place_after place (take n (drop at text)) →
+    new ≡ tokens_with front p at place → n ≡ piece_len p → next ≡ place_after place (take n (drop at text)) →
     Reads new (at + n) next (drop (at + n) text) read
 reads_round {at = at} text p new n next r some is moves new_is n_is next_is =
     let one : 0 < length (drop at text) = omega (arith, length-drop at text) in

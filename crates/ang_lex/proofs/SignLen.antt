@@ -8,15 +8,15 @@ use Rattle.std.proofs.lemmas.Slice.Eq.{bytes_eq-Decides}
 use Rattle.std.proofs.lemmas.List.{length-take-le, take-take}
 use Rattle.ang_lex.specs.declared.token.TokenKind.{TokenKind}
 use Rattle.ang_lex.specs.Words.{Entry, signs, not_is, is_listed, lookup}
-use Rattle.ang_lex.specs.Fronts.{first_of_entries, entry_found, Found}
+use Rattle.ang_lex.specs.Fronts.{first_of_entries, entry_token, Front}
 
 -- the longer entries come first
 abbrev IsDescending : List Entry → Bool
 IsDescending [] = true
 IsDescending (e ∷ es) = list_all (λ s. nat_le (length s.0) (length e.0)) es && IsDescending es
 
-abbrev pub found_in : List Entry → List ℕ → Found
-found_in entries rest = entry_found (first_of_entries entries rest)
+abbrev pub found_in : List Entry → List ℕ → Front
+found_in entries rest = entry_token (first_of_entries entries rest)
 
 -- an entry that is the front of the rest begins the rest
 begins_from : (rest spelling : List ℕ) (m : ℕ) → m ≤ length rest → bytes_eq spelling (take m rest) ≡ true → (m ≡ length spelling) × (starts_with nat_eq rest spelling ≡ true)

@@ -1,4 +1,4 @@
--- How far each kind of token goes, by its first byte. That this is the longest token is a law: proofs/Longest.antt.
+-- How far each kind of token goes, by its first byte. That this is the longest token is a law: proofs/FoundIsLongest.antt.
 use Rattle.std.specs.Prelude.{ℕ, zero, suc, ◌+◌, Bool, ◌==◌, ◌&&◌, not, if◌then◌else◌, List, [], ◌∷◌, length, take, drop, nat_eq, Option, Some, None}
 use Rattle.std.specs.List.{prefix_len, starts_with}
 use Rattle.ang_lex.specs.declared.token.TokenKind.{TokenKind}
@@ -50,24 +50,24 @@ abbrev pub begins_not_is : List ℕ → Bool
 begins_not_is rest = starts_with nat_eq rest not_is && not (begins is_name_byte (drop 3 rest))
 
 -- a token: its kind and its length
-abbrev pub Found : Type 0
-Found = TokenKind × ℕ
+abbrev pub Front : Type 0
+Front = TokenKind × ℕ
 
-abbrev pub entry_found : Option Entry → Found
-entry_found None = (k.NotIs, 0)
-entry_found (Some e) = (e.1, length e.0)
+abbrev pub entry_token : Option Entry → Front
+entry_token None = (k.NotIs, 0)
+entry_token (Some e) = (e.1, length e.0)
 
-unfoldable pub sign_found : List ℕ → Found
-sign_found rest = if begins_not_is rest then (k.NotIs, 3) else entry_found (first_of_entries signs rest)
+unfoldable pub front_sign : List ℕ → Front
+front_sign rest = if begins_not_is rest then (k.NotIs, 3) else entry_token (first_of_entries signs rest)
 
-unfoldable pub name_found : List ℕ → Found
-name_found rest = (lookup reserved_words (take (name_len rest) rest) k.Name, name_len rest)
+unfoldable pub front_name : List ℕ → Front
+front_name rest = (lookup reserved_words (take (name_len rest) rest) k.Name, name_len rest)
 
 -- the token at the front of a rest; its length is 0 where there is none
-unfoldable pub found : List ℕ → Found
-found [] = (k.Name, 0)
-found (b ∷ bs) =
-    if is_name_start b then name_found (b ∷ bs)
+unfoldable pub front_token : List ℕ → Front
+front_token [] = (k.Name, 0)
+front_token (b ∷ bs) =
+    if is_name_start b then front_name (b ∷ bs)
     else (if is_digit_in 10 b then (k.Number, number_len (b ∷ bs))
     else (if b == 34 then (k.Text, text_len (b ∷ bs))
-    else sign_found (b ∷ bs)))
+    else front_sign (b ∷ bs)))

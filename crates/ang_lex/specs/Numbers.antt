@@ -53,9 +53,9 @@ number_of_numeral n =
     if nat_lt value (2 ^ 64) then Some (record { ty = type_of n.0 value; value = value }) else None
 
 -- the number that a text spells, if it spells one below 2^64
-unfoldable pub parsed : List ℕ → Option Number
-parsed text = option_and_then number_of_numeral (numeral_of text)
+unfoldable pub spelled_number : List ℕ → Option Number
+spelled_number text = option_and_then number_of_numeral (numeral_of text)
 
 -- the same, and for any other text the `int` 0
 abbrev pub number_of : List ℕ → Number
-number_of text = unwrap_or (parsed text) (record { ty = I32; value = 0 })
+number_of text = unwrap_or (spelled_number text) (record { ty = I32; value = 0 })

@@ -12,7 +12,7 @@ use Rattle.ang_lex.specs.declared.shape.Piece.TheVariants as piece
 use Rattle.ang_lex.specs.declared.shape.Fault.{Fault}
 use Rattle.ang_lex.specs.declared.shape.Fault.TheVariants as fault
 use Rattle.ang_lex.specs.Bytes.{line_feed, is_white, is_name_byte, begins}
-use Rattle.ang_lex.specs.Numbers.{parsed}
+use Rattle.ang_lex.specs.Numbers.{spelled_number}
 use Rattle.ang_lex.specs.Spelling.{longest, kind_of}
 
 -- ---- gaps
@@ -30,7 +30,7 @@ closing_len (b ∷ bs) = if starts_with nat_eq (b ∷ bs) (codes "*/") then Some
 
 -- a number of 2^64 or more, or one with a letter, a digit, `_` or `.` directly behind it
 abbrev pub is_bad_number : TokenKind → List ℕ → List ℕ → Bool
-is_bad_number k.Number text after = is_none (parsed text) || begins (λ b. is_name_byte b || b == 46) after
+is_bad_number k.Number text after = is_none (spelled_number text) || begins (λ b. is_name_byte b || b == 46) after
 is_bad_number _ text after = false
 
 -- the token that the text spells, unless it has more than 255 bytes or is a bad number
@@ -80,7 +80,7 @@ error_at place fault.BadByte = BadByte place
 error_at place fault.BadNumber = BadNumber place
 error_at place fault.OpenComment = OpenComment place
 
--- a point of a section: how many bytes stand before it, and its place
+-- a token of n bytes at a point of a section, which has so many bytes before it, and its place
 abbrev pub token_at : TokenKind → ℕ → ℕ → Place → Token
 token_at kind n at place = record { kind = kind; span = record { start = at; end = at + n }; place = place }
 
@@ -94,9 +94,9 @@ piece_len (piece.Gap n) = n
 piece_len (piece.Token kind n) = n
 
 -- these tokens, and then the piece if it is one
-abbrev pub pushed : List Token → Piece → ℕ → Place → List Token
-pushed tokens (piece.Gap n) at place = tokens
-pushed tokens (piece.Token kind n) at place = tokens ++ token_at kind n at place ∷ []
+abbrev pub tokens_with : List Token → Piece → ℕ → Place → List Token
+tokens_with tokens (piece.Gap n) at place = tokens
+tokens_with tokens (piece.Token kind n) at place = tokens ++ token_at kind n at place ∷ []
 
 -- a piece, and what is read behind its bytes
 abbrev pub with_piece : Result Piece Fault → ℕ → Place → (ℕ → Result (List Token) LexError) → Result (List Token) LexError

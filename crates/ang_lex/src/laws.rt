@@ -9,6 +9,8 @@ ghost use Rattle.ang_lex.specs.Tokens.{tokens_of};
 /// into, with gaps between them, and its fault is the first one in it. So a section has one list of
 /// tokens, or one first fault, and never both.
 pub fn one_reading()
-    ensures tokens { (sect : ℕ) (text : List ℕ) (ts : List Token) → (tokens_of sect text ≡ Ok ts) ↔ IsSection sect text ts }
-    ensures fault { (sect : ℕ) (text : List ℕ) (e : LexError) → (tokens_of sect text ≡ Err e) ↔ IsFirstFault sect text e }
+    ensures tokens { (sect : ℕ) (text : List ℕ) (ts : List Token) →
+        (tokens_of sect text ≡ Ok ts) ↔ IsSection sect text ts }
+    ensures fault { (sect : ℕ) (text : List ℕ) (e : LexError) →
+        (tokens_of sect text ≡ Err e) ↔ IsFirstFault sect text e }
 {}

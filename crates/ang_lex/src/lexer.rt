@@ -73,7 +73,7 @@ fn push_piece(
     place: Place,
 ) -> Result<(), LexError>
     requires { at + spec.piece_len piece < 2 ^ 32 }
-    ensures ok { OnOk result (tokens.new.items ≡ spec.pushed tokens.old.items piece at place) }
+    ensures ok { OnOk result (tokens.new.items ≡ spec.tokens_with tokens.old.items piece at place) }
     ensures err { IfErr result (λ e. e ≡ LexError.Memory) }
 {
     if let Piece::Token(kind, len) = piece {

@@ -1,4 +1,8 @@
-//! The tokens of a script.
+//! The tokens of a script (docs/LANGUAGE.md, "Tokens").
+//!
+//! `lex` cuts a section into its tokens, or answers its first fault. Its contract cites `tokens_of`
+//! (specs/Tokens.antt), which computes them. What they are in the manual's words say `IsSection` and
+//! `IsFirstFault` (specs/Cuts.antt), and `laws::one_reading` says that both are the same.
 #![tactic(auto)]
 
 mod bytes;

@@ -104,9 +104,9 @@ fn type_of(base: u8, value: u64) -> Prim
 }
 
 /// The number that a text spells, if it spells one below 2^64.
-#[tactic(auto, unfolding(crate::specs::Numbers::parsed))]
-pub fn parsed(text: &[u8]) -> Option<Number>
-    ensures { result ≡ spec.parsed text.now }
+#[tactic(auto, unfolding(crate::specs::Numbers::spelled_number))]
+pub fn spelled_number(text: &[u8]) -> Option<Number>
+    ensures { result ≡ spec.spelled_number text.now }
 {
     let (base, digits) = numeral(text)?;
     let value = value_of(base, digits)?;
@@ -124,7 +124,7 @@ pub fn parsed(text: &[u8]) -> Option<Number>
 pub fn number(text: &[u8]) -> Number
     ensures { result ≡ spec.number_of text.now }
 {
-    parsed(text).unwrap_or(Number {
+    spelled_number(text).unwrap_or(Number {
         ty: Prim::I32,
         value: 0,
     })

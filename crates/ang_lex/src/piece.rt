@@ -6,8 +6,8 @@ ghost use Rattle.ang_lex.specs.Tokens as spec;
 
 use crate::bytes::{is_name_byte, is_white};
 use crate::gap::{closing_len, line_len};
-use crate::numbers::parsed;
-use crate::scan::found;
+use crate::numbers::spelled_number;
+use crate::scan::front_token;
 use crate::shape::{Fault, Piece};
 use crate::token::TokenKind;
 
@@ -20,7 +20,7 @@ fn longest_token(rest: &[u8]) -> (TokenKind, usize)
     ensures kind { 0 < result.1 → result.0 ≡ kind_of (take result.1 rest.now) }
     ensures within { result.1 ≤ length rest.now }
 {
-    found(rest)
+    front_token(rest)
 }
 
 /// What may not stand directly behind a number.
@@ -37,7 +37,7 @@ fn is_bad_number(kind: TokenKind, text: &[u8], after: &[u8]) -> bool
     ensures { result ≡ spec.is_bad_number kind text.now after.now }
 {
     match kind {
-        TokenKind::Number => parsed(text).is_none() || spoils_number(after),
+        TokenKind::Number => spelled_number(text).is_none() || spoils_number(after),
         _ => false,
     }
 }

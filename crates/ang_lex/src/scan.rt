@@ -86,9 +86,9 @@ fn lookup(mut entries: &[(&[u8], TokenKind)], text: &[u8], other: TokenKind) -> 
     other
 }
 
-#[tactic(auto, unfolding(crate::specs::Fronts::name_found))]
-fn name_found(rest: &[u8]) -> (TokenKind, usize)
-    ensures value { result ≡ spec.name_found rest.now }
+#[tactic(auto, unfolding(crate::specs::Fronts::front_name))]
+fn front_name(rest: &[u8]) -> (TokenKind, usize)
+    ensures value { result ≡ spec.front_name rest.now }
     ensures within { result.1 ≤ length rest.now }
 {
     let len = name_len(rest);
@@ -108,7 +108,7 @@ fn begins_not_is(rest: &[u8]) -> bool
 /// The first entry that the rest begins with.
 #[tactic(auto, unfolding(crate::specs::Fronts::first_of_entries))]
 fn first_of_entries(mut entries: &[(&[u8], TokenKind)], rest: &[u8]) -> (TokenKind, usize)
-    ensures value { result ≡ spec.entry_found (spec.first_of_entries (map (λ e. (e.0.now, e.1)) entries.entry.now) rest.now) }
+    ensures value { result ≡ spec.entry_token (spec.first_of_entries (map (λ e. (e.0.now, e.1)) entries.entry.now) rest.now) }
     ensures within { result.1 ≤ length rest.now }
 {
     while let [entry, more @ ..] = entries {
@@ -120,10 +120,10 @@ fn first_of_entries(mut entries: &[(&[u8], TokenKind)], rest: &[u8]) -> (TokenKi
     (TokenKind::NotIs, 0)
 }
 
-#[tactic(auto, unfolding(crate::specs::Fronts::sign_found))]
-fn sign_found(first: u8, rest: &[u8]) -> (TokenKind, usize)
+#[tactic(auto, unfolding(crate::specs::Fronts::front_sign))]
+fn front_sign(first: u8, rest: &[u8]) -> (TokenKind, usize)
     requires { bytes.begins (λ b. b == first) rest.now ≡ true }
-    ensures value { result ≡ spec.sign_found rest.now }
+    ensures value { result ≡ spec.front_sign rest.now }
     ensures within { result.1 ≤ length rest.now }
 {
     if begins_not_is(rest) {
@@ -134,16 +134,16 @@ fn sign_found(first: u8, rest: &[u8]) -> (TokenKind, usize)
 }
 
 /// The kind and the length of the token at the front; the length is 0 where there is none.
-#[tactic(auto, unfolding(crate::specs::Fronts::found))]
-pub fn found(rest: &[u8]) -> (TokenKind, usize)
-    ensures value { result ≡ spec.found rest.now }
+#[tactic(auto, unfolding(crate::specs::Fronts::front_token))]
+pub fn front_token(rest: &[u8]) -> (TokenKind, usize)
+    ensures value { result ≡ spec.front_token rest.now }
     ensures within { result.1 ≤ length rest.now }
 {
     match rest {
         [] => (TokenKind::Name, 0),
-        [b, ..] if is_name_start(*b) => name_found(rest),
+        [b, ..] if is_name_start(*b) => front_name(rest),
         [b'0'..=b'9', ..] => (TokenKind::Number, number_len(rest)),
         [b'"', ..] => (TokenKind::Text, text_len(rest)),
-        [b, ..] => sign_found(*b, rest),
+        [b, ..] => front_sign(*b, rest),
     }
 }

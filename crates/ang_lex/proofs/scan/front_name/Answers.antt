@@ -1,13 +1,13 @@
 use Rattle.std.proofs.Common.{take, refl, ◌∙◌, ap}
 use Rattle.std.proofs.lemmas.List.{length-take-le}
 use Rattle.ang_lex.specs.declared.token.TokenKind.TheVariants.{Name}
-use Rattle.ang_lex.specs.Fronts.{name_found}
+use Rattle.ang_lex.specs.Fronts.{front_name}
 use Rattle.ang_lex.specs.Words.{reserved_words, lookup}
 use Rattle.ang_lex.proofs.Tables.{lookup-filter}
-use Rattle.ang_lex.proofs.scan.name_found.Goals as goal
+use Rattle.ang_lex.proofs.scan.front_name.Goals as goal
 
 pub returns-clause-value : goal.returns-clause-value
-unfolding name_found
+unfolding front_name
 returns-clause-value c =
     let len = c.name_len-len.result in
     let rest = c.args.rest.now in
