@@ -5,3 +5,4 @@ pub mod SoundStmt
 pub mod CompleteVars
 pub mod CompleteStmt
 pub mod TameStmt
+pub mod Exactly

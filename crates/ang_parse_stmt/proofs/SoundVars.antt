@@ -224,7 +224,7 @@ module _ (n l : ℕ) (le : n ≤ l) where
   handled_reads x sign X A ts =
       and_reads n ts (Perhaps_read is_const ts) (IsStart (x ∷ sign ∷ ts)) (perhaps is_const ts) _ (perhaps_reads is_const n ts)
       (λ c s p f. further n ts s (IsStart (x ∷ sign ∷ ts)) _ _ f (λ y u q. q)
-      (declared_of_reads (type_of None x (Some (handle_of sign c))) (x ∷ sign ∷ ts) s (tt, ap type_kind X, A, const_fits ts s c p) (ap (λ v. x ∷ sign ∷ v) (const_text ts s c p))))
+      (declared_of_reads (type_of None x (Some (handle_of sign c))) (x ∷ sign ∷ ts) s (tt, ap type_kind X, (A, const_fits ts s c p)) (ap (λ v. x ∷ sign ∷ v) (const_text ts s c p))))
 
   named_by_reads : (x : Token) → Is k.Name x → (kind : TokenKind) (t : Token) (u : List Token) → t.kind ≡ kind → IfSome (r.named_by l x kind) (λ q. Reads n (x ∷ t ∷ u) (IsStart (x ∷ t ∷ u)) (q t u))
   named_by_reads x X k.At t u is = further n (x ∷ t ∷ u) u (IsStart (x ∷ t ∷ u)) _ _ (record { front = x ∷ t ∷ []; parts = refl }) (λ y s q. q) (handled_reads x t X is u)

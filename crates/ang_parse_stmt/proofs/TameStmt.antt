@@ -84,7 +84,7 @@ module _ (b z : List Token) where
 
     -- ---- vars | [ assign ] ";"
 
-    ends_tame : (e : Tree) → T (a_token is_semicolon >>= (λ semicolon. pure (Some e, semicolon))) (a_token is_semicolon >>= (λ semicolon. pure (Some e, semicolon)))
+    ends_tame : (e : Tree) → T {A = Option Tree × Token} (a_token is_semicolon >>= (λ semicolon. pure (Some e, semicolon))) (a_token is_semicolon >>= (λ semicolon. pure (Some e, semicolon)))
     ends_tame e = then_token is_semicolon _ _ (λ semicolon. unit (Some e, semicolon))
 
     some_ended_tame : T (v.some_ended m) (v.some_ended n)

@@ -8,6 +8,8 @@ mod build;
 mod parts;
 mod stmt;
 mod variables;
+mod whole;
 
 pub use stmt::{block, statement, statements};
 pub use variables::{initializer, variable_named, variables_behind, variables_named};
+pub use whole::{one_tree, parse_statement};
