@@ -4,3 +4,4 @@ pub mod Tame
 pub mod Tokens
 pub mod Loops
 pub mod Whole
+pub mod TameGroup

@@ -3,3 +3,4 @@ pub mod Gives
 pub mod From
 pub mod Tokens
 pub mod Law
+pub mod Group
