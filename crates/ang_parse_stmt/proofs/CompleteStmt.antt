@@ -1,27 +1,25 @@
 -- What is spelled as a statement is read.
-use Rattle.std.proofs.Common.{◌≡◌, ℕ, zero, suc, ◌+◌, ◌<◌, ◌≤◌, Bool, true, false, List, [], ◌∷◌, length, Option, Some, None, Ok, refl, ap, sym, subst, ◌∙◌, arith}
+use Rattle.std.proofs.Common.{◌≡◌, ℕ, zero, suc, ◌<◌, ◌≤◌, Bool, true, false, List, [], ◌∷◌, length, Option, Some, None, Ok, refl, ap, ◌∙◌, arith}
 use Rattle.ang_lex.specs.declared.token.Token.{Token}
 use Rattle.ang_lex.specs.declared.token.TokenKind.{TokenKind}
 use Rattle.ang_lex.specs.declared.token.TokenKind.TheVariants as k
-use Rattle.ang_tree.specs.declared.type_name.TypeName.{TypeName}
 use Rattle.ang_tree.specs.Kinds.{Is, IsA, IfWritten, optional, type_kind}
-use Rattle.ang_tree.specs.TypeNames.{spelled_handle, spelled_type, FitsType}
 use Rattle.ang_tree.specs.Tree.{Tree, Trees, none, more, spelled, listed, Fits, AllFit}
 use Rattle.ang_tree.specs.View.{Branch}
-use Rattle.ang_tree.specs.Stmt.{each, Vars, Start, with_variables, with_expression, Stmt, Body, Stmts, block, variables, expression, break, continue, return, when, either, while, do_while, for, body, end, then, added_stmt, spelled_var, spelled_vars, spelled_option, spelled_start, spelled_stmt, spelled_body, spelled_stmts, open_if, FitsVars, FitsOption, FitsStart, FitsStmt, FitsBody, FitsStmts}
-use Rattle.ang_read.specs.Read.{Parser, Outcome, and_then, pure, ◌>>=◌, Choice, look, Turn, repeat}
-use Rattle.ang_read.specs.Tokens.{a_token, is_left_paren, is_right_paren, is_right_brace, is_semicolon, is_while}
+use Rattle.ang_tree.specs.Stmt.{Vars, Start, with_variables, with_expression, Stmt, Body, Stmts, block, variables, expression, break, continue, return, when, either, while, do_while, for, body, end, then, added_stmt, spelled_option, spelled_start, spelled_stmt, spelled_stmts, open_if, FitsOption, FitsStart, FitsStmt, FitsBody, FitsStmts}
+use Rattle.ang_read.specs.Read.{Parser, and_then, pure, repeat}
+use Rattle.ang_read.specs.Tokens.{is_left_paren, is_right_paren, is_right_brace, is_semicolon, is_while}
 use Rattle.ang_read.proofs.Tokens.{begins, look_is, look_at, a_token_is}
 use Rattle.ang_read.proofs.Loops.{repeat_stops, repeat_goes_on}
 use Rattle.ang_parse_expr.specs.ReadExpr.{expr, expressions}
 use Rattle.ang_parse_expr.proofs.Sound.{spelled-length, listed-length}
-use Rattle.ang_parse_expr.proofs.Grip.{grip, grip_of, starter_kind, First, starts, passed}
+use Rattle.ang_parse_expr.proofs.Grip.{starter_kind, First, starts, passed}
 use Rattle.ang_parse_expr.proofs.Complete.{expressions_complete, ends_at_right}
 use Rattle.ang_parse_expr.proofs.Exactly.{listed-size}
 use Rattle.ang_parse_stmt.specs.ReadVars.{ended, start}
 use Rattle.ang_parse_stmt.specs.ReadStmt as r
 use Rattle.ang_parse_stmt.proofs.Ahead.{ahead_is, ahead_not}
-use Rattle.ang_parse_stmt.proofs.Lengths.{option-length, start-length, stmt-length, stmts-length}
+use Rattle.ang_parse_stmt.proofs.Lengths.{option-length, start-length, stmt-length}
 use Rattle.ang_parse_stmt.proofs.SoundStmt.{is_else, Closed}
 use Rattle.ang_parse_stmt.proofs.CompleteVars.{expression_read, low_at, start_read, ended_read}
 

@@ -1,5 +1,5 @@
 -- What is spelled as variables, or as what may stand where they may, is read.
-use Rattle.std.proofs.Common.{◌≡◌, ℕ, zero, suc, ◌+◌, ◌<◌, ◌≤◌, Bool, true, false, List, [], ◌∷◌, ◌++◌, length, Option, Some, None, Ok, refl, ap, sym, ◌∙◌, append_assoc, append-nil, arith}
+use Rattle.std.proofs.Common.{◌≡◌, ℕ, zero, suc, ◌<◌, ◌≤◌, Bool, true, false, List, [], ◌∷◌, ◌++◌, length, Option, Some, None, Ok, refl, ap, sym, ◌∙◌, append_assoc, append-nil, arith}
 use Rattle.ang_lex.specs.declared.token.Token.{Token}
 use Rattle.ang_lex.specs.declared.token.TokenKind.{TokenKind}
 use Rattle.ang_lex.specs.declared.token.TokenKind.TheVariants as k
@@ -7,22 +7,22 @@ use Rattle.ang_tree.specs.declared.type_name.TypeName.{TypeName}
 use Rattle.ang_tree.specs.declared.type_name.Handle.{Handle}
 use Rattle.ang_tree.specs.Kinds.{Is, IsA, IsComma, IfWritten, optional, literal_kind, primitive_kind, type_kind, prefix_kind, step_kind, assignment_kind, precedence}
 use Rattle.ang_tree.specs.TypeNames.{spelled_handle, spelled_type, FitsHandle, FitsType}
-use Rattle.ang_tree.specs.Tree.{Tree, Args, Trees, literal, name, call, scoped_call, cast, convert, group, postfix, member, method_call, prefix, binary, conditional, assignment, arguments, none, more, spelled, spelled_args, listed, Fits, FitsArgs}
-use Rattle.ang_tree.specs.Stmt.{each, Every, Parted, Filled, Init, absent, value, constructor, Var, Vars, Start, with_variables, with_expression, spelled_init, spelled_var, spelled_vars, spelled_option, spelled_start, FitsInit, FitsVar, FitsVars, FitsOption, FitsStart}
-use Rattle.ang_read.specs.Read.{Parser, Outcome, and_then, pure, ◌>>=◌, look, repeat}
+use Rattle.ang_tree.specs.Tree.{Tree, Args, literal, name, call, scoped_call, cast, convert, group, postfix, member, method_call, prefix, binary, conditional, assignment, arguments, spelled, spelled_args, listed, Fits}
+use Rattle.ang_tree.specs.Stmt.{each, Every, Init, absent, value, constructor, Var, Start, with_variables, with_expression, spelled_init, spelled_var, spelled_option, spelled_start, FitsInit, FitsVar, FitsVars, FitsOption, FitsStart}
+use Rattle.ang_read.specs.Read.{Parser, and_then, pure, ◌>>=◌, repeat}
 use Rattle.ang_read.specs.Tokens.{a_token, perhaps, is_name, is_semicolon, is_const, is_left_paren}
 use Rattle.ang_read.proofs.Tokens.{begins, look_is, look_at, a_token_is, perhaps_is, perhaps_not}
 use Rattle.ang_read.proofs.Loops.{repeat_stops, repeat_goes_on}
-use Rattle.ang_parse_expr.specs.ReadType.{handle_of, type_of, type_named}
+use Rattle.ang_parse_expr.specs.ReadType.{handle_of, type_of}
 use Rattle.ang_parse_expr.specs.ReadExpr.{expr, args}
 use Rattle.ang_parse_expr.proofs.SoundType.{type-length}
 use Rattle.ang_parse_expr.proofs.Grip.{grip, grip_of, grip_is, starter_kind, starts, passed}
 use Rattle.ang_parse_expr.proofs.Stops.{is_comma, EndsList}
 use Rattle.ang_parse_expr.proofs.CompleteType.{is_at, EndsType, type_named_read}
 use Rattle.ang_parse_expr.proofs.Complete.{expr_complete, args_read}
-use Rattle.ang_parse_expr.proofs.Exactly.{size-length, args-size, listed-size}
+use Rattle.ang_parse_expr.proofs.Exactly.{size-length, listed-size}
 use Rattle.ang_parse_stmt.specs.ReadVars as r
-use Rattle.ang_parse_stmt.proofs.Lengths.{init-length, each_var-length}
+use Rattle.ang_parse_stmt.proofs.Lengths.{init-length}
 
 -- ---- expressions, by the number of the tokens
 

@@ -1,5 +1,5 @@
 -- The reader of statements is exact against the grammar.
-use Rattle.std.proofs.Common.{◌≡◌, ℕ, ◌<◌, ◌≤◌, List, [], length, Ok, refl, ap, ◌∙◌, arith}
+use Rattle.std.proofs.Common.{◌≡◌, ℕ, ◌<◌, List, [], length, Ok, refl, ap, ◌∙◌, arith}
 use Rattle.ang_lex.specs.declared.token.Token.{Token}
 use Rattle.ang_tree.specs.Stmt.{Stmt, SpellsStmt}
 use Rattle.ang_read.proofs.Whole.{Exact, one_reading}

@@ -6,3 +6,4 @@ pub mod CompleteVars
 pub mod CompleteStmt
 pub mod TameStmt
 pub mod Exactly
+pub mod Views

@@ -1,18 +1,17 @@
 -- What is read as variables, or as what may stand where they may, is spelled so.
-use Rattle.std.proofs.Common.{◌≡◌, ℕ, zero, suc, ◌+◌, ◌-◌, ◌<◌, ◌≤◌, Bool, true, false, List, [], ◌∷◌, ◌++◌, length, Option, Some, None, Result, Ok, Err, refl, ap, sym, subst, ◌∙◌, arith}
+use Rattle.std.proofs.Common.{◌≡◌, ℕ, ◌≤◌, Bool, true, false, List, [], ◌∷◌, ◌++◌, length, Option, Some, None, refl, ap, sym, subst, ◌∙◌, arith}
 use Rattle.std.specs.Prelude.{IfSome}
 use Rattle.ang_lex.specs.declared.token.Token.{Token}
 use Rattle.ang_lex.specs.declared.token.TokenKind.{TokenKind}
 use Rattle.ang_lex.specs.declared.token.TokenKind.TheVariants as k
 use Rattle.ang_tree.specs.declared.type_name.TypeName.{TypeName}
-use Rattle.ang_tree.specs.Kinds.{Is, IsA, IsComma, IfWritten, optional, type_kind, primitive_kind}
+use Rattle.ang_tree.specs.Kinds.{Is, IsA, IsComma, IfWritten, optional, type_kind}
 use Rattle.ang_tree.specs.TypeNames.{spelled_type, FitsType}
-use Rattle.ang_tree.specs.Tree.{Tree, Args, Trees, spelled, spelled_args, listed, Fits, FitsArgs, AllFit}
+use Rattle.ang_tree.specs.Tree.{Tree, spelled}
 use Rattle.ang_tree.specs.Stmt.{each, Every, Parted, Filled, Init, absent, value, constructor, Var, Vars, Start, with_variables, with_expression, spelled_init, spelled_var, spelled_vars, spelled_option, spelled_start, FitsInit, FitsVar, FitsVars, FitsOption, FitsStart}
-use Rattle.ang_read.specs.From.{From}
-use Rattle.ang_read.specs.Read.{Fault, at, deep, Parser, Outcome, and_then, pure, ◌>>=◌, refuse, Choice, given, look, Turn, turned, repeat}
+use Rattle.ang_read.specs.Read.{pure, repeat}
 use Rattle.ang_read.specs.Tokens.{a_token, perhaps, is_name, is_semicolon, is_const}
-use Rattle.ang_read.proofs.Outcomes.{Reads, and_reads, along, behind, further, chosen_reads, ChoiceReads, look_reads, look_or_pass_reads, given_reads, Passes, Turns, repeat_reads_to, From-self, From-one, From-length}
+use Rattle.ang_read.proofs.Outcomes.{Reads, and_reads, along, further, chosen_reads, ChoiceReads, look_reads, Turns, repeat_reads_to, From-self, From-one, From-length}
 use Rattle.ang_read.proofs.Tokens.{Always, Token_read, a_token_reads, Perhaps_read, written, absent as unwritten, perhaps_reads, name_is, semicolon_is, const_is}
 use Rattle.ang_parse_expr.specs.ReadType.{handle_of, type_of, type_named}
 use Rattle.ang_parse_expr.specs.ReadExpr.{expr, args}

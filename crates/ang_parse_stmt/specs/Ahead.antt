@@ -1,6 +1,5 @@
 -- Looking at the next token without taking it.
-use Rattle.std.specs.Prelude.{Bool, true, false, List, [], ◌∷◌}
-use Rattle.ang_lex.specs.declared.token.Token.{Token}
+use Rattle.std.specs.Prelude.{Bool, true, false, [], ◌∷◌}
 use Rattle.ang_lex.specs.declared.token.TokenKind.{TokenKind}
 use Rattle.ang_read.specs.Read.{Outcome, Parser}
 

@@ -1,5 +1,5 @@
 -- Reading variables, and what begins with them or with an expression. (docs/LANGUAGE.md, "Grammar": `vars`, `stmt`.)
-use Rattle.std.specs.Prelude.{ℕ, Bool, true, false, List, [], ◌∷◌, ◌++◌, Option, Some, None, Ok, Err}
+use Rattle.std.specs.Prelude.{ℕ, Bool, true, List, [], ◌∷◌, ◌++◌, Option, Some, None}
 use Rattle.ang_lex.specs.declared.token.Token.{Token}
 use Rattle.ang_lex.specs.declared.token.TokenKind.{TokenKind}
 use Rattle.ang_lex.specs.declared.token.TokenKind.TheVariants as k
@@ -7,7 +7,7 @@ use Rattle.ang_tree.specs.declared.type_name.TypeName.{TypeName}
 use Rattle.ang_tree.specs.Kinds.{type_kind}
 use Rattle.ang_tree.specs.Tree.{Tree}
 use Rattle.ang_tree.specs.Stmt.{Init, absent, value, constructor, Var, Vars, Start, with_variables, with_expression}
-use Rattle.ang_read.specs.Read.{Fault, at, deep, Parser, ◌>>=◌, ◌>>◌, pure, Choice, look, Turn, ready, repeat}
+use Rattle.ang_read.specs.Read.{Parser, ◌>>=◌, pure, Choice, look, Turn, ready, repeat}
 use Rattle.ang_read.specs.Tokens.{a_token, perhaps, is_name, is_semicolon, is_const}
 use Rattle.ang_parse_expr.specs.ReadType.{handle_of, type_of, type_named}
 use Rattle.ang_parse_expr.specs.ReadExpr.{expr, args}

@@ -359,9 +359,36 @@ fn braced<'a>(
     Ok((Statement::Block(whole), rest))
 }
 
+/// Reads a statement, by its first token.
+#[cycle(statement)]
+#[tactic(auto, unfolding(crate::specs::ReadStmt::statement))]
+fn chosen(
+    alloc: Global,
+    tokens: &[Token],
+    depth: usize,
+    limit: usize,
+) -> Result<(Statement, &[Token]), ReadError<'_>>
+    ensures { Gives (λ x. (view_stmt x.0, x.1.now)) result (read.statement (read.stmt depth limit) limit tokens.now) }
+{
+    let [token, rest @ ..] = tokens else {
+        return simple(alloc, tokens, limit);
+    };
+    match token.kind {
+        TokenKind::LeftBrace => braced(alloc, *token, rest, depth, limit),
+        TokenKind::If => conditional(alloc, *token, rest, depth, limit),
+        TokenKind::While => while_loop(alloc, *token, rest, depth, limit),
+        TokenKind::Do => do_loop(alloc, *token, rest, depth, limit),
+        TokenKind::For => for_loop(alloc, *token, rest, depth, limit),
+        TokenKind::Break => broken(*token, rest),
+        TokenKind::Continue => continued(*token, rest),
+        TokenKind::Return => returned(alloc, *token, rest, limit),
+        _ => simple(alloc, tokens, limit),
+    }
+}
+
 /// Reads a statement.
 #[cycle(statement)]
-#[tactic(auto, unfolding(crate::specs::ReadStmt::stmt, crate::specs::ReadStmt::statement))]
+#[tactic(auto, unfolding(crate::specs::ReadStmt::stmt))]
 pub fn statement(
     alloc: Global,
     tokens: &[Token],
@@ -373,19 +400,5 @@ pub fn statement(
     if depth == 0 {
         return Err(ReadError::Deep);
     }
-    let inner = depth - 1;
-    let [token, rest @ ..] = tokens else {
-        return simple(alloc, tokens, limit);
-    };
-    match token.kind {
-        TokenKind::LeftBrace => braced(alloc, *token, rest, inner, limit),
-        TokenKind::If => conditional(alloc, *token, rest, inner, limit),
-        TokenKind::While => while_loop(alloc, *token, rest, inner, limit),
-        TokenKind::Do => do_loop(alloc, *token, rest, inner, limit),
-        TokenKind::For => for_loop(alloc, *token, rest, inner, limit),
-        TokenKind::Break => broken(*token, rest),
-        TokenKind::Continue => continued(*token, rest),
-        TokenKind::Return => returned(alloc, *token, rest, limit),
-        _ => simple(alloc, tokens, limit),
-    }
+    chosen(alloc, tokens, depth - 1, limit)
 }

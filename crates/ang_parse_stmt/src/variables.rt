@@ -190,11 +190,7 @@ pub(crate) fn ended(
 }
 
 #[tactic(auto, unfolding(crate::specs::ReadVars::ran))]
-fn ran(
-    alloc: Global,
-    tokens: &[Token],
-    limit: usize,
-) -> Result<(ForStart, &[Token]), ReadError<'_>>
+fn ran(alloc: Global, tokens: &[Token], limit: usize) -> Result<(ForStart, &[Token]), ReadError<'_>>
     ensures { Gives (λ x. (view_start x.0, x.1.now)) result (read.ran limit tokens.now) }
 {
     let ((value, semicolon), rest) = some_ended(alloc, tokens, limit)?;

@@ -20,6 +20,9 @@ decreases-block l = 8 * l.depth + 3
 abbrev pub decreases-braced : goal.decreases-braced
 decreases-braced l = 8 * l.depth + 4
 
+abbrev pub decreases-chosen : goal.decreases-chosen
+decreases-chosen l = 8 * l.depth + 5
+
 abbrev pub decreases-guarded : goal.decreases-guarded
 decreases-guarded l = 8 * l.depth + 1
 

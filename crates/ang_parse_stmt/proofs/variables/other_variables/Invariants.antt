@@ -1,4 +1,4 @@
-use Rattle.std.proofs.Common.{◌≡◌, ◌+◌, ◌-◌, map}
+use Rattle.std.proofs.Common.{◌≡◌, ◌-◌, map}
 use Rattle.ang_tree.specs.View.{view_var}
 use Rattle.ang_read.specs.Read.{repeat}
 use Rattle.ang_parse_stmt.specs.ReadVars as read
