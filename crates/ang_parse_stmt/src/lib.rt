@@ -7,6 +7,8 @@
 mod build;
 mod parts;
 mod stmt;
+#[cfg(test)]
+mod tests;
 mod variables;
 mod whole;
 
