@@ -1,6 +1,6 @@
 -- Reading what begins with a type at the top of a script, a function or global variables, and reading imports.
 -- (docs/LANGUAGE.md, "Grammar": `function`, `globals`, `import`.)
-use Rattle.std.specs.Prelude.{ℕ, true, Option, Some, None}
+use Rattle.std.specs.Prelude.{ℕ, true, Option, Some, None, option_map}
 use Rattle.ang_lex.specs.declared.token.Token.{Token}
 use Rattle.ang_lex.specs.declared.token.TokenKind.{TokenKind}
 use Rattle.ang_lex.specs.declared.token.TokenKind.TheVariants as k
@@ -37,36 +37,38 @@ Group = Option Params × Option Args
 unfoldable pub group : ℕ → Token → Parser Group
 group limit left = both (whole_params limit left) (whole_args limit left)
 
--- ---- function and globals, by the bound of nested statements, and that of expressions and loops
+-- ---- global variables, by the bound of expressions and loops
+
+module _ (limit : ℕ) where
+  -- global variables of which the first has these arguments, behind them
+  unfoldable pub constructed : TypeName → Token → Args → Parser Decl
+  constructed y x es = do vs ← variables_behind limit y (variable_of None x (constructor es)); pure (decl.globals vs)
+
+  abbrev pub perhaps_constructed : TypeName → Token → Option Args → Parser Decl
+  perhaps_constructed y x None = refuse
+  perhaps_constructed y x (Some es) = constructed y x es
+
+  -- global variables, behind the name of the first
+  unfoldable pub declared : TypeName → Token → Parser Decl
+  declared y x = do vs ← variables_named limit y x; pure (decl.globals vs)
+
+-- ---- function and globals, by the bound of nested statements as well
 
 module _ (depth limit : ℕ) where
   -- a function, behind the left brace
   unfoldable pub bodied : TypeName → Token → Params → Token → Parser Decl
   bodied y x ps left = do b ← a_body (stmt depth limit) limit left; pure (decl.function y x ps b)
 
-  -- global variables of which the first has these arguments, behind them
-  unfoldable pub constructed : TypeName → Token → Args → Parser Decl
-  constructed y x es = do vs ← variables_behind limit y (variable_of None x (constructor es)); pure (decl.globals vs)
-
   abbrev pub told_by : TypeName → Token → Option Params → TokenKind → Choice Decl
-  told_by y x None kind = None
-  told_by y x (Some ps) k.LeftBrace = Some (bodied y x ps)
-  told_by y x (Some ps) _ = None
-
-  abbrev pub told_not : TypeName → Token → Option Args → Parser Decl
-  told_not y x None = refuse
-  told_not y x (Some es) = constructed y x es
+  told_by y x ps k.LeftBrace = option_map (bodied y x) ps
+  told_by y x ps _ = None
 
   -- Behind the group, a left brace wants its parameters, and anything else its arguments.
   unfoldable pub told : TypeName → Token → Group → Parser Decl
-  told y x g = look (told_by y x g.0) (told_not y x g.1)
+  told y x g = look (told_by y x g.0) (perhaps_constructed limit y x g.1)
 
   unfoldable pub grouped : TypeName → Token → Token → Parser Decl
   grouped y x left = group limit left >>= told y x
-
-  -- global variables, behind the name of the first
-  unfoldable pub declared : TypeName → Token → Parser Decl
-  declared y x = do vs ← variables_named limit y x; pure (decl.globals vs)
 
   abbrev pub named_by : TypeName → Token → TokenKind → Choice Decl
   named_by y x k.LeftParen = Some (grouped y x)
@@ -74,7 +76,7 @@ module _ (depth limit : ℕ) where
 
   -- behind the type and the name
   unfoldable pub named : TypeName → Token → Parser Decl
-  named y x = look (named_by y x) (declared y x)
+  named y x = look (named_by y x) (declared limit y x)
 
   unfoldable pub function_or_globals : Parser Decl
   function_or_globals = do y ← a_type; x ← a_token is_name; named y x

@@ -93,6 +93,7 @@ fn comma_wants_a_parameter(rt: HostRuntime) -> Result<(), Fail> {
 #[test]
 fn readers_leave_the_rest(rt: HostRuntime) -> Result<(), Fail> {
     let tokens = lex(rt.alloc(), b"(int a, B) {", 0)?;
+    assert_eq!(rt; tokens.len(), 7);
     let (found, rest) = a_parameters(rt.alloc(), &tokens, 8)?;
     assert_eq!(rt; found.items.len(), 2);
     assert_eq!(rt; rest.len(), 1);
