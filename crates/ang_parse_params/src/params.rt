@@ -22,11 +22,7 @@ fn direction(tokens: &[Token]) -> (Option<Token>, &[Token])
 {
     match tokens {
         [word, rest @ ..]
-            if matches!(
-                word.kind,
-                TokenKind::In | TokenKind::Out | TokenKind::InOut
-            ) =>
-        {
+            if matches!(word.kind, TokenKind::In | TokenKind::Out | TokenKind::InOut) => {
             (Some(*word), rest)
         }
         _ => (None, tokens),
