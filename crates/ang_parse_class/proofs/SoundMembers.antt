@@ -18,9 +18,9 @@ use Rattle.ang_read.proofs.Tokens.{Always, Token_read, a_token_reads, Perhaps_re
 use Rattle.ang_parse_expr.specs.ReadType.{a_type, type_named}
 use Rattle.ang_parse_expr.specs.ReadExpr.{expr, args}
 use Rattle.ang_parse_expr.proofs.SoundType.{Type_read, a_type_reads, type_named_reads}
-use Rattle.ang_parse_expr.proofs.Sound.{IsArgs}
+use Rattle.ang_parse_expr.proofs.Sound.{IsArgs, args_at_reads}
 use Rattle.ang_parse_stmt.specs.ReadStmt.{stmt, statements, a_body}
-use Rattle.ang_parse_stmt.proofs.SoundVars.{each-one_more, Every-one_more, Filled-one_more, Parted-one_more, arguments_reads}
+use Rattle.ang_parse_stmt.proofs.SoundVars.{each-one_more, Every-one_more, Filled-one_more, Parted-one_more}
 use Rattle.ang_parse_stmt.proofs.SoundStmt.{AreStmts, IsBody}
 use Rattle.ang_parse_params.specs.ReadParams.{params, a_params}
 use Rattle.ang_parse_params.proofs.SoundParams.{IsParams, params_reads, a_params_reads}
@@ -125,6 +125,9 @@ attribute_reads n w ws ts h = look_reads n (AreAttributes w ws) (λ ts. MoreAttr
 -- ---- members
 
 module _ (n l : ℕ) (le : n ≤ l) where
+  arguments_reads : (left : Token) → Is k.LeftParen left → (ts : List Token) → Reads n ts (IsArgs left ts) (args (expr l) l left ts)
+  arguments_reads left is ts = along l n ts ts (IsArgs left ts) _ _ (From-self ts) (λ d. omega arith) (λ x s q. q) (args_at_reads l left is ts)
+
   fields_reads : (start : MemberStart) (w ts : List Token) → IsBegun w start ts → Reads n ts (IsMember w) (r.fields l start ts)
   unfolding r.fields
   fields_reads start w ts h =
@@ -183,7 +186,7 @@ module _ (n l : ℕ) (le : n ≤ l) where
   super_called_reads word is ts =
       and_reads n ts (Token_read is_left_paren ts) (IsSuper (word ∷ ts)) (a_token is_left_paren ts) _ (a_token_reads is_left_paren n ts)
       (λ left s1 p f1. further n ts s1 (IsSuper (word ∷ ts)) _ _ f1 (λ y u z. z)
-      (and_reads n s1 (IsArgs left s1) (IsSuper (word ∷ ts)) (args (expr l) l left s1) _ (arguments_reads n l le left (left_paren_is left.kind p.kind) s1)
+      (and_reads n s1 (IsArgs left s1) (IsSuper (word ∷ ts)) (args (expr l) l left s1) _ (arguments_reads left (left_paren_is left.kind p.kind) s1)
       (λ es s2 q f2. further n s1 s2 (IsSuper (word ∷ ts)) _ _ f2 (λ y u z. z)
       (and_reads n s2 (Token_read is_semicolon s2) (IsSuper (word ∷ ts)) (a_token is_semicolon s2) (λ semicolon. pure (Some (r.super_of word es semicolon))) (a_token_reads is_semicolon n s2)
       (λ semicolon s3 t f3. (

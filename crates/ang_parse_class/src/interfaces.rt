@@ -42,8 +42,23 @@ fn method(
     ))
 }
 
+/// Reads one more method.
+#[tactic(auto, unfolding(crate::specs::ReadClass::next_method))]
+fn next_method(
+    alloc: Global,
+    first: Vec<InterfaceMethod>,
+    tokens: &[Token],
+    limit: usize,
+) -> Result<((Vec<InterfaceMethod>, bool), &[Token]), ReadError<'_>>
+    ensures { Gives (λ x. ((map view_method x.0.0.items, x.0.1), x.1.now)) result (read.next_method limit (map view_method first.items) tokens.now) }
+{
+    let (next, rest) = method(alloc, tokens, limit)?;
+    let longer = with_method(first, next)?;
+    Ok(((longer, true), rest))
+}
+
 /// Reads one more method, where no right brace stands.
-#[tactic(auto, unfolding(crate::specs::ReadClass::other_method, crate::specs::ReadClass::next_method))]
+#[tactic(auto, unfolding(crate::specs::ReadClass::other_method))]
 fn other_method(
     alloc: Global,
     first: Vec<InterfaceMethod>,
@@ -52,14 +67,10 @@ fn other_method(
 ) -> Result<((Vec<InterfaceMethod>, bool), &[Token]), ReadError<'_>>
     ensures { Gives (λ x. ((map view_method x.0.0.items, x.0.1), x.1.now)) result (read.other_method limit (map view_method first.items) tokens.now) }
 {
-    if let [token, ..] = tokens
-        && matches!(token.kind, TokenKind::RightBrace)
-    {
-        return Ok(((first, false), tokens));
+    match tokens {
+        [token, ..] if matches!(token.kind, TokenKind::RightBrace) => Ok(((first, false), tokens)),
+        _ => next_method(alloc, first, tokens, limit),
     }
-    let (next, rest) = method(alloc, tokens, limit)?;
-    let longer = with_method(first, next)?;
-    Ok(((longer, true), rest))
 }
 
 /// Reads methods, up to a right brace.

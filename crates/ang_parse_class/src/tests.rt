@@ -1,51 +1,41 @@
 //! Worked examples of the grammar.
 
 use crate::{class, final_class, interface};
-use ang_lex::{Token, lex};
+use ang_lex::lex;
 use ang_read::ReadError;
-use ang_tree::{Class, Declaration, Interface, Member};
+use ang_tree::{Declaration, Member};
 use std::test::Fail;
-
-/// The class that the tokens spell, from the word `class` on.
-fn read_class(alloc: Global, tokens: &[Token]) -> Result<Class, ReadError<'_>> {
-    let [word, rest @ ..] = tokens else {
-        return Err(ReadError::Syntax(tokens));
-    };
-    let bound = tokens.len();
-    let (declaration, rest) = class(alloc, None, *word, rest, bound, bound)?;
-    match declaration {
-        Declaration::Class(found) if rest.is_empty() => Ok(found),
-        _ => Err(ReadError::Syntax(rest)),
-    }
-}
 
 #[test]
 fn bases_are_names_behind_a_colon(rt: HostRuntime) -> Result<(), Fail> {
-    let tokens = lex(rt.alloc(), b"class A : B, C {}", 0)?;
-    let found = read_class(rt.alloc(), &tokens)?;
-    assert!(rt; found.bases.len() == 2);
-    assert!(rt; found.members.is_empty());
+    let tokens = lex(rt.alloc(), b"class A : B, C {} class", 0)?;
+    let (declaration, rest) = class(rt.alloc(), None, tokens[0], &tokens[1..], 10, 10)?;
+    assert_eq!(rt; rest.len(), 1);
+    let Declaration::Class(found) = &declaration else {
+        return Err("a class".into());
+    };
+    assert_eq!(rt; found.bases.len(), 2);
+    assert_eq!(rt; found.members.len(), 0);
     assert!(rt; found.final_word.is_none());
     Ok(())
 }
 
 #[test]
 fn parenthesis_tells_members_apart(rt: HostRuntime) -> Result<(), Fail> {
-    let tokens = lex(
-        rt.alloc(),
-        b"class A { private int x, y; A@ f(int a) const final override { return b; } A() { super(1); c; } A d; }",
-        0,
-    )?;
-    let found = read_class(rt.alloc(), &tokens)?;
-    let [fields, method, constructor, field] = found.members.as_slice() else {
-        return Err("four members".into());
+    let text = b"class A { private int x, y; A@ f(int a) const final override { b; } A() { super(1); c; } A d; }";
+    let tokens = lex(rt.alloc(), text, 0)?;
+    let (declaration, rest) = class(rt.alloc(), None, tokens[0], &tokens[1..], 99, 99)?;
+    assert_eq!(rt; rest.len(), 0);
+    let Declaration::Class(found) = &declaration else {
+        return Err("a class".into());
     };
-    let two_private = match fields {
+    assert_eq!(rt; found.members.len(), 4);
+    let two_private = match &found.members[0] {
         Member::Fields { access, names, .. } => access.is_some() && names.len() == 2,
         _ => false,
     };
     assert!(rt; two_private);
-    let constant_with_attributes = match method {
+    let constant_with_attributes = match &found.members[1] {
         Member::Method {
             constant,
             attributes,
@@ -54,7 +44,7 @@ fn parenthesis_tells_members_apart(rt: HostRuntime) -> Result<(), Fail> {
         _ => false,
     };
     assert!(rt; constant_with_attributes);
-    let calls_super = match constructor {
+    let calls_super = match &found.members[2] {
         Member::Constructor {
             super_call,
             statements,
@@ -63,7 +53,7 @@ fn parenthesis_tells_members_apart(rt: HostRuntime) -> Result<(), Fail> {
         _ => false,
     };
     assert!(rt; calls_super);
-    let one_of_its_class = match field {
+    let one_of_its_class = match &found.members[3] {
         Member::Fields { access, names, .. } => access.is_none() && names.len() == 1,
         _ => false,
     };
@@ -74,49 +64,39 @@ fn parenthesis_tells_members_apart(rt: HostRuntime) -> Result<(), Fail> {
 #[test]
 fn final_stands_in_front_of_class(rt: HostRuntime) -> Result<(), Fail> {
     let tokens = lex(rt.alloc(), b"final class A {}", 0)?;
-    let [word, rest @ ..] = tokens.as_slice() else {
-        return Err("tokens".into());
+    let (declaration, rest) = final_class(rt.alloc(), tokens[0], &tokens[1..], 6, 6)?;
+    assert_eq!(rt; rest.len(), 0);
+    let Declaration::Class(found) = &declaration else {
+        return Err("a class".into());
     };
-    let (declaration, rest) = final_class(rt.alloc(), *word, rest, 6, 6)?;
-    assert!(rt; rest.is_empty());
-    let is_final = match &declaration {
-        Declaration::Class(found) => found.final_word == Some(*word),
-        _ => false,
-    };
-    assert!(rt; is_final);
+    assert!(rt; found.final_word.is_some());
     Ok(())
 }
 
 #[test]
 fn interface_has_methods_without_bodies(rt: HostRuntime) -> Result<(), Fail> {
-    let tokens = lex(
-        rt.alloc(),
-        b"interface I : J { void f(int a); int g() const; }",
-        0,
-    )?;
-    let [word, rest @ ..] = tokens.as_slice() else {
-        return Err("tokens".into());
+    let text = b"interface I : J { void f(int a); int g() const; }";
+    let tokens = lex(rt.alloc(), text, 0)?;
+    let (declaration, rest) = interface(rt.alloc(), tokens[0], &tokens[1..], 99)?;
+    assert_eq!(rt; rest.len(), 0);
+    let Declaration::Interface(found) = &declaration else {
+        return Err("an interface".into());
     };
-    let (declaration, rest) = interface(rt.alloc(), *word, rest, tokens.len())?;
-    assert!(rt; rest.is_empty());
-    let two_methods = match &declaration {
-        Declaration::Interface(Interface { bases, methods, .. }) => {
-            bases.len() == 1 && methods.len() == 2
-        }
-        _ => false,
-    };
-    assert!(rt; two_methods);
+    assert_eq!(rt; found.bases.len(), 1);
+    assert_eq!(rt; found.methods.len(), 2);
+    assert!(rt; found.methods[0].constant.is_none());
+    assert!(rt; found.methods[1].constant.is_some());
     Ok(())
 }
 
-/// A field has no value: the fault is at the sign, with three tokens behind it.
+/// A field has no value: the fault is at its `=`.
 #[test]
 fn field_has_no_value(rt: HostRuntime) -> Result<(), Fail> {
     let tokens = lex(rt.alloc(), b"class A { int x = 1; }", 0)?;
-    let four_left = match read_class(rt.alloc(), &tokens) {
-        Err(ReadError::Syntax(rest)) => rest.len() == 4,
-        _ => false,
+    let left = match class(rt.alloc(), None, tokens[0], &tokens[1..], 99, 99) {
+        Err(ReadError::Syntax(rest)) => rest.len(),
+        _ => 99,
     };
-    assert!(rt; four_left);
+    assert_eq!(rt; left, 4);
     Ok(())
 }
