@@ -11,21 +11,19 @@ use Rattle.ang_tree.specs.TypeNames.{spelled_handle, spelled_type, FitsHandle, F
 use Rattle.ang_tree.specs.Tree.{Args, arguments, spelled_args, listed, FitsArgs}
 use Rattle.ang_tree.specs.Stmt.{each, Every, Stmts, Body, body, end, then, spelled_stmt, spelled_body, spelled_stmts, FitsBody, FitsStmts}
 use Rattle.ang_tree.specs.Declarations as tree
-use Rattle.ang_read.specs.Read.{Parser, and_then, pure, ◌>>=◌, repeat}
+use Rattle.ang_read.specs.Read.{and_then, pure, repeat}
 use Rattle.ang_read.specs.Tokens.{a_token, perhaps, is_name, is_left_paren, is_left_brace, is_right_brace, is_semicolon, is_const}
 use Rattle.ang_read.proofs.Tokens.{begins, look_is, look_at, a_token_is, perhaps_is, perhaps_not}
 use Rattle.ang_read.proofs.Loops.{repeat_stops, repeat_goes_on}
 use Rattle.ang_parse_expr.specs.ReadType.{a_type, type_of}
 use Rattle.ang_parse_expr.specs.ReadExpr.{expr, args}
 use Rattle.ang_parse_expr.proofs.SoundType.{optional-length, type-length}
-use Rattle.ang_parse_expr.proofs.Sound.{args-length}
 use Rattle.ang_parse_expr.proofs.Grip.{First}
 use Rattle.ang_parse_expr.proofs.Stops.{is_comma}
 use Rattle.ang_parse_expr.proofs.CompleteType.{is_at, EndsType, type_named_read, type_read}
 use Rattle.ang_parse_expr.proofs.Complete.{args_read}
 use Rattle.ang_parse_expr.proofs.Exactly.{listed-size}
 use Rattle.ang_parse_stmt.specs.ReadStmt.{stmt, statements, a_body}
-use Rattle.ang_parse_stmt.proofs.Lengths.{body-length, stmts-length}
 use Rattle.ang_parse_stmt.proofs.CompleteStmt.{stmt_kind, stmt_first, statements_read, body_read}
 use Rattle.ang_parse_params.specs.ReadParams.{params, a_params}
 use Rattle.ang_parse_params.proofs.SoundParams.{params-length}

@@ -5,7 +5,6 @@ use Rattle.ang_tree.specs.declared.declaration.BaseName.{BaseName}
 use Rattle.ang_tree.specs.declared.declaration.FieldName.{FieldName}
 use Rattle.ang_tree.specs.Kinds.{optional}
 use Rattle.ang_tree.specs.TypeNames.{spelled_type}
-use Rattle.ang_tree.specs.Tree.{spelled_args}
 use Rattle.ang_tree.specs.Stmt.{each, spelled_body, spelled_stmts}
 use Rattle.ang_tree.specs.Declarations as tree
 use Rattle.ang_parse_expr.proofs.SoundType.{optional-length, type-length}

@@ -1,5 +1,5 @@
 -- What is read as a member of a class, or as a method of an interface, is spelled so.
-use Rattle.std.proofs.Common.{◌≡◌, ℕ, ◌<◌, ◌≤◌, Bool, true, false, List, [], ◌∷◌, ◌++◌, length, Option, Some, None, refl, ap, sym, ◌∙◌, arith}
+use Rattle.std.proofs.Common.{◌≡◌, ℕ, ◌≤◌, Bool, true, false, List, [], ◌∷◌, ◌++◌, length, Option, Some, None, refl, ap, sym, ◌∙◌, arith}
 use Rattle.std.specs.Prelude.{IfSome}
 use Rattle.ang_lex.specs.declared.token.Token.{Token}
 use Rattle.ang_lex.specs.declared.token.TokenKind.{TokenKind}
@@ -8,12 +8,12 @@ use Rattle.ang_tree.specs.declared.type_name.TypeName.{TypeName}
 use Rattle.ang_tree.specs.declared.declaration.FieldName.{FieldName}
 use Rattle.ang_tree.specs.Kinds.{Is, IsA, IfWritten, IfWrittenA, optional, access_kind, attribute_kind, type_kind}
 use Rattle.ang_tree.specs.TypeNames.{spelled_type, FitsType}
-use Rattle.ang_tree.specs.Tree.{Args, spelled_args}
-use Rattle.ang_tree.specs.Stmt.{each, Every, Parted, Filled, Stmts, Body, spelled_body, spelled_stmts, FitsBody, FitsStmts}
+use Rattle.ang_tree.specs.Tree.{spelled_args}
+use Rattle.ang_tree.specs.Stmt.{each, Every, Parted, Filled, spelled_body, spelled_stmts, FitsBody, FitsStmts}
 use Rattle.ang_tree.specs.Declarations as tree
 use Rattle.ang_read.specs.Read.{pure, given, repeat}
 use Rattle.ang_read.specs.Tokens.{a_token, perhaps, is_name, is_left_paren, is_left_brace, is_right_brace, is_semicolon, is_const}
-use Rattle.ang_read.proofs.Outcomes.{Reads, and_reads, along, further, chosen_reads, ChoiceReads, look_reads, given_reads, Turns, repeat_reads_to, From-self, From-one, From-length}
+use Rattle.ang_read.proofs.Outcomes.{Reads, and_reads, along, further, ChoiceReads, look_reads, given_reads, Turns, repeat_reads_to, From-self, From-one, From-length}
 use Rattle.ang_read.proofs.Tokens.{Always, Token_read, a_token_reads, Perhaps_read, written, absent, perhaps_reads, name_is, left_paren_is, left_brace_is, right_brace_is, semicolon_is, const_is}
 use Rattle.ang_parse_expr.specs.ReadType.{a_type, type_named}
 use Rattle.ang_parse_expr.specs.ReadExpr.{expr, args}

@@ -75,7 +75,7 @@ pub fn class(
     depth: usize,
     limit: usize,
 ) -> Result<(Declaration, &[Token]), ReadError<'_>>
-    ensures { Gives (λ x. (view_decl x.0, x.1.now)) result (read.class depth limit final_word word tokens.now) }
+    ensures reads { Gives (λ x. (view_decl x.0, x.1.now)) result (read.class depth limit final_word word tokens.now) }
 {
     let (heading, rest) = heading(alloc, tokens, limit)?;
     let (members, rest) = members(alloc, rest, depth, limit)?;
@@ -107,7 +107,7 @@ pub fn final_class<'a>(
     depth: usize,
     limit: usize,
 ) -> Result<(Declaration, &'a [Token]), ReadError<'a>>
-    ensures { Gives (λ x. (view_decl x.0, x.1.now)) result (read.final_class depth limit final_word tokens.now) }
+    ensures reads { Gives (λ x. (view_decl x.0, x.1.now)) result (read.final_class depth limit final_word tokens.now) }
 {
     match tokens {
         [word, rest @ ..] if matches!(word.kind, TokenKind::Class) => {

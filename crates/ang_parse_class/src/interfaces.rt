@@ -107,7 +107,7 @@ pub fn interface<'a>(
     tokens: &'a [Token],
     limit: usize,
 ) -> Result<(Declaration, &'a [Token]), ReadError<'a>>
-    ensures { Gives (λ x. (view_decl x.0, x.1.now)) result (read.interface limit word tokens.now) }
+    ensures reads { Gives (λ x. (view_decl x.0, x.1.now)) result (read.interface limit word tokens.now) }
 {
     let (heading, rest) = heading(alloc, tokens, limit)?;
     let (methods, rest) = methods(alloc, rest, limit)?;

@@ -9,7 +9,10 @@ use std::test::Fail;
 #[test]
 fn bases_are_names_behind_a_colon(rt: HostRuntime) -> Result<(), Fail> {
     let tokens = lex(rt.alloc(), b"class A : B, C {} class", 0)?;
-    let (declaration, rest) = class(rt.alloc(), None, tokens[0], &tokens[1..], 10, 10)?;
+    let [word, behind @ ..] = tokens.as_slice() else {
+        return Err("tokens".into());
+    };
+    let (declaration, rest) = class(rt.alloc(), None, *word, behind, 10, 10)?;
     assert_eq!(rt; rest.len(), 1);
     let Declaration::Class(found) = &declaration else {
         return Err("a class".into());
@@ -24,7 +27,10 @@ fn bases_are_names_behind_a_colon(rt: HostRuntime) -> Result<(), Fail> {
 fn parenthesis_tells_members_apart(rt: HostRuntime) -> Result<(), Fail> {
     let text = b"class A { private int x, y; A@ f(int a) const final override { b; } A() { super(1); c; } A d; }";
     let tokens = lex(rt.alloc(), text, 0)?;
-    let (declaration, rest) = class(rt.alloc(), None, tokens[0], &tokens[1..], 99, 99)?;
+    let [word, behind @ ..] = tokens.as_slice() else {
+        return Err("tokens".into());
+    };
+    let (declaration, rest) = class(rt.alloc(), None, *word, behind, 99, 99)?;
     assert_eq!(rt; rest.len(), 0);
     let Declaration::Class(found) = &declaration else {
         return Err("a class".into());
@@ -64,7 +70,10 @@ fn parenthesis_tells_members_apart(rt: HostRuntime) -> Result<(), Fail> {
 #[test]
 fn final_stands_in_front_of_class(rt: HostRuntime) -> Result<(), Fail> {
     let tokens = lex(rt.alloc(), b"final class A {}", 0)?;
-    let (declaration, rest) = final_class(rt.alloc(), tokens[0], &tokens[1..], 6, 6)?;
+    let [word, behind @ ..] = tokens.as_slice() else {
+        return Err("tokens".into());
+    };
+    let (declaration, rest) = final_class(rt.alloc(), *word, behind, 6, 6)?;
     assert_eq!(rt; rest.len(), 0);
     let Declaration::Class(found) = &declaration else {
         return Err("a class".into());
@@ -77,7 +86,10 @@ fn final_stands_in_front_of_class(rt: HostRuntime) -> Result<(), Fail> {
 fn interface_has_methods_without_bodies(rt: HostRuntime) -> Result<(), Fail> {
     let text = b"interface I : J { void f(int a); int g() const; }";
     let tokens = lex(rt.alloc(), text, 0)?;
-    let (declaration, rest) = interface(rt.alloc(), tokens[0], &tokens[1..], 99)?;
+    let [word, behind @ ..] = tokens.as_slice() else {
+        return Err("tokens".into());
+    };
+    let (declaration, rest) = interface(rt.alloc(), *word, behind, 99)?;
     assert_eq!(rt; rest.len(), 0);
     let Declaration::Interface(found) = &declaration else {
         return Err("an interface".into());
@@ -93,7 +105,10 @@ fn interface_has_methods_without_bodies(rt: HostRuntime) -> Result<(), Fail> {
 #[test]
 fn field_has_no_value(rt: HostRuntime) -> Result<(), Fail> {
     let tokens = lex(rt.alloc(), b"class A { int x = 1; }", 0)?;
-    let left = match class(rt.alloc(), None, tokens[0], &tokens[1..], 99, 99) {
+    let [word, behind @ ..] = tokens.as_slice() else {
+        return Err("tokens".into());
+    };
+    let left = match class(rt.alloc(), None, *word, behind, 99, 99) {
         Err(ReadError::Syntax(rest)) => rest.len(),
         _ => 99,
     };

@@ -1,4 +1,4 @@
-use Rattle.std.proofs.Common.{◌≡◌, List, [], ◌∷◌, ◌++◌, map, Ok, refl}
+use Rattle.std.proofs.Common.{◌≡◌, [], ◌∷◌, ◌++◌, map, Ok, refl}
 use Rattle.ang_tree.specs.View.{view_method}
 use Rattle.ang_parse_class.specs.ReadClass as read
 use Rattle.ang_parse_class.specs.ReadClass.{next_method}
