@@ -86,7 +86,7 @@ module _ (n l : ℕ) (le : n ≤ l) where
       and_reads n ts (Token_read is_name ts) (IsBases (colon ∷ ts)) (a_token is_name ts) (λ x. repeat r.other_base l (r.base_of colon x ∷ [])) (a_token_reads is_name n ts)
       (λ x s p f. further n ts s (AreBases (colon ∷ ts)) (IsBases (colon ∷ ts)) (repeat r.other_base l (r.base_of colon x ∷ []) s) f (λ y u q. record { text = q.text; fits = q.fits })
       (repeat_reads_to (AreBases (colon ∷ ts)) (AreBases (colon ∷ ts)) n r.other_base (other_base_reads n (colon ∷ ts)) l n (omega arith) le (r.base_of colon x ∷ []) s
-        (record { text = ap (λ v. colon ∷ v) p.text; filled = tt; fits = (is, name_is x.kind p.kind, tt) })))
+      (record { text = ap (λ v. colon ∷ v) p.text; filled = tt; fits = (is, name_is x.kind p.kind, tt) })))
 
   bases_by_reads : ChoiceReads n Always IsBases (r.bases_by l)
   bases_by_reads k.Colon t u is z = further n (t ∷ u) u (IsBases (t ∷ u)) _ _ (From-one t u) (λ y s q. q) (some_bases_reads t is u)

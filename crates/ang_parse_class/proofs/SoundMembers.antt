@@ -133,7 +133,7 @@ module _ (n l : ℕ) (le : n ≤ l) where
   fields_reads start w ts h =
       and_reads n ts (AreFields (start.name ∷ ts)) (IsMember w) (repeat r.other_field l (r.field_of None start.name ∷ []) ts) _
       (repeat_reads_to (AreFields (start.name ∷ ts)) (AreFields (start.name ∷ ts)) n r.other_field (other_field_reads n (start.name ∷ ts)) l n (omega arith) le (r.field_of None start.name ∷ []) ts
-        (record { text = refl; filled = tt; parted = (refl, tt); fits = (h.name, tt) }))
+      (record { text = refl; filled = tt; parted = (refl, tt); fits = (h.name, tt) }))
       (λ fs s q f. further n ts s (IsMember w) _ _ f (λ y u z. z)
       (and_reads n s (Token_read is_semicolon s) (IsMember w) (a_token is_semicolon s) (λ semicolon. pure (r.fields_made start fs semicolon)) (a_token_reads is_semicolon n s)
       (λ semicolon u p g. (

@@ -7,10 +7,7 @@ use ang_tree::{BaseName, FieldName, InterfaceMethod, Member};
 use std::alloc::AllocError;
 
 /// The list with one more name of a class or an interface.
-pub(crate) fn with_base(
-    first: Vec<BaseName>,
-    next: BaseName,
-) -> Result<Vec<BaseName>, AllocError>
+pub(crate) fn with_base(first: Vec<BaseName>, next: BaseName) -> Result<Vec<BaseName>, AllocError>
     ensures { IfOk result (λ v. v.items ≡ first.items ++ next ∷ []) }
 {
     let mut found = first;

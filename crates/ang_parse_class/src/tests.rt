@@ -25,7 +25,8 @@ fn bases_are_names_behind_a_colon(rt: HostRuntime) -> Result<(), Fail> {
 
 #[test]
 fn parenthesis_tells_members_apart(rt: HostRuntime) -> Result<(), Fail> {
-    let text = b"class A { private int x, y; A@ f(int a) const final override { b; } A() { super(1); c; } A d; }";
+    let text =
+        b"class A { private int x, y; A@ f(int a) const final override { b; } A() { super(1); c; } A d; }";
     let tokens = lex(rt.alloc(), text, 0)?;
     let [word, behind @ ..] = tokens.as_slice() else {
         return Err("tokens".into());
