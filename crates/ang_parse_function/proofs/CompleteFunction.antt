@@ -1,5 +1,5 @@
 -- What is spelled as a function, as global variables or as an import is read.
-use Rattle.std.proofs.Common.{◌≡◌, ℕ, suc, ◌+◌, ◌<◌, ◌≤◌, Bool, true, false, List, [], ◌∷◌, ◌++◌, length, Option, Some, None, Ok, Err, refl, ap, sym, ◌∙◌, arith}
+use Rattle.std.proofs.Common.{◌≡◌, ℕ, ◌+◌, ◌<◌, ◌≤◌, Bool, true, false, List, [], ◌∷◌, length, Option, Some, None, Ok, Err, refl, ap, ◌∙◌, arith}
 use Rattle.std.proofs.lemmas.List.{length-append}
 use Rattle.ang_lex.specs.declared.token.Token.{Token}
 use Rattle.ang_lex.specs.declared.token.TokenKind.{TokenKind}
@@ -8,10 +8,10 @@ use Rattle.ang_tree.specs.declared.type_name.TypeName.{TypeName}
 use Rattle.ang_tree.specs.Kinds.{Is, IsA, IsComma, IfWritten, optional, type_kind}
 use Rattle.ang_tree.specs.TypeNames.{spelled_handle, spelled_type, FitsType}
 use Rattle.ang_tree.specs.Tree.{Args, Trees, arguments, listed, FitsArgs}
-use Rattle.ang_tree.specs.Stmt.{each, Every, Init, absent, value, constructor, Var, Vars, Body, Stmts, body, spelled_init, spelled_var, spelled_vars, spelled_stmts, spelled_body, FitsInit, FitsVar, FitsVars, FitsBody}
+use Rattle.ang_tree.specs.Stmt.{each, Every, Init, absent, value, constructor, Var, Vars, Body, Stmts, body, spelled_init, spelled_var, spelled_vars, spelled_stmts, FitsInit, FitsVar, FitsVars, FitsBody}
 use Rattle.ang_tree.specs.Declarations.{Params, spelled_params, FitsParams, Decl, spelled_decl, FitsDecl}
 use Rattle.ang_tree.specs.Declarations as decl
-use Rattle.ang_read.specs.Read.{at, deep, Parser, Outcome, and_then, pure, ◌>>=◌}
+use Rattle.ang_read.specs.Read.{at, deep, Outcome, and_then, pure, ◌>>=◌}
 use Rattle.ang_read.specs.Tokens.{a_token, is_name, is_left_paren, is_left_brace, is_semicolon, is_from, is_text, is_const}
 use Rattle.ang_read.specs.Law.{finish}
 use Rattle.ang_read.specs.Group.{merged, both_at, both}
@@ -23,10 +23,9 @@ use Rattle.ang_parse_expr.proofs.CompleteType.{is_at, EndsType, type_read}
 use Rattle.ang_parse_expr.proofs.Complete.{args_read}
 use Rattle.ang_parse_expr.proofs.Exactly.{listed-size}
 use Rattle.ang_parse_stmt.specs.ReadVars.{variable_of, variables_of}
-use Rattle.ang_parse_stmt.proofs.Lengths.{init-length, each_var-length}
+use Rattle.ang_parse_stmt.proofs.Lengths.{init-length}
 use Rattle.ang_parse_stmt.proofs.CompleteVars.{variables_behind_read, variables_named_read}
 use Rattle.ang_parse_stmt.proofs.CompleteStmt.{body_read}
-use Rattle.ang_parse_params.specs.ReadParams.{a_params}
 use Rattle.ang_parse_params.proofs.SoundParams.{params-length}
 use Rattle.ang_parse_params.proofs.CompleteParams.{params_complete, a_params_complete}
 use Rattle.ang_parse_function.specs.ReadFunction as r
@@ -85,12 +84,11 @@ unfolding r.group both
 group_of_params ps l ts f le =
     let a = params_inside ps [] in
     let short : length a + 1 < l = omega (arith, ap length (params_joined ps ts f), length-append (params_inside ps []) ts) in
-    let found = params_found ps ts a l _ (r.whole_args l ps.left a) (whole_args_reads l l (omega arith) ps.left f.left a) (omega arith) in
-    (
+    let found = params_found ps ts a l _ (r.whole_args l ps.left a) (whole_args_reads l l (omega arith) ps.left f.left a) (omega arith) in (
       found.0,
       ap (both_at (r.whole_params l ps.left) (r.whole_args l ps.left)) (params_split ps ts f)
-      ∙ ap (λ v. merged v (r.whole_args l ps.left a) ts) (whole_params_read ps l f (omega arith))
-      ∙ found.1,
+          ∙ ap (λ v. merged v (r.whole_args l ps.left a) ts) (whole_params_read ps l f (omega arith))
+          ∙ found.1,
     )
 
 args_length : (left : Token) (es : Trees) (right : Token) (ts : List Token) → FitsArgs (arguments left es right) → length (listed es (right ∷ [])) ≤ length (listed es (right ∷ ts))
@@ -102,12 +100,11 @@ unfolding r.group both
 group_of_args left es right l ts f le =
     let a = listed es (right ∷ []) in
     let short : length a < l = omega (arith, args_length left es right ts f) in
-    let found = args_found (arguments left es right) ts a l _ (r.whole_params l left a) (whole_params_reads l l (omega arith) left f.0 a) short in
-    (
+    let found = args_found (arguments left es right) ts a l _ (r.whole_params l left a) (whole_params_reads l l (omega arith) left f.0 a) short in (
       found.0,
       ap (both_at (r.whole_params l left) (r.whole_args l left)) (args_split left es right ts f)
-      ∙ ap (λ v. merged (r.whole_params l left a) v ts) (whole_args_read left es right l f short)
-      ∙ found.1,
+          ∙ ap (λ v. merged (r.whole_params l left a) v ts) (whole_args_read left es right l f short)
+          ∙ found.1,
     )
 
 -- ---- function and globals

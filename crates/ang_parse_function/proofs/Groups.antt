@@ -1,5 +1,5 @@
 -- The group of parameters or of arguments ends at its own right parenthesis.
-use Rattle.std.proofs.Common.{◌≡◌, ℕ, zero, suc, ◌≤◌, Bool, true, false, List, [], ◌∷◌, ◌++◌, Option, Some, None, refl, ap, ◌∙◌, arith}
+use Rattle.std.proofs.Common.{◌≡◌, ℕ, suc, ◌≤◌, Bool, true, false, List, [], ◌∷◌, ◌++◌, Option, Some, None, refl, ap, ◌∙◌, arith}
 use Rattle.ang_lex.specs.declared.token.Token.{Token}
 use Rattle.ang_lex.specs.declared.token.TokenKind.{TokenKind}
 use Rattle.ang_lex.specs.declared.token.TokenKind.TheVariants as k
@@ -11,7 +11,7 @@ use Rattle.ang_tree.specs.Kinds.{Is, IsComma, IfWritten, IfWrittenA, optional, l
 use Rattle.ang_tree.specs.TypeNames.{spelled_handle, spelled_type, FitsHandle, FitsType}
 use Rattle.ang_tree.specs.Tree.{Tree, Args, Trees, literal, name, call, scoped_call, cast, convert, group, postfix, member, method_call, prefix, binary, conditional, assignment, arguments, none, more, spelled, spelled_args, listed, Fits, FitsArgs, AllFit, OthersFit}
 use Rattle.ang_tree.specs.Stmt.{each, Every}
-use Rattle.ang_tree.specs.Declarations.{Params, spelled_reference, spelled_param, spelled_params, FitsReference, FitsParam, FitsItems, FitsParams}
+use Rattle.ang_tree.specs.Declarations.{Params, spelled_reference, spelled_param, FitsReference, FitsParam, FitsItems, FitsParams}
 use Rattle.ang_read.specs.Group.{fronted, deeper, cut, split}
 use Rattle.ang_read.proofs.TameGroup.{parts}
 

@@ -1,23 +1,22 @@
 -- What is read as a function, as global variables or as an import is spelled so.
-use Rattle.std.proofs.Common.{◌≡◌, ℕ, zero, suc, ◌<◌, ◌≤◌, Bool, true, false, List, [], ◌∷◌, ◌++◌, length, Option, Some, None, Ok, Err, refl, ap, sym, subst, ◌∙◌, append_assoc, arith}
+use Rattle.std.proofs.Common.{◌≡◌, ℕ, zero, suc, ◌<◌, ◌≤◌, Bool, true, false, List, [], ◌∷◌, ◌++◌, length, Option, Some, None, Ok, Err, refl, ap, sym, ◌∙◌, append_assoc, arith}
 use Rattle.std.specs.Prelude.{IfSome, option_map, nat_lt, if◌then◌else◌}
 use Rattle.std.proofs.lemmas.List.{length-append}
 use Rattle.ang_lex.specs.declared.token.Token.{Token}
-use Rattle.ang_lex.specs.declared.token.TokenKind.{TokenKind}
 use Rattle.ang_lex.specs.declared.token.TokenKind.TheVariants as k
 use Rattle.ang_tree.specs.declared.type_name.TypeName.{TypeName}
 use Rattle.ang_tree.specs.Kinds.{Is}
 use Rattle.ang_tree.specs.TypeNames.{spelled_type, FitsType}
-use Rattle.ang_tree.specs.Tree.{Args, spelled_args}
-use Rattle.ang_tree.specs.Stmt.{constructor, Vars, Body, spelled_vars, spelled_body}
+use Rattle.ang_tree.specs.Tree.{Args}
+use Rattle.ang_tree.specs.Stmt.{constructor, Vars, Body, spelled_body}
 use Rattle.ang_tree.specs.Declarations.{Params, spelled_params, FitsParams, Decl, spelled_decl, FitsDecl}
 use Rattle.ang_tree.specs.Declarations as decl
 use Rattle.ang_read.specs.From.{From}
-use Rattle.ang_read.specs.Read.{at, deep, Parser, Outcome, pure, ◌>>=◌, repeat}
+use Rattle.ang_read.specs.Read.{at, deep, Outcome, pure, repeat}
 use Rattle.ang_read.specs.Tokens.{a_token, is_name, is_semicolon, is_from, is_text}
 use Rattle.ang_read.specs.Law.{finish}
 use Rattle.ang_read.specs.Group.{split, merged, both}
-use Rattle.ang_read.proofs.Outcomes.{Reads, and_reads, along, further, behind, ChoiceReads, look_reads, From-self, From-one, From-length}
+use Rattle.ang_read.proofs.Outcomes.{Reads, and_reads, along, further, behind, ChoiceReads, look_reads, From-self, From-one}
 use Rattle.ang_read.proofs.Tokens.{Token_read, a_token_reads, name_is, semicolon_is, from_is, text_is}
 use Rattle.ang_read.proofs.TameGroup.{parts}
 use Rattle.ang_parse_expr.specs.ReadType.{a_type}
@@ -32,7 +31,7 @@ use Rattle.ang_parse_stmt.proofs.SoundStmt.{IsBody, IsStmt, stmt_reads, body_rea
 use Rattle.ang_parse_params.specs.ReadParams.{params, a_params}
 use Rattle.ang_parse_params.proofs.SoundParams.{IsParams, params_reads, a_params_reads, params-length}
 use Rattle.ang_parse_function.specs.ReadFunction as r
-use Rattle.ang_parse_function.proofs.Groups.{params_inside, params_joined, args_joined}
+use Rattle.ang_parse_function.proofs.Groups.{params_joined, args_joined}
 
 -- ---- the group
 
@@ -125,8 +124,8 @@ module _ (n l : ℕ) (le : n ≤ l) (y : TypeName) (Y : FitsType y) (x : Token) 
     bodied_reads ps brace B ts h =
         and_reads n (brace ∷ ts) (IsBody brace ts) (IsDecl w) (a_body (stmt n l) l brace ts) (λ b. pure (decl.function y x ps b)) (block_reads n l le brace B ts)
         (λ b s q f.
-            let text : w ≡ spelled_decl (decl.function y x ps b) s = e ∙ ap (λ v. spelled_type y (x ∷ v)) (h.text ∙ ap (spelled_params ps) q.text) in
-            (record { text = text; fits = (Y, X, h.fits, q.fits); shorter = omega (arith, ap length text, function-length y x ps b s) }, f))
+        let text : w ≡ spelled_decl (decl.function y x ps b) s = e ∙ ap (λ v. spelled_type y (x ∷ v)) (h.text ∙ ap (spelled_params ps) q.text) in
+        (record { text = text; fits = (Y, X, h.fits, q.fits); shorter = omega (arith, ap length text, function-length y x ps b s) }, f))
 
     constructed_reads : (es : Args) (ts : List Token) → IsArgs left inside es ts → Reads n ts (IsDecl w) (r.constructed l y x es ts)
     unfolding r.constructed
@@ -219,12 +218,11 @@ import_reads n l le word W ts =
     (λ ps v a h. further n u v (IsDecl (word ∷ ts)) _ _ h (λ d u z. z)
     (and_reads n v (IsOrigin v) (IsDecl (word ∷ ts)) (r.origin v) (λ o. pure (decl.import word y x ps o.0 o.1 o.2)) (origin_reads n v)
     (λ o z i j.
-        let text : word ∷ ts ≡ spelled_decl (decl.import word y x ps o.0 o.1 o.2) z = ap (λ v. word ∷ v) (q.text ∙ ap (spelled_type y) (p.text ∙ ap (λ v. x ∷ v) (a.text ∙ ap (spelled_params ps) i.text))) in
-        (
-          record {
-            text = text;
-            fits = (W, q.fits, name_is x.kind p.kind, a.fits, i.word, i.name, i.semicolon);
-            shorter = omega (arith, ap length text, import-length word y x ps o.0 o.1 o.2 z);
-          },
-          j,
-        ))))))))
+    let text : word ∷ ts ≡ spelled_decl (decl.import word y x ps o.0 o.1 o.2) z = ap (λ v. word ∷ v) (q.text ∙ ap (spelled_type y) (p.text ∙ ap (λ v. x ∷ v) (a.text ∙ ap (spelled_params ps) i.text))) in (
+      record {
+        text = text;
+        fits = (W, q.fits, name_is x.kind p.kind, a.fits, i.word, i.name, i.semicolon);
+        shorter = omega (arith, ap length text, import-length word y x ps o.0 o.1 o.2 z);
+      },
+      j,
+    ))))))))

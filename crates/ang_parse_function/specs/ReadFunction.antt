@@ -1,6 +1,6 @@
 -- Reading what begins with a type at the top of a script, a function or global variables, and reading imports.
 -- (docs/LANGUAGE.md, "Grammar": `function`, `globals`, `import`.)
-use Rattle.std.specs.Prelude.{ℕ, true, Option, Some, None, option_map}
+use Rattle.std.specs.Prelude.{ℕ, Option, Some, None, option_map}
 use Rattle.ang_lex.specs.declared.token.Token.{Token}
 use Rattle.ang_lex.specs.declared.token.TokenKind.{TokenKind}
 use Rattle.ang_lex.specs.declared.token.TokenKind.TheVariants as k

@@ -70,7 +70,8 @@ fn told(
     ensures { Gives (λ x. (view_decl x.0, x.1.now)) result (read.told depth limit declared_type name (view_group group) tokens.now) }
 {
     let [open, rest @ ..] = tokens else {
-        return constructed(alloc, declared_type, name, group.into_arguments(), tokens, limit);
+        let arguments = group.into_arguments();
+        return constructed(alloc, declared_type, name, arguments, tokens, limit);
     };
     match open.kind {
         TokenKind::LeftBrace => {
@@ -92,7 +93,10 @@ fn told(
                 rest,
             ))
         }
-        _ => constructed(alloc, declared_type, name, group.into_arguments(), tokens, limit),
+        _ => {
+            let arguments = group.into_arguments();
+            constructed(alloc, declared_type, name, arguments, tokens, limit)
+        }
     }
 }
 
