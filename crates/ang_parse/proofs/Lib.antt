@@ -1,0 +1,6 @@
+pub mod Columns
+pub mod SoundScript
+pub mod CompleteScript
+pub mod TameScript
+pub mod Exactly
+pub mod Answered
