@@ -1,5 +1,6 @@
 -- What is spelled as a script is read.
-use Rattle.std.proofs.Common.{◌≡◌, ℕ, zero, suc, ◌<◌, ◌≤◌, Bool, true, false, List, [], ◌∷◌, ◌++◌, length, Option, Some, None, Ok, refl, ap, sym, ◌∙◌, append_assoc, append_nil, arith}
+use Rattle.std.proofs.Common.{◌≡◌, ℕ, zero, suc, ◌<◌, ◌≤◌, Bool, true, false, List, [], ◌∷◌, ◌++◌, length, Option, Some, None, Ok, refl, ap, sym, ◌∙◌, append_assoc, arith}
+use Rattle.std.proofs.lemmas.List.{append-nil}
 use Rattle.ang_lex.specs.declared.token.Token.{Token}
 use Rattle.ang_lex.specs.declared.token.TokenKind.{TokenKind}
 use Rattle.ang_lex.specs.declared.token.TokenKind.TheVariants as k
@@ -58,7 +59,7 @@ ends us l = refl
 
 others_read : (ds us : List Decl) (k l : ℕ) → Every FitsDecl ds → length (each spelled_decl ds []) < l → length ds < k
     → repeat (r.other_declaration l) k us (each spelled_decl ds []) ≡ Ok (us ++ ds, [])
-others_read [] us k l f le lt = repeat_stops (r.other_declaration l) us k [] (omega arith) (ends us l) ∙ ap (λ v. Ok (v, [])) (sym (append_nil us))
+others_read [] us k l f le lt = repeat_stops (r.other_declaration l) us k [] (omega arith) (ends us l) ∙ ap (λ v. Ok (v, [])) (sym (append-nil us))
 others_read (x ∷ ds) us zero l f le lt = absurd (omega arith)
 others_read (x ∷ ds) us (suc k) l f le lt =
     let rest = each spelled_decl ds [] in

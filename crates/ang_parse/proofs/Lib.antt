@@ -1,4 +1,5 @@
 pub mod Columns
+pub mod Rests
 pub mod SoundScript
 pub mod CompleteScript
 pub mod TameScript

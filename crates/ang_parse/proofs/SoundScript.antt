@@ -1,5 +1,5 @@
 -- What is read as a script is spelled so.
-use Rattle.std.proofs.Common.{◌≡◌, ℕ, ◌<◌, ◌≤◌, Bool, List, [], ◌∷◌, ◌++◌, length, Option, Some, None, refl, ap, sym, ◌∙◌, arith}
+use Rattle.std.proofs.Common.{◌≡◌, ℕ, ◌+◌, ◌<◌, ◌≤◌, Bool, true, false, List, [], ◌∷◌, ◌++◌, length, Option, Some, None, refl, ap, sym, ◌∙◌, arith}
 use Rattle.ang_lex.specs.declared.token.Token.{Token}
 use Rattle.ang_lex.specs.declared.token.TokenKind.{TokenKind}
 use Rattle.ang_lex.specs.declared.token.TokenKind.TheVariants as k
@@ -45,13 +45,13 @@ module _ (l : ℕ) where
   declaration_by_reads k.Class t u is z = further l (t ∷ u) u (IsDecl (t ∷ u)) _ _ (From-one t u) (λ y s q. q) (class_reads l l (omega arith) None t tt is u)
   declaration_by_reads k.Final t u is z = further l (t ∷ u) u (IsDecl (t ∷ u)) _ _ (From-one t u) (λ y s q. q) (final_class_reads l l (omega arith) t is u)
   declaration_by_reads k.Interface t u is z = further l (t ∷ u) u (IsDecl (t ∷ u)) _ _ (From-one t u) (λ y s q. q) (interface_reads l l (omega arith) t is u)
-  declaration_by_reads k.Import t u is z = further l (t ∷ u) u (IsDecl (t ∷ u)) _ _ (From-one t u) (as_decl (t ∷ u)) (import_reads l l (omega arith) t is u)
+  declaration_by_reads k.Import t u is z = further l (t ∷ u) u (function.IsDecl (t ∷ u)) _ _ (From-one t u) (as_decl (t ∷ u)) (import_reads l l (omega arith) t is u)
   declaration_by_reads k.Semicolon t u is z = (record { text = refl; fits = is }, From-one t u)
   declaration_by_reads _ t u is z = tt
 
   declaration_reads : (ts : List Token) → Reads l ts (IsDecl ts) (r.declaration l ts)
   unfolding r.declaration
-  declaration_reads ts = look_reads l Always IsDecl (r.declaration_by l) (function_or_globals l l) declaration_by_reads (λ ts z. further l ts ts (IsDecl ts) _ _ (From-self ts) (as_decl ts) (function_or_globals_reads l l (omega arith) ts)) ts tt
+  declaration_reads ts = look_reads l Always IsDecl (r.declaration_by l) (function_or_globals l l) declaration_by_reads (λ ts z. further l ts ts (function.IsDecl ts) _ _ (From-self ts) (as_decl ts) (function_or_globals_reads l l (omega arith) ts)) ts tt
 
   abbrev More : List Token → ℕ → List Decl × Bool → List Token → Type 0
   More w len = Turns (AreDecls w) (AreDecls w) len

@@ -13,14 +13,14 @@ const MOST_OPEN: u32 = 64;
 const MOST_OPERATORS: u32 = 256;
 
 /// How many of `(` and `{` are open behind a token.
-fn opened(open: u32, kind: TokenKind) -> u32
-    requires { open + 1 < 2 ^ 32 }
-    ensures { result ≡ depth.opened «open» kind }
+fn opened(brackets: u32, kind: TokenKind) -> u32
+    requires { brackets + 1 < 2 ^ 32 }
+    ensures { result ≡ depth.opened brackets kind }
 {
     match kind {
-        TokenKind::LeftParen | TokenKind::LeftBrace => open + 1,
-        TokenKind::RightParen | TokenKind::RightBrace => open.saturating_sub(1),
-        _ => open,
+        TokenKind::LeftParen | TokenKind::LeftBrace => brackets + 1,
+        TokenKind::RightParen | TokenKind::RightBrace => brackets.saturating_sub(1),
+        _ => brackets,
     }
 }
 
@@ -107,12 +107,12 @@ fn counted(operators: u32, kind: TokenKind) -> u32
 pub(crate) fn too_deep(tokens: &[Token]) -> Option<Place>
     ensures { result ≡ option_map (place_at tokens.now) (depth.too_deep tokens.now) }
 {
-    let mut open = 0;
+    let mut brackets = 0;
     let mut operators = 0;
     for token in tokens {
-        open = opened(open, token.kind);
+        brackets = opened(brackets, token.kind);
         operators = counted(operators, token.kind);
-        if open > MOST_OPEN || operators > MOST_OPERATORS {
+        if brackets > MOST_OPEN || operators > MOST_OPERATORS {
             return Some(token.place);
         }
     }
