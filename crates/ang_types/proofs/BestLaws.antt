@@ -99,14 +99,16 @@ one_below-None p (suc n) e k lt =
     let s = step_none (p n) n (one_below p n) e in
     below_more (λ k. p k ≡ false) n (one_below-None p n s.1) s.0 k (omega arith)
 
+best_apart : (l : Lines) (cs : List Candidate) (args : List ArgType) (i j : ℕ) → i ≢ j → IsBest l cs args i → ¬ IsBest l cs args j
+best_apart l cs args i j ne a b =
+    (a.better j (λ e. ne (sym e)) b.viable).none_greater (b.better i ne a.viable).one_less
+
+same_unless : (t : Bool) (i j : ℕ) → Decides t (i ≡ j) → ¬ (i ≢ j) → i ≡ j
+same_unless true i j d h = d.0 refl
+same_unless false i j d h = absurd (h (not_from_Decides false d refl))
+
 pub one_best-unique : (l : Lines) (cs : List Candidate) (args : List ArgType) (i j : ℕ) → IsBest l cs args i → IsBest l cs args j → i ≡ j
-one_best-unique l cs args i j a b = apart (i == j) (Decides-eqb i j)
-where
-  apart : (t : Bool) → Decides t (i ≡ j) → i ≡ j
-  apart true d = d.0 refl
-  apart false d =
-      let ne : i ≢ j = not_from_Decides false d refl in
-      absurd ((a.better j (λ e. ne (sym e)) b.viable).none_greater (b.better i ne a.viable).one_less)
+one_best-unique l cs args i j a b = same_unless (i == j) i j (Decides-eqb i j) (λ ne. best_apart l cs args i j ne a b)
 
 best_from_search : (l : Lines) (cs : List Candidate) (args : List ArgType) (i : ℕ) → one_below (is_best l cs args) (length cs) ≡ Some i → IsBest l cs args i
 best_from_search l cs args i e = (is_best-Decides l cs args i).0 (one_below-Some (is_best l cs args) (length cs) i e)
