@@ -1,7 +1,7 @@
 -- The tests of Best say what the relations of Overloads say, and so does what they pick.
-use Rattle.std.specs.Prelude.{ℕ, if◌then◌else◌, ◌≡◌, ◌≢◌, ◌<◌, ◌⊎◌, ◌↔◌, Bool, true, false, not, ◌==◌, ◌&&◌, ◌||◌, nat_lt, List, length, Option, Some, None, IsSome, is_some, Decides}
+use Rattle.std.specs.Prelude.{ℕ, if◌then◌else◌, ◌≡◌, ◌≢◌, ◌<◌, ◌⊎◌, ◌↔◌, Bool, true, false, ◌==◌, List, length, Option, Some, None, IsSome, is_some, Decides}
 use Rattle.std.proofs.Common.{arith, refl, ap, sym, subst, inl, inr, zero, suc, below_more}
-use Rattle.std.proofs.lemmas.Bool.Decides.{Decides-eqb, Decides-ltb, Decides-and, Decides-or, Decides-not, Decides-like, Decides-below_and, Decides-below_or, not_from_Decides, nat_tests}
+use Rattle.std.proofs.lemmas.Bool.Decides.{Decides-eqb, Decides-ltb, Decides-and, Decides-or, Decides-not, Decides-like, Decides-below_and, Decides-below_or, not_from_Decides}
 use Rattle.std.proofs.lemmas.Option.{same_Some}
 use Rattle.ang_types.specs.declared.arg_type.ArgType.{ArgType}
 use Rattle.ang_types.specs.declared.candidate.Candidate.{Candidate}

@@ -1,7 +1,16 @@
 //! The integer types, and the type in which two of them meet.
 ghost use Rattle.std.specs.Prelude.{◌≡◌, max, ◌||◌, ◌&&◌, nat_lt};
 ghost use Rattle.ang_types.specs.Integers.{
-    IsInteger, common_type, integer_rank, is_integer, is_signed, primitive_rank, raised, wider, width};
+  IsInteger,
+  common_type,
+  integer_rank,
+  is_integer,
+  is_signed,
+  primitive_rank,
+  raised,
+  wider,
+  width,
+};
 
 use ang_kinds::Prim;
 use std::cmp::Ordering;

@@ -1,7 +1,16 @@
 //! Which of several candidates a call means.
 ghost use Rattle.std.specs.Prelude.{◌≡◌, ◌↔◌, ◌<◌, ◌+◌, ℕ, IsTrue, length};
 ghost use Rattle.ang_types.specs.Overloads.{
-    HasLess, IsBest, IsBetter, IsLess, IsViable, IsViableAt, Leads, params_at, rank_at};
+  HasLess,
+  IsBest,
+  IsBetter,
+  IsLess,
+  IsViable,
+  IsViableAt,
+  Leads,
+  params_at,
+  rank_at,
+};
 ghost use Rattle.ang_types.specs.Best.{best_of};
 
 use crate::ranks::rank_of_argument;
@@ -63,12 +72,7 @@ fn next_leader(
 }
 
 /// Whether a viable candidate is better than each other viable one.
-fn beats_others(
-    lineage: &Lineage,
-    candidates: &[Candidate],
-    args: &[ArgType],
-    i: usize,
-) -> bool
+fn beats_others(lineage: &Lineage, candidates: &[Candidate], args: &[ArgType], i: usize) -> bool
     requires viable { IsViableAt lineage.now candidates.now args.now i }
     ensures exact { IsTrue result ↔ IsBest lineage.now candidates.now args.now i }
 {

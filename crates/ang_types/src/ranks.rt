@@ -21,20 +21,44 @@ pub fn rank(lineage: &Lineage, from: ArgType, to: ArgType) -> Option<u8>
         (ArgType::Null, ArgType::Handle { .. }) => Some(1),
         (ArgType::Plain(p), ArgType::Plain(q)) => rank_of_primitive(p, q),
         (
-            ArgType::Object { number: n, read_only: r },
-            ArgType::Object { number: m, read_only: s },
+            ArgType::Object {
+                number: n,
+                read_only: r,
+            },
+            ArgType::Object {
+                number: m,
+                read_only: s,
+            },
         )
         | (
-            ArgType::Handle { number: n, read_only: r },
-            ArgType::Handle { number: m, read_only: s },
+            ArgType::Handle {
+                number: n,
+                read_only: r,
+            },
+            ArgType::Handle {
+                number: m,
+                read_only: s,
+            },
         ) => greatest_of(0, rank_of_const(r, s), lineage.class_rank(n, m)),
         (
-            ArgType::Object { number: n, read_only: r },
-            ArgType::Handle { number: m, read_only: s },
+            ArgType::Object {
+                number: n,
+                read_only: r,
+            },
+            ArgType::Handle {
+                number: m,
+                read_only: s,
+            },
         )
         | (
-            ArgType::Handle { number: n, read_only: r },
-            ArgType::Object { number: m, read_only: s },
+            ArgType::Handle {
+                number: n,
+                read_only: r,
+            },
+            ArgType::Object {
+                number: m,
+                read_only: s,
+            },
         ) => greatest_of(1, rank_of_const(r, s), lineage.class_rank(n, m)),
         _ => None,
     }

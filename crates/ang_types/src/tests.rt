@@ -4,12 +4,17 @@ use std::alloc::{AllocError, Global};
 
 // interfaces and classes by number: `class Base : Shape {}`, `class Derived : Base {}`, and one apart
 const SHAPE: u32 = 0;
+
 const BASE: u32 = 1;
+
 const DERIVED: u32 = 2;
+
 const APART: u32 = 3;
 
 const INT: ArgType = ArgType::Plain(Prim::I32);
+
 const INT64: ArgType = ArgType::Plain(Prim::I64);
+
 const BOOL: ArgType = ArgType::Plain(Prim::Bool);
 
 fn lineage(alloc: Global) -> Result<Lineage, AllocError> {
