@@ -4,15 +4,15 @@
 mod build;
 mod command;
 mod commands;
+mod declared;
 mod engine;
 mod module;
 mod program;
-mod reader;
 mod reply;
 mod run;
 mod script;
 mod section;
-mod word;
+mod thin;
 
 pub use command::Command;
 pub use engine::Engine;
