@@ -8,3 +8,4 @@ pub mod States
 pub mod Calling
 pub mod Applying
 pub mod Trees
+pub mod FirstTokens

@@ -126,18 +126,34 @@ build_of V sections = after_sections V (sources_of 0 sections)
 
 -- ---- the function that a declaration without body names
 
--- `void NAME ( )`
-abbrev pub are_declared : List TokenKind → Bool
-are_declared (k.Void ∷ k.Name ∷ k.LeftParen ∷ k.RightParen ∷ []) = true
-are_declared _ = false
+abbrev pub is_void : TokenKind → Bool
+is_void k.Void = true
+is_void _ = false
 
-abbrev pub second_text : List ℕ → List Token → Option (List ℕ)
-second_text text (t ∷ x ∷ ts) = Some (text_of text x)
-second_text text _ = None
+abbrev pub is_name : TokenKind → Bool
+is_name k.Name = true
+is_name _ = false
+
+abbrev pub is_open : TokenKind → Bool
+is_open k.LeftParen = true
+is_open _ = false
+
+abbrev pub is_close : TokenKind → Bool
+is_close k.RightParen = true
+is_close _ = false
+
+-- `void NAME ( )`
+abbrev pub are_declared : TokenKind → TokenKind → TokenKind → TokenKind → Bool
+are_declared word name left right = is_void word && is_name name && is_open left && is_close right
+
+abbrev pub with_name : Bool → List ℕ → Option (List ℕ)
+with_name true name = Some name
+with_name false name = None
 
 -- the name in tokens that are nothing else
 abbrev pub called_name : List ℕ → List Token → Option (List ℕ)
-called_name text ts = if are_declared (list_map (λ t. t.kind) ts) then second_text text ts else None
+called_name text (word ∷ x ∷ left ∷ right ∷ []) = with_name (are_declared word.kind x.kind left.kind right.kind) (text_of text x)
+called_name text _ = None
 
 abbrev pub name_in_declaration : List ℕ → Result (List Token) LexError → Option (List ℕ)
 name_in_declaration decl (Err e) = None

@@ -1,5 +1,5 @@
 -- The part of the language that is built so far, read off a script's trees (docs/LANGUAGE.md, "What is built so far").
-use Rattle.std.specs.Prelude.{ℕ, ◌^◌, ℤ, pos, ◌+ℤ◌, ◌-ℤ◌, nat_lt, Bool, true, false, if◌then◌else◌, List, [], ◌∷◌, ◌++◌, Option, Some, None, slice_range, option_to_list, map as list_map}
+use Rattle.std.specs.Prelude.{◌≡◌, ℕ, ◌^◌, ℤ, pos, ◌+ℤ◌, ◌-ℤ◌, nat_lt, Bool, true, false, if◌then◌else◌, List, [], ◌∷◌, ◌++◌, Option, Some, None, slice_range, option_to_list, map as list_map}
 use Rattle.std.specs.List.{flat_map}
 use Rattle.std.specs.Int.{int_wrap, w32}
 use Rattle.ang_kinds.specs.declared.error.Error.{Error}
@@ -141,6 +141,10 @@ first_token (import word y x ps from text semicolon) = word
 first_token (function y x ps b) = first_of_type y
 first_token (globals vs) = first_of_type vs.declared_type
 first_token (empty semicolon) = semicolon
+
+-- the tokens begin with this one
+abbrev pub BeginsWith : Token → List Token → Type 0
+BeginsWith t ts = (rest : List Token) × (ts ≡ t ∷ rest)
 
 -- an error without a name
 abbrev pub fault_at : ErrorKind → Place → Error

@@ -247,6 +247,16 @@ fn function_named<'a>(functions: &'a [Function], name: &[u8]) -> Option<&'a Func
     None
 }
 
+/// Whether tokens of these kinds are `void NAME ( )`.
+fn are_declared(word: TokenKind, name: TokenKind, open: TokenKind, close: TokenKind) -> bool
+    ensures { result ≡ names.are_declared word name «open» close }
+{
+    matches!(word, TokenKind::Void)
+        && matches!(name, TokenKind::Name)
+        && matches!(open, TokenKind::LeftParen)
+        && matches!(close, TokenKind::RightParen)
+}
+
 /// The name in `void NAME ( )`, if the tokens are nothing else.
 fn called_name<'a>(text: &'a [u8], tokens: &[Token]) -> Option<&'a [u8]>
     ensures { MatchOption result
@@ -256,11 +266,7 @@ fn called_name<'a>(text: &'a [u8], tokens: &[Token]) -> Option<&'a [u8]>
     let [word, name, open, close] = tokens else {
         return None
     };
-    if word.kind == TokenKind::Void
-        && name.kind == TokenKind::Name
-        && open.kind == TokenKind::LeftParen
-        && close.kind == TokenKind::RightParen
-    {
+    if are_declared(word.kind, name.kind, open.kind, close.kind) {
         Some(text_at(text, name))
     } else {
         None

@@ -6,6 +6,7 @@ mod command;
 mod commands;
 mod declared;
 mod engine;
+pub mod laws;
 mod module;
 mod program;
 mod reply;

@@ -7,4 +7,4 @@ use Rattle.ang_engine.proofs.declared.refuse_globals.Given as goal
 abbrev pub invariant-loop-variable : goal.invariant-loop-variable
 invariant-loop-variable l =
     l.initial.errors.items ++ list_map (λ v. beyond (globals (view_vars l.variables))) (view_vars l.variables).items
-    ≡ l.errors.items ++ list_map (λ v. beyond (globals (view_vars l.variables))) (list_map view_var (drop l.variable-index l.variables.items.items))
+    ≡ l.errors.items ++ list_map (λ v. beyond (globals (view_vars l.variables))) (list_map view_var (drop l._variable-index l.variables.items.items))
