@@ -1,5 +1,5 @@
 -- The errors of declarations, read off their lists from the left.
-use Rattle.std.proofs.Common.{◌<◌, ◌+◌, length, get_or, drop, ◌≡◌, ap, sym, ◌∙◌, ℕ, List, [], ◌∷◌, ◌++◌, append_assoc, Some, None}
+use Rattle.std.proofs.Common.{◌<◌, ◌+◌, length, get_or, drop, ◌≡◌, ap, sym, ◌∙◌, ℕ, List, ◌++◌, append_assoc, Some, None}
 use Rattle.ang_kinds.specs.declared.error.Error.{Error}
 use Rattle.ang_registry.specs.Registration.{RegistrationList}
 use Rattle.ang_engine.specs.declared.program.HostCall.{HostCall}

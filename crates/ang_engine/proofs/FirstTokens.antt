@@ -1,5 +1,5 @@
 -- What a declaration begins with.
-use Rattle.std.proofs.Common.{◌≡◌, refl, List, ◌∷◌, Option, Some, None}
+use Rattle.std.proofs.Common.{refl, List, ◌∷◌, Option, Some, None}
 use Rattle.ang_lex.specs.declared.token.Token.{Token}
 use Rattle.ang_tree.specs.Kinds.{optional}
 use Rattle.ang_tree.specs.Declarations.{Decl, class, interface, import, function, globals, empty, spelled_decl}

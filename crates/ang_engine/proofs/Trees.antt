@@ -1,5 +1,5 @@
 -- What is read off trees and tokens.
-use Rattle.std.proofs.Common.{◌≡◌, ◌<◌, ◌≤◌, ◌+◌, refl, ap, sym, ◌∙◌, arith, ℕ, Bool, true, false, List, [], ◌∷◌, ◌++◌, append_assoc, length, get_or, drop, Some, None, map as list_map}
+use Rattle.std.proofs.Common.{◌≡◌, ◌<◌, ◌≤◌, ◌+◌, refl, ap, sym, ◌∙◌, arith, ℕ, true, false, List, [], ◌∷◌, ◌++◌, append_assoc, length, get_or, drop, Some, None, map as list_map}
 use Rattle.std.specs.List.{flat_map}
 use Rattle.ang_lex.specs.declared.token.Token.{Token}
 use Rattle.ang_tree.specs.declared.expression.Argument.{Argument}

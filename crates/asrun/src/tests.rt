@@ -132,7 +132,7 @@ fn run<P: Read, S: Read>(
 }
 
 /// Profile, session, output and status.
-const RUNS: [(&str, &str, &str, Status); 13] = [
+const RUNS: [(&str, &str, &str, Status); 14] = [
     (PROFILE, SESSION, OUTPUT, Status::AllOk),
     (
         PROFILE,
@@ -151,6 +151,12 @@ const RUNS: [(&str, &str, &str, Status); 13] = [
         "module a 00000001\nsection a 2\nvoid main(/* none */) { // one call\nprint( (1 + 2) - (3 - 4) ); } ;\nbuild a\ncall a () void main()\n",
         "ok\nok\nok\nhost a 0 0 - (4) void\nok\n",
         Status::AllOk,
+    ),
+    (
+        PROFILE,
+        "module a 00000001\nsection a 1\nvoid m() {}\nsection a 1\n; import void f() from \"b\";\nbuild a\n",
+        "ok\nok\nok\nerror NotYet 1:1:3 -\nrefused BuildErrors\n",
+        Status::SomeRefused,
     ),
     (PROFILE, "", "", Status::AllOk),
     (

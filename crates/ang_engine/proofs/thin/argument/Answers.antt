@@ -1,4 +1,4 @@
-use Rattle.std.proofs.Common.{sym, inr}
+use Rattle.std.proofs.Common.{sym}
 use Rattle.ang_engine.proofs.Trees.{argument_of-none}
 use Rattle.ang_engine.proofs.thin.argument.Goals as goal
 

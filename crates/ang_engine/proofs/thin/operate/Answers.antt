@@ -1,6 +1,5 @@
-use Rattle.std.proofs.Common.{rules, ap}
+use Rattle.std.proofs.Common.{rules}
 use Rattle.std.proofs.lemmas.Int.{wraps}
-use Rattle.std.specs.Prelude.{Some}
 use Rattle.ang_engine.proofs.thin.operate.Goals as goal
 
 pub returns-in-Plus : goal.returns-in-Plus
