@@ -1,6 +1,6 @@
 use Rattle.std.proofs.Common.{rules}
 use Rattle.std.proofs.lemmas.Int.{wraps}
-use Rattle.ang_engine.proofs.run.add.Goals as goal
+use Rattle.ang_engine.proofs.thin.operate.Goals as goal
 
 pub returns-in-Plus : goal.returns-in-Plus
 returns-in-Plus c = search (rules, wraps)
