@@ -81,10 +81,7 @@ fn check_statement(
     ensures { IfOk result (λ e. e ≡ statement_error (seen registry.now.entries mask.0) declarations.now statement.now) }
 {
     let callee = &statement.callee;
-    if registry
-        .find_function(mask, callee.text.bytes())
-        .is_some()
-    {
+    if registry.find_function(mask, callee.text.bytes()).is_some() {
         return Ok(None);
     }
     let kind = if is_declared(declarations, callee.text.bytes()) {
