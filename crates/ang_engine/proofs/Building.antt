@@ -5,7 +5,7 @@ use Rattle.ang_registry.specs.Registration.{RegistrationList}
 use Rattle.ang_engine.specs.declared.program.HostCall.{HostCall}
 use Rattle.ang_engine.specs.declared.script.Statement.{Statement}
 use Rattle.ang_engine.specs.declared.script.Declaration.{Declaration}
-use Rattle.ang_engine.specs.Build.{statement_error, body_error, first_of, call_of, resolved_body}
+use Rattle.ang_engine.specs.Build.{statement_error, body_error, first_of, resolved_statement, resolved_body}
 use Rattle.ang_engine.proofs.Running.{drop-item}
 
 pub body_error-found : (V : RegistrationList) (ds : List Declaration) (ss : List Statement) (i : ℕ) (s : Statement) (e : Error)
@@ -22,9 +22,9 @@ body_error-next V ds ss i s h lt is f =
 
 -- the calls of one more statement
 pub more_calls : (V : RegistrationList) (ss : List Statement) (i : ℕ) (s : Statement) (was now call : List HostCall)
-    → resolved_body V ss ≡ was ++ resolved_body V (drop i ss) → i < length ss → s ≡ get_or ss i s → call ≡ call_of V s → now ≡ was ++ call
+    → resolved_body V ss ≡ was ++ resolved_body V (drop i ss) → i < length ss → s ≡ get_or ss i s → call ≡ resolved_statement V s → now ≡ was ++ call
     → resolved_body V ss ≡ now ++ resolved_body V (drop (i + 1) ss)
 more_calls V ss i s was now call h lt is k e =
     h ∙ ap (λ xs. was ++ resolved_body V xs) (drop-item ss i s lt is)
-    ∙ sym (append_assoc was (call_of V s) (resolved_body V (drop (i + 1) ss)))
+    ∙ sym (append_assoc was (resolved_statement V s) (resolved_body V (drop (i + 1) ss)))
     ∙ ap (λ xs. xs ++ resolved_body V (drop (i + 1) ss)) (ap (λ xs. was ++ xs) (sym k) ∙ sym e)

@@ -9,3 +9,4 @@ pub mod Calling
 pub mod Applying
 pub mod Trees
 pub mod FirstTokens
+pub mod SoFar

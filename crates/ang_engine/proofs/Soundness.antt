@@ -11,7 +11,7 @@ use Rattle.ang_engine.specs.declared.script.Statement.{Statement}
 use Rattle.ang_engine.specs.declared.script.Declaration.{Declaration}
 use Rattle.ang_engine.specs.Thin.{Source, functions_in, errors_in}
 use Rattle.ang_engine.specs.Script.{sources_of}
-use Rattle.ang_engine.specs.Build.{Compiled, call_of_entry, calls_of, call_of, resolved_body, resolved, after_bodies, after_names, after_reading, after_sections, body_errors, name_errors, build_of}
+use Rattle.ang_engine.specs.Build.{Compiled, call_of_entry, calls_of, resolved_statement, resolved_body, resolved, after_bodies, after_names, after_reading, after_sections, body_errors, name_errors, build_of}
 use Rattle.ang_engine.specs.Sound.{IsSeenCall, HasSeenCalls, IsSoundModule, AreSoundModules}
 use Rattle.ang_kinds.specs.declared.error.Unbuilt.{Unbuilt}
 use Rattle.ang_kinds.specs.declared.error.Unbuilt.TheVariants as unbuilt
@@ -38,7 +38,7 @@ seen_calls R m name argument (Some number) h = seen_entry R m number name argume
 seen_body : (R : RegistrationList) (m : ℕ) (ss : List Statement) → All (IsSeenCall R m) (resolved_body (seen R m) ss)
 seen_body R m [] = All-nil (IsSeenCall R m)
 seen_body R m (s ∷ ss) =
-    All-append (IsSeenCall R m) (call_of (seen R m) s) (resolved_body (seen R m) ss)
+    All-append (IsSeenCall R m) (resolved_statement (seen R m) s) (resolved_body (seen R m) ss)
     (seen_calls R m s.callee.text s.argument (function_named (seen R m) s.callee.text) refl) (seen_body R m ss)
 
 seen_program : (R : RegistrationList) (m : ℕ) (ds : List Declaration) → HasSeenCalls R m (record { functions = list_map (resolved (seen R m)) ds })

@@ -91,12 +91,12 @@ calls_of V None argument = []
 calls_of V (Some number) argument = call_of_entry number (entry_at V number) argument
 
 -- the call that a statement without error is
-abbrev pub call_of : RegistrationList → Statement → List HostCall
-call_of V s = calls_of V (function_named V s.callee.text) s.argument
+abbrev pub resolved_statement : RegistrationList → Statement → List HostCall
+resolved_statement V s = calls_of V (function_named V s.callee.text) s.argument
 
 -- the calls of a body
 abbrev pub resolved_body : RegistrationList → List Statement → List HostCall
-resolved_body V = flat_map (call_of V)
+resolved_body V = flat_map (resolved_statement V)
 
 abbrev pub resolved : RegistrationList → Declaration → Function
 resolved V d = record { name = d.name.text; body = resolved_body V d.body }

@@ -1,6 +1,6 @@
 -- How sections are read: a section's bytes are tokens, and its tokens are declarations; or else it has a first fault, which is an
 -- error (docs/LANGUAGE.md, "Tokens" and "Grammar").
-use Rattle.std.specs.Prelude.{ℕ, suc, List, [], ◌∷◌, ◌++◌, Result, Ok, Err}
+use Rattle.std.specs.Prelude.{ℕ, suc, List, [], ◌∷◌, Result, Ok, Err}
 use Rattle.ang_kinds.specs.declared.error.Error.{Error}
 use Rattle.ang_kinds.specs.declared.error.ErrorKind.TheVariants.{TooLong, BadByte, BadNumber, OpenComment, TooDeep, Syntax, NotYet}
 use Rattle.ang_lex.specs.declared.token.Token.{Token}
@@ -58,7 +58,3 @@ joined (Ok s) (Ok ss) = Ok (s ∷ ss)
 abbrev pub sources_of : ℕ → List (List ℕ) → Result (List Source) Error
 sources_of sect [] = Ok []
 sources_of sect (text ∷ texts) = joined (source_from sect text) (sources_of (suc sect) texts)
-
-abbrev pub all_joined : List Source → Result (List Source) Error → Result (List Source) Error
-all_joined ss (Err e) = Err e
-all_joined ss (Ok others) = Ok (ss ++ others)

@@ -1,5 +1,5 @@
 -- The part of the language that is built so far, read off a script's trees (docs/LANGUAGE.md, "What is built so far").
-use Rattle.std.specs.Prelude.{◌≡◌, ℕ, ◌^◌, ℤ, pos, ◌+ℤ◌, ◌-ℤ◌, nat_lt, Bool, true, false, if◌then◌else◌, List, [], ◌∷◌, ◌++◌, Option, Some, None, slice_range, option_to_list, map as list_map}
+use Rattle.std.specs.Prelude.{◌≡◌, ℕ, ◌^◌, ℤ, pos, ◌+ℤ◌, ◌-ℤ◌, nat_lt, Bool, true, false, if◌then◌else◌, List, [], ◌∷◌, Option, Some, None, slice_range, option_to_list, map as list_map}
 use Rattle.std.specs.List.{flat_map}
 use Rattle.std.specs.Int.{int_wrap, w32}
 use Rattle.ang_kinds.specs.declared.error.Error.{Error}
@@ -16,7 +16,7 @@ use Rattle.ang_tree.specs.declared.declaration.Parameter.{Parameter}
 use Rattle.ang_tree.specs.declared.type_name.Handle.{Handle}
 use Rattle.ang_tree.specs.declared.type_name.TypeName.{TypeName}
 use Rattle.ang_tree.specs.Tree.{Tree, Trees, literal, call, group, binary, arguments, none, more}
-use Rattle.ang_tree.specs.Stmt.{Stmt, Stmts, Body, Vars, expression, body}
+use Rattle.ang_tree.specs.Stmt.{Stmt, Stmts, Body, expression, body}
 use Rattle.ang_tree.specs.Stmt as stmt
 use Rattle.ang_tree.specs.Declarations.{Params, Decl, class, interface, import, function, globals, empty}
 use Rattle.ang_engine.specs.declared.script.Name.{Name}
@@ -88,10 +88,6 @@ abbrev pub in_front : Option Statement → Option (List Statement) → Option (L
 in_front None ss = None
 in_front (Some s) None = None
 in_front (Some s) (Some ss) = Some (s ∷ ss)
-
-abbrev pub all_in_front : List Statement → Option (List Statement) → Option (List Statement)
-all_in_front ss None = None
-all_in_front ss (Some others) = Some (ss ++ others)
 
 abbrev pub statements_of : List ℕ → Stmts → Option (List Statement)
 statements_of text stmt.end = Some []

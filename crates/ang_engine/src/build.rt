@@ -1,7 +1,7 @@
 //! Builds a program from its declarations: the names first, and then the bodies.
 ghost use Rattle.std.specs.Prelude.{◌≡◌, ◌++◌, [], Option, Ok, IfOk, OnOk, option_to_list, map as list_map};
 ghost use Rattle.ang_registry.specs.Registration.{seen};
-ghost use Rattle.ang_engine.specs.Build.{declares, error_at, name_error, name_errors, statement_error, body_error, body_errors, call_of, resolved_body, resolved, after_names, after_sections};
+ghost use Rattle.ang_engine.specs.Build.{declares, error_at, name_error, name_errors, statement_error, body_error, body_errors, resolved_statement, resolved_body, resolved, after_names, after_sections};
 ghost use Rattle.ang_engine.specs.Script.{source_of};
 ghost use Rattle.ang_engine.specs.Answer.{IsBuilt};
 
@@ -81,10 +81,7 @@ fn check_statement(
     ensures { IfOk result (λ e. e ≡ statement_error (seen registry.now.entries mask.0) declarations.now statement.now) }
 {
     let callee = &statement.callee;
-    if registry
-        .find_function(mask, callee.text.bytes())
-        .is_some()
-    {
+    if registry.find_function(mask, callee.text.bytes()).is_some() {
         return Ok(None);
     }
     let kind = if is_declared(declarations, callee.text.bytes()) {
@@ -134,7 +131,7 @@ fn check_bodies(
 
 /// The call that a statement without error is.
 fn resolve(registry: &Registry, mask: Mask, statement: &Statement<'_>) -> Option<HostCall>
-    ensures { option_to_list result ≡ call_of (seen registry.now.entries mask.0) statement.now }
+    ensures { option_to_list result ≡ resolved_statement (seen registry.now.entries mask.0) statement.now }
 {
     let entity = registry.find_function(mask, statement.callee.text.bytes())?;
     let entry = registry.get(entity)?;

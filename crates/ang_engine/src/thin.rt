@@ -132,7 +132,8 @@ fn call_statement<'a>(text: &'a [u8], statement: &tree::Statement) -> Option<Sta
 {
     match statement {
         tree::Statement::Expression {
-            value: Some(value), ..
+            value: Some(value),
+            ..
         } => call(text, value),
         _ => None,
     }

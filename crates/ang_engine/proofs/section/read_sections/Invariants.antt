@@ -1,5 +1,6 @@
 use Rattle.std.proofs.Common.{◌≡◌, drop, map as list_map}
-use Rattle.ang_engine.specs.Script.{source_of, sources_of, all_joined}
+use Rattle.ang_engine.specs.Script.{source_of, sources_of}
+use Rattle.ang_engine.proofs.SoFar.{all_joined}
 use Rattle.ang_engine.proofs.section.read_sections.Given as goal
 
 abbrev pub invariant-loop-i : goal.invariant-loop-i

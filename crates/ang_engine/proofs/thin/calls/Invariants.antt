@@ -1,6 +1,7 @@
 use Rattle.std.proofs.Common.{◌≡◌, drop}
 use Rattle.ang_tree.specs.View.{view_stmts}
-use Rattle.ang_engine.specs.Thin.{statements_of, all_in_front}
+use Rattle.ang_engine.specs.Thin.{statements_of}
+use Rattle.ang_engine.proofs.SoFar.{all_in_front}
 use Rattle.ang_engine.proofs.thin.calls.Given as goal
 
 abbrev pub invariant-loop-statement : goal.invariant-loop-statement
