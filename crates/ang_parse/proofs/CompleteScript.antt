@@ -1,5 +1,5 @@
 -- What is spelled as a script is read.
-use Rattle.std.proofs.Common.{◌≡◌, ℕ, zero, suc, ◌<◌, ◌≤◌, Bool, true, false, List, [], ◌∷◌, ◌++◌, length, Option, Some, None, Ok, refl, ap, sym, ◌∙◌, append_assoc, arith}
+use Rattle.std.proofs.Common.{◌≡◌, ℕ, zero, suc, ◌<◌, ◌≤◌, true, false, List, [], ◌∷◌, ◌++◌, length, Some, None, Ok, refl, ap, sym, ◌∙◌, append_assoc, arith}
 use Rattle.std.proofs.lemmas.List.{append-nil}
 use Rattle.ang_lex.specs.declared.token.Token.{Token}
 use Rattle.ang_lex.specs.declared.token.TokenKind.{TokenKind}
@@ -10,7 +10,7 @@ use Rattle.ang_tree.specs.Declarations.{Decl, spelled_decl, spelled_base, spelle
 use Rattle.ang_read.specs.Read.{Parser, and_then, pure, repeat}
 use Rattle.ang_read.proofs.Tokens.{look_is}
 use Rattle.ang_read.proofs.Loops.{repeat_stops, repeat_goes_on}
-use Rattle.ang_parse_expr.proofs.Grip.{First, passed}
+use Rattle.ang_parse_expr.proofs.Grip.{passed}
 use Rattle.ang_parse_stmt.specs.Ahead.{ahead}
 use Rattle.ang_parse_function.specs.ReadFunction.{function_or_globals}
 use Rattle.ang_parse_function.proofs.CompleteFunction.{function_complete, globals_complete, import_complete, type_start, type_first}

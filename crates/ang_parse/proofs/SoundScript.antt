@@ -1,7 +1,6 @@
 -- What is read as a script is spelled so.
-use Rattle.std.proofs.Common.{◌≡◌, ℕ, ◌+◌, ◌<◌, ◌≤◌, Bool, true, false, List, [], ◌∷◌, ◌++◌, length, Option, Some, None, refl, ap, sym, ◌∙◌, arith}
+use Rattle.std.proofs.Common.{◌≡◌, ℕ, ◌+◌, ◌<◌, ◌≤◌, Bool, true, false, List, [], ◌∷◌, ◌++◌, length, None, refl, ap, sym, ◌∙◌, arith}
 use Rattle.ang_lex.specs.declared.token.Token.{Token}
-use Rattle.ang_lex.specs.declared.token.TokenKind.{TokenKind}
 use Rattle.ang_lex.specs.declared.token.TokenKind.TheVariants as k
 use Rattle.ang_tree.specs.Stmt.{each, Every, spelled_body}
 use Rattle.ang_tree.specs.Declarations as tree
@@ -14,7 +13,7 @@ use Rattle.ang_parse_expr.proofs.SoundType.{type-length}
 use Rattle.ang_parse_stmt.proofs.Lengths.{vars-length, body-length}
 use Rattle.ang_parse_stmt.proofs.SoundVars.{each-one_more, Every-one_more}
 use Rattle.ang_parse_params.proofs.SoundParams.{params-length}
-use Rattle.ang_parse_function.specs.ReadFunction.{function_or_globals, import}
+use Rattle.ang_parse_function.specs.ReadFunction.{function_or_globals}
 use Rattle.ang_parse_function.proofs.SoundFunction as function
 use Rattle.ang_parse_function.proofs.SoundFunction.{function_or_globals_reads, import_reads}
 use Rattle.ang_parse_class.proofs.SoundClass.{IsDecl, class_reads, final_class_reads, interface_reads}
@@ -60,13 +59,16 @@ module _ (l : ℕ) where
   unfolding r.next_declaration
   next_declaration_reads w ds ts h =
       and_reads l ts (IsDecl ts) (More w (length ts)) (r.declaration l ts) (λ x. pure (ds ++ x ∷ [], true)) (declaration_reads ts)
-      (λ x s q f. ((
-        record {
-          text = h.text ∙ ap (λ v. each spelled_decl ds v) q.text ∙ sym (each-one_more spelled_decl ds x s);
-          fits = Every-one_more FitsDecl ds x h.fits q.fits;
-        },
-        omega (arith, ap length q.text, decl-length x s),
-      ), f))
+      (λ x s q f. (
+        (
+          record {
+            text = h.text ∙ ap (λ v. each spelled_decl ds v) q.text ∙ sym (each-one_more spelled_decl ds x s);
+            fits = Every-one_more FitsDecl ds x h.fits q.fits;
+          },
+          omega (arith, ap length q.text, decl-length x s),
+        ),
+        f,
+      ))
 
   other_declaration_reads : (w : List Token) (ds : List Decl) (ts : List Token) → AreDecls w ds ts → Reads l ts (More w (length ts)) (r.other_declaration l ds ts)
   unfolding r.other_declaration

@@ -9,8 +9,9 @@ use thiserror::Error;
 /// Why the tokens of a section are no script, or want of memory.
 #[derive(Debug, Drop, Error)]
 pub enum ParseError {
-    /// More than 64 of `(` and `{` are open, or more than 256 operators stand in one statement: at the
-    /// first token behind which it is so. This is judged before the grammar.
+    /// More than 64 of `(` and `{` are open, or more than 256 operators, and words that nest statements,
+    /// stand since the last `;`, `{` or `}`: at the first token behind which it is so. This is judged
+    /// before the grammar.
     #[error("line {}, column {}: too deep", .0.line, .0.column)]
     TooDeep(Place),
     /// A token that no script can have there, with its text; or no token where one has to be, one

@@ -63,8 +63,9 @@ fn declarations(
 ///
 /// # Errors
 ///
-/// `TooDeep` where more than 64 of `(` and `{` are open, or more than 256 operators stand in one
-/// statement: with the place of the first token behind which it is so, and before all else.
+/// `TooDeep` where more than 64 of `(` and `{` are open, or more than 256 operators, and words that
+/// nest statements, stand since the last `;`, `{` or `}`: with the place of the first token behind
+/// which it is so. This is judged over all the tokens, before the grammar.
 ///
 /// `Syntax` where no script has these tokens: with the place and the text of a token such that no
 /// script's tokens begin with those up to and including it, or with the place one column past the last

@@ -3,8 +3,8 @@
 mod recognizer;
 
 use crate::{ParseError, parse};
-use ang_tree::Declaration;
 use ang_lex::lex;
+use ang_tree::Declaration;
 use recognizer::{Chart, Grammar};
 use std::alloc::Global;
 use std::process::Abort;
@@ -14,8 +14,15 @@ use std::test::Fail;
 #[derive(PartialEq, Eq, Debug, Drop)]
 enum Answer {
     Script,
-    TooDeep { line: u32, column: u32 },
-    Syntax { line: u32, column: u32, name: Vec<u8> },
+    TooDeep {
+        line: u32,
+        column: u32,
+    },
+    Syntax {
+        line: u32,
+        column: u32,
+        name: Vec<u8>,
+    },
 }
 
 fn answered(alloc: Global, text: &[u8]) -> Result<Answer, Fail> {
@@ -139,9 +146,9 @@ fn script_keeps_its_text(rt: HostRuntime) -> Result<(), Fail> {
 
 /// What is put in the place of a word.
 const OTHERS: [&str; 36] = [
-    ";", ",", "(", ")", "{", "}", "=", "+=", "*", "&", "@", ".", "::", ":", "?", "++", "!", "<", "is",
-    "1", "\"t\"", "z", "int", "void", "const", "class", "import", "from", "private", "final", "else",
-    "while", "for", "return", "super", "auto",
+    ";", ",", "(", ")", "{", "}", "=", "+=", "*", "&", "@", ".", "::", ":", "?", "++", "!", "<",
+    "is", "1", "\"t\"", "z", "int", "void", "const", "class", "import", "from", "private", "final",
+    "else", "while", "for", "return", "super", "auto",
 ];
 
 /// A script's words with blanks between them.
@@ -237,14 +244,23 @@ fn compare(rt: &impl Abort, alloc: Global, script: &str) -> Result<(), Fail> {
         let front = words.get(..i).unwrap_or(&words);
         assert!(rt; agrees(alloc, &grammar, &mut chart, i, front)?, "{front:?}");
         let fewer = changed(alloc, &words, i, &[])?;
-        assert!(rt; agrees(alloc, &grammar, &mut chart, i, &fewer)?, "{fewer:?}");
+        assert!(rt;
+            agrees(alloc, &grammar, &mut chart, i, &fewer)?,
+            "{fewer:?}"
+        );
         for other in &OTHERS {
             let other = changed(alloc, &words, i, &[*other])?;
-            assert!(rt; agrees(alloc, &grammar, &mut chart, i, &other)?, "{other:?}");
+            assert!(rt;
+                agrees(alloc, &grammar, &mut chart, i, &other)?,
+                "{other:?}"
+            );
         }
         assert!(rt; chart.read(&grammar, grammar.word(word))?, "{word}");
     }
-    assert!(rt; agrees(alloc, &grammar, &mut chart, words.len(), &words)?, "{words:?}");
+    assert!(rt;
+        agrees(alloc, &grammar, &mut chart, words.len(), &words)?,
+        "{words:?}"
+    );
     Ok(())
 }
 
@@ -257,7 +273,8 @@ fn functions_and_globals_agree(rt: HostRuntime) -> Result<(), Fail> {
 /// What stands in parentheses may be parameters or arguments; the token behind them tells which.
 #[test]
 fn groups_agree(rt: HostRuntime) -> Result<(), Fail> {
-    let script = "A x ( B @ const & in , C y ) { } A x ( b , c ( d ) ) ; A x ( B , C ) { } A x ( B ) , y ;";
+    let script =
+        "A x ( B @ const & in , C y ) { } A x ( b , c ( d ) ) ; A x ( B , C ) { } A x ( B ) , y ;";
     compare(&rt, rt.alloc(), script)
 }
 
@@ -270,7 +287,8 @@ fn classes_agree(rt: HostRuntime) -> Result<(), Fail> {
 
 #[test]
 fn members_agree(rt: HostRuntime) -> Result<(), Fail> {
-    let script = "final class A { protected const T @ const h ; void m ( ) const final override { return ; } A ( ) { } }";
+    let script =
+        "final class A { protected const T @ const h ; void m ( ) const final override { return ; } A ( ) { } }";
     compare(&rt, rt.alloc(), script)
 }
 
@@ -282,32 +300,35 @@ fn interfaces_agree(rt: HostRuntime) -> Result<(), Fail> {
 
 #[test]
 fn imports_agree(rt: HostRuntime) -> Result<(), Fail> {
-    let script =
-        "import int f ( T @ , int & out x , T & inout , T & ) from \"m\" ; uint a ;";
+    let script = "import int f ( T @ , int & out x , T & inout , T & ) from \"m\" ; uint a ;";
     compare(&rt, rt.alloc(), script)
 }
 
 #[test]
 fn branches_and_loops_agree(rt: HostRuntime) -> Result<(), Fail> {
-    let script = "void m ( ) { if ( a ) b ; else if ( c ) { } else while ( d ) break ; do x ++ ; while ( y ) ; }";
+    let script =
+        "void m ( ) { if ( a ) b ; else if ( c ) { } else while ( d ) break ; do x ++ ; while ( y ) ; }";
     compare(&rt, rt.alloc(), script)
 }
 
 #[test]
 fn for_loops_agree(rt: HostRuntime) -> Result<(), Fail> {
-    let script = "void m ( ) { for ( int i = 0 , j ; i < 3 ; ++ i , j -- ) continue ; for ( ; ; ) for ( i = 1 ; ; ) { } }";
+    let script =
+        "void m ( ) { for ( int i = 0 , j ; i < 3 ; ++ i , j -- ) continue ; for ( ; ; ) for ( i = 1 ; ; ) { } }";
     compare(&rt, rt.alloc(), script)
 }
 
 #[test]
 fn operands_agree(rt: HostRuntime) -> Result<(), Fail> {
-    let script = "void e ( ) { z = cast < T @ > ( p . q ( 1 ) . r ++ ) ; int ( 3 ) ; A :: f ( null , this ) ; ( a ) . b ( ) ; }";
+    let script =
+        "void e ( ) { z = cast < T @ > ( p . q ( 1 ) . r ++ ) ; int ( 3 ) ; A :: f ( null , this ) ; ( a ) . b ( ) ; }";
     compare(&rt, rt.alloc(), script)
 }
 
 #[test]
 fn operators_agree(rt: HostRuntime) -> Result<(), Fail> {
-    let script = "bool k = a * b / c % d + e - f << g >> h >>> i & j ^ k | l < m <= n > o >= p == q != r is s !is t ;";
+    let script =
+        "bool k = a * b / c % d + e - f << g >> h >>> i & j ^ k | l < m <= n > o >= p == q != r is s !is t ;";
     compare(&rt, rt.alloc(), script)
 }
 
@@ -319,12 +340,14 @@ fn words_for_operators_agree(rt: HostRuntime) -> Result<(), Fail> {
 
 #[test]
 fn assignments_agree(rt: HostRuntime) -> Result<(), Fail> {
-    let script = "void s ( ) { a = b += c ? d : e = f ; a -= b *= c /= d %= e &= f |= g ^= h <<= i >>= j >>>= true ; }";
+    let script =
+        "void s ( ) { a = b += c ? d : e = f ; a -= b *= c /= d %= e &= f |= g ^= h <<= i >>= j >>>= true ; }";
     compare(&rt, rt.alloc(), script)
 }
 
 #[test]
 fn locals_agree(rt: HostRuntime) -> Result<(), Fail> {
-    let script = "void t ( ) { A b ; A @ c = d ; A ( b ) ; int16 e ( 1 ) ; uint64 ( f ) ; const A g ; void h ; }";
+    let script =
+        "void t ( ) { A b ; A @ c = d ; A ( b ) ; int16 e ( 1 ) ; uint64 ( f ) ; const A g ; void h ; }";
     compare(&rt, rt.alloc(), script)
 }

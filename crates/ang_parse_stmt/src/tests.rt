@@ -14,7 +14,9 @@ fn else_goes_with_the_nearest_if(rt: HostRuntime) -> Result<(), Fail> {
     let tokens = lex(rt.alloc(), b"if (a) if (b) x; else y;", 0)?;
     let tree = parse_statement(rt.alloc(), &tokens)?;
     let Statement::If {
-        then, otherwise, ..
+        then,
+        otherwise,
+        ..
     } = &tree
     else {
         return Err("an if".into());
@@ -131,7 +133,12 @@ fn block_has_its_statements(rt: HostRuntime) -> Result<(), Fail> {
     assert!(rt; matches!(whole.statements[1], Statement::While { .. }));
     assert!(rt; matches!(whole.statements[2], Statement::Continue { .. }));
     assert!(rt; matches!(whole.statements[3], Statement::Return { value: None, .. }));
-    assert!(rt; matches!(whole.statements[4], Statement::Return { value: Some(_), .. }));
+    assert!(rt;
+        matches!(
+            whole.statements[4],
+            Statement::Return { value: Some(_), .. }
+        )
+    );
     Ok(())
 }
 

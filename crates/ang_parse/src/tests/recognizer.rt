@@ -286,11 +286,8 @@ impl Grammar {
         };
         match (number_of(&self.words, class), word.as_bytes()) {
             (Some(number), _) => Some(number),
-            (None, [b'a'..=b'z' | b'A'..=b'Z' | b'_', ..])
-                if number_of(&UNUSED, word).is_none() =>
-            {
-                number_of(&self.words, "NAME")
-            }
+            (None, [b'a'..=b'z' | b'A'..=b'Z' | b'_', ..]) if number_of(&UNUSED, word).is_none() =>
+                { number_of(&self.words, "NAME") }
             _ => None,
         }
     }
