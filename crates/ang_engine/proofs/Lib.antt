@@ -1,4 +1,3 @@
-pub mod Reading
 pub mod Running
 pub mod Building
 pub mod Stepping
@@ -8,3 +7,6 @@ pub mod Soundness
 pub mod States
 pub mod Calling
 pub mod Applying
+pub mod Trees
+pub mod FirstTokens
+pub mod SoFar

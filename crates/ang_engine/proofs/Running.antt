@@ -1,6 +1,6 @@
 -- A run that has come as far as some of its calls, and how it goes on.
 use Rattle.std.proofs.Common.{◌<◌, ◌+◌, suc, length, get_or, drop, drop-cons, add-one, ◌≡◌, refl, ap, sym, ◌∙◌, subst, inl, inr, ℕ, true, false, List, [], ◌∷◌, ◌++◌, append_assoc, Option, Some, None, ◌⊎◌}
-use Rattle.std.specs.Prelude.{option_map}
+use Rattle.std.specs.Prelude.{option_map, pos}
 use Rattle.std.proofs.lemmas.List.{append-nil}
 use Rattle.ang_kinds.specs.declared.fault.Fault.{Fault}
 use Rattle.ang_kinds.specs.declared.fault.Fault.TheVariants.{Memory}
@@ -97,3 +97,11 @@ Resumes-failed caller all rest c f was now (inr p) r =
 -- the item of an index stands in front of what is behind it
 pub drop-item : {A : Type 0} (xs : List A) (i : ℕ) (x : A) → i < length xs → x ≡ get_or xs i x → drop i xs ≡ x ∷ drop (i + 1) xs
 drop-item xs i x lt e = drop-cons xs i x lt ∙ ap (λ y. y ∷ drop (suc i) xs) (sym e) ∙ ap (λ n. x ∷ drop n xs) (sym (add-one i))
+
+-- the same, whatever is read past the end
+pub drop-at : {A : Type 0} (xs : List A) (i : ℕ) (d : A) → i < length xs → drop i xs ≡ get_or xs i d ∷ drop (i + 1) xs
+drop-at xs i d lt = drop-cons xs i d lt ∙ ap (λ n. get_or xs i d ∷ drop n xs) (sym (add-one i))
+
+-- stands past the end of a list of calls
+abbrev pub no_call : HostCall
+no_call = record { entity = record { 0 = 0 }; driver = 0; f = 0; argument = pos 0 }

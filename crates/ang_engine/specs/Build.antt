@@ -1,24 +1,25 @@
 -- What a build gives (docs/MEANING.md, "A build"; the AngelScript manual, "Script modules"): the errors of the first phase
 -- that refuses something, or the program.
-use Rattle.std.specs.Prelude.{ℕ, ◌==◌, Bool, true, false, if◌then◌else◌, List, [], ◌∷◌, ◌++◌, length, Option, Some, None, Result, Ok, Err, bytes_eq, option_to_list, map as list_map}
+use Rattle.std.specs.Prelude.{ℕ, ℤ, ◌==◌, ◌&&◌, Bool, true, false, if◌then◌else◌, List, [], ◌∷◌, ◌++◌, length, Option, Some, None, Result, Ok, Err, bytes_eq, option_to_list, map as list_map}
+use Rattle.std.specs.List.{flat_map}
 use Rattle.ang_kinds.specs.declared.error.Error.{Error}
 use Rattle.ang_kinds.specs.declared.error.ErrorKind.{ErrorKind}
 use Rattle.ang_kinds.specs.declared.error.ErrorKind.TheVariants.{Duplicate, Limit, UnknownName, NoMatch}
 use Rattle.ang_registry.specs.declared.entry.Entry.{Entry}
 use Rattle.ang_registry.specs.Registration.{RegistrationList, entry_at, function_named}
 use Rattle.ang_lex.specs.declared.token.Token.{Token}
+use Rattle.ang_lex.specs.declared.token.TokenKind.{TokenKind}
+use Rattle.ang_lex.specs.declared.token.TokenKind.TheVariants as k
 use Rattle.ang_lex.specs.declared.error.LexError.{LexError}
 use Rattle.ang_lex.specs.Tokens.{tokens_of}
-use Rattle.ang_engine.specs.declared.program.Sum.{Sum}
 use Rattle.ang_engine.specs.declared.program.HostCall.{HostCall}
 use Rattle.ang_engine.specs.declared.program.Function.{Function}
 use Rattle.ang_engine.specs.declared.program.Program.{Program}
 use Rattle.ang_engine.specs.declared.script.Name.{Name}
 use Rattle.ang_engine.specs.declared.script.Statement.{Statement}
 use Rattle.ang_engine.specs.declared.script.Declaration.{Declaration}
-use Rattle.ang_engine.specs.declared.word.Word.{Word}
-use Rattle.ang_engine.specs.declared.word.Word.TheVariants.{Void, Named, LeftParen, RightParen}
-use Rattle.ang_engine.specs.Script.{declarations_of, words, text_of}
+use Rattle.ang_engine.specs.Thin.{text_of, Source, functions_in, errors_in}
+use Rattle.ang_engine.specs.Script.{sources_of}
 
 pub data Built : Type 0 where
   Errors : List Error → Built
@@ -81,18 +82,21 @@ body_errors V ds (d ∷ rest) = option_to_list (body_error V ds d.body) ++ body_
 
 -- ---- the program
 
-abbrev pub call_of_entry : ℕ → Option Entry → Sum → List HostCall
+abbrev pub call_of_entry : ℕ → Option Entry → ℤ → List HostCall
 call_of_entry number None argument = []
 call_of_entry number (Some e) argument = record { entity = record { 0 = number }; driver = e.driver; f = e.f; argument = argument } ∷ []
 
-abbrev pub calls_of : RegistrationList → Option ℕ → Sum → List HostCall
+abbrev pub calls_of : RegistrationList → Option ℕ → ℤ → List HostCall
 calls_of V None argument = []
 calls_of V (Some number) argument = call_of_entry number (entry_at V number) argument
 
--- the calls that the statements of a body without errors are
+-- the call that a statement without error is
+abbrev pub resolved_statement : RegistrationList → Statement → List HostCall
+resolved_statement V s = calls_of V (function_named V s.callee.text) s.argument
+
+-- the calls of a body
 abbrev pub resolved_body : RegistrationList → List Statement → List HostCall
-resolved_body V [] = []
-resolved_body V (s ∷ ss) = calls_of V (function_named V s.callee.text) s.argument ++ resolved_body V ss
+resolved_body V = flat_map (resolved_statement V)
 
 abbrev pub resolved : RegistrationList → Declaration → Function
 resolved V d = record { name = d.name.text; body = resolved_body V d.body }
@@ -107,24 +111,53 @@ abbrev pub after_names : RegistrationList → List Declaration → List Error �
 after_names V ds (e ∷ es) = Errors (e ∷ es)
 after_names V ds [] = after_bodies V ds (body_errors V ds ds)
 
-abbrev pub after_sections : RegistrationList → Result (List Declaration) Error → Built
+-- the declarations that are not built yet go first
+abbrev pub after_reading : RegistrationList → List Declaration → List Error → Built
+after_reading V ds (e ∷ es) = Errors (e ∷ es)
+after_reading V ds [] = after_names V ds (name_errors [] ds)
+
+abbrev pub after_sections : RegistrationList → Result (List Source) Error → Built
 after_sections V (Err e) = Errors (e ∷ [])
-after_sections V (Ok ds) = after_names V ds (name_errors [] ds)
+after_sections V (Ok ss) = after_reading V (flat_map functions_in ss) (flat_map errors_in ss)
 
 -- what the sections build to, over what the module sees
 abbrev pub build_of : RegistrationList → List (List ℕ) → Built
-build_of V sections = after_sections V (declarations_of 0 sections)
+build_of V sections = after_sections V (sources_of 0 sections)
 
 -- ---- the function that a declaration without body names
 
--- `void NAME ( )`: the name
-abbrev pub called_name : List ℕ → List Word → Option (List ℕ)
-called_name text (Void ∷ Named t ∷ LeftParen ∷ RightParen ∷ []) = Some (text_of text t)
+abbrev pub is_void : TokenKind → Bool
+is_void k.Void = true
+is_void _ = false
+
+abbrev pub is_name : TokenKind → Bool
+is_name k.Name = true
+is_name _ = false
+
+abbrev pub is_open : TokenKind → Bool
+is_open k.LeftParen = true
+is_open _ = false
+
+abbrev pub is_close : TokenKind → Bool
+is_close k.RightParen = true
+is_close _ = false
+
+-- `void NAME ( )`
+abbrev pub are_declared : TokenKind → TokenKind → TokenKind → TokenKind → Bool
+are_declared word name left right = is_void word && is_name name && is_open left && is_close right
+
+abbrev pub with_name : Bool → List ℕ → Option (List ℕ)
+with_name true name = Some name
+with_name false name = None
+
+-- the name in tokens that are nothing else
+abbrev pub called_name : List ℕ → List Token → Option (List ℕ)
+called_name text (word ∷ x ∷ left ∷ right ∷ []) = with_name (are_declared word.kind x.kind left.kind right.kind) (text_of text x)
 called_name text _ = None
 
 abbrev pub name_in_declaration : List ℕ → Result (List Token) LexError → Option (List ℕ)
 name_in_declaration decl (Err e) = None
-name_in_declaration decl (Ok ts) = called_name decl (words decl ts)
+name_in_declaration decl (Ok ts) = called_name decl ts
 
 abbrev pub first_named : List Function → List ℕ → Option Function
 first_named [] name = None

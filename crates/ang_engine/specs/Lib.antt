@@ -1,3 +1,4 @@
+pub mod Thin
 pub mod Script
 pub mod Reading
 pub mod Build

@@ -1,7 +1,6 @@
 -- What a script does: the source meaning, by cases on its resolved tree (docs/MEANING.md, "What a script does"; the AngelScript
 -- manual, "Expressions" and "Functions").
-use Rattle.std.specs.Prelude.{ℕ, zero, suc, ℤ, ◌+ℤ◌, ◌-ℤ◌, Bool, true, false, List, [], ◌∷◌, ◌≡◌, ◌⊎◌, Option, Some, None, option_map}
-use Rattle.std.specs.Int.{int_wrap, w32}
+use Rattle.std.specs.Prelude.{ℕ, zero, suc, Bool, true, false, List, [], ◌∷◌, ◌≡◌, ◌⊎◌, Option, Some, None, option_map}
 use Rattle.ang_kinds.specs.declared.value.Value.TheVariants.{Int}
 use Rattle.ang_kinds.specs.declared.fault.Fault.{Fault}
 use Rattle.ang_kinds.specs.declared.fault.Fault.TheVariants.{Host, BadAnswer, Memory, Tally, Budget}
@@ -11,10 +10,6 @@ use Rattle.ang_host.specs.declared.answer.HostReply.{HostReply}
 use Rattle.ang_host.specs.declared.answer.HostReply.TheVariants.{Asking}
 use Rattle.ang_host.specs.declared.event.HostEvent.{HostEvent}
 use Rattle.ang_host.specs.declared.event.HostEvent.TheVariants.{Called}
-use Rattle.ang_engine.specs.declared.program.Sign.{Sign}
-use Rattle.ang_engine.specs.declared.program.Sign.TheVariants.{Plus, Minus}
-use Rattle.ang_engine.specs.declared.program.Term.{Term}
-use Rattle.ang_engine.specs.declared.program.Sum.{Sum}
 use Rattle.ang_engine.specs.declared.program.HostCall.{HostCall}
 use Rattle.ang_engine.specs.declared.program.Function.{Function}
 use Rattle.ang_engine.specs.declared.reply.Outcome.{Outcome}
@@ -55,19 +50,6 @@ ended outcome left = record { outcome = outcome; events = []; left = left }
 abbrev pub after_event : HostEvent → Run → Run
 after_event event run = record { outcome = run.outcome; events = event ∷ run.events; left = run.left }
 
--- int arithmetic wraps at 32 bits
-abbrev pub added : Sign → ℤ → ℤ → ℤ
-added Plus a b = int_wrap w32 (a +ℤ b)
-added Minus a b = int_wrap w32 (a -ℤ b)
-
--- a sum goes from left to right
-abbrev pub sum_from : ℤ → List Term → ℤ
-sum_from total [] = total
-sum_from total (t ∷ ts) = sum_from (added t.sign total t.literal) ts
-
-abbrev pub value_of : Sum → ℤ
-value_of s = sum_from s.first s.rest
-
 -- the fault that an answer is, where the declared result is void
 abbrev pub fault_of : Answer → Option Fault
 fault_of Void = None
@@ -78,7 +60,7 @@ fault_of Full = Some Tally
 
 -- the event of a host call: every asking is listed, whatever the answer
 abbrev pub event_of : List ℕ → HostCall → Answer → HostEvent
-event_of caller c answer = Called caller c.entity c.driver None (Int (value_of c.argument) ∷ []) (Asking answer)
+event_of caller c answer = Called caller c.entity c.driver None (Int c.argument ∷ []) (Asking answer)
 
 -- a fault ends the run there
 abbrev pub unless_fault : Option Fault → List Input → Option Run → Option Run

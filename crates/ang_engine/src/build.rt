@@ -1,23 +1,26 @@
 //! Builds a program from its declarations: the names first, and then the bodies.
-ghost use Rattle.std.specs.Prelude.{◌≡◌, ◌++◌, [], Option, IfOk, OnOk, option_to_list, map as list_map};
-ghost use Rattle.ang_registry.specs.Registration.{seen, function_named};
-ghost use Rattle.ang_engine.specs.Build.{declares, error_at, name_error, name_errors, statement_error, body_error, body_errors, calls_of, resolved_body, resolved, after_names};
+ghost use Rattle.std.specs.Prelude.{◌≡◌, ◌++◌, [], Option, Ok, IfOk, OnOk, option_to_list, map as list_map};
+ghost use Rattle.ang_registry.specs.Registration.{seen};
+ghost use Rattle.ang_engine.specs.Build.{declares, error_at, name_error, name_errors, statement_error, body_error, body_errors, resolved_statement, resolved_body, resolved, after_names, after_sections};
+ghost use Rattle.ang_engine.specs.Script.{source_of};
 ghost use Rattle.ang_engine.specs.Answer.{IsBuilt};
 
-use crate::program::{Function, HostCall, Program, Sum};
+use crate::declared::{Declared, declare_all};
+use crate::program::{Function, HostCall, Program};
 use crate::script::{Declaration, Name, Statement};
 use ang_kinds::{Error, ErrorKind, List, Mask, Unbuilt};
 use ang_registry::Registry;
+use ang_tree::Script;
 use std::alloc::{AllocError, Global};
 
 /// The functions of one module.
 const MOST_FUNCTIONS: usize = 4096;
 
-fn is_declared(declarations: &[Declaration], name: &[u8]) -> bool
+fn is_declared(declarations: &[Declaration<'_>], name: &[u8]) -> bool
     ensures { result ≡ declares declarations.now name.now }
 {
     for declaration in declarations {
-        if declaration.name.text.as_slice() == name {
+        if declaration.name.text.bytes() == name {
             return true;
         }
     }
@@ -25,10 +28,10 @@ fn is_declared(declarations: &[Declaration], name: &[u8]) -> bool
 }
 
 /// An error at a name.
-fn named_error(alloc: Global, kind: ErrorKind, name: &Name) -> Result<Error, AllocError>
+fn named_error(alloc: Global, kind: ErrorKind, name: &Name<'_>) -> Result<Error, AllocError>
     ensures { IfOk result (λ e. e ≡ error_at kind name.now) }
 {
-    let text = Vec::from_slice(alloc, name.text.as_slice())?;
+    let text = Vec::from_slice(alloc, name.text.bytes())?;
     Ok(Error {
         kind,
         place: name.place,
@@ -39,13 +42,13 @@ fn named_error(alloc: Global, kind: ErrorKind, name: &Name) -> Result<Error, All
 /// What is wrong with the name of a declaration behind these.
 fn check_name(
     alloc: Global,
-    before: &[Declaration],
-    declaration: &Declaration,
+    before: &[Declaration<'_>],
+    declaration: &Declaration<'_>,
 ) -> Result<Option<Error>, AllocError>
     ensures { IfOk result (λ e. e ≡ name_error before.now declaration.now) }
 {
     let name = &declaration.name;
-    if is_declared(before, name.text.as_slice()) {
+    if is_declared(before, name.text.bytes()) {
         return Ok(Some(named_error(alloc, ErrorKind::Duplicate, name)?));
     }
     if before.len() == MOST_FUNCTIONS {
@@ -55,7 +58,7 @@ fn check_name(
 }
 
 /// The errors of the declarations' names, in order.
-fn check_names(alloc: Global, declarations: &[Declaration]) -> Result<Vec<Error>, AllocError>
+fn check_names(alloc: Global, declarations: &[Declaration<'_>]) -> Result<Vec<Error>, AllocError>
     ensures { IfOk result (λ es. es.items ≡ name_errors [] declarations.now) }
 {
     let mut errors = Vec::new(alloc);
@@ -72,19 +75,16 @@ fn check_statement(
     alloc: Global,
     registry: &Registry,
     mask: Mask,
-    declarations: &[Declaration],
-    statement: &Statement,
+    declarations: &[Declaration<'_>],
+    statement: &Statement<'_>,
 ) -> Result<Option<Error>, AllocError>
     ensures { IfOk result (λ e. e ≡ statement_error (seen registry.now.entries mask.0) declarations.now statement.now) }
 {
     let callee = &statement.callee;
-    if registry
-        .find_function(mask, callee.text.as_slice())
-        .is_some()
-    {
+    if registry.find_function(mask, callee.text.bytes()).is_some() {
         return Ok(None);
     }
-    let kind = if is_declared(declarations, callee.text.as_slice()) {
+    let kind = if is_declared(declarations, callee.text.bytes()) {
         ErrorKind::NoMatch
     } else {
         ErrorKind::UnknownName
@@ -97,8 +97,8 @@ fn check_body(
     alloc: Global,
     registry: &Registry,
     mask: Mask,
-    declarations: &[Declaration],
-    body: &[Statement],
+    declarations: &[Declaration<'_>],
+    body: &[Statement<'_>],
 ) -> Result<Option<Error>, AllocError>
     ensures { IfOk result (λ e. e ≡ body_error (seen registry.now.entries mask.0) declarations.now body.now) }
 {
@@ -115,7 +115,7 @@ fn check_bodies(
     alloc: Global,
     registry: &Registry,
     mask: Mask,
-    declarations: &[Declaration],
+    declarations: &[Declaration<'_>],
 ) -> Result<Vec<Error>, AllocError>
     ensures { IfOk result (λ es. es.items ≡ body_errors (seen registry.now.entries mask.0) declarations.now declarations.now) }
 {
@@ -130,16 +130,16 @@ fn check_bodies(
 }
 
 /// The call that a statement without error is.
-fn resolve(registry: &Registry, mask: Mask, callee: &Name, argument: Sum) -> Option<HostCall>
-    ensures { option_to_list result ≡ calls_of (seen registry.now.entries mask.0) (function_named (seen registry.now.entries mask.0) callee.now.text) argument }
+fn resolve(registry: &Registry, mask: Mask, statement: &Statement<'_>) -> Option<HostCall>
+    ensures { option_to_list result ≡ resolved_statement (seen registry.now.entries mask.0) statement.now }
 {
-    let entity = registry.find_function(mask, callee.text.as_slice())?;
+    let entity = registry.find_function(mask, statement.callee.text.bytes())?;
     let entry = registry.get(entity)?;
     Some(HostCall {
         entity,
         driver: entry.driver,
         f: entry.f,
-        argument,
+        argument: statement.argument,
     })
 }
 
@@ -157,16 +157,32 @@ fn resolve_body(
     alloc: Global,
     registry: &Registry,
     mask: Mask,
-    body: List<Statement>,
+    body: &[Statement<'_>],
 ) -> Result<List<HostCall>, AllocError>
-    ensures { IfOk result (λ calls. calls ≡ resolved_body (seen registry.now.entries mask.0) body) }
+    ensures { IfOk result (λ calls. calls ≡ resolved_body (seen registry.now.entries mask.0) body.now) }
 {
     let mut calls = Vec::new(alloc);
-    for statement in body.into_vec() {
-        let Statement { callee, argument } = statement;
-        push_call(&mut calls, resolve(registry, mask, &callee, argument))?;
+    for statement in body {
+        push_call(&mut calls, resolve(registry, mask, statement))?;
     }
     Ok(List::from_vec(calls))
+}
+
+/// The function of a declaration without errors.
+fn resolve_function(
+    alloc: Global,
+    registry: &Registry,
+    mask: Mask,
+    declaration: &Declaration<'_>,
+) -> Result<Function, AllocError>
+    ensures { IfOk result (λ f. f ≡ resolved (seen registry.now.entries mask.0) declaration.now) }
+{
+    let name = Vec::from_slice(alloc, declaration.name.text.bytes())?;
+    let body = resolve_body(alloc, registry, mask, declaration.body.as_slice())?;
+    Ok(Function {
+        name: List::from_vec(name),
+        body,
+    })
 }
 
 /// The program of declarations without errors.
@@ -174,38 +190,35 @@ fn resolve_program(
     alloc: Global,
     registry: &Registry,
     mask: Mask,
-    declarations: Vec<Declaration>,
+    declarations: &[Declaration<'_>],
 ) -> Result<Program, AllocError>
-    ensures { IfOk result (λ p. p.functions ≡ list_map (resolved (seen registry.now.entries mask.0)) declarations.items) }
+    ensures { IfOk result (λ p. p.functions ≡ list_map (resolved (seen registry.now.entries mask.0)) declarations.now) }
 {
     let mut functions = Vec::with_capacity(alloc, declarations.len())?;
     for declaration in declarations {
-        let Declaration { name, body } = declaration;
-        let Name { text, place: _ } = name;
-        let body = resolve_body(alloc, registry, mask, body)?;
-        functions.push(Function { name: text, body })?;
+        functions.push(resolve_function(alloc, registry, mask, declaration)?)?;
     }
     Ok(Program {
         functions: List::from_vec(functions),
     })
 }
 
-/// The program that the sections build to, over what the mask meets, or why they do not.
-pub fn build_program(
+/// The program that the declarations build to, over what the mask meets, or why they do not.
+fn build_program(
     alloc: Global,
     registry: &Registry,
     mask: Mask,
-    declarations: Vec<Declaration>,
+    declarations: &[Declaration<'_>],
 ) -> Result<Program, Unbuilt>
-    ensures { IsBuilt result (after_names (seen registry.now.entries mask.0) declarations.items (name_errors [] declarations.items)) }
+    ensures { IsBuilt result (after_names (seen registry.now.entries mask.0) declarations.now (name_errors [] declarations.now)) }
 {
-    let Ok(errors) = check_names(alloc, &declarations) else {
+    let Ok(errors) = check_names(alloc, declarations) else {
         return Err(Unbuilt::Memory)
     };
     if !errors.is_empty() {
         return Err(Unbuilt::Errors(List::from_vec(errors)));
     }
-    let Ok(errors) = check_bodies(alloc, registry, mask, &declarations) else {
+    let Ok(errors) = check_bodies(alloc, registry, mask, declarations) else {
         return Err(Unbuilt::Memory)
     };
     if !errors.is_empty() {
@@ -215,4 +228,23 @@ pub fn build_program(
         Ok(program) => Ok(program),
         Err(_) => Err(Unbuilt::Memory),
     }
+}
+
+/// The program that the scripts build to, over what the mask meets, or why they do not.
+pub fn build_scripts(
+    alloc: Global,
+    registry: &Registry,
+    mask: Mask,
+    scripts: &[Script],
+) -> Result<Program, Unbuilt>
+    ensures { IsBuilt result (after_sections (seen registry.now.entries mask.0) (Ok (list_map source_of scripts.now))) }
+{
+    let Ok(declared) = declare_all(alloc, scripts) else {
+        return Err(Unbuilt::Memory)
+    };
+    let Declared { functions, errors } = declared;
+    if !errors.is_empty() {
+        return Err(Unbuilt::Errors(List::from_vec(errors)));
+    }
+    build_program(alloc, registry, mask, &functions)
 }

@@ -1,5 +1,5 @@
 //! The commands, each over the parts of the engine that it reads and writes.
-ghost use Rattle.std.specs.Prelude.{◌≡◌, ◌<◌, ◌≤◌, [], length, IfSome};
+ghost use Rattle.std.specs.Prelude.{◌≡◌, ◌<◌, ◌≤◌, [], length, IfSome, MatchOption};
 ghost use Rattle.std.specs.Option.{option_copied};
 ghost use Rattle.ang_engine.specs.declared.reply.Outcome.TheVariants.{Refused};
 ghost use Rattle.ang_engine.specs.Step.{reply_of, is_budget, added_module, on_module};
@@ -8,18 +8,19 @@ ghost use Rattle.ang_engine.specs.Outcomes.{IsDone, IsAdded, IsOneError, IsModul
 ghost use Rattle.ang_registry.specs.Registration.{RegistrationList, seen};
 ghost use Rattle.ang_engine.specs.Sound.{AreSoundModules};
 ghost use Rattle.ang_engine.specs.Build.{build_of, first_named, function_of};
+ghost use Rattle.ang_engine.specs.Build as names;
 ghost use Rattle.ang_engine.specs.Answer.{IsBuilt};
 ghost use Rattle.ang_engine.specs.World.{state_of, world_of, module_named};
 
-use crate::build::build_program;
+use crate::build::build_scripts;
 use crate::module::{MOST_SECTIONS, Module};
 use crate::program::{Function, Program};
-use crate::reader::read_declared;
 use crate::reply::{Outcome, Refusal, Reply};
 use crate::section::{Unread, read_sections};
+use crate::thin::text_at;
 use ang_host::HostEvent;
 use ang_kinds::{Error, List, Mask, Unbuilt, Value};
-use ang_lex::{LexError, is_name, lex};
+use ang_lex::{LexError, Token, TokenKind, is_name, lex};
 use ang_registry::Registry;
 use std::alloc::Global;
 use std::mem;
@@ -179,7 +180,7 @@ fn build_sections(
     ensures built { IsBuilt result (build_of (seen registry.now.entries mask.0) sections.now) }
 {
     match read_sections(alloc, sections) {
-        Ok(declarations) => build_program(alloc, registry, mask, declarations),
+        Ok(scripts) => build_scripts(alloc, registry, mask, &scripts),
         Err(unread) => Err(one_error(alloc, unread)),
     }
 }
@@ -246,6 +247,32 @@ fn function_named<'a>(functions: &'a [Function], name: &[u8]) -> Option<&'a Func
     None
 }
 
+/// Whether tokens of these kinds are `void NAME ( )`.
+fn are_declared(word: TokenKind, name: TokenKind, open: TokenKind, close: TokenKind) -> bool
+    ensures { result ≡ names.are_declared word name «open» close }
+{
+    matches!(word, TokenKind::Void)
+        && matches!(name, TokenKind::Name)
+        && matches!(open, TokenKind::LeftParen)
+        && matches!(close, TokenKind::RightParen)
+}
+
+/// The name in `void NAME ( )`, if the tokens are nothing else.
+fn called_name<'a>(text: &'a [u8], tokens: &[Token]) -> Option<&'a [u8]>
+    ensures { MatchOption result
+        (names.called_name text.now tokens.now ≡ None)
+        (λ name. names.called_name text.now tokens.now ≡ Some name.now) }
+{
+    let [word, name, open, close] = tokens else {
+        return None
+    };
+    if are_declared(word.kind, name.kind, open.kind, close.kind) {
+        Some(text_at(text, name))
+    } else {
+        None
+    }
+}
+
 /// The function of the program that a declaration without a body names.
 fn declared_function<'a>(
     alloc: Global,
@@ -259,7 +286,7 @@ fn declared_function<'a>(
         Err(LexError::Memory) => return Err(Refusal::Memory),
         Err(_) => return Err(Refusal::NoFunction),
     };
-    let Some(name) = read_declared(decl, &tokens) else {
+    let Some(name) = called_name(decl, &tokens) else {
         return Err(Refusal::NoFunction);
     };
     function_named(program.functions.as_slice(), name).ok_or(Refusal::NoFunction)

@@ -4,15 +4,16 @@
 mod build;
 mod command;
 mod commands;
+mod declared;
 mod engine;
+pub mod laws;
 mod module;
 mod program;
-mod reader;
 mod reply;
 mod run;
 mod script;
 mod section;
-mod word;
+mod thin;
 
 pub use command::Command;
 pub use engine::Engine;

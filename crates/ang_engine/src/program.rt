@@ -1,29 +1,6 @@
 //! A built program: the scripts' functions, with each use as what it resolved to.
 use ang_kinds::{EntityNo, List};
 
-/// How a literal of a sum goes into it.
-#[derive(Clone, Copy, PartialEq, Eq, Debug)]
-pub enum Sign {
-    /// It is added.
-    Plus,
-    /// It is taken off.
-    Minus,
-}
-
-/// A literal of type `int` behind the first one of a sum, with its sign.
-#[derive(Clone, Copy, PartialEq, Eq, Debug)]
-pub struct Term {
-    pub sign: Sign,
-    pub literal: i32,
-}
-
-/// A sum of literals of type `int`, from left to right.
-#[derive(Drop, Debug)]
-pub struct Sum {
-    pub first: i32,
-    pub rest: List<Term>,
-}
-
 /// A call of a host function, resolved.
 #[derive(Drop, Debug)]
 pub struct HostCall {
@@ -33,7 +10,7 @@ pub struct HostCall {
     pub driver: u32,
     pub f: u32,
     /// The argument.
-    pub argument: Sum,
+    pub argument: i32,
 }
 
 /// A script function without parameters and result.

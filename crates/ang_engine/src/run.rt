@@ -7,33 +7,14 @@ ghost use Rattle.ang_host.specs.declared.event.Role.TheVariants.{Calling};
 ghost use Rattle.ang_host.specs.Boxes.{members};
 ghost use Rattle.ang_host.specs.Members.{states_of, AreFresh};
 ghost use Rattle.ang_host.specs.Events.{role_at, DriversFollow};
-ghost use Rattle.ang_engine.specs.Meaning.{added, value_of, fault_of, IsRun};
+ghost use Rattle.ang_engine.specs.Meaning.{fault_of, IsRun};
 ghost use Rattle.ang_engine.specs.Asking.{Asked, HaveRoles, AreInList};
 
-use crate::program::{HostCall, Sign, Sum};
+use crate::program::HostCall;
 use crate::reply::Outcome;
 use ang_host::{Answer, Driver, Drivers, HostEvent, call_listed};
 use ang_kinds::{Fault, List, Value};
 use std::alloc::{AllocError, Global};
-
-fn add(total: i32, sign: Sign, literal: i32) -> i32
-    ensures { result ≡ added sign total literal }
-{
-    match sign {
-        Sign::Plus => total.wrapping_add(literal),
-        Sign::Minus => total.wrapping_sub(literal),
-    }
-}
-
-fn total(sum: &Sum) -> i32
-    ensures { result ≡ value_of sum.now }
-{
-    let mut total = sum.first;
-    for term in sum.rest.as_slice() {
-        total = add(total, term.sign, term.literal);
-    }
-    total
-}
 
 /// The fault that an answer is, where the declared result is `void`.
 fn read_answer(answer: Answer) -> Option<Fault>
@@ -49,22 +30,22 @@ fn read_answer(answer: Answer) -> Option<Fault>
 }
 
 /// The memory for the event of a host call: its place, and copies of the caller's name and the
-/// arguments.
+/// argument.
 fn room_for(
     alloc: Global,
     events: &mut Vec<HostEvent>,
     caller: &[u8],
-    argument: &Sum,
+    argument: i32,
 ) -> Result<(List<u8>, List<Value>), AllocError>
     ensures events { events.new.items ≡ events.old.items }
     ensures room { OnOk result (vec_len events.new < vec_capacity events.new) }
     ensures caller { IfOk result (λ p. p.0 ≡ caller.now) }
-    ensures args { IfOk result (λ p. p.1 ≡ Int (value_of argument.now) ∷ []) }
+    ensures args { IfOk result (λ p. p.1 ≡ Int argument ∷ []) }
 {
     events.reserve(1)?;
     let caller = Vec::from_slice(alloc, caller)?;
     let mut args = Vec::with_capacity(alloc, 1)?;
-    args.push(Value::Int(i64::from(total(argument))))?;
+    args.push(Value::Int(i64::from(argument)))?;
     Ok((List::from_vec(caller), List::from_vec(args)))
 }
 
@@ -83,7 +64,7 @@ fn ask(
     ensures idle { AreFresh (states_of (λ v. (⟦<dyn Driver as Driver>⟧ v).meaning) (members drivers.new)) }
     ensures same { length (members drivers.new) ≡ length (members drivers.old) }
 {
-    let Ok((caller, args)) = room_for(alloc, events, caller, &call.argument) else {
+    let Ok((caller, args)) = room_for(alloc, events, caller, call.argument) else {
         return Err(Fault::Memory);
     };
     let answer = call_listed(

@@ -1,13 +1,14 @@
 //! Reads the sections of a build, one by one, to the first that fails.
-ghost use Rattle.std.specs.Prelude.{◌≡◌, ◌+◌, ◌<◌, ◌^◌, length, IfOk, Ok};
+ghost use Rattle.std.specs.Prelude.{◌≡◌, ◌<◌, ◌^◌, length};
 ghost use Rattle.ang_kinds.specs.declared.error.ErrorKind.{ErrorKind};
-ghost use Rattle.ang_engine.specs.Script.{section_of, declarations_of, fault_at, section_fault};
-ghost use Rattle.ang_engine.specs.Reading.{IsRead, IsFault};
+ghost use Rattle.ang_engine.specs.Thin.{fault_at};
+ghost use Rattle.ang_engine.specs.Script.{source_from, sources_of};
+ghost use Rattle.ang_engine.specs.Reading.{IsSource, AreSources, IsFault, IsUnparsed};
 
-use crate::reader::read_script;
-use crate::script::Declaration;
 use ang_kinds::{Error, ErrorKind, List, Place};
 use ang_lex::{LexError, lex};
+use ang_parse::{ParseError, parse};
+use ang_tree::Script;
 use std::alloc::{AllocError, AllocFailed, Global};
 
 /// Why a section has no declarations.
@@ -26,6 +27,17 @@ impl From<AllocError> for Unread {
     ghost from_gives = { λ _ e. e ≡ Memory };
 
     fn from(_error: AllocError) -> Unread {
+        Unread::Memory
+    }
+}
+
+impl<T: Drop> From<AllocFailed<T>> for Unread {
+    ghost use Rattle.std.specs.Prelude.{◌≡◌};
+    ghost use Rattle.ang_engine.specs.declared.section.Unread.TheVariants.{Memory};
+
+    ghost from_gives = { λ _ e. e ≡ Memory };
+
+    fn from(_error: AllocFailed<T>) -> Unread {
         Unread::Memory
     }
 }
@@ -58,36 +70,43 @@ fn lexical(alloc: Global, fault: LexError) -> Unread
     }
 }
 
+/// The error that a parser's answer is, unless it is want of memory.
+fn grammatical(alloc: Global, fault: ParseError) -> Unread
+    ensures { IsUnparsed result fault }
+{
+    match fault {
+        ParseError::TooDeep(place) => Unread::Fault(nameless(alloc, ErrorKind::TooDeep, place)),
+        ParseError::Syntax(place, name) => Unread::Fault(Error {
+            kind: ErrorKind::Syntax,
+            place,
+            name,
+        }),
+        ParseError::Memory => Unread::Memory,
+    }
+}
+
 /// The declarations of one section.
-fn read_section(alloc: Global, sect: u32, text: &[u8]) -> Result<Vec<Declaration>, Unread>
-    ensures { IsRead result (section_of sect text.now) }
+fn read_section(alloc: Global, sect: u32, text: &[u8]) -> Result<Script, Unread>
+    ensures { IsSource result (source_from sect text.now) }
 {
     let tokens = match lex(alloc, text, sect) {
         Ok(tokens) => tokens,
         Err(fault) => return Err(lexical(alloc, fault)),
     };
-    match read_script(alloc, text, &tokens)? {
-        Some(declarations) => Ok(declarations),
-        None => {
-            let start = Place {
-                sect,
-                line: 1,
-                column: 1,
-            };
-            Err(Unread::Fault(nameless(alloc, ErrorKind::NotYet, start)))
-        }
+    match parse(alloc, text, &tokens) {
+        Ok(script) => Ok(script),
+        Err(fault) => Err(grammatical(alloc, fault)),
     }
 }
 
 /// The declarations of all sections, in order.
-pub fn read_sections(alloc: Global, sections: &[List<u8>]) -> Result<Vec<Declaration>, Unread>
+pub fn read_sections(alloc: Global, sections: &[List<u8>]) -> Result<Vec<Script>, Unread>
     requires { length sections.now < 2 ^ 32 }
-    ensures { IsRead result (declarations_of 0 sections.now) }
+    ensures { AreSources result (sources_of 0 sections.now) }
 {
-    let mut all = Vec::new(alloc);
+    let mut scripts = Vec::new(alloc);
     for (i, text) in sections.iter().enumerate() {
-        let mut declarations = read_section(alloc, i as u32, text.as_slice())?;
-        all.append(&mut declarations)?;
+        scripts.push(read_section(alloc, i as u32, text.as_slice())?)?;
     }
-    Ok(all)
+    Ok(scripts)
 }

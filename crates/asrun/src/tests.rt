@@ -132,7 +132,7 @@ fn run<P: Read, S: Read>(
 }
 
 /// Profile, session, output and status.
-const RUNS: [(&str, &str, &str, Status); 12] = [
+const RUNS: [(&str, &str, &str, Status); 14] = [
     (PROFILE, SESSION, OUTPUT, Status::AllOk),
     (
         PROFILE,
@@ -145,6 +145,18 @@ const RUNS: [(&str, &str, &str, Status); 12] = [
         "module a 80000000\nsection a 1\nvoid main(){ print(1+2); }\nbuild a\ncall a () void main()\n",
         OUTPUT,
         Status::AllOk,
+    ),
+    (
+        PROFILE,
+        "module a 00000001\nsection a 2\nvoid main(/* none */) { // one call\nprint( (1 + 2) - (3 - 4) ); } ;\nbuild a\ncall a () void main()\n",
+        "ok\nok\nok\nhost a 0 0 - (4) void\nok\n",
+        Status::AllOk,
+    ),
+    (
+        PROFILE,
+        "module a 00000001\nsection a 1\nvoid m() {}\nsection a 1\n; import void f() from \"b\";\nbuild a\n",
+        "ok\nok\nok\nerror NotYet 1:1:3 -\nrefused BuildErrors\n",
+        Status::SomeRefused,
     ),
     (PROFILE, "", "", Status::AllOk),
     (
@@ -206,6 +218,38 @@ fn whole_runs(rt: HostRuntime) -> Result<(), Fail> {
         let outcome = run(rt.alloc(), &mut profile, &mut text, &mut out)?;
         assert_eq!(rt; outcome, Ok(status), "{output}");
         assert_eq!(rt; out.kept.as_slice(), output.as_bytes());
+    }
+    Ok(())
+}
+
+/// A section, and the errors of its build.
+const SECTIONS: [(&str, &str); 7] = [
+    ("/* cut", "error OpenComment 0:1:1 -\n"),
+    ("int a; # b", "error BadByte 0:1:8 -\n"),
+    ("void m(){ 1x; }", "error BadNumber 0:1:11 -\n"),
+    ("void m() { return }", "error Syntax 0:1:19 }\n"),
+    ("int f(", "error Syntax 0:1:7 -\n"),
+    (
+        "int a, b; class C {}",
+        "error NotYet 0:1:1 -\nerror NotYet 0:1:1 -\nerror NotYet 0:1:11 -\n",
+    ),
+    (
+        "int m(){return ((((((((((((((((((((((((((((((((((((((((((((((((((((((((((((((((1))))))))))))))))))))))))))))))))))))))))))))))))))))))))))))))));}",
+        "error TooDeep 0:1:79 -\n",
+    ),
+];
+
+#[test]
+fn sections_with_errors(rt: HostRuntime) -> Result<(), Fail> {
+    for (section, errors) in SECTIONS {
+        let text = format!(in rt.alloc(); "module a 00000001\nsection a 1\n{section}\nbuild a\n")?;
+        let output = format!(in rt.alloc(); "ok\nok\n{errors}refused BuildErrors\n")?;
+        let mut out = Sink::new(rt.alloc(), 4096, 0, false);
+        let mut profile = Pieces::new(PROFILE, 4096, 0);
+        let mut text = Pieces::new(text.as_str(), 4096, 0);
+        let outcome = run(rt.alloc(), &mut profile, &mut text, &mut out)?;
+        assert_eq!(rt; outcome, Ok(Status::SomeRefused), "{section}");
+        assert_eq!(rt; out.kept.as_slice(), output.as_str().as_bytes());
     }
     Ok(())
 }

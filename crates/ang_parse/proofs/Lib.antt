@@ -1,0 +1,7 @@
+pub mod Columns
+pub mod Rests
+pub mod SoundScript
+pub mod CompleteScript
+pub mod TameScript
+pub mod Exactly
+pub mod Answered

@@ -1,0 +1,120 @@
+//! Tokens that lie too deep.
+ghost use Rattle.std.specs.Prelude.{◌≡◌, ◌+◌, ◌^◌, ◌<◌, ◌≤◌, option_map};
+ghost use Rattle.ang_tree.specs.Depth as depth;
+ghost use Rattle.ang_parse.specs.Faults.{place_at};
+
+use ang_kinds::Place;
+use ang_lex::{Token, TokenKind};
+
+/// The most of `(` and `{` that may be open.
+const MOST_OPEN: u32 = 64;
+
+/// The most operators, and words that nest statements, between two of `;`, `{` and `}`.
+const MOST_OPERATORS: u32 = 256;
+
+/// How many of `(` and `{` are open behind a token.
+fn opened(brackets: u32, kind: TokenKind) -> u32
+    requires { brackets + 1 < 2 ^ 32 }
+    ensures { result ≡ depth.opened brackets kind }
+{
+    match kind {
+        TokenKind::LeftParen | TokenKind::LeftBrace => brackets + 1,
+        TokenKind::RightParen | TokenKind::RightBrace => brackets.saturating_sub(1),
+        _ => brackets,
+    }
+}
+
+/// Whether the token is an operator, or one of the words `if else while for do not and or xor is`.
+fn is_counted(kind: TokenKind) -> bool
+    ensures { result ≡ depth.counts kind }
+{
+    matches!(
+        kind,
+        TokenKind::If
+            | TokenKind::Else
+            | TokenKind::While
+            | TokenKind::For
+            | TokenKind::Do
+            | TokenKind::Is
+            | TokenKind::NotIs
+            | TokenKind::And
+            | TokenKind::Or
+            | TokenKind::Xor
+            | TokenKind::Not
+            | TokenKind::ShiftRightArithmeticAssign
+            | TokenKind::ShiftLeftAssign
+            | TokenKind::ShiftRightAssign
+            | TokenKind::ShiftRightArithmetic
+            | TokenKind::ShiftLeft
+            | TokenKind::ShiftRight
+            | TokenKind::LessEqual
+            | TokenKind::GreaterEqual
+            | TokenKind::Equal
+            | TokenKind::NotEqual
+            | TokenKind::Increment
+            | TokenKind::Decrement
+            | TokenKind::PlusAssign
+            | TokenKind::MinusAssign
+            | TokenKind::StarAssign
+            | TokenKind::SlashAssign
+            | TokenKind::PercentAssign
+            | TokenKind::AmpersandAssign
+            | TokenKind::PipeAssign
+            | TokenKind::CaretAssign
+            | TokenKind::Plus
+            | TokenKind::Minus
+            | TokenKind::Star
+            | TokenKind::Slash
+            | TokenKind::Percent
+            | TokenKind::Ampersand
+            | TokenKind::Pipe
+            | TokenKind::Caret
+            | TokenKind::Tilde
+            | TokenKind::Less
+            | TokenKind::Greater
+            | TokenKind::Assign
+            | TokenKind::Question
+            | TokenKind::Dot
+            | TokenKind::At
+    )
+}
+
+/// Whether operators are counted anew behind the token: `;`, `{` and `}`.
+fn ends_count(kind: TokenKind) -> bool
+    ensures { result ≡ depth.ends_count kind }
+{
+    matches!(
+        kind,
+        TokenKind::Semicolon | TokenKind::LeftBrace | TokenKind::RightBrace
+    )
+}
+
+/// How many operators stand since the last `;`, `{` or `}`, behind a token.
+fn counted(operators: u32, kind: TokenKind) -> u32
+    requires { operators + 1 < 2 ^ 32 }
+    ensures { result ≡ depth.counted operators kind }
+{
+    if ends_count(kind) {
+        0
+    } else if is_counted(kind) {
+        operators + 1
+    } else {
+        operators
+    }
+}
+
+/// The place of the first token behind which too many brackets are open, or too many operators stand.
+pub(crate) fn too_deep(tokens: &[Token]) -> Option<Place>
+    ensures { result ≡ option_map (place_at tokens.now) (depth.too_deep tokens.now) }
+{
+    let mut brackets = 0;
+    let mut operators = 0;
+    for token in tokens {
+        brackets = opened(brackets, token.kind);
+        operators = counted(operators, token.kind);
+        if brackets > MOST_OPEN || operators > MOST_OPERATORS {
+            return Some(token.place);
+        }
+    }
+    None
+}

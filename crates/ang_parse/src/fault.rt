@@ -1,0 +1,54 @@
+//! Errors of the grammar: their places and names.
+ghost use Rattle.std.specs.Prelude.{◌≡◌, ◌+◌, ◌^◌, ◌<◌, ◌≤◌, [], ◌∷◌, length, All, IfOk};
+ghost use Rattle.ang_lex.specs.Tokens.{IsWithin};
+ghost use Rattle.ang_parse.specs.Faults.{text_of, place_past, place_at, name_at, HasColumns};
+
+use crate::error::ParseError;
+use ang_kinds::{List, Place};
+use ang_lex::Token;
+use std::alloc::{AllocError, Global};
+
+/// The bytes of a token.
+fn text_of_token<'a>(text: &'a [u8], token: &Token) -> &'a [u8]
+    requires { IsWithin (length text.now) token.now }
+    ensures { result.now ≡ text_of text.now token.now }
+{
+    &text[token.span.start as usize..token.span.end as usize]
+}
+
+/// The place one column past the last token.
+fn place_past(tokens: &[Token]) -> Place
+    requires { All HasColumns tokens.now }
+    ensures { result ≡ place_past tokens.now }
+{
+    match tokens.last() {
+        Some(last) => Place {
+            column: last.place.column + (last.span.end - last.span.start),
+            ..last.place
+        },
+        None => Place {
+            sect: 0,
+            line: 1,
+            column: 1,
+        },
+    }
+}
+
+/// The error of the grammar at the rest of the tokens.
+pub(crate) fn syntax_error(
+    alloc: Global,
+    text: &[u8],
+    tokens: &[Token],
+    rest: &[Token],
+) -> Result<ParseError, AllocError>
+    requires within { All (IsWithin (length text.now)) rest.now }
+    requires columns { All HasColumns tokens.now }
+    ensures { IfOk result (λ f. f ≡ ParseError.Syntax (place_at tokens.now rest.now) (name_at text.now rest.now)) }
+{
+    let Some(first) = rest.first() else {
+        let name = List::from_vec(Vec::new(alloc));
+        return Ok(ParseError::Syntax(place_past(tokens), name));
+    };
+    let name = Vec::from_slice(alloc, text_of_token(text, first))?;
+    Ok(ParseError::Syntax(first.place, List::from_vec(name)))
+}

@@ -1,0 +1,2 @@
+pub mod ReadClass
+pub mod Parts

@@ -1,0 +1,9 @@
+pub mod Views
+pub mod SoundType
+pub mod Sound
+pub mod TameExpr
+pub mod CompleteType
+pub mod Grip
+pub mod Stops
+pub mod Complete
+pub mod Exactly

@@ -1,0 +1,2 @@
+pub mod ReadType
+pub mod ReadExpr

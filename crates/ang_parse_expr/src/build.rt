@@ -1,0 +1,80 @@
+//! Expressions made of their parts.
+ghost use Rattle.std.specs.Prelude.{◌≡◌, IfOk};
+ghost use Rattle.ang_tree.specs.Tree as tree;
+ghost use Rattle.ang_tree.specs.View.{view_expr, view_items};
+
+use ang_lex::Token;
+use ang_tree::{Argument, Expression};
+use std::alloc::{AllocError, Global};
+
+/// The list with one more expression at its end.
+pub(crate) fn with_argument(
+    first: Vec<Argument>,
+    comma: Option<Token>,
+    value: Expression,
+) -> Result<Vec<Argument>, AllocError>
+    ensures { IfOk result (λ v. view_items v.items ≡ tree.added (view_items first.items) comma (view_expr value)) }
+{
+    let mut found = first;
+    found.push(Argument { comma, value })?;
+    Ok(found)
+}
+
+/// Two operands with an operator between them.
+pub(crate) fn binary(
+    alloc: Global,
+    left: Expression,
+    operator: Token,
+    right: Expression,
+) -> Result<Expression, AllocError>
+    ensures { IfOk result (λ e. view_expr e ≡ tree.binary (view_expr left) operator (view_expr right)) }
+{
+    let left = Box::new(alloc, left)?;
+    let right = Box::new(alloc, right)?;
+    Ok(Expression::Binary {
+        left,
+        operator,
+        right,
+    })
+}
+
+/// A condition and its two values.
+pub(crate) fn conditional(
+    alloc: Global,
+    condition: Expression,
+    question: Token,
+    then: Expression,
+    colon: Token,
+    otherwise: Expression,
+) -> Result<Expression, AllocError>
+    ensures { IfOk result (λ e. view_expr e ≡ tree.conditional (view_expr condition) question (view_expr «then») colon (view_expr otherwise)) }
+{
+    let condition = Box::new(alloc, condition)?;
+    let then = Box::new(alloc, then)?;
+    let otherwise = Box::new(alloc, otherwise)?;
+    Ok(Expression::Conditional {
+        condition,
+        question,
+        then,
+        colon,
+        otherwise,
+    })
+}
+
+/// A target and its value.
+pub(crate) fn assignment(
+    alloc: Global,
+    target: Expression,
+    operator: Token,
+    value: Expression,
+) -> Result<Expression, AllocError>
+    ensures { IfOk result (λ e. view_expr e ≡ tree.assignment (view_expr target) operator (view_expr value)) }
+{
+    let target = Box::new(alloc, target)?;
+    let value = Box::new(alloc, value)?;
+    Ok(Expression::Assignment {
+        target,
+        operator,
+        value,
+    })
+}

@@ -1,0 +1,102 @@
+//! The kinds of token that the grammar's rules of expressions ask for.
+ghost use Rattle.std.specs.Prelude.{◌≡◌, ◌≤◌};
+ghost use Rattle.ang_tree.specs.Kinds as kinds;
+ghost use Rattle.ang_parse_expr.specs.ReadExpr as read;
+
+use ang_lex::TokenKind;
+
+/// Whether the token is a literal: a number, `true`, `false`, `null` or `this`.
+pub(crate) fn is_literal(kind: TokenKind) -> bool
+    ensures { result ≡ kinds.literal_kind kind }
+{
+    matches!(
+        kind,
+        TokenKind::Number | TokenKind::True | TokenKind::False | TokenKind::Null | TokenKind::This
+    )
+}
+
+/// Whether a type can be named by the token: a primitive type, `void` or a name.
+pub fn is_type_name(kind: TokenKind) -> bool
+    ensures { result ≡ kinds.type_kind kind }
+{
+    matches!(
+        kind,
+        TokenKind::Primitive(_) | TokenKind::Void | TokenKind::Name
+    )
+}
+
+/// Whether the token is an operator in front of an operand: `!`, `-`, `+`, `~`, `@`, `++` or `--`.
+pub(crate) fn is_prefix(kind: TokenKind) -> bool
+    ensures { result ≡ kinds.prefix_kind kind }
+{
+    matches!(
+        kind,
+        TokenKind::Not
+            | TokenKind::Minus
+            | TokenKind::Plus
+            | TokenKind::Tilde
+            | TokenKind::At
+            | TokenKind::Increment
+            | TokenKind::Decrement
+    )
+}
+
+/// Whether the token is `++` or `--`.
+pub(crate) fn is_step(kind: TokenKind) -> bool
+    ensures { result ≡ kinds.step_kind kind }
+{
+    matches!(kind, TokenKind::Increment | TokenKind::Decrement)
+}
+
+/// Whether the token is `=` or a compound assignment.
+pub(crate) fn is_assignment(kind: TokenKind) -> bool
+    ensures { result ≡ kinds.assignment_kind kind }
+{
+    matches!(
+        kind,
+        TokenKind::Assign
+            | TokenKind::PlusAssign
+            | TokenKind::MinusAssign
+            | TokenKind::StarAssign
+            | TokenKind::SlashAssign
+            | TokenKind::PercentAssign
+            | TokenKind::AmpersandAssign
+            | TokenKind::PipeAssign
+            | TokenKind::CaretAssign
+            | TokenKind::ShiftLeftAssign
+            | TokenKind::ShiftRightAssign
+            | TokenKind::ShiftRightArithmeticAssign
+    )
+}
+
+/// How tightly a binary operator binds, from 1 for `||` to 10 for `*`; 0 for any other token.
+pub(crate) fn precedence(kind: TokenKind) -> u32
+    ensures value { result ≡ kinds.precedence kind }
+    ensures bound { result ≤ 10 }
+{
+    match kind {
+        TokenKind::Or => 1,
+        TokenKind::And => 2,
+        TokenKind::Equal
+        | TokenKind::NotEqual
+        | TokenKind::Is
+        | TokenKind::NotIs
+        | TokenKind::Xor => 3,
+        TokenKind::Less | TokenKind::LessEqual | TokenKind::Greater | TokenKind::GreaterEqual => 4,
+        TokenKind::Pipe => 5,
+        TokenKind::Caret => 6,
+        TokenKind::Ampersand => 7,
+        TokenKind::ShiftLeft | TokenKind::ShiftRight | TokenKind::ShiftRightArithmetic => 8,
+        TokenKind::Plus | TokenKind::Minus => 9,
+        TokenKind::Star | TokenKind::Slash | TokenKind::Percent => 10,
+        _ => 0,
+    }
+}
+
+/// Whether an operator of this precedence is taken where one of the rule `least` or a tighter one is
+/// wanted.
+pub(crate) fn binds(least: u32, precedence: u32) -> bool
+    ensures { result ≡ read.binds least precedence }
+{
+    precedence != 0 && least <= precedence
+}

@@ -1,0 +1,5 @@
+pub mod Groups
+pub mod SoundFunction
+pub mod Faults
+pub mod CompleteFunction
+pub mod TameFunction

@@ -1,0 +1,2 @@
+pub mod ReadFunction
+pub mod Parts

@@ -1,0 +1,2 @@
+pub mod ReadParams
+pub mod Params

@@ -1,0 +1,4 @@
+pub mod Ahead
+pub mod ReadVars
+pub mod ReadStmt
+pub mod Parts

@@ -1,0 +1,159 @@
+//! Statements made of their parts.
+ghost use Rattle.std.specs.Prelude.{◌≡◌, ◌++◌, [], ◌∷◌, map, option_map, IfOk};
+ghost use Rattle.ang_tree.specs.Stmt as tree;
+ghost use Rattle.ang_tree.specs.View.{view_var, view_stmt, view_stmts, view_else, view_start};
+ghost use Rattle.ang_parse_stmt.specs.Parts.{view_ending, view_head, view_guarded};
+ghost use Rattle.ang_parse_stmt.specs.ReadStmt as read;
+
+use crate::parts::{Ending, Guarded, Head};
+use ang_lex::Token;
+use ang_tree::{Else, ForStart, Statement, Variable};
+use std::alloc::{AllocError, Global};
+
+/// The list with one more variable at its end.
+pub(crate) fn with_variable(
+    first: Vec<Variable>,
+    next: Variable,
+) -> Result<Vec<Variable>, AllocError>
+    ensures { IfOk result (λ v. map view_var v.items ≡ map view_var first.items ++ view_var next ∷ []) }
+{
+    let mut found = first;
+    found.push(next)?;
+    Ok(found)
+}
+
+/// The list with one more statement at its end.
+pub(crate) fn with_statement(
+    first: Vec<Statement>,
+    next: Statement,
+) -> Result<Vec<Statement>, AllocError>
+    ensures { IfOk result (λ v. view_stmts v.items ≡ tree.added_stmt (view_stmts first.items) (view_stmt next)) }
+{
+    let mut found = first;
+    found.push(next)?;
+    Ok(found)
+}
+
+/// Variables, or an expression, as a statement.
+pub(crate) fn simple(start: ForStart) -> Statement
+    ensures { view_stmt result ≡ read.simple_of (view_start start) }
+{
+    match start {
+        ForStart::Variables(variables) => Statement::Variables(variables),
+        ForStart::Expression { value, semicolon } => Statement::Expression { value, semicolon },
+    }
+}
+
+/// The other branch of an `if`.
+pub(crate) fn other_branch(
+    alloc: Global,
+    word: Token,
+    branch: Statement,
+) -> Result<Else, AllocError>
+    ensures { IfOk result (λ e. view_else e ≡ (word, view_stmt branch)) }
+{
+    let branch = Box::new(alloc, branch)?;
+    Ok(Else { word, branch })
+}
+
+/// An `if`.
+pub(crate) fn conditional(
+    alloc: Global,
+    word: Token,
+    guarded: Guarded,
+    otherwise: Option<Else>,
+) -> Result<Statement, AllocError>
+    ensures { IfOk result (λ s. view_stmt s ≡ read.branched word (view_guarded guarded) (option_map view_else otherwise)) }
+{
+    let Guarded {
+        condition,
+        statement,
+    } = guarded;
+    let then = Box::new(alloc, statement)?;
+    Ok(Statement::If {
+        word,
+        open: condition.open,
+        condition: condition.value,
+        close: condition.close,
+        then,
+        otherwise,
+    })
+}
+
+/// A `while`.
+pub(crate) fn while_loop(
+    alloc: Global,
+    word: Token,
+    guarded: Guarded,
+) -> Result<Statement, AllocError>
+    ensures { IfOk result (λ s. view_stmt s ≡ read.while_of word (view_guarded guarded)) }
+{
+    let Guarded {
+        condition,
+        statement,
+    } = guarded;
+    let body = Box::new(alloc, statement)?;
+    Ok(Statement::While {
+        word,
+        open: condition.open,
+        condition: condition.value,
+        close: condition.close,
+        body,
+    })
+}
+
+/// A `do`.
+pub(crate) fn do_loop(
+    alloc: Global,
+    word: Token,
+    body: Statement,
+    ending: Ending,
+) -> Result<Statement, AllocError>
+    ensures { IfOk result (λ s. view_stmt s ≡ read.do_while_of word (view_stmt body) (view_ending ending)) }
+{
+    let Ending {
+        word: while_word,
+        condition,
+        semicolon,
+    } = ending;
+    let body = Box::new(alloc, body)?;
+    Ok(Statement::DoWhile {
+        word,
+        body,
+        while_word,
+        open: condition.open,
+        condition: condition.value,
+        close: condition.close,
+        semicolon,
+    })
+}
+
+/// A `for`.
+pub(crate) fn for_loop(
+    alloc: Global,
+    word: Token,
+    head: Head,
+    body: Statement,
+) -> Result<Statement, AllocError>
+    ensures { IfOk result (λ s. view_stmt s ≡ read.for_of word (view_head head) (view_stmt body)) }
+{
+    let Head {
+        open,
+        start,
+        condition,
+        semicolon,
+        steps,
+        close,
+    } = head;
+    let body = Box::new(alloc, body)?;
+    Ok(Statement::For {
+        word,
+        open,
+        start,
+        condition,
+        semicolon,
+        steps,
+        close,
+        body,
+    })
+}

@@ -1,0 +1,14 @@
+//! Reading from the front of a list of tokens: why nothing is read, and the readers of single tokens.
+//!
+//! `specs/` has the functional parser's combinators, and what it means that code gives what such a
+//! parser reads; `proofs/` has their laws, which the parsers above share.
+#![tactic(auto)]
+
+mod error;
+mod single;
+
+pub use error::ReadError;
+pub use single::{
+    a_colon, a_from, a_greater, a_left_brace, a_left_paren, a_less, a_name, a_right_brace,
+    a_right_paren, a_scope, a_semicolon, a_text, a_while, perhaps_const,
+};

@@ -1,0 +1,23 @@
+//! The name of a type, as it is written.
+
+use ang_lex::Token;
+
+/// A type: `[ "const" ] ( PRIMITIVE | "void" | NAME ) [ "@" [ "const" ] ]`.
+#[derive(Clone, Copy, PartialEq, Eq, Debug)]
+pub struct TypeName {
+    /// The word `const`, where it is written.
+    pub constant: Option<Token>,
+    /// The word of a primitive type, `void`, or a name.
+    pub name: Token,
+    /// The handle's sign, where it is written.
+    pub handle: Option<Handle>,
+}
+
+/// What makes a type a handle: `"@" [ "const" ]`.
+#[derive(Clone, Copy, PartialEq, Eq, Debug)]
+pub struct Handle {
+    /// `@`
+    pub at: Token,
+    /// The word `const`, where it is written.
+    pub constant: Option<Token>,
+}

@@ -1,0 +1,4 @@
+pub mod Integers
+pub mod Ranks
+pub mod Overloads
+pub mod Best

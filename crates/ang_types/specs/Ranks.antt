@@ -1,0 +1,60 @@
+-- Implicit conversions and what they cost (the AngelScript manual, "Conversions", "Object handles" and
+-- "Parameter references"; the ranks are this profile's own).
+use Rattle.std.specs.Prelude.{ℕ, Bool, true, false, ◌==◌, if◌then◌else◌, max, List, [], Option, Some, None, slice_index_or}
+use Rattle.std.specs.List.{list_any}
+use Rattle.ang_kinds.specs.declared.types.Pass.{Pass}
+use Rattle.ang_kinds.specs.declared.types.Pass.TheVariants.{Value, RefIn, RefOut, RefInOut}
+use Rattle.ang_types.specs.declared.arg_type.ArgType.{ArgType}
+use Rattle.ang_types.specs.declared.arg_type.ArgType.TheVariants.{Void, Null, Plain, Object, Handle}
+use Rattle.ang_types.specs.Integers.{primitive_rank}
+
+-- For each object type, by its number, the numbers of the types above it: its base classes and its interfaces.
+abbrev pub Lines : Type 0
+Lines = List (List ℕ)
+
+-- the types above one type
+abbrev pub types_above : Lines → ℕ → List ℕ
+types_above lines n = slice_index_or lines n []
+
+abbrev pub is_above : Lines → ℕ → ℕ → Bool
+is_above lines n m = list_any (λ k. k == m) (types_above lines n)
+
+-- From one object type to another: 0 to the same, 4 from a derived class to a base or an interface, and to no other.
+abbrev pub class_rank : Lines → ℕ → ℕ → Option ℕ
+class_rank lines from to =
+    if from == to then Some 0 else (if is_above lines from to then Some 4 else None)
+
+-- `const` may be added, which is 1, and is never lost.
+abbrev pub const_rank : Bool → Bool → Option ℕ
+const_rank false false = Some 0
+const_rank false true = Some 1
+const_rank true false = None
+const_rank true true = Some 0
+
+-- The greatest rank that applies counts; where one part has none the whole has none.
+abbrev pub greatest : ℕ → Option ℕ → Option ℕ → Option ℕ
+greatest form None class = None
+greatest form (Some constness) None = None
+greatest form (Some constness) (Some class) = Some (max form (max constness class))
+
+-- The rank of the implicit conversion from one type to another, or none: 0 the same type; 1 an object to a handle,
+-- a handle to an object, `const` added, null to a handle; 2 and 3 between integers; 4 a derived class to a base
+-- or an interface. Of several that apply the greatest counts. There is no other implicit conversion.
+abbrev pub rank_of : Lines → ArgType → ArgType → Option ℕ
+rank_of lines Void Void = Some 0
+rank_of lines Null Null = Some 0
+rank_of lines Null (Handle m s) = Some 1
+rank_of lines (Plain p) (Plain q) = primitive_rank p q
+rank_of lines (Object n r) (Object m s) = greatest 0 (const_rank r s) (class_rank lines n m)
+rank_of lines (Object n r) (Handle m s) = greatest 1 (const_rank r s) (class_rank lines n m)
+rank_of lines (Handle n r) (Object m s) = greatest 1 (const_rank r s) (class_rank lines n m)
+rank_of lines (Handle n r) (Handle m s) = greatest 0 (const_rank r s) (class_rank lines n m)
+rank_of lines from to = None
+
+-- The rank of an argument for a parameter of this type and passing. What goes in converts from the argument to the
+-- parameter; what comes out by `&out` converts from the parameter to the variable.
+abbrev pub argument_rank : Lines → ArgType → Pass → ArgType → Option ℕ
+argument_rank lines param Value argument = rank_of lines argument param
+argument_rank lines param RefIn argument = rank_of lines argument param
+argument_rank lines param RefOut argument = rank_of lines param argument
+argument_rank lines param RefInOut argument = rank_of lines argument param

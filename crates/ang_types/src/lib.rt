@@ -1,0 +1,23 @@
+//! Conversions between types, and which of several candidates a call means.
+//!
+//! `common` is the type in which two integers meet in an operation, `rank` says whether one type
+//! converts to another by itself and what that costs, and `resolve` picks the best of the candidates
+//! of a name. None of them takes memory.
+#![tactic(auto)]
+
+mod arg_type;
+mod candidate;
+mod integers;
+pub mod laws;
+mod lineage;
+mod overloads;
+mod ranks;
+#[cfg(test)]
+mod tests;
+
+pub use arg_type::ArgType;
+pub use candidate::{Candidate, Pick};
+pub use integers::common;
+pub use lineage::Lineage;
+pub use overloads::resolve;
+pub use ranks::rank;
