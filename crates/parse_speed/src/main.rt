@@ -3,14 +3,17 @@
 //! `parse_speed FILE TURNS` (bench/run.sh writes the files and runs it over each).
 #![tactic(auto)]
 
+ghost use Rattle.std.specs.Prelude.{◌≡◌};
+ghost use Rattle.parse_speed.specs.Speed.{speed};
+
 use ang_lex::lex;
 use ang_parse::parse;
 use std::alloc::Global;
+use std::env;
 use std::fs::File;
 use std::io::{self, Read};
 use std::process::ExitCode;
 use std::time::Instant;
-use std::env;
 
 /// How many tokens and declarations a turn found, or nothing where the section was refused.
 fn turn(alloc: Global, text: &[u8]) -> Option<(usize, usize)> {
@@ -20,7 +23,9 @@ fn turn(alloc: Global, text: &[u8]) -> Option<(usize, usize)> {
 }
 
 /// The bytes that `turns` over a text of `len` bytes went through each second, where they took `nanos`.
-fn bytes_a_second(len: usize, turns: u32, nanos: u128) -> u128 {
+fn bytes_a_second(len: usize, turns: u32, nanos: u128) -> u128
+    ensures exact { result ≡ speed len turns nanos }
+{
     let bytes = len as u128 * turns as u128;
     match nanos {
         0 => bytes,
@@ -44,7 +49,10 @@ fn measure(rt: &HostRuntime, name: &str, text: &[u8], turns: u32) -> io::Result<
     let nanos = start.elapsed(rt)?.as_nanos();
     let speed = bytes_a_second(text.len(), turns, nanos);
     let (tokens, declarations) = found;
-    println!(rt; "{name}: {} bytes, {tokens} tokens, {declarations} declarations, {turns} turns", text.len())?;
+    println!(rt;
+        "{name}: {} bytes, {tokens} tokens, {declarations} declarations, {turns} turns",
+        text.len()
+    )?;
     println!(rt; "{name}: {speed} bytes a second")?;
     Ok(0)
 }
