@@ -1,0 +1,80 @@
+#!/usr/bin/env python3
+"""Writes the sections that the programs of bench/ are run on into a folder, each as near to 65,536 bytes as whole lines go.
+
+    python3 bench/sections.py FOLDER
+
+ordinary    functions, classes and variables as a game's script has them
+parens      63 parentheses in each expression, the most that a function's body may open
+operators   256 operators in each statement, the most that there may be
+names       one list of names as long as the section
+groups      what may be parameters or arguments up to its last parenthesis
+nested      statements in one another, as deep as they may lie
+"""
+
+import os
+import sys
+
+MOST = 65536
+
+ORDINARY = """\
+// A unit and what it does in each turn.
+class Unit%d : Thing {
+    private int health;
+    protected int8 armour, speed;
+    Unit%d(int start, bool fast) { super(start); health = start * 2 + 1; if (fast) speed = 3; else speed = 1; }
+    int hit(int points, const Unit%d@ by) const { return health - points / (armour + 1) >> 1; }
+    void turn(int &out left, uint mask) override {
+        for (int i = 0; i < 10 && health > 0; i++) {
+            if ((mask & 0xFF) == 7 || !alive(i)) { left += by_rank(i, mask); continue; }
+            health = health > 3 ? health - 3 : 0;
+        }
+    }
+}
+int64 total%d = 12345, bound%d(9000000000);
+bool step%d(int a, int64 b) {
+    int sum = 0;
+    while (a < b) { sum += a * a % 7; ++a; /* until they meet */ }
+    Unit%d@ unit = find(sum);
+    if (unit !is null) return unit.hit(a, null) >= b; else return cast<Unit%d>(unit) is null;
+}
+"""
+
+
+def filled(head, piece, tail):
+    """The piece as often as it fits, counted from 0, between a head and a tail."""
+    lines, size, n = [head], len(head) + len(tail), 0
+    while True:
+        line = piece(n)
+        if size + len(line) > MOST:
+            return "".join(lines) + tail
+        lines.append(line)
+        size += len(line)
+        n += 1
+
+
+def nested(n):
+    """Blocks and loops in one another: 60 braces and parentheses are open at the deepest."""
+    deep = 30
+    return "void f%d()" % n + "{ if (b) { while (c) " * (deep // 2) + "{ x = (1); }" + " } }" * (deep // 2) + "\n"
+
+
+SECTIONS = {
+    "ordinary": filled("", lambda n: ORDINARY.replace("%d", str(n)), ""),
+    "parens": filled("void f() {\n", lambda n: "x = " + "(" * 62 + "1" + ")" * 62 + ";\n", "}\n"),
+    "operators": filled("void f() {\n", lambda n: "x = 1" + "+1" * 255 + ";\n", "}\n"),
+    "names": filled("int a", lambda n: ", a%d" % n, ";\n"),
+    "groups": filled("", lambda n: "T f%d(A%s);\n" % (n, ", B & C" * 60), ""),
+    "nested": filled("", nested, ""),
+}
+
+
+def main():
+    folder = sys.argv[1]
+    os.makedirs(folder, exist_ok=True)
+    for name, text in SECTIONS.items():
+        with open(os.path.join(folder, name + ".as"), "w", newline="\n") as out:
+            out.write(text)
+        print("%-10s %6d bytes" % (name, len(text)))
+
+
+main()
