@@ -7,8 +7,6 @@
 mod build;
 mod parts;
 mod stmt;
-#[cfg(test)]
-mod tests;
 mod variables;
 mod whole;
 
