@@ -15,7 +15,6 @@ use Rattle.ang_decl.proofs.Exactly.{Exact, OfForm}
 
 module _ (A : Type 0) (reader : ℕ → Parser A) (Spells : A → List Token → Type 0) (form : A → Bool) (Formed : A → List Token → Type 0)
     (left_out : A → Bool) (signature_of : List ℕ → A → Signature) (exact : Exact reader Spells) (of_form : OfForm Spells form Formed) where
-
   abbrev chosen : Bool → Bool → Signature → Result Signature DeclError
   chosen b c s = if b then (if c then Err Unsupported else Ok s) else Err Syntax
 

@@ -281,8 +281,8 @@ params_read limit left None [] right s f R lt = no_params limit left right s R
 params_read limit left None (p ∷ ps) right s f R lt =
     params_go_on limit left (spelled_param p (each spelled_param ps (right ∷ s))) (ap (begins is_right_paren) (no_comma p.comma _ f.0.0) ∙ type_begins p.declared_type _ f.1.0.0)
     ∙ some_done limit left p (p ∷ ps) right (spelled_param p (each spelled_param ps (right ∷ s))) (each spelled_param ps (right ∷ s)) s
-      (first_read p (each spelled_param ps (right ∷ s)) f.0.0 f.1.0 (items_end ps right s f.0.1 R))
-      (others_read ps limit (p ∷ []) right s f.0.1 f.1.1 R (omega arith)) R
+    (first_read p (each spelled_param ps (right ∷ s)) f.0.0 f.1.0 (items_end ps right s f.0.1 R))
+    (others_read ps limit (p ∷ []) right s f.0.1 f.1.1 R (omega arith)) R
     ∙ ap (λ v. Ok (v, s)) (several left p ps right f.2)
 
 -- ---- declarations
@@ -334,8 +334,13 @@ reference-length (Some q) s = omega (arith, optional-length q.direction s)
 
 param-length : (p : HostParameter) (s : List Token) → length s < length (spelled_param p s)
 param-length p s =
-    omega (arith, optional-length p.comma (spelled_type p.declared_type (spelled_reference p.reference (optional p.name s))), type-length p.declared_type (spelled_reference p.reference (optional p.name s)),
-      reference-length p.reference (optional p.name s), optional-length p.name s)
+    omega (
+      arith,
+      optional-length p.comma (spelled_type p.declared_type (spelled_reference p.reference (optional p.name s))),
+      type-length p.declared_type (spelled_reference p.reference (optional p.name s)),
+      reference-length p.reference (optional p.name s),
+      optional-length p.name s,
+    )
 
 items-length : (ps : List HostParameter) (s : List Token) → length ps + length s ≤ length (each spelled_param ps s)
 items-length [] s = omega arith

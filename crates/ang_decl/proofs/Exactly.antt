@@ -70,8 +70,8 @@ pub methods_exact : Exact r.a_function SpellsMethod
 methods_exact = record {
   sound = λ ts p e. method_sound p.0 ts (whole_sound HostFunction r.a_function spelled_function FitsFunction a_function_found ts p e);
   complete = λ f ts h. whole_complete HostFunction r.a_function f ts
-    (ap (r.a_function (length ts + 1)) h.text
-    ∙ function_read f (length ts + 1) (record { result = h.result; name = h.name; parameters = h.parameters; constant = h.constant }) (omega (arith, function-length f, ap length h.text)));
+      (ap (r.a_function (length ts + 1)) h.text
+      ∙ function_read f (length ts + 1) (record { result = h.result; name = h.name; parameters = h.parameters; constant = h.constant }) (omega (arith, function-length f, ap length h.text)));
 }
 
 -- ---- forms

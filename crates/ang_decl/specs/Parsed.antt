@@ -53,8 +53,8 @@ is_function_form f = is_none f.constant
 abbrev pub is_factory_form : HostFunction → Bool
 is_factory_form f = is_none f.constant && is_plain_handle f.result
 
-unfoldable pub declared_type : List ℕ → Result Signature DeclError
-declared_type text = judged_tokens (λ n. a_type) of_any_form is_type_left_out (type_signature text) (tokens_of 0 text)
+unfoldable pub declared_type_alone : List ℕ → Result Signature DeclError
+declared_type_alone text = judged_tokens (λ n. a_type) of_any_form is_type_left_out (type_signature text) (tokens_of 0 text)
 
 unfoldable pub declared_property : List ℕ → Result Signature DeclError
 declared_property text = judged_tokens (λ n. a_property) of_any_form is_property_left_out (property_signature text) (tokens_of 0 text)

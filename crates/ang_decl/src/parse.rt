@@ -1,6 +1,6 @@
 //! The parsers of host declarations.
 ghost use Rattle.std.specs.Prelude.{◌≡◌, ◌≢◌, Ok, Err, IfOk, IfErr};
-ghost use Rattle.ang_decl.specs.Parsed.{declared_type, declared_property, declared_method, declared_function, declared_factory};
+ghost use Rattle.ang_decl.specs.Parsed.{declared_type_alone, declared_property, declared_method, declared_function, declared_factory};
 ghost use Rattle.ang_decl.specs.Grammar.{SpellsType, SpellsProperty, SpellsMethod, SpellsFunction, SpellsFactory};
 ghost use Rattle.ang_decl.specs.Meaning.{IsWritten, Declares, IsLeftOut};
 ghost use Rattle.ang_decl.specs.Signatures as spec;
@@ -19,10 +19,10 @@ use ang_kinds::Signature;
 use ang_lex::lex;
 use std::alloc::Global;
 
-#[tactic(auto, unfolding(crate::specs::Parsed::declared_type))]
+#[tactic(auto, unfolding(crate::specs::Parsed::declared_type_alone))]
 fn type_in(alloc: Global, text: &[u8]) -> Result<Signature, DeclError>
-    ensures exact { IfOk result (λ s. declared_type text.now ≡ Ok s) }
-    ensures fault { IfErr result (λ e. e ≢ DeclError.Memory → declared_type text.now ≡ Err e) }
+    ensures exact { IfOk result (λ s. declared_type_alone text.now ≡ Ok s) }
+    ensures fault { IfErr result (λ e. e ≢ DeclError.Memory → declared_type_alone text.now ≡ Err e) }
 {
     let tokens = lex(alloc, text, 0)?;
     let host_type = whole_type(&tokens)?;
@@ -45,8 +45,8 @@ pub fn parse_type(alloc: Global, text: &[u8]) -> Result<Signature, DeclError>
     ensures unsupported { IfErr result (λ e. e ≡ DeclError.Unsupported → IsLeftOut SpellsType spec.is_type_left_out text.now) }
     ensures syntax { IfErr result (λ e. e ≡ DeclError.Syntax → (x : HostType) → IsWritten SpellsType text.now x → ⊥) }
     // the same as an equation, for the crates above
-    ensures exact { IfOk result (λ s. declared_type text.now ≡ Ok s) }
-    ensures fault { IfErr result (λ e. e ≢ DeclError.Memory → declared_type text.now ≡ Err e) }
+    ensures exact { IfOk result (λ s. declared_type_alone text.now ≡ Ok s) }
+    ensures fault { IfErr result (λ e. e ≢ DeclError.Memory → declared_type_alone text.now ≡ Err e) }
 {
     type_in(alloc, text)
 }

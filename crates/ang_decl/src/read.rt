@@ -46,10 +46,10 @@ fn perhaps_direction(tokens: &[Token]) -> (Option<Token>, &[Token])
 {
     match tokens {
         [token, rest @ ..]
-            if matches!(token.kind, TokenKind::In | TokenKind::Out | TokenKind::InOut) =>
-        {
-            (Some(*token), rest)
-        }
+            if matches!(
+                token.kind,
+                TokenKind::In | TokenKind::Out | TokenKind::InOut
+            ) => { (Some(*token), rest) }
         _ => (None, tokens),
     }
 }
@@ -85,8 +85,7 @@ fn host_type(tokens: &[Token]) -> Result<(HostType, &[Token]), ReadError<'_>>
             if matches!(
                 name.kind,
                 TokenKind::Primitive(_) | TokenKind::Void | TokenKind::Name
-            ) =>
-        {
+            ) => {
             let (handle, rest) = handle(rest);
             Ok((
                 HostType {
@@ -201,7 +200,7 @@ fn is_bare_void(parameter: &HostParameter) -> bool
 }
 
 /// The parameters between the parentheses. The word `void` alone is the empty list.
-fn settled(open: Token, items: Vec<HostParameter>, close: Token, alloc: Global) -> HostParameters
+fn settled(alloc: Global, open: Token, items: Vec<HostParameter>, close: Token) -> HostParameters
     ensures { result ≡ read.settled «open» items.items close }
 {
     if let [only] = items.as_slice()
@@ -237,7 +236,7 @@ fn some_parameters(
     first.push(parameter)?;
     let (items, rest) = other_parameters(first, rest, limit)?;
     let (close, rest) = a_right_paren(rest)?;
-    Ok((settled(open, items, close, alloc), rest))
+    Ok((settled(alloc, open, items, close), rest))
 }
 
 /// Reads the parameters behind the left parenthesis `open`, and the right one.

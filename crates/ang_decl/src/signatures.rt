@@ -22,10 +22,7 @@ fn name_of(alloc: Global, text: &[u8], name: &Option<Token>) -> Result<List<u8>,
 {
     match name {
         None => Ok(List::from_vec(Vec::new(alloc))),
-        Some(token) => Ok(List::from_vec(Vec::from_slice(
-            alloc,
-            text_of(text, *token),
-        )?)),
+        Some(token) => Ok(List::from_vec(Vec::from_slice(alloc, text_of(text, *token))?)),
     }
 }
 
@@ -88,11 +85,7 @@ fn param_of(alloc: Global, text: &[u8], parameter: &HostParameter) -> Result<Par
     })
 }
 
-fn params_of(
-    alloc: Global,
-    text: &[u8],
-    items: &[HostParameter],
-) -> Result<Vec<Param>, AllocError>
+fn params_of(alloc: Global, text: &[u8], items: &[HostParameter]) -> Result<Vec<Param>, AllocError>
     ensures { IfOk result (λ v. v.items ≡ map (spec.param_of text.now) items.now) }
 {
     let mut params = Vec::new(alloc);

@@ -48,7 +48,8 @@ fn is_parameter_type(host_type: &HostType) -> bool
     let is_value = is_primitive(host_type.name.kind)
         && host_type.constant.is_none()
         && host_type.handle.is_none();
-    is_value || (matches!(host_type.name.kind, TokenKind::Name) && is_auto_handle(&host_type.handle))
+    is_value
+        || (matches!(host_type.name.kind, TokenKind::Name) && is_auto_handle(&host_type.handle))
 }
 
 fn is_result_type(host_type: &HostType) -> bool
@@ -75,7 +76,12 @@ fn is_parameter(parameter: &HostParameter) -> bool
 fn are_parameters(function: &HostFunction) -> bool
     ensures { result ≡ spec.are_parameters function.now }
 {
-    function.parameters.items.as_slice().iter().all(is_parameter)
+    function
+        .parameters
+        .items
+        .as_slice()
+        .iter()
+        .all(is_parameter)
 }
 
 /// Whether hosts can't use it as a function or a method.

@@ -14,6 +14,7 @@ enum Want<'a> {
 }
 
 const INT: Want<'static> = Want::Plain(Prim::I32);
+
 const INT64: Want<'static> = Want::Plain(Prim::I64);
 
 fn is_type(ty: &TypeRef, want: Want<'_>) -> bool {
@@ -49,15 +50,18 @@ fn is_param(param: &Param, want: Want<'_>, name: &[u8]) -> bool {
 fn is_signature(
     signature: &Signature,
     name: &[u8],
-    result: Want<'_>,
+    want: Want<'_>,
     params: &[Want<'_>],
     read_only: bool,
 ) -> bool {
     let found = signature.params.as_slice();
     signature.name.as_slice() == name
-        && is_type(&signature.result, result)
+        && is_type(&signature.result, want)
         && found.len() == params.len()
-        && found.iter().zip(params).all(|(param, want)| is_param(param, *want, b""))
+        && found
+            .iter()
+            .zip(params)
+            .all(|(param, other)| is_param(param, *other, b""))
         && signature.read_only == read_only
 }
 
@@ -152,8 +156,18 @@ fn other_forms_are_refused(rt: HostRuntime) -> Result<(), Fail> {
     for text in functions {
         assert!(rt; matches!(parse_function(alloc, text), Err(DeclError::Syntax)));
     }
-    assert!(rt; matches!(parse_method(alloc, b"int f() const const"), Err(DeclError::Syntax)));
-    assert!(rt; matches!(parse_property(alloc, b"int step = 1"), Err(DeclError::Syntax)));
+    assert!(rt;
+        matches!(
+            parse_method(alloc, b"int f() const const"),
+            Err(DeclError::Syntax)
+        )
+    );
+    assert!(rt;
+        matches!(
+            parse_property(alloc, b"int step = 1"),
+            Err(DeclError::Syntax)
+        )
+    );
     assert!(rt; matches!(parse_factory(alloc, b"Cell@+ f()"), Err(DeclError::Syntax)));
     assert!(rt; matches!(parse_type(alloc, b"Cell@+ c"), Err(DeclError::Syntax)));
     Ok(())
@@ -178,8 +192,18 @@ fn what_hosts_cannot_use_is_left_out(rt: HostRuntime) -> Result<(), Fail> {
         assert!(rt; matches!(parse_function(alloc, text), Err(DeclError::Unsupported)));
         assert!(rt; matches!(parse_method(alloc, text), Err(DeclError::Unsupported)));
     }
-    assert!(rt; matches!(parse_property(alloc, b"Cell@+ c"), Err(DeclError::Unsupported)));
-    assert!(rt; matches!(parse_factory(alloc, b"Cell@ f(Cell)"), Err(DeclError::Unsupported)));
+    assert!(rt;
+        matches!(
+            parse_property(alloc, b"Cell@+ c"),
+            Err(DeclError::Unsupported)
+        )
+    );
+    assert!(rt;
+        matches!(
+            parse_factory(alloc, b"Cell@ f(Cell)"),
+            Err(DeclError::Unsupported)
+        )
+    );
     assert!(rt; matches!(parse_type(alloc, b"Cell"), Err(DeclError::Unsupported)));
     Ok(())
 }
