@@ -1,12 +1,12 @@
 -- What is spelled as a declaration is read.
 use Rattle.std.proofs.Common.{◌≡◌, ℕ, zero, suc, ◌+◌, ◌<◌, ◌≤◌, Bool, true, false, if◌then◌else◌, List, [], ◌∷◌, ◌++◌, length, Option, Some, None, Ok, refl, ap, sym, ◌∙◌, append_assoc, append-nil, arith}
-use Rattle.std.specs.Prelude.{is_none, ◌&&◌}
+use Rattle.std.specs.Prelude.{◌&&◌}
 use Rattle.ang_lex.specs.declared.token.Token.{Token}
 use Rattle.ang_lex.specs.declared.token.TokenKind.{TokenKind}
 use Rattle.ang_lex.specs.declared.token.TokenKind.TheVariants as k
 use Rattle.ang_tree.specs.declared.declaration.Reference.{Reference}
-use Rattle.ang_tree.specs.Kinds.{Is, IsA, IsComma, IfWritten, IfWrittenA, optional, type_kind, direction_kind}
-use Rattle.ang_tree.specs.Stmt.{each, Every, Parted}
+use Rattle.ang_tree.specs.Kinds.{Is, IsComma, IfWritten, IfWrittenA, optional, type_kind, direction_kind}
+use Rattle.ang_tree.specs.Stmt.{each, Every}
 use Rattle.ang_tree.specs.Declarations.{spelled_reference, FitsReference}
 use Rattle.ang_read.specs.Read.{and_then, pure, ◌>>=◌, repeat}
 use Rattle.ang_read.specs.Tokens.{a_token, perhaps, is_name, is_left_paren, is_right_paren, is_const}
@@ -18,7 +18,7 @@ use Rattle.ang_decl.specs.declared.tree.HostParameter.{HostParameter}
 use Rattle.ang_decl.specs.declared.tree.HostParameters.{HostParameters}
 use Rattle.ang_decl.specs.declared.tree.HostFunction.{HostFunction}
 use Rattle.ang_decl.specs.declared.tree.HostProperty.{HostProperty}
-use Rattle.ang_decl.specs.Grammar.{spelled_handle, spelled_type, spelled_param, spelled_params, spelled_function, spelled_property, FitsHandle, FitsType, FitsParam, FitsItems, FitsParams, is_void, is_bare_void, is_void_alone}
+use Rattle.ang_decl.specs.Grammar.{spelled_handle, spelled_type, spelled_param, spelled_function, spelled_property, FitsHandle, FitsType, FitsParam, FitsItems, is_void, is_bare_void, is_void_alone}
 use Rattle.ang_decl.specs.Read as r
 use Rattle.ang_decl.proofs.Sound.{FitsFunction, FitsProperty}
 

@@ -1,5 +1,5 @@
 -- The readers of declarations are exact against the grammar.
-use Rattle.std.proofs.Common.{◌≡◌, ℕ, ◌+◌, ◌<◌, ◌≤◌, Bool, true, false, List, [], ◌∷◌, length, Ok, Err, refl, ap, sym, subst, ◌∙◌, arith}
+use Rattle.std.proofs.Common.{◌≡◌, ℕ, ◌+◌, Bool, true, false, List, [], ◌∷◌, length, Ok, Err, refl, ap, sym, subst, ◌∙◌, arith}
 use Rattle.std.specs.Prelude.{is_none, ◌&&◌}
 use Rattle.ang_lex.specs.declared.token.Token.{Token}
 use Rattle.ang_read.specs.Law.{finish, all_of}

@@ -3,7 +3,7 @@ use Rattle.std.proofs.Common.{◌≡◌, ℕ, zero, suc, Bool, true, false, List
 use Rattle.std.specs.Prelude.{IfSome}
 use Rattle.ang_lex.specs.declared.token.Token.{Token}
 use Rattle.ang_lex.specs.declared.token.TokenKind.{TokenKind}
-use Rattle.ang_read.specs.Read.{at, deep, Parser, Outcome, and_then, pure, refuse, Choice, given, chosen, look, Turn, turned, repeat}
+use Rattle.ang_read.specs.Read.{Parser, Outcome, and_then, pure, refuse, Choice, given, chosen, look, Turn, turned, repeat}
 use Rattle.ang_read.specs.Tokens.{a_token, perhaps}
 
 -- what is read, and the tokens behind it, have the property

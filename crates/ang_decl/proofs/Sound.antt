@@ -5,19 +5,17 @@ use Rattle.ang_lex.specs.declared.token.Token.{Token}
 use Rattle.ang_lex.specs.declared.token.TokenKind.{TokenKind}
 use Rattle.ang_lex.specs.declared.token.TokenKind.TheVariants as k
 use Rattle.ang_tree.specs.declared.declaration.Reference.{Reference}
-use Rattle.ang_tree.specs.Kinds.{Is, IsA, IsComma, IfWritten, IfWrittenA, optional, type_kind, direction_kind}
+use Rattle.ang_tree.specs.Kinds.{Is, IsComma, IfWritten, IfWrittenA, optional, type_kind, direction_kind}
 use Rattle.ang_tree.specs.Stmt.{each, Every, Parted, Filled}
 use Rattle.ang_tree.specs.Declarations.{spelled_reference, FitsReference}
-use Rattle.ang_read.specs.Read.{pure, repeat, Choice}
+use Rattle.ang_read.specs.Read.{pure, repeat}
 use Rattle.ang_read.specs.Tokens.{a_token, perhaps, is_name, is_left_paren, is_right_paren, is_const}
 use Rattle.ang_read.proofs.Tokens.{name_is, left_paren_is, right_paren_is, const_is}
-use Rattle.ang_decl.specs.declared.tree.HostType.{HostType}
 use Rattle.ang_decl.specs.declared.tree.HostHandle.{HostHandle}
 use Rattle.ang_decl.specs.declared.tree.HostParameter.{HostParameter}
-use Rattle.ang_decl.specs.declared.tree.HostParameters.{HostParameters}
 use Rattle.ang_decl.specs.declared.tree.HostFunction.{HostFunction}
 use Rattle.ang_decl.specs.declared.tree.HostProperty.{HostProperty}
-use Rattle.ang_decl.specs.Grammar.{spelled_handle, spelled_type, spelled_param, spelled_params, spelled_function, spelled_property, FitsHandle, FitsType, FitsParam, FitsItems, FitsParams, is_void, is_bare_void, is_void_alone}
+use Rattle.ang_decl.specs.Grammar.{spelled_handle, spelled_type, spelled_param, spelled_params, spelled_function, spelled_property, FitsHandle, FitsType, FitsParam, FitsParams, is_void, is_bare_void}
 use Rattle.ang_decl.specs.Read as r
 use Rattle.ang_decl.proofs.Found.{Found, and_found, ChoiceFound, look_found, look_found_at, Token_found, a_token_found, Perhaps_found, written, unwritten, perhaps_found, Turned, repeat_found}
 

@@ -1,6 +1,6 @@
 -- Which declarations hosts can use, and what they declare (docs/EMBEDDING.md, "Declarations"; the AngelScript manual,
 -- "Registering a function" and "Object handles to the application").
-use Rattle.std.specs.Prelude.{ℕ, Bool, true, false, not, ◌&&◌, ◌||◌, is_some, is_none, if◌then◌else◌, List, [], map, slice_range, Option, Some, None}
+use Rattle.std.specs.Prelude.{ℕ, Bool, false, not, ◌&&◌, ◌||◌, is_some, is_none, if◌then◌else◌, List, [], map, slice_range, Option, Some, None}
 use Rattle.std.specs.List.{list_all}
 use Rattle.ang_kinds.specs.declared.types.Param.{Param}
 use Rattle.ang_kinds.specs.declared.types.Pass.TheVariants as pass
