@@ -6,43 +6,33 @@ use std::test::Fail;
 
 /// What a test wants a type to be. No handle of it is `const`.
 #[derive(Clone, Copy)]
-enum Want<'a> {
+enum Want {
     Void,
     Plain(Prim),
-    /// The type's name, its shape, and whether the object is `const`.
-    Object(&'a [u8], Shape, bool),
+    /// `Cell`, its shape, and whether the object is `const`.
+    Cell(Shape, bool),
+    /// `Counter@`
+    Counter,
 }
 
-/// What a test wants a signature to be. Its parameters have no names.
-#[derive(Clone, Copy)]
-struct Row<'a> {
-    name: &'a [u8],
-    result: Want<'a>,
-    params: &'a [Want<'a>],
-    read_only: bool,
-}
+const INT: Want = Want::Plain(Prim::I32);
 
-const INT: Want<'static> = Want::Plain(Prim::I32);
+const INT64: Want = Want::Plain(Prim::I64);
 
-const INT64: Want<'static> = Want::Plain(Prim::I64);
+const UINT: Want = Want::Plain(Prim::U32);
 
-const UINT: Want<'static> = Want::Plain(Prim::U32);
+const CELL: Want = Want::Cell(Shape::AutoHandle, false);
 
-const CELL: Want<'static> = Want::Object(b"Cell", Shape::AutoHandle, false);
+const CONST_CELL: Want = Want::Cell(Shape::AutoHandle, true);
 
-fn is_type(ty: &TypeRef, want: Want<'_>) -> bool {
-    match (ty, want) {
-        (TypeRef::Void, Want::Void) => true,
-        (TypeRef::Plain(primitive), Want::Plain(other)) => *primitive == other,
-        (
-            TypeRef::Object {
-                name,
-                shape,
-                const_object,
-                const_handle,
-            },
-            Want::Object(own, own_shape, is_const),
-        ) => {
+fn is_handle(ty: &TypeRef, own: &[u8], own_shape: Shape, is_const: bool) -> bool {
+    match ty {
+        TypeRef::Object {
+            name,
+            shape,
+            const_object,
+            const_handle,
+        } => {
             name.as_slice() == own
                 && *shape == own_shape
                 && *const_object == is_const
@@ -52,29 +42,45 @@ fn is_type(ty: &TypeRef, want: Want<'_>) -> bool {
     }
 }
 
-fn is_param(param: &Param, want: Want<'_>, name: &[u8]) -> bool {
+fn is_type(ty: &TypeRef, want: Want) -> bool {
+    match want {
+        Want::Void => matches!(ty, TypeRef::Void),
+        Want::Plain(other) => match ty {
+            TypeRef::Plain(primitive) => *primitive == other,
+            _ => false,
+        },
+        Want::Cell(shape, is_const) => is_handle(ty, b"Cell", shape, is_const),
+        Want::Counter => is_handle(ty, b"Counter", Shape::Handle, false),
+    }
+}
+
+fn is_param(param: &Param, want: Want, name: &[u8]) -> bool {
     is_type(&param.ty, want)
         && param.pass == Pass::Value
         && !param.read_only
         && param.name.as_slice() == name
 }
 
-fn is_signature(signature: &Signature, row: &Row<'_>) -> bool {
-    let found = signature.params.as_slice();
-    signature.name.as_slice() == row.name
-        && is_type(&signature.result, row.result)
-        && found.len() == row.params.len()
-        && found
-            .iter()
-            .zip(row.params)
-            .all(|(param, want)| is_param(param, *want, b""))
-        && signature.read_only == row.read_only
-}
-
-/// Whether a parser answered the signature of the row.
-fn is_declared(answer: Result<Signature, DeclError>, row: &Row<'_>) -> bool {
+/// Whether a parser answered this signature. Its parameters have no names.
+fn is_declared(
+    answer: Result<Signature, DeclError>,
+    name: &[u8],
+    want: Want,
+    params: &[Want],
+    read_only: bool,
+) -> bool {
     match answer {
-        Ok(signature) => is_signature(&signature, row),
+        Ok(signature) => {
+            let found = signature.params.as_slice();
+            signature.name.as_slice() == name
+                && is_type(&signature.result, want)
+                && found.len() == params.len()
+                && found
+                    .iter()
+                    .zip(params)
+                    .all(|(param, other)| is_param(param, *other, b""))
+                && signature.read_only == read_only
+        }
         Err(_) => false,
     }
 }
@@ -89,44 +95,49 @@ fn is_refused(answer: Result<Signature, DeclError>, why: DeclError) -> bool {
 #[test]
 fn functions_are_declared(rt: HostRuntime) -> Result<(), Fail> {
     let alloc = rt.alloc();
-    let pick = Row {
-        name: b"pick",
-        result: CELL,
-        params: &[CELL],
-        read_only: false,
-    };
-    assert!(rt; is_declared(parse_function(alloc, b"Cell@+ pick(Cell@+)"), &pick));
-    let print = Row {
-        name: b"print",
-        result: Want::Void,
-        params: &[INT64],
-        read_only: false,
-    };
-    assert!(rt; is_declared(parse_function(alloc, b"void print(int64)"), &print));
-    let sum = Row {
-        name: b"sum",
-        result: INT64,
-        params: &[INT64, INT64],
-        read_only: false,
-    };
-    assert!(rt; is_declared(parse_function(alloc, b"int64 sum(int64, int64)"), &sum));
-    let fail = Row {
-        name: b"fail",
-        result: Want::Void,
-        params: &[UINT],
-        read_only: false,
-    };
-    assert!(rt; is_declared(parse_function(alloc, b"void fail(uint)"), &fail));
-    let none = Row {
-        name: b"f",
-        result: UINT,
-        params: &[],
-        read_only: false,
-    };
+    assert!(rt;
+        is_declared(
+            parse_function(alloc, b"Cell@+ pick(Cell@+)"),
+            b"pick",
+            CELL,
+            &[CELL],
+            false
+        )
+    );
+    assert!(rt;
+        is_declared(
+            parse_function(alloc, b"void print(int64)"),
+            b"print",
+            Want::Void,
+            &[INT64],
+            false
+        )
+    );
+    assert!(rt;
+        is_declared(
+            parse_function(alloc, b"int64 sum(int64, int64)"),
+            b"sum",
+            INT64,
+            &[INT64, INT64],
+            false
+        )
+    );
+    assert!(rt;
+        is_declared(
+            parse_function(alloc, b"void fail(uint)"),
+            b"fail",
+            Want::Void,
+            &[UINT],
+            false
+        )
+    );
     assert!(rt;
         is_declared(
             parse_function(alloc, b"uint32 f ( /* none */ void )"),
-            &none
+            b"f",
+            UINT,
+            &[],
+            false
         )
     );
     Ok(())
@@ -135,110 +146,125 @@ fn functions_are_declared(rt: HostRuntime) -> Result<(), Fail> {
 #[test]
 fn methods_are_declared(rt: HostRuntime) -> Result<(), Fail> {
     let alloc = rt.alloc();
-    let bump = Row {
-        name: b"bump",
-        result: Want::Void,
-        params: &[],
-        read_only: false,
-    };
-    assert!(rt; is_declared(parse_method(alloc, b"void bump()"), &bump));
-    let value = Row {
-        name: b"value",
-        result: INT,
-        params: &[],
-        read_only: true,
-    };
-    assert!(rt; is_declared(parse_method(alloc, b"int value() const"), &value));
-    let get = Row {
-        name: b"get",
-        result: INT,
-        params: &[],
-        read_only: true,
-    };
-    assert!(rt; is_declared(parse_method(alloc, b"int get() const"), &get));
-    let set = Row {
-        name: b"set",
-        result: Want::Void,
-        params: &[INT],
-        read_only: false,
-    };
-    assert!(rt; is_declared(parse_method(alloc, b"void set(int)"), &set));
+    assert!(rt;
+        is_declared(
+            parse_method(alloc, b"void bump()"),
+            b"bump",
+            Want::Void,
+            &[],
+            false
+        )
+    );
+    assert!(rt;
+        is_declared(
+            parse_method(alloc, b"int value() const"),
+            b"value",
+            INT,
+            &[],
+            true
+        )
+    );
+    assert!(rt;
+        is_declared(
+            parse_method(alloc, b"int get() const"),
+            b"get",
+            INT,
+            &[],
+            true
+        )
+    );
+    assert!(rt;
+        is_declared(
+            parse_method(alloc, b"void set(int)"),
+            b"set",
+            Want::Void,
+            &[INT],
+            false
+        )
+    );
     Ok(())
 }
 
 #[test]
 fn properties_are_declared(rt: HostRuntime) -> Result<(), Fail> {
     let alloc = rt.alloc();
-    let step = Row {
-        name: b"step",
-        result: INT,
-        params: &[],
-        read_only: false,
-    };
-    assert!(rt; is_declared(parse_property(alloc, b"int step"), &step));
-    let reg = Row {
-        name: b"reg",
-        result: INT64,
-        params: &[],
-        read_only: false,
-    };
-    assert!(rt; is_declared(parse_property(alloc, b"int64 reg"), &reg));
-    let limit = Row {
-        name: b"limit",
-        result: INT64,
-        params: &[],
-        read_only: true,
-    };
-    assert!(rt; is_declared(parse_property(alloc, b"const int64 limit"), &limit));
+    assert!(rt; is_declared(parse_property(alloc, b"int step"), b"step", INT, &[], false));
+    assert!(rt;
+        is_declared(
+            parse_property(alloc, b"int64 reg"),
+            b"reg",
+            INT64,
+            &[],
+            false
+        )
+    );
+    assert!(rt;
+        is_declared(
+            parse_property(alloc, b"const int64 limit"),
+            b"limit",
+            INT64,
+            &[],
+            true
+        )
+    );
     Ok(())
 }
 
 #[test]
 fn factories_are_declared(rt: HostRuntime) -> Result<(), Fail> {
     let alloc = rt.alloc();
-    let counter = Want::Object(b"Counter", Shape::Handle, false);
-    let cell = Want::Object(b"Cell", Shape::Handle, false);
-    let empty = Row {
-        name: b"f",
-        result: counter,
-        params: &[],
-        read_only: false,
-    };
-    assert!(rt; is_declared(parse_factory(alloc, b"Counter@ f()"), &empty));
-    let from = Row {
-        name: b"f",
-        result: counter,
-        params: &[INT],
-        read_only: false,
-    };
-    assert!(rt; is_declared(parse_factory(alloc, b"Counter@ f(int)"), &from));
-    let of = Row {
-        name: b"f",
-        result: cell,
-        params: &[INT],
-        read_only: false,
-    };
-    assert!(rt; is_declared(parse_factory(alloc, b"Cell@ f(int)"), &of));
-    let after = Row {
-        name: b"f",
-        result: cell,
-        params: &[CELL, INT],
-        read_only: false,
-    };
-    assert!(rt; is_declared(parse_factory(alloc, b"Cell@ f(Cell@+, int)"), &after));
+    let made = Want::Cell(Shape::Handle, false);
+    assert!(rt;
+        is_declared(
+            parse_factory(alloc, b"Counter@ f()"),
+            b"f",
+            Want::Counter,
+            &[],
+            false
+        )
+    );
+    assert!(rt;
+        is_declared(
+            parse_factory(alloc, b"Counter@ f(int)"),
+            b"f",
+            Want::Counter,
+            &[INT],
+            false
+        )
+    );
+    assert!(rt;
+        is_declared(
+            parse_factory(alloc, b"Cell@ f(int)"),
+            b"f",
+            made,
+            &[INT],
+            false
+        )
+    );
+    assert!(rt;
+        is_declared(
+            parse_factory(alloc, b"Cell@ f(Cell@+, int)"),
+            b"f",
+            made,
+            &[CELL, INT],
+            false
+        )
+    );
     Ok(())
 }
 
 #[test]
 fn a_type_alone_is_a_result(rt: HostRuntime) -> Result<(), Fail> {
-    let cell = Want::Object(b"Cell", Shape::AutoHandle, true);
-    let row = Row {
-        name: b"",
-        result: cell,
-        params: &[],
-        read_only: false,
-    };
-    assert!(rt; is_declared(parse_type(rt.alloc(), b"const Cell@+"), &row));
+    let alloc = rt.alloc();
+    assert!(rt;
+        is_declared(
+            parse_type(alloc, b"const Cell@+"),
+            b"",
+            CONST_CELL,
+            &[],
+            false
+        )
+    );
     Ok(())
 }
 
@@ -249,8 +275,7 @@ fn parameters_have_names(rt: HostRuntime) -> Result<(), Fail> {
         return Err("two parameters".into());
     };
     assert!(rt; is_param(count, INT, b"count"));
-    let cell = Want::Object(b"Cell", Shape::AutoHandle, true);
-    assert!(rt; is_param(other, cell, b"other"));
+    assert!(rt; is_param(other, CONST_CELL, b"other"));
     Ok(())
 }
 
