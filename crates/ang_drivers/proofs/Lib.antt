@@ -1,2 +1,4 @@
 pub mod Codes
 pub mod ConsoleLaws
+pub mod Ledgers
+pub mod Moving
