@@ -2,3 +2,5 @@ pub mod Codes
 pub mod ConsoleLaws
 pub mod Ledgers
 pub mod Moving
+pub mod Counting
+pub mod Cores

@@ -6,3 +6,5 @@ pub mod ObjectsLedger
 pub mod Tables
 pub mod Counter
 pub mod CounterState
+pub mod Cell
+pub mod CellState

@@ -77,6 +77,12 @@ impl Count {
         }
     }
 
+    fn with_step(self, step: i32) -> Count
+        ensures { result ≡ record { value = self.value; step = step } }
+    {
+        Count { step, ..self }
+    }
+
     ghost use Rattle.ang_drivers.specs.Counter.{first_count};
 
     // The object that a factory makes.
@@ -165,15 +171,17 @@ impl Driver for Counter {
         if !self.counts.ask() {
             return Answer::Full;
         }
-        let Some(key) = read_property_0(f, object) else {
-            return Answer::Fault(UNKNOWN);
-        };
-        let Some(step) = read_int_32(value) else {
-            return Answer::Fault(UNKNOWN);
-        };
-        let value = self.counts.value(key).value;
-        self.counts.set_value(key, Count { value, step });
-        Answer::Void
+        match read_property_0(f, object) {
+            Some(key) => match read_int_32(value) {
+                Some(step) => {
+                    let count = self.counts.value(key);
+                    self.counts.set_value(key, count.with_step(step));
+                    Answer::Void
+                }
+                None => Answer::Fault(UNKNOWN),
+            },
+            None => Answer::Fault(UNKNOWN),
+        }
     }
 
     fn add_ref(&mut self, key: u64) -> bool {

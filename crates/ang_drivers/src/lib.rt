@@ -1,6 +1,7 @@
 //! Sample drivers, which keep the laws of `Driver`.
 #![tactic(auto)]
 
+mod cell;
 mod console;
 mod counter;
 pub mod laws;
@@ -9,5 +10,6 @@ mod objects;
 mod tests;
 mod values;
 
+pub use cell::Cell;
 pub use console::Console;
 pub use counter::Counter;
