@@ -9,6 +9,7 @@ use Rattle.ang_drivers.specs.Objects.{Table}
 use Rattle.ang_drivers.specs.Console.{code_of}
 use Rattle.ang_drivers.specs.Tables.{numbers_of, core_of}
 use Rattle.ang_drivers.specs.Counter.{count_code}
+use Rattle.ang_drivers.specs.Cell.{value_code}
 use Rattle.ang_drivers.proofs.Codes.{code_of-injective}
 
 -- the numbers of a value can be told from those that follow
@@ -45,3 +46,8 @@ count-readable v w xs ys h =
     let p : v.value ≡ w.value = int_differ v.value w.value a in
     let q : v.step ≡ w.step = int_differ v.step w.step b in
     let r : xs ≡ ys = cc in (λ i. record { value = p i; step = q i }, r)
+
+pub value-readable : IsReadable value_code
+value-readable v w xs ys h =
+    let a : code_of (Int v) ≡ code_of (Int w) = cc in
+    let r : xs ≡ ys = cc in (int_differ v w a, r)

@@ -3,4 +3,6 @@ pub mod ConsoleLaws
 pub mod Ledgers
 pub mod Moving
 pub mod Counting
+pub mod Celling
 pub mod Cores
+pub mod Living

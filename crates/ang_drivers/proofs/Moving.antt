@@ -65,6 +65,11 @@ module _ {T : Type 0} (code : T → List ℕ) where
       let live : IsLiveOption (state_of code s) (Some k) = subst (IsLiveOption (state_of code s)) e h in
       (live.0, ap (λ m. map.get m k) (asked s t q).counts ∙ live.1)
 
+  -- and so is a key among the arguments
+  pub live_after : (s t : Ledger T) (o : Option ℕ) → Asks s true t → IsLiveOption (state_of code s) o → IsLiveOption (state_of code t) o
+  live_after s t None q h = tt
+  live_after s t (Some k) q h = (h.0, ap (λ m. map.get m k) (asked s t q).counts ∙ h.1)
+
   module _ (moves : Moves T) where
     -- the relation of the tables is that of their cores
     told : (x y : Table T) (a : Ask) (r : HostReply) → moves x a r y → CoreFits code moves (core_of code x) a r (core_of code y)

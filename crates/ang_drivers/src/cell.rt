@@ -67,8 +67,9 @@ impl Cell {
 fn low_32(number: i64) -> i32
     ensures { result ≡ int_wrap w32 number }
 {
-    let low = number.rem_euclid(4_294_967_296) as u32;
-    low.cast_signed()
+    let rest = number.rem_euclid(4_294_967_296);
+    let bits = rest.unsigned_abs();
+    (bits as u32).cast_signed()
 }
 
 impl CellMaking {
