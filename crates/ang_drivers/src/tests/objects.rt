@@ -6,6 +6,7 @@ use crate::{Cell, Console, Counter};
 use ang_host::{Answer, Driver, Drivers, DriversError, Made};
 use ang_kinds::Value;
 use std::alloc::{AllocError, Global};
+use std::process::Abort;
 
 const DONE: Answer = Answer::Void;
 
@@ -16,7 +17,7 @@ fn int(number: i64) -> Answer {
 }
 
 // The key of a new object, which has to be `want`.
-fn made<D: Driver>(rt: &HostRuntime, driver: &mut D, f: u32, args: &[Value], want: u64) -> u64
+fn made<D: Driver>(rt: &impl Abort, driver: &mut D, f: u32, args: &[Value], want: u64) -> u64
     requires { AreLive (D.meaning.state driver.old) args.now }
     ensures { IsLive (D.meaning.state driver.new) result }
 {
@@ -53,7 +54,7 @@ fn written<D: Driver>(driver: &mut D, f: u32, key: u64, number: i64) -> Answer
 }
 
 // Adds a reference and releases both: the object ends at the second release.
-fn ends<D: Driver>(rt: &HostRuntime, driver: &mut D, key: u64)
+fn ends<D: Driver>(rt: &impl Abort, driver: &mut D, key: u64)
     requires { IsLive (D.meaning.state driver.old) key }
 {
     assert!(rt; driver.add_ref(key));
@@ -131,7 +132,7 @@ fn a_cell_holds_a_number(rt: HostRuntime) -> Result<(), AllocError> {
 }
 
 // The value of a new object that is so much above another new one, of the value 9.
-fn above(rt: &HostRuntime, cell: &mut Cell, keys: (u64, u64), more: i64) -> Answer {
+fn above(rt: &impl Abort, cell: &mut Cell, keys: (u64, u64), more: i64) -> Answer {
     let nine = made(rt, cell, 0, &[Value::Int(9)], keys.0);
     let from_nine = [Value::Key(Some(nine)), Value::Int(more)];
     let key = made(rt, cell, 1, &from_nine, keys.1);
