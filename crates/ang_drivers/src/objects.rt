@@ -128,7 +128,14 @@ impl<T: Copy> Objects<T> {
             return false;
         }
         let Counted { count, value } = object_at(&self.live, key);
-        replace(&mut self.live, key, Counted { count: count + 1, value });
+        replace(
+            &mut self.live,
+            key,
+            Counted {
+                count: count + 1,
+                value,
+            },
+        );
         self.added += 1;
         true
     }
@@ -145,7 +152,14 @@ impl<T: Copy> Objects<T> {
             self.live.remove(&key);
             return true;
         }
-        replace(&mut self.live, key, Counted { count: count - 1, value });
+        replace(
+            &mut self.live,
+            key,
+            Counted {
+                count: count - 1,
+                value,
+            },
+        );
         false
     }
 }

@@ -118,16 +118,25 @@ fn a_cell_holds_a_number(rt: HostRuntime) -> Result<(), AllocError> {
     assert_eq!(rt; called(&mut cell, 0, key, &[]), int(1));
     assert_eq!(rt; called(&mut cell, 1, key, &[Value::Int(9)]), DONE);
     assert_eq!(rt; called(&mut cell, 0, key, &[]), int(9));
-    assert_eq!(rt; called(&mut cell, 1, key, &[Value::Int(2_147_483_648)]), UNKNOWN);
+    assert_eq!(rt;
+        called(&mut cell, 1, key, &[Value::Int(2_147_483_648)]),
+        UNKNOWN
+    );
     assert_eq!(rt; called(&mut cell, 0, key, &[Value::Int(9)]), UNKNOWN);
     assert_eq!(rt; told(&mut cell, 0, key), UNKNOWN);
     assert_eq!(rt; written(&mut cell, 0, key, 9), UNKNOWN);
     ends(&rt, &mut cell, key);
     assert!(rt; cell.idle());
-    assert_eq!(rt; cell.call(2, None, &[Value::Key(None)]), Answer::Gave(Value::Key(None)));
+    assert_eq!(rt;
+        cell.call(2, None, &[Value::Key(None)]),
+        Answer::Gave(Value::Key(None))
+    );
     assert_eq!(rt; cell.call(2, None, &[Value::Int(0)]), UNKNOWN);
     assert_eq!(rt; cell.make(0, &[Value::Int(2_147_483_648)]), Made::Fault(1));
-    assert_eq!(rt; cell.make(1, &[Value::Key(None), Value::Int(1)]), Made::Fault(1));
+    assert_eq!(rt;
+        cell.make(1, &[Value::Key(None), Value::Int(1)]),
+        Made::Fault(1)
+    );
     Ok(())
 }
 
@@ -143,7 +152,10 @@ fn above(rt: &impl Abort, cell: &mut Cell, keys: (u64, u64), more: i64) -> Answe
 fn a_cell_is_made_from_another(rt: HostRuntime) -> Result<(), AllocError> {
     let mut cell = Cell::new(rt.alloc())?;
     assert_eq!(rt; above(&rt, &mut cell, (0, 1), -10), int(-1));
-    assert_eq!(rt; above(&rt, &mut cell, (2, 3), 2_147_483_647), int(-2_147_483_640));
+    assert_eq!(rt;
+        above(&rt, &mut cell, (2, 3), 2_147_483_647),
+        int(-2_147_483_640)
+    );
     assert_eq!(rt; above(&rt, &mut cell, (4, 5), 4_294_967_297), int(10));
     let key = made(&rt, &mut cell, 0, &[Value::Int(4)], 6);
     let picked = cell.call(2, None, &[Value::Key(Some(key))]);
