@@ -57,8 +57,12 @@ fn written<D: Driver>(driver: &mut D, f: u32, key: u64, number: i64) -> Answer
 fn ends<D: Driver>(rt: &impl Abort, driver: &mut D, key: u64)
     requires { IsLive (D.meaning.state driver.old) key }
 {
-    assert!(rt; driver.add_ref(key));
-    assert!(rt; !driver.release(key));
+    if !driver.add_ref(key) {
+        panic!(rt; "a reference was not added");
+    }
+    if driver.release(key) {
+        panic!(rt; "the object ended with a reference left");
+    }
     assert!(rt; driver.release(key));
 }
 
