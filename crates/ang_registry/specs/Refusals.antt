@@ -12,9 +12,9 @@ use Rattle.ang_registry.specs.Overloads.{is_factory, is_taken}
 use Rattle.ang_registry.specs.Types.{type_named, number_at, driver_at, names_unknown, is_wrong_driver}
 
 -- the error of the first row that applies
-abbrev pub first_of : List (Bool × RegError) → Option RegError
-first_of [] = None
-first_of (x ∷ rest) = if x.0 then Some x.1 else first_of rest
+abbrev pub first_row : List (Bool × RegError) → Option RegError
+first_row [] = None
+first_row (x ∷ rest) = if x.0 then Some x.1 else first_row rest
 
 -- ---- tests of what is declared, where something is
 
@@ -35,7 +35,7 @@ gives_own kind type_name s = not (is_factory kind) || is_spelled_with type_name 
 
 -- the last rows, of an entry whose owner and driver are known
 abbrev pub refusal_of_entry : RegistrationList → EntryKind → Option EntityNo → ℕ → Signature → Option RegError
-refusal_of_entry list kind owner driver s = first_of (
+refusal_of_entry list kind owner driver s = first_row (
     (names_unknown list s, UnknownType) ∷
     (is_wrong_driver list kind driver s, WrongDriver) ∷
     (is_taken list kind owner s, Duplicate) ∷
@@ -45,7 +45,7 @@ refusal_of_entry list kind owner driver s = first_of (
 
 -- Why an entry of a driver, which belongs to no type, is refused: the first row that applies.
 unfoldable pub refusal_of_own : EntryKind → Registrations → ℕ → Option Signature → Option RegError
-refusal_of_own kind r driver declared = first_of (
+refusal_of_own kind r driver declared = first_row (
     (is_over_limit r.entries declared, Limit) ∷
     (r.default_mask.0 == 0, EmptyMask) ∷
     (is_none declared, BadDeclaration) ∷
@@ -57,7 +57,7 @@ refusal_of_own kind r driver declared = first_of (
 -- Why an entry that belongs to the type of this name, at this place, is refused: the first row that applies. Its driver is
 -- the type's.
 abbrev pub refusal_in_type : EntryKind → Registrations → List ℕ → Option ℕ → Option Signature → Option RegError
-refusal_in_type kind r type_name place declared = first_of (
+refusal_in_type kind r type_name place declared = first_row (
     (is_over_limit r.entries declared, Limit) ∷
     (r.default_mask.0 == 0, EmptyMask) ∷
     (not (where_declared (gives_own kind type_name) declared), BadDeclaration) ∷

@@ -10,6 +10,13 @@ use ang_kinds::{EntityNo, Param, Signature, TypeRef};
 /// The greatest number of a driver.
 const LAST_DRIVER: u32 = 63;
 
+/// A registered type: its number, and the driver that answers for it.
+#[derive(Clone, Copy)]
+pub struct FoundType {
+    pub number: EntityNo,
+    pub driver: u32,
+}
+
 fn is_type_named(entry: &Option<Entry>, name: &[u8]) -> bool
     ensures exact { result ≡ spec.is_type_named name.now entry.now }
 {
@@ -41,15 +48,18 @@ fn driver_of(entry: &Option<Entry>) -> u32
     }
 }
 
-/// The number and the driver of the type of this name.
-pub fn find_type(entries: &[Option<Entry>], name: &[u8]) -> Option<(EntityNo, u32)>
+/// The type of this name.
+pub fn find_type(entries: &[Option<Entry>], name: &[u8]) -> Option<FoundType>
     requires few { length entries.now ≤ 1024 }
-    ensures number { IfSome result (λ t. spec.type_named entries.now name.now ≡ Some t.0.0) }
-    ensures driver { IfSome result (λ t. t.1 ≡ spec.driver_at entries.now (Some t.0.0)) }
+    ensures number { IfSome result (λ t. spec.type_named entries.now name.now ≡ Some t.number.0) }
+    ensures driver { IfSome result (λ t. t.driver ≡ spec.driver_at entries.now (Some t.number.0)) }
     ensures absent { IfNone result (spec.type_named entries.now name.now ≡ None) }
 {
     let place = type_index(entries, name)?;
-    Some((EntityNo(place as u32), driver_of(&entries[place])))
+    Some(FoundType {
+        number: EntityNo(place as u32),
+        driver: driver_of(&entries[place]),
+    })
 }
 
 fn is_known(entries: &[Option<Entry>], ty: &TypeRef) -> bool

@@ -38,7 +38,7 @@ pub fn check_room(
     ensures room { OnOk result (length entries.now < 1024) }
     ensures limit { OnOk result (spec.is_over_limit entries.now declared.now ≡ false) }
     ensures mask { OnOk result ((mask.0 == 0) ≡ false) }
-    ensures refused { IfErr result (λ why. spec.first_of (
+    ensures refused { IfErr result (λ why. spec.first_row (
         (spec.is_over_limit entries.now declared.now, RegError.Limit) ∷
         (mask.0 == 0, RegError.EmptyMask) ∷ []) ≡ Some why) }
 {

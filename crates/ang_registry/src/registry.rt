@@ -256,10 +256,10 @@ impl Registry {
         if !gives_own(kind, type_name, &signature) {
             return Err(RegError::BadDeclaration);
         }
-        let Some((owner, driver)) = find_type(&self.entries, type_name) else {
+        let Some(found) = find_type(&self.entries, type_name) else {
             return Err(RegError::UnknownType);
         };
-        self.add(kind, Some(owner), driver, f, signature)
+        self.add(kind, Some(found.number), found.driver, f, signature)
     }
 
     /// Adds an entry under the default mask, where none of the last rows of the table applies.

@@ -54,10 +54,11 @@ pub fn view_of(
     requires few { length entries.now ≤ 1024 }
     ensures exact { IfOk result (λ view. view ≡ seen entries.now mask.0) }
 {
-    let entries = seen_entries(alloc, entries, mask)?;
-    Ok(View { entries })
+    let view = seen_entries(alloc, entries, mask)?;
+    Ok(View { entries: view })
 }
 
+#[tactic(auto, unfolding(crate::specs::Registration::seen))]
 fn seen_entries(
     alloc: Global,
     entries: &[Option<Entry>],
