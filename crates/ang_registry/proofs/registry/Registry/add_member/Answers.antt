@@ -1,7 +1,8 @@
-use Rattle.std.proofs.Common.{◌≡◌, true, false, Some, None, rules, ap, sym, ◌∙◌}
+use Rattle.std.proofs.Common.{◌≡◌, true, false, Some, None, rules, arith, ap, sym, ◌∙◌}
 use Rattle.std.proofs.lemmas.Result.{err_from_is_err_and}
+use Rattle.std.proofs.lemmas.Grind.{common_steps}
 use Rattle.ang_registry.specs.Registration.{Registrations}
-use Rattle.ang_registry.specs.Refusals.{gives_own}
+use Rattle.ang_registry.specs.Refusals.{gives_own, refusal_of_member, refusal_of_entry}
 use Rattle.ang_registry.specs.Types.{type_named, driver_at}
 use Rattle.ang_registry.proofs.Tables.{AreHeld, HasRoom, refusal_of_member-early, refusal_of_member-undeclared, refusal_of_member-other, refusal_of_member-unknown, refusal_of_member-entry}
 use Rattle.ang_registry.proofs.registry.Registry.add_member.Goals as goal
@@ -67,8 +68,8 @@ returns-clause-accepted c =
     let found = c.in-Some-find_type.found in
     let place : type_named c.deref.result.now a.type_name.now ≡ Some found.number.0 = rw again at c.in-Some-find_type.ensures.number in
     let by : found.driver ≡ driver_at c.deref.result.now (Some found.number.0) = rw again at c.in-Some-find_type.ensures.driver in
-    let same = refusal_of_member-entry a.kind a.self.now a.type_name.now a.declared c.in-Some.signature found.number found.driver _ _ held room c.in-Some.is own place by in
-    rw same c.add.ensures.accepted
+    let same : refusal_of_member a.kind a.self.now a.type_name.now a.declared ≡ refusal_of_entry a.self.now.entries a.kind (Some found.number) found.driver c.in-Some.signature = refusal_of_member-entry a.kind a.self.now a.type_name.now a.declared c.in-Some.signature found.number found.driver _ _ held room c.in-Some.is own place by in
+    first_of (rw same c.add.ensures.accepted, search rules, grind (arith, common_steps))
 
 pub returns-clause-first_refusal : goal.returns-clause-first_refusal
 returns-clause-first_refusal c =
@@ -83,5 +84,5 @@ returns-clause-first_refusal c =
     let found = c.in-Some-find_type.found in
     let place : type_named c.deref.result.now a.type_name.now ≡ Some found.number.0 = rw again at c.in-Some-find_type.ensures.number in
     let by : found.driver ≡ driver_at c.deref.result.now (Some found.number.0) = rw again at c.in-Some-find_type.ensures.driver in
-    let same = refusal_of_member-entry a.kind a.self.now a.type_name.now a.declared c.in-Some.signature found.number found.driver _ _ held room c.in-Some.is own place by in
-    rw same c.add.ensures.first_refusal
+    let same : refusal_of_member a.kind a.self.now a.type_name.now a.declared ≡ refusal_of_entry a.self.now.entries a.kind (Some found.number) found.driver c.in-Some.signature = refusal_of_member-entry a.kind a.self.now a.type_name.now a.declared c.in-Some.signature found.number found.driver _ _ held room c.in-Some.is own place by in
+    first_of (rw same c.add.ensures.first_refusal, search rules, grind (arith, common_steps))

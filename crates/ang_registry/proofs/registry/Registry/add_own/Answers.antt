@@ -1,6 +1,8 @@
-use Rattle.std.proofs.Common.{◌≡◌, None, rules, ap, ◌∙◌}
+use Rattle.std.proofs.Common.{◌≡◌, None, rules, arith, ap, ◌∙◌}
 use Rattle.std.proofs.lemmas.Result.{err_from_is_err_and}
+use Rattle.std.proofs.lemmas.Grind.{common_steps}
 use Rattle.ang_registry.specs.Registration.{Registrations}
+use Rattle.ang_registry.specs.Refusals.{refusal_of_own, refusal_of_entry}
 use Rattle.ang_registry.proofs.Tables.{AreHeld, HasRoom, refusal_of_own-early, refusal_of_own-bad, refusal_of_own-entry}
 use Rattle.ang_registry.proofs.registry.Registry.add_own.Goals as goal
 
@@ -34,8 +36,8 @@ returns-clause-accepted c =
       mask = ap (λ (r : Registrations). r.default_mask) c.self.view_is;
     } in
     let room : HasRoom c.deref.result.now c.self.inside.default_mask a.declared = record { limit = c.in_ok-check_room.ensures.limit; mask = c.in_ok-check_room.ensures.mask } in
-    let same = refusal_of_own-entry a.kind a.self.now a.driver a.declared c.in-Some.signature _ _ held room c.in-Some.is in
-    rw same c.add.ensures.accepted
+    let same : refusal_of_own a.kind a.self.now a.driver a.declared ≡ refusal_of_entry a.self.now.entries a.kind None a.driver c.in-Some.signature = refusal_of_own-entry a.kind a.self.now a.driver a.declared c.in-Some.signature _ _ held room c.in-Some.is in
+    first_of (rw same c.add.ensures.accepted, search rules, grind (arith, common_steps))
 
 pub returns-clause-first_refusal : goal.returns-clause-first_refusal
 returns-clause-first_refusal c =
@@ -45,5 +47,5 @@ returns-clause-first_refusal c =
       mask = ap (λ (r : Registrations). r.default_mask) c.self.view_is;
     } in
     let room : HasRoom c.deref.result.now c.self.inside.default_mask a.declared = record { limit = c.in_ok-check_room.ensures.limit; mask = c.in_ok-check_room.ensures.mask } in
-    let same = refusal_of_own-entry a.kind a.self.now a.driver a.declared c.in-Some.signature _ _ held room c.in-Some.is in
-    rw same c.add.ensures.first_refusal
+    let same : refusal_of_own a.kind a.self.now a.driver a.declared ≡ refusal_of_entry a.self.now.entries a.kind None a.driver c.in-Some.signature = refusal_of_own-entry a.kind a.self.now a.driver a.declared c.in-Some.signature _ _ held room c.in-Some.is in
+    first_of (rw same c.add.ensures.first_refusal, search rules, grind (arith, common_steps))
