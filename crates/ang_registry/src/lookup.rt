@@ -34,9 +34,7 @@ fn type_index(entries: &[Option<Entry>], name: &[u8]) -> Option<usize>
     ensures exact { result ≡ spec.type_named entries.now name.now }
     ensures within { IfSome result (λ place. place < length entries.now) }
 {
-    entries
-        .iter()
-        .position(|entry| is_type_named(entry, name))
+    entries.iter().position(|entry| is_type_named(entry, name))
 }
 
 fn driver_of(entry: &Option<Entry>) -> u32

@@ -175,7 +175,12 @@ impl Registry {
     /// can't write the property.
     ///
     /// Refused as `function` is; `Duplicate` comes where a type, a function or a global property has the name.
-    pub fn global_property(&mut self, driver: u32, f: u32, decl: &[u8]) -> Result<EntityNo, RegError>
+    pub fn global_property(
+        &mut self,
+        driver: u32,
+        f: u32,
+        decl: &[u8],
+    ) -> Result<EntityNo, RegError>
         ensures accepted { OnOk result
             (refusal_of_global self.old driver (spec.declared_property decl.now) ≡ None) }
         ensures number { IfOk result (λ number. number.0 ≡ length self.old.entries) }

@@ -46,11 +46,7 @@ impl View {
 }
 
 /// The view of the mask.
-pub fn view_of(
-    alloc: Global,
-    entries: &[Option<Entry>],
-    mask: Mask,
-) -> Result<View, AllocError>
+pub fn view_of(alloc: Global, entries: &[Option<Entry>], mask: Mask) -> Result<View, AllocError>
     requires few { length entries.now ≤ 1024 }
     ensures exact { IfOk result (λ view. view ≡ seen entries.now mask.0) }
 {

@@ -8,7 +8,8 @@ use std::test::Fail;
 #[test]
 fn types_functions_and_global_properties_share_names(rt: HostRuntime) -> Result<(), Fail> {
     let mut registry = whole(rt.alloc())?;
-    for name in [b"Cell".as_slice(), b"print".as_slice(), b"limit".as_slice()] {
+    let types: [&[u8]; 3] = [b"Cell", b"print", b"limit"];
+    for name in types {
         assert_eq!(rt; registry.type_(name, 5), Err(RegError::Duplicate));
     }
     let functions: [&[u8]; 3] = [b"void Cell(int)", b"bool print(int64 a)", b"int reg(int)"];
@@ -25,7 +26,10 @@ fn types_functions_and_global_properties_share_names(rt: HostRuntime) -> Result<
     // members have names of their own
     assert_eq!(rt; registry.function(0, 0, b"void bump()")?, EntityNo(17));
     assert_eq!(rt; registry.global_property(0, 0, b"bool step")?, EntityNo(18));
-    assert_eq!(rt; registry.method(b"Cell", 0, b"void print(int64)")?, EntityNo(19));
+    assert_eq!(rt;
+        registry.method(b"Cell", 0, b"void print(int64)")?,
+        EntityNo(19)
+    );
     Ok(())
 }
 
@@ -37,7 +41,11 @@ fn functions_overload_by_parameters(rt: HostRuntime) -> Result<(), Fail> {
     registry.function(0, 0, b"void print()")?;
     registry.function(0, 0, b"void print(int64, int64)")?;
     registry.function(2, 0, b"void pick(const Cell@+)")?;
-    let taken: [&[u8]; 3] = [b"int print(int32)", b"void print(void)", b"void print(int64 x)"];
+    let taken: [&[u8]; 3] = [
+        b"int print(int32)",
+        b"void print(void)",
+        b"void print(int64 x)",
+    ];
     for decl in taken {
         assert_eq!(rt; registry.function(0, 0, decl), Err(RegError::Duplicate));
     }

@@ -3,6 +3,7 @@
 use crate::{EntryKind, RegError, Registry};
 use ang_kinds::{EntityNo, Mask, Prim, TypeRef};
 use std::alloc::Global;
+use std::process::Abort;
 use std::test::Fail;
 
 /// Types `Counter` and `Cell` with their members, a few functions of three drivers, and two global
@@ -29,42 +30,89 @@ pub fn whole(alloc: Global) -> Result<Registry, RegError> {
     Ok(registry)
 }
 
+/// Asserts what an entry is: its kind, its driver with the driver's own number for it, and its name.
+fn assert_entry(
+    rt: &impl Abort,
+    registry: &Registry,
+    number: u32,
+    kind: EntryKind,
+    asked: (u32, u32),
+    name: &[u8],
+) -> Result<(), Fail> {
+    let entry = registry.get(EntityNo(number)).ok_or("no entry")?;
+    assert_eq!(rt; entry.kind, kind, "{number}");
+    assert_eq!(rt; (entry.driver, entry.f), asked, "{number}");
+    assert_eq!(rt; entry.signature.name.as_slice(), name, "{number}");
+    assert_eq!(rt; entry.mask, Mask(1), "{number}");
+    Ok(())
+}
+
+/// The type that an entry belongs to.
+fn owner_of(registry: &Registry, number: u32) -> Option<EntityNo> {
+    registry.get(EntityNo(number))?.owner
+}
+
+/// How many parameters an entry has, and whether it is read only.
+fn form_of(registry: &Registry, number: u32) -> Option<(usize, bool)> {
+    let signature = &registry.get(EntityNo(number))?.signature;
+    Some((signature.params.as_slice().len(), signature.read_only))
+}
+
 #[test]
-fn a_whole_profile(rt: HostRuntime) -> Result<(), Fail> {
+fn the_first_type_of_a_profile(rt: HostRuntime) -> Result<(), Fail> {
     let registry = whole(rt.alloc())?;
-    let cell = Some(EntityNo(6));
-    let counter = Some(EntityNo(0));
-    // kind, owner, driver, the driver's number, name, number of parameters, read only
-    let wanted: [(EntryKind, Option<EntityNo>, u32, u32, &[u8], usize, bool); 17] = [
-        (EntryKind::HostType, None, 1, 0, b"Counter", 0, false),
-        (EntryKind::Factory, counter, 1, 0, b"f", 0, false),
-        (EntryKind::Factory, counter, 1, 1, b"f", 1, false),
-        (EntryKind::Method, counter, 1, 0, b"bump", 0, false),
-        (EntryKind::Method, counter, 1, 1, b"value", 0, true),
-        (EntryKind::Property, counter, 1, 0, b"step", 0, false),
-        (EntryKind::HostType, None, 2, 0, b"Cell", 0, false),
-        (EntryKind::Factory, cell, 2, 0, b"f", 1, false),
-        (EntryKind::Factory, cell, 2, 1, b"f", 2, false),
-        (EntryKind::Method, cell, 2, 0, b"get", 0, true),
-        (EntryKind::Method, cell, 2, 1, b"set", 1, false),
-        (EntryKind::Function, None, 2, 2, b"pick", 1, false),
-        (EntryKind::Function, None, 0, 0, b"print", 1, false),
-        (EntryKind::Function, None, 0, 1, b"sum", 2, false),
-        (EntryKind::Function, None, 0, 2, b"fail", 1, false),
-        (EntryKind::Global, None, 0, 0, b"reg", 0, false),
-        (EntryKind::Global, None, 0, 0, b"limit", 0, true),
-    ];
     assert_eq!(rt; registry.len(), 17);
-    for (number, (kind, owner, driver, f, name, parameters, read_only)) in (0u32..17).zip(wanted) {
-        let entry = registry.get(EntityNo(number)).ok_or("no entry")?;
-        assert_eq!(rt; entry.kind, kind, "{number}");
-        assert_eq!(rt; entry.owner, owner, "{number}");
-        assert_eq!(rt; (entry.driver, entry.f), (driver, f), "{number}");
-        assert_eq!(rt; entry.signature.name.as_slice(), name, "{number}");
-        assert_eq!(rt; entry.signature.params.as_slice().len(), parameters, "{number}");
-        assert_eq!(rt; entry.signature.read_only, read_only, "{number}");
-        assert_eq!(rt; entry.mask, Mask(1), "{number}");
+    assert_entry(&rt, &registry, 0, EntryKind::HostType, (1, 0), b"Counter")?;
+    assert_entry(&rt, &registry, 1, EntryKind::Factory, (1, 0), b"f")?;
+    assert_entry(&rt, &registry, 2, EntryKind::Factory, (1, 1), b"f")?;
+    assert_entry(&rt, &registry, 3, EntryKind::Method, (1, 0), b"bump")?;
+    assert_entry(&rt, &registry, 4, EntryKind::Method, (1, 1), b"value")?;
+    assert_entry(&rt, &registry, 5, EntryKind::Property, (1, 0), b"step")?;
+    assert_eq!(rt; owner_of(&registry, 0), None);
+    for number in 1..6 {
+        assert_eq!(rt; owner_of(&registry, number), Some(EntityNo(0)));
     }
+    assert_eq!(rt; form_of(&registry, 1), Some((0, false)));
+    assert_eq!(rt; form_of(&registry, 2), Some((1, false)));
+    assert_eq!(rt; form_of(&registry, 4), Some((0, true)));
+    assert_eq!(rt; form_of(&registry, 5), Some((0, false)));
+    Ok(())
+}
+
+#[test]
+fn the_second_type_of_a_profile(rt: HostRuntime) -> Result<(), Fail> {
+    let registry = whole(rt.alloc())?;
+    assert_entry(&rt, &registry, 6, EntryKind::HostType, (2, 0), b"Cell")?;
+    assert_entry(&rt, &registry, 7, EntryKind::Factory, (2, 0), b"f")?;
+    assert_entry(&rt, &registry, 8, EntryKind::Factory, (2, 1), b"f")?;
+    assert_entry(&rt, &registry, 9, EntryKind::Method, (2, 0), b"get")?;
+    assert_entry(&rt, &registry, 10, EntryKind::Method, (2, 1), b"set")?;
+    assert_eq!(rt; owner_of(&registry, 6), None);
+    for number in 7..11 {
+        assert_eq!(rt; owner_of(&registry, number), Some(EntityNo(6)));
+    }
+    assert_eq!(rt; form_of(&registry, 8), Some((2, false)));
+    assert_eq!(rt; form_of(&registry, 9), Some((0, true)));
+    assert_eq!(rt; form_of(&registry, 10), Some((1, false)));
+    Ok(())
+}
+
+#[test]
+fn the_functions_of_a_profile(rt: HostRuntime) -> Result<(), Fail> {
+    let registry = whole(rt.alloc())?;
+    assert_entry(&rt, &registry, 11, EntryKind::Function, (2, 2), b"pick")?;
+    assert_entry(&rt, &registry, 12, EntryKind::Function, (0, 0), b"print")?;
+    assert_entry(&rt, &registry, 13, EntryKind::Function, (0, 1), b"sum")?;
+    assert_entry(&rt, &registry, 14, EntryKind::Function, (0, 2), b"fail")?;
+    assert_entry(&rt, &registry, 15, EntryKind::Global, (0, 0), b"reg")?;
+    assert_entry(&rt, &registry, 16, EntryKind::Global, (0, 0), b"limit")?;
+    for number in 11..17 {
+        assert_eq!(rt; owner_of(&registry, number), None);
+    }
+    assert_eq!(rt; form_of(&registry, 13), Some((2, false)));
+    assert_eq!(rt; form_of(&registry, 15), Some((0, false)));
+    assert_eq!(rt; form_of(&registry, 16), Some((0, true)));
+    assert_eq!(rt; form_of(&registry, 17), None);
     Ok(())
 }
 

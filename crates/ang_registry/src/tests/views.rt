@@ -20,7 +20,10 @@ fn a_view_of_a_whole_profile(rt: HostRuntime) -> Result<(), Fail> {
     let all = registry.seen(rt.alloc(), Mask(1))?;
     assert_eq!(rt; all.len(), 17);
     let set = all.get(EntityNo(10)).ok_or("no entry")?;
-    assert_eq!(rt; (set.kind, set.owner), (EntryKind::Method, Some(EntityNo(6))));
+    assert_eq!(rt;
+        (set.kind, set.owner),
+        (EntryKind::Method, Some(EntityNo(6)))
+    );
     assert_eq!(rt; (set.driver, set.f), (2, 1));
     assert_eq!(rt; set.signature.name.as_slice(), b"set".as_slice());
     assert!(rt; all.get(EntityNo(17)).is_none());
@@ -44,9 +47,17 @@ fn what_names_a_hidden_type_is_hidden(rt: HostRuntime) -> Result<(), Fail> {
     registry.blank()?;
     registry.set_default_mask(Mask(2));
     registry.global_property(0, 0, b"int level")?;
-    assert_seen(&rt, &registry.seen(rt.alloc(), Mask(1))?, &[0, 1, 2, 3, 4, 5, 6]);
+    assert_seen(
+        &rt,
+        &registry.seen(rt.alloc(), Mask(1))?,
+        &[0, 1, 2, 3, 4, 5, 6],
+    );
     assert_seen(&rt, &registry.seen(rt.alloc(), Mask(2))?, &[6, 8]);
-    assert_seen(&rt, &registry.seen(rt.alloc(), Mask(3))?, &[0, 1, 2, 3, 4, 5, 6, 8]);
+    assert_seen(
+        &rt,
+        &registry.seen(rt.alloc(), Mask(3))?,
+        &[0, 1, 2, 3, 4, 5, 6, 8],
+    );
     assert_seen(&rt, &registry.seen(rt.alloc(), Mask(0))?, &[]);
     assert_eq!(rt; registry.find_function(Mask(2), b"take"), None);
     assert_eq!(rt;
