@@ -5,7 +5,7 @@ ghost use Rattle.ang_host.specs.Laws.{IsLive, AreLive};
 use crate::{Cell, Console, Counter};
 use ang_host::{Answer, Driver, Drivers, DriversError, Made};
 use ang_kinds::Value;
-use std::alloc::{AllocError, Global};
+use std::alloc::AllocError;
 use std::process::Abort;
 
 const DONE: Answer = Answer::Void;
@@ -167,37 +167,40 @@ fn a_cell_is_made_from_another(rt: HostRuntime) -> Result<(), AllocError> {
     Ok(())
 }
 
-fn three(alloc: Global) -> Result<Vec<Box<dyn Driver>>, AllocError> {
-    let mut boxes: Vec<Box<dyn Driver>> = Vec::new(alloc);
-    boxes.push(Box::new(alloc, Console::new(alloc)?)?)?;
-    boxes.push(Box::new(alloc, Counter::new(alloc)?)?)?;
-    boxes.push(Box::new(alloc, Cell::new(alloc)?)?)?;
-    Ok(boxes)
-}
-
-// A new object of a driver in the list ends where its one reference is released.
-fn lives_once(drivers: &mut Drivers, driver: u32, f: u32, number: i64) -> bool
+// A new object of a driver in the list ends where the second of its two references is released.
+fn lives_twice(drivers: &mut Drivers, driver: u32, f: u32, number: i64) -> bool
     requires { driver < length (members drivers.old) }
     ensures { length (members drivers.new) ≡ length (members drivers.old) }
 {
-    match drivers.make(driver, f, &[Value::Int(number)]) {
-        Made::Key(key) => drivers.release(driver, key),
-        _ => false,
+    let Made::Key(key) = drivers.make(driver, f, &[Value::Int(number)]) else {
+        return false;
+    };
+    if !drivers.add_ref(driver, key) {
+        return false;
     }
+    if drivers.release(driver, key) {
+        return false;
+    }
+    drivers.release(driver, key)
 }
 
 #[test]
 fn the_list_takes_the_three_drivers(rt: HostRuntime) -> Result<(), AllocError> {
-    let Ok(mut drivers) = Drivers::new(three(rt.alloc())?) else {
+    let alloc = rt.alloc();
+    let mut boxes: Vec<Box<dyn Driver>> = Vec::new(alloc);
+    boxes.push(Box::new(alloc, Console::new(alloc)?)?)?;
+    boxes.push(Box::new(alloc, Counter::new(alloc)?)?)?;
+    boxes.push(Box::new(alloc, Cell::new(alloc)?)?)?;
+    let Ok(mut drivers) = Drivers::new(boxes) else {
         panic!(rt; "three idle drivers were refused")
     };
     assert!(rt; drivers.len() == 3);
-    assert!(rt; lives_once(&mut drivers, 1, 1, 5));
-    assert!(rt; lives_once(&mut drivers, 2, 0, 5));
-    assert!(rt; !lives_once(&mut drivers, 0, 0, 5));
+    assert!(rt; lives_twice(&mut drivers, 1, 1, 5));
+    assert!(rt; lives_twice(&mut drivers, 2, 0, 5));
+    assert!(rt; !lives_twice(&mut drivers, 0, 0, 5));
     assert!(rt; drivers.idle(0) && drivers.idle(1) && drivers.idle(2));
     let added = drivers.call(1, 2, None, &[]);
-    assert_eq!(rt; added, Answer::Gave(Value::Uint(0)));
+    assert_eq!(rt; added, Answer::Gave(Value::Uint(1)));
     let picked = drivers.call(2, 2, None, &[Value::Key(None)]);
     assert_eq!(rt; picked, Answer::Gave(Value::Key(None)));
     assert_eq!(rt; drivers.into_boxes().len(), 3);
@@ -219,10 +222,10 @@ fn the_list_refuses_a_driver_in_use(rt: HostRuntime) -> Result<(), AllocError> {
     let alloc = rt.alloc();
     let mut cell = Cell::new(alloc)?;
     let _key = made(&rt, &mut cell, 0, &[Value::Int(1)], 0);
-    let mut boxes = three(alloc)?;
+    let mut boxes: Vec<Box<dyn Driver>> = Vec::new(alloc);
+    boxes.push(Box::new(alloc, Counter::new(alloc)?)?)?;
     boxes.push(Box::new(alloc, cell)?)?;
     assert_eq!(rt; refusal(Drivers::new(boxes)), Some(DriversError::Busy));
-    assert_eq!(rt; refusal(Drivers::new(three(alloc)?)), None);
     Ok(())
 }
 
@@ -231,9 +234,9 @@ fn the_list_refuses_65_drivers_before_one_in_use(rt: HostRuntime) -> Result<(), 
     let alloc = rt.alloc();
     let mut cell = Cell::new(alloc)?;
     let _key = made(&rt, &mut cell, 0, &[Value::Int(1)], 0);
-    let mut boxes = three(alloc)?;
+    let mut boxes: Vec<Box<dyn Driver>> = Vec::new(alloc);
     boxes.push(Box::new(alloc, cell)?)?;
-    for _ in 0..61 {
+    for _ in 0..64 {
         boxes.push(Box::new(alloc, Counter::new(alloc)?)?)?;
     }
     assert_eq!(rt; refusal(Drivers::new(boxes)), Some(DriversError::TooMany));
