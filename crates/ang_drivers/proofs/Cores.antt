@@ -2,9 +2,8 @@
 use Rattle.std.specs.Prelude.{ℕ, ℤ, ◌≡◌, List, [], ◌∷◌, ◌++◌}
 use Rattle.std.specs.FinMap as map
 use Rattle.std.specs.FinMap.{same_entries_map}
-use Rattle.std.proofs.Common.{refl, ap}
+use Rattle.std.proofs.Common.{refl}
 use Rattle.ang_kinds.specs.declared.value.Value.TheVariants.{Int}
-use Rattle.ang_drivers.specs.declared.counter.Count.{Count}
 use Rattle.ang_drivers.specs.Objects.{Table}
 use Rattle.ang_drivers.specs.Console.{code_of}
 use Rattle.ang_drivers.specs.Tables.{numbers_of, core_of}

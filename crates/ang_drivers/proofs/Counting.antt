@@ -1,5 +1,5 @@
 -- What the calls of a counter name.
-use Rattle.std.specs.Prelude.{ℕ, ◌≡◌, Bool, true, false, cond, nat_eq, List, [], ◌∷◌, Option, Some, None}
+use Rattle.std.specs.Prelude.{ℕ, ◌≡◌, true, false, cond, nat_eq, List, [], ◌∷◌, Option, Some, None}
 use Rattle.std.proofs.Common.{refl, sym, subst}
 use Rattle.ang_kinds.specs.declared.value.Value.{Value}
 use Rattle.ang_drivers.specs.declared.counter.CounterCall.{CounterCall}

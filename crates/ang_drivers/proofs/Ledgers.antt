@@ -1,5 +1,5 @@
 -- Objects by key, and the sums of their counts.
-use Rattle.std.specs.Prelude.{ℕ, ◌+◌, ◌-◌, ◌≡◌, ◌≢◌, ◌<◌, ◌≤◌, length, is_some, Bool, true, false, cond, nat_eq, nat_lt, List, [], ◌∷◌, Option, Some, None, IsSome, sum_by, map as list_map, IsTrue}
+use Rattle.std.specs.Prelude.{ℕ, ◌+◌, ◌-◌, ◌≡◌, ◌≢◌, ◌<◌, ◌≤◌, length, is_some, Bool, true, false, cond, nat_eq, nat_lt, List, [], ◌∷◌, Option, Some, None, IsSome, sum_by, map as list_map}
 use Rattle.std.specs.Option.{option_map}
 use Rattle.std.specs.Map.{lookup}
 use Rattle.std.specs.BTreeMap.{is_at}

@@ -1,5 +1,5 @@
 -- Keys that are live after a call.
-use Rattle.std.specs.Prelude.{ℕ, ◌+◌, ◌≡◌, true, false, cond, nat_eq, Some}
+use Rattle.std.specs.Prelude.{ℕ, ◌+◌, ◌≡◌, true, false, cond, Some}
 use Rattle.std.specs.Ordering.{nat_cmp}
 use Rattle.std.specs.FinMap as map
 use Rattle.std.proofs.Common.{refl, ◌∙◌, ap}

@@ -1,13 +1,13 @@
 -- What the cell answers (docs/EMBEDDING.md).
-use Rattle.std.specs.Prelude.{ℕ, ℤ, ◌+ℤ◌, ◌≡◌, Bool, true, false, cond, nat_eq, List, [], ◌∷◌, Option, Some, None}
+use Rattle.std.specs.Prelude.{ℕ, ℤ, ◌+ℤ◌, ◌≡◌, cond, nat_eq, List, [], ◌∷◌, Option, Some, None}
 use Rattle.std.specs.Int.{w32, int_wrap}
 use Rattle.std.specs.FinMap as map
 use Rattle.ang_kinds.specs.declared.value.Value.{Value}
-use Rattle.ang_kinds.specs.declared.value.Value.TheVariants.{Int, Uint, Bool as Truth, Key as KeyValue}
+use Rattle.ang_kinds.specs.declared.value.Value.TheVariants.{Int, Key as KeyValue}
 use Rattle.ang_host.specs.declared.answer.Answer.TheVariants.{Void, Gave}
 use Rattle.ang_host.specs.declared.answer.HostReply.{HostReply}
 use Rattle.ang_host.specs.declared.answer.HostReply.TheVariants.{Asking}
-use Rattle.ang_host.specs.State.{Ask, make, call, read, write, end}
+use Rattle.ang_host.specs.State.{make, call, read, write, end}
 use Rattle.ang_host.specs.Laws.{Fits}
 use Rattle.ang_drivers.specs.declared.cell.CellMaking.{CellMaking}
 use Rattle.ang_drivers.specs.declared.cell.CellMaking.TheVariants.{Of, Above, Unknown as UnknownMaking}

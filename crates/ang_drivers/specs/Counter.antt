@@ -8,7 +8,7 @@ use Rattle.ang_kinds.specs.declared.value.Value.TheVariants.{Int, Uint}
 use Rattle.ang_host.specs.declared.answer.Answer.TheVariants.{Void, Gave}
 use Rattle.ang_host.specs.declared.answer.HostReply.{HostReply}
 use Rattle.ang_host.specs.declared.answer.HostReply.TheVariants.{Asking}
-use Rattle.ang_host.specs.State.{Ask, make, call, read, write, end}
+use Rattle.ang_host.specs.State.{make, call, read, write, end}
 use Rattle.ang_host.specs.Laws.{Fits}
 use Rattle.ang_drivers.specs.declared.counter.Count.{Count}
 use Rattle.ang_drivers.specs.declared.counter.CounterCall.{CounterCall}

@@ -1,4 +1,4 @@
-use Rattle.std.proofs.Common.{rules, arith, refl, sym, ap, subst, ◌∙◌, ◌≡◌}
+use Rattle.std.proofs.Common.{rules, arith, refl, ap, subst, ◌≡◌}
 use Rattle.std.specs.Int.{w32, w64, cast_signed, cast_unsigned}
 use Rattle.std.specs.Int.RustNames.{FitsSigned}
 use Rattle.std.proofs.lemmas.Int.{ints, to_z-of_z}
@@ -9,7 +9,7 @@ use Rattle.ang_host.specs.declared.answer.HostReply.TheVariants.{Asking}
 use Rattle.ang_drivers.specs.declared.cell.CellCall.TheVariants.{Tell, Set, Pick}
 use Rattle.ang_drivers.specs.Objects.{IsRevalued}
 use Rattle.ang_drivers.specs.Tables.{state_of}
-use Rattle.ang_drivers.specs.Cell.{value_code, cell_call, CellMoves, CallMoves}
+use Rattle.ang_drivers.specs.Cell.{value_code, CellMoves, CallMoves}
 use Rattle.ang_drivers.specs.ObjectsLedger.{ledger}
 use Rattle.ang_drivers.proofs.Moving.{answered, kept, revalued, revalued_table, held_after, live_after, sound_of}
 use Rattle.ang_drivers.proofs.Celling.{call_named}

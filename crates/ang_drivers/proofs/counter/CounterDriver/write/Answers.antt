@@ -1,4 +1,4 @@
-use Rattle.std.proofs.Common.{rules, refl, sym, ap, subst, ◌∙◌, ◌≡◌, Some, None}
+use Rattle.std.proofs.Common.{rules, refl, subst, ◌∙◌, ◌≡◌, Some}
 use Rattle.std.specs.Int.{w32}
 use Rattle.std.specs.Int.RustNames.{FitsSigned}
 use Rattle.std.proofs.lemmas.Int.{to_z-of_z}
@@ -6,7 +6,7 @@ use Rattle.ang_host.specs.State.{write}
 use Rattle.ang_host.specs.declared.answer.Answer.TheVariants.{Void, Fault}
 use Rattle.ang_host.specs.declared.answer.HostReply.TheVariants.{Asking}
 use Rattle.ang_drivers.specs.declared.counter.Count.{Count}
-use Rattle.ang_drivers.specs.Tables.{int_32, property_0}
+use Rattle.ang_drivers.specs.Tables.{int_32}
 use Rattle.ang_drivers.specs.Counter.{count_code, CounterMoves, WriteMoves}
 use Rattle.ang_drivers.specs.ObjectsLedger.{ledger}
 use Rattle.ang_drivers.proofs.Moving.{answered, kept, revalued, revalued_table, sound_of}

@@ -1,5 +1,4 @@
-use Rattle.std.proofs.Common.{refl, ap, arith, ◌≡◌, ◌+◌, ◌≤◌, ◌<◌}
-use Rattle.std.specs.FinMap as map
+use Rattle.std.proofs.Common.{refl, ap, arith}
 use Rattle.ang_drivers.specs.declared.objects.Counted.{Counted}
 use Rattle.ang_drivers.specs.Objects.{by_key}
 use Rattle.ang_drivers.proofs.Ledgers.{is_held, read_at, by_key-replaced, by_key-inserted, counted-added, count-bound}

@@ -1,7 +1,6 @@
-use Rattle.std.proofs.Common.{refl, ◌≡◌, ◌+◌, arith, ap}
-use Rattle.std.specs.FinMap as map
+use Rattle.std.proofs.Common.{refl, ◌+◌, arith, ap}
 use Rattle.ang_drivers.specs.declared.objects.Counted.{Counted}
-use Rattle.ang_drivers.specs.Objects.{by_key, with_new}
+use Rattle.ang_drivers.specs.Objects.{by_key}
 use Rattle.ang_drivers.proofs.Ledgers.{by_key-inserted, counted-new, unused-none}
 use Rattle.ang_drivers.proofs.objects.Objects.insert.Goals as goal
 

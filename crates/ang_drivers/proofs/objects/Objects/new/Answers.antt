@@ -1,6 +1,4 @@
-use Rattle.std.proofs.Common.{ap, ◌∙◌, ◌≡◌, arith}
-use Rattle.std.specs.FinMap as map
-use Rattle.std.specs.Ordering.{nat_cmp}
+use Rattle.std.proofs.Common.{ap, ◌∙◌, arith}
 use Rattle.ang_drivers.specs.declared.objects.Counted.{Counted}
 use Rattle.ang_drivers.specs.Objects.{by_key}
 use Rattle.ang_drivers.proofs.Ledgers.{by_key-nil, counted-none, same_ledger}

@@ -1,8 +1,8 @@
-use Rattle.std.proofs.Common.{refl, sym, ◌∙◌, ap, subst, arith, Some, ◌≡◌, ◌+◌, ◌-◌, ◌<◌}
+use Rattle.std.proofs.Common.{refl, ◌∙◌, ap, arith, Some, ◌≡◌, ◌+◌, ◌-◌, ◌<◌}
 use Rattle.std.specs.FinMap as map
 use Rattle.ang_drivers.specs.declared.objects.Counted.{Counted}
 use Rattle.ang_drivers.specs.Objects.{by_key}
-use Rattle.ang_drivers.proofs.Ledgers.{is_held, read_at, by_key-replaced, by_key-inserted, by_key-removed, counted-released, counted-ended, count-bound, two_or_more}
+use Rattle.ang_drivers.proofs.Ledgers.{is_held, read_at, by_key-replaced, by_key-inserted, by_key-removed, counted-released, counted-ended, two_or_more}
 use Rattle.ang_drivers.proofs.objects.Objects.release.Goals as goal
 
 pub object_at-count-requires : goal.object_at-count-requires

@@ -1,7 +1,5 @@
-use Rattle.std.proofs.Common.{sym, subst, ◌≡◌, ◌+◌}
-use Rattle.std.specs.FinMap as map
+use Rattle.std.proofs.Common.{sym, subst}
 use Rattle.ang_drivers.specs.declared.objects.Counted.{Counted}
-use Rattle.ang_drivers.specs.Objects.{by_key}
 use Rattle.ang_drivers.proofs.Ledgers.{is_held, read_at, by_key-replaced, by_key-inserted, same_ledger, AreCounted}
 use Rattle.ang_drivers.proofs.objects.Objects.set_value.Goals as goal
 
