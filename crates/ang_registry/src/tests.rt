@@ -2,6 +2,10 @@ use crate::{EntryKind, RegError, Registry};
 use ang_kinds::{EntityNo, Mask};
 use std::test::Fail;
 
+mod names;
+mod profile;
+mod views;
+
 #[test]
 fn a_mask_sees_what_it_meets(rt: HostRuntime) -> Result<(), Fail> {
     // the mask of the entry, the mask of the module, and whether it sees the entry
@@ -52,12 +56,14 @@ fn entries_keep_their_numbers(rt: HostRuntime) -> Result<(), Fail> {
 }
 
 #[test]
-fn a_declaration_is_void_of_one_int(rt: HostRuntime) -> Result<(), Fail> {
-    let accepted: [&[u8]; 4] = [
+fn a_declaration_is_read_by_its_tokens(rt: HostRuntime) -> Result<(), Fail> {
+    let accepted: [&[u8]; 6] = [
         b"void print(int)",
         b" void\tprint ( int32 )\r\n",
         b"void/* gives nothing */print(int)// one number",
         b"void\nprint\n(\nint\n)",
+        b"bool print(void)",
+        b"int64 print(uint8 a, bool)",
     ];
     for text in accepted {
         let mut registry = Registry::new(rt.alloc());
@@ -67,17 +73,19 @@ fn a_declaration_is_void_of_one_int(rt: HostRuntime) -> Result<(), Fail> {
             Some(EntityNo(0))
         );
     }
-    let refused: [&[u8]; 12] = [
+    let refused: [&[u8]; 14] = [
         b"",
-        b"void print()",
-        b"void print(int64)",
-        b"void print(int, int)",
-        b"int print(int)",
+        b"print(int)",
         b"void print(int);",
         b"void print(int",
+        b"void print(int) const",
         b"void int(int)",
         b"void final(int)",
         b"void 1x(int)",
+        b"void print(int &in)",
+        b"void print(const int)",
+        b"const int print()",
+        b"void print(Cell)",
         b"void print(int) # one",
         b"void print(int) /* open",
     ];
@@ -85,7 +93,8 @@ fn a_declaration_is_void_of_one_int(rt: HostRuntime) -> Result<(), Fail> {
         let mut registry = Registry::new(rt.alloc());
         assert_eq!(rt;
             registry.function(0, 0, text),
-            Err(RegError::BadDeclaration)
+            Err(RegError::BadDeclaration),
+            "{text:?}"
         );
         assert_eq!(rt; registry.len(), 0);
     }
@@ -107,12 +116,12 @@ fn the_first_refusal_is_answered(rt: HostRuntime) -> Result<(), Fail> {
         Err(RegError::WrongDriver)
     );
     assert_eq!(rt;
-        registry.function(64, 0, b"void p()"),
+        registry.function(64, 0, b"void p(int"),
         Err(RegError::BadDeclaration)
     );
     assert_eq!(rt; registry.set_default_mask(Mask(0)), Mask(2));
     assert_eq!(rt;
-        registry.function(64, 0, b"void p()"),
+        registry.function(64, 0, b"void p(int"),
         Err(RegError::EmptyMask)
     );
     assert_eq!(rt;
