@@ -145,7 +145,8 @@ fn names(entry: &Entry, number: usize, other: &Option<Entry>) -> bool
     match other {
         None => false,
         Some(other) => {
-            matches!(other.kind, EntryKind::HostType)
+            !matches!(entry.kind, EntryKind::HostType)
+                && matches!(other.kind, EntryKind::HostType)
                 && (belongs_to(entry.owner, number)
                     || mentions_type(&entry.signature, other.signature.name.as_slice()))
         }
