@@ -1,7 +1,8 @@
 -- The types that a seen entry names are seen, and have the numbers that they have in the whole list.
 use Rattle.std.proofs.Common.{◌≡◌, ℕ, suc, ◌<◌, Bool, true, false, cond, ◌&&◌, ◌||◌, not, List, [], ◌∷◌, length, get_or, map, Option, Some, None, refl, sym, ap, ◌∙◌, arith, position, bytes_eq}
-use Rattle.std.specs.List.{prefix_len}
+use Rattle.std.specs.List.{prefix_len, list_all}
 use Rattle.std.proofs.lemmas.Slice.Eq.{bytes_eq-Decides}
+use Rattle.ang_kinds.specs.Masks.{meets}
 use Rattle.ang_registry.specs.declared.entry.Entry.{Entry}
 use Rattle.ang_registry.specs.Registration.{RegistrationList, entry_at, is_type, mentions, is_number, is_named_by, named, has_mask_for, is_seen, seen_entry, seen}
 use Rattle.ang_registry.specs.Types.{is_type_named, type_named}
@@ -29,7 +30,7 @@ inside list x k (Some t) e h = entry_at-lt list k t e
 has_mask-named : (list : RegistrationList) (m : ℕ) (x : Entry) (k : ℕ) → is_seen list m x ≡ true → is_named_by x k (entry_at list k) ≡ true → has_mask_for m (entry_at list k) ≡ true
 unfolding is_seen named
 has_mask-named list m x k s h =
-    let all = (and_gives _ _ s).1 in
+    let all : list_all (λ n. has_mask_for m (entry_at list n)) (named list x) ≡ true = (and_gives (meets x.mask.0 m) _ s).1 in
     let l : k < length list = inside list x k (entry_at list k) refl h in
     (Decides-list_all-filter (λ n. is_named_by x n (entry_at list n)) (λ n. has_mask_for m (entry_at list n)) 0 (length list)).0 all k (omega arith) (omega arith) h
 
@@ -46,7 +47,7 @@ shown : (list : RegistrationList) (m : ℕ) (x : Entry) (k : ℕ) (here : Option
 shown list m x k None h e = refl
 shown list m x k (Some t) h e =
     let r = and_gives _ _ h in
-    let is = (and_gives _ _ r.1).0 in
+    let is = (and_gives _ _ r.0).1 in
     rw (type_is_seen list m t is e)
 
 -- each type that a seen entry names is seen
@@ -68,7 +69,7 @@ position-same p q xs d h = rw (prefix_len-same (λ x. not (p x)) (λ x. not (q x
 
 named_from : (x t : Entry) (k : ℕ) (name : List ℕ) → is_type x.kind ≡ false → mentions x.signature name ≡ true → is_type_named name (Some t) ≡ true → is_named_by x k (Some t) ≡ true
 named_from x t k name f h e =
-    let r = and_gives _ _ e in
+    let r = and_gives (is_type t.kind) (bytes_eq t.signature.name name) e in
     let same : t.signature.name ≡ name = (bytes_eq-Decides t.signature.name name).0 r.1 in
     let by : mentions x.signature t.signature.name ≡ true = rw same h in
     let either : (is_number k x.owner || mentions x.signature t.signature.name) ≡ true = or_true _ _ by in

@@ -64,7 +64,10 @@ fn a_whole_profile_is_accepted(rt: HostRuntime) -> Result<(), Fail> {
     }
     assert_eq!(rt; registry.len(), 17);
     let set = registry.get(EntityNo(10)).ok_or("no entry")?;
-    assert_eq!(rt; (set.kind, set.owner), (EntryKind::Method, Some(EntityNo(6))));
+    assert_eq!(rt;
+        (set.kind, set.owner),
+        (EntryKind::Method, Some(EntityNo(6)))
+    );
     assert_eq!(rt; (set.driver, set.f, set.mask), (2, 1, Mask(1)));
     assert_eq!(rt; set.signature.name.as_slice(), b"set".as_slice());
     let limit = registry.get(EntityNo(16)).ok_or("no entry")?;
@@ -97,10 +100,7 @@ fn refusals_of_short_profiles(rt: HostRuntime) -> Result<(), Fail> {
     );
     let mut empty = Registry::new(rt.alloc());
     assert_eq!(rt; empty.set_default_mask(Mask(0)), Mask(1));
-    assert_eq!(rt;
-        empty.function(0, 0, b"void p()"),
-        Err(RegError::EmptyMask)
-    );
+    assert_eq!(rt; empty.function(0, 0, b"void p()"), Err(RegError::EmptyMask));
     assert_eq!(rt; empty.blank()?, EntityNo(0));
     Ok(())
 }
@@ -110,21 +110,48 @@ fn refusals_over_a_whole_profile(rt: HostRuntime) -> Result<(), Fail> {
     let refused = [
         (Line::Type(b"1x", 64), RegError::BadDeclaration),
         (Line::Type(b"int", 3), RegError::BadDeclaration),
-        (Line::Factory(b"Row", 0, b"Cell@ f()"), RegError::BadDeclaration),
-        (Line::Function(0, 0, b"void f(Cell, Row@+)"), RegError::BadDeclaration),
+        (
+            Line::Factory(b"Row", 0, b"Cell@ f()"),
+            RegError::BadDeclaration,
+        ),
+        (
+            Line::Function(0, 0, b"void f(Cell, Row@+)"),
+            RegError::BadDeclaration,
+        ),
         (Line::Factory(b"Row", 0, b"Row@ f()"), RegError::UnknownType),
-        (Line::Function(0, 0, b"void f(Cell@+, Row@+)"), RegError::UnknownType),
+        (
+            Line::Function(0, 0, b"void f(Cell@+, Row@+)"),
+            RegError::UnknownType,
+        ),
         (Line::Type(b"Cell", 2), RegError::WrongDriver),
         (Line::Type(b"Row", 64), RegError::WrongDriver),
-        (Line::Method(b"Counter", 0, b"const Cell@+ c()"), RegError::WrongDriver),
+        (
+            Line::Method(b"Counter", 0, b"const Cell@+ c()"),
+            RegError::WrongDriver,
+        ),
         (Line::Type(b"limit", 63), RegError::Duplicate),
         (Line::Function(0, 0, b"void Cell(int)"), RegError::Duplicate),
-        (Line::Function(0, 0, b"int print(int64 x)"), RegError::Duplicate),
+        (
+            Line::Function(0, 0, b"int print(int64 x)"),
+            RegError::Duplicate,
+        ),
         (Line::Global(0, 0, b"bool sum"), RegError::Duplicate),
-        (Line::Factory(b"Counter", 9, b"Counter@ g(int)"), RegError::Duplicate),
-        (Line::Method(b"Counter", 9, b"int64 value() const"), RegError::Duplicate),
-        (Line::Method(b"Counter", 9, b"void step(int)"), RegError::Duplicate),
-        (Line::Property(b"Counter", 9, b"int bump"), RegError::Duplicate),
+        (
+            Line::Factory(b"Counter", 9, b"Counter@ g(int)"),
+            RegError::Duplicate,
+        ),
+        (
+            Line::Method(b"Counter", 9, b"int64 value() const"),
+            RegError::Duplicate,
+        ),
+        (
+            Line::Method(b"Counter", 9, b"void step(int)"),
+            RegError::Duplicate,
+        ),
+        (
+            Line::Property(b"Counter", 9, b"int bump"),
+            RegError::Duplicate,
+        ),
     ];
     let accepted = [
         Line::Function(0, 0, b"void print(int)"),
@@ -205,9 +232,16 @@ fn what_names_a_hidden_type_is_hidden(rt: HostRuntime) -> Result<(), Fail> {
     let both = registry.seen(rt.alloc(), Mask(1))?;
     let hidden = registry.seen(rt.alloc(), Mask(2))?;
     assert_eq!(rt; (both.len(), hidden.len()), (7, 7));
+    assert_eq!(rt; registry.find_type(b"Cell"), Some(EntityNo(0)));
+    assert_eq!(rt; both.find_type(b"Cell"), Some(EntityNo(0)));
+    assert_eq!(rt; hidden.find_type(b"Cell"), None);
     for number in 0..7 {
         assert!(rt; both.get(EntityNo(number)).is_some(), "{number}");
-        assert_eq!(rt; hidden.get(EntityNo(number)).is_some(), number == 6, "{number}");
+        assert_eq!(rt;
+            hidden.get(EntityNo(number)).is_some(),
+            number == 6,
+            "{number}"
+        );
     }
     Ok(())
 }
