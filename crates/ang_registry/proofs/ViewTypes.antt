@@ -1,12 +1,12 @@
 -- The types that a seen entry names are seen, and have the numbers that they have in the whole list.
-use Rattle.std.proofs.Common.{◌≡◌, ℕ, suc, ◌<◌, Bool, true, false, cond, ◌&&◌, ◌||◌, not, List, [], ◌∷◌, length, get_or, map, Option, Some, None, refl, sym, ap, ◌∙◌, arith, position, bytes_eq}
+use Rattle.std.proofs.Common.{◌≡◌, ℕ, suc, ◌<◌, Bool, true, false, cond, ◌||◌, not, List, [], ◌∷◌, length, get_or, Option, Some, None, refl, sym, ap, ◌∙◌, arith, position, bytes_eq}
 use Rattle.std.specs.List.{prefix_len, list_all}
 use Rattle.std.proofs.lemmas.Slice.Eq.{bytes_eq-Decides}
 use Rattle.ang_kinds.specs.Masks.{meets}
 use Rattle.ang_registry.specs.declared.entry.Entry.{Entry}
 use Rattle.ang_registry.specs.Registration.{RegistrationList, entry_at, is_type, mentions, is_number, is_named_by, named, has_mask_for, is_seen, seen_entry, seen}
 use Rattle.ang_registry.specs.Types.{is_type_named, type_named}
-use Rattle.ang_registry.proofs.Lists.{position-map, length-map, and_gives, and_from, Decides-list_all-filter}
+use Rattle.ang_registry.proofs.Lists.{position-map, and_gives, and_from, Decides-list_all-filter}
 use Rattle.ang_registry.proofs.Roles.{entry_at-lt}
 use Rattle.ang_registry.proofs.Seen.{entry_at-seen}
 

@@ -1,6 +1,6 @@
 -- What the declaration of each host entity says (docs/EMBEDDING.md, "Declarations"). A text of another form, and one that
 -- hosts can't use, declares nothing.
-use Rattle.std.specs.Prelude.{ℕ, Bool, false, if◌then◌else◌, List, [], Option, Some, None, Result, Ok, Err}
+use Rattle.std.specs.Prelude.{ℕ, false, if◌then◌else◌, List, [], Option, Some, None, Result, Ok, Err}
 use Rattle.ang_kinds.specs.declared.types.Signature.{Signature}
 use Rattle.ang_kinds.specs.declared.types.TypeRef.TheVariants as type
 use Rattle.ang_lex.specs.Spelling.{is_identifier}

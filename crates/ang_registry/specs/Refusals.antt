@@ -1,5 +1,5 @@
 -- When a registration is refused, and what it adds (docs/EMBEDDING.md, "Registration").
-use Rattle.std.specs.Prelude.{ℕ, ◌==◌, Bool, true, false, not, ◌&&◌, ◌||◌, is_none, nat_le, nat_lt, if◌then◌else◌, List, [], ◌∷◌, ◌++◌, length, Option, Some, None}
+use Rattle.std.specs.Prelude.{ℕ, ◌==◌, Bool, false, not, ◌||◌, is_none, nat_le, nat_lt, if◌then◌else◌, List, [], ◌∷◌, ◌++◌, length, Option, Some, None}
 use Rattle.ang_kinds.specs.declared.mask.EntityNo.{EntityNo}
 use Rattle.ang_kinds.specs.declared.types.Signature.{Signature}
 use Rattle.ang_registry.specs.declared.entry.Entry.{Entry}

@@ -8,7 +8,7 @@ use Rattle.ang_kinds.specs.declared.types.TypeRef.{TypeRef}
 use Rattle.ang_kinds.specs.declared.types.TypeRef.TheVariants.{Void, Plain, Object}
 use Rattle.ang_registry.specs.declared.entry.Entry.{Entry}
 use Rattle.ang_registry.specs.declared.entry.EntryKind.{EntryKind}
-use Rattle.ang_registry.specs.Registration.{RegistrationList, entry_at, is_type, is_spelled_with, mentions}
+use Rattle.ang_registry.specs.Registration.{RegistrationList, entry_at, is_type, mentions}
 
 -- ---- by name
 

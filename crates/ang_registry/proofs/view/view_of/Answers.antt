@@ -1,5 +1,4 @@
 use Rattle.std.proofs.Common.{◌≡◌, length, arith, ap, ◌∙◌}
-use Rattle.ang_registry.specs.Registration.{seen}
 use Rattle.ang_registry.proofs.Seen.{length-seen}
 use Rattle.ang_registry.proofs.view.view_of.Goals as goal
 

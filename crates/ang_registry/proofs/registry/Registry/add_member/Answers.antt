@@ -1,6 +1,5 @@
-use Rattle.std.proofs.Common.{◌≡◌, true, false, Some, None, rules, arith, ap, sym, ◌∙◌}
+use Rattle.std.proofs.Common.{◌≡◌, true, false, Some, None, rules, ap, sym, ◌∙◌}
 use Rattle.std.proofs.lemmas.Result.{err_from_is_err_and}
-use Rattle.std.proofs.lemmas.Grind.{common_steps}
 use Rattle.ang_registry.specs.Registration.{Registrations}
 use Rattle.ang_registry.specs.Refusals.{gives_own, refusal_of_member, refusal_of_entry}
 use Rattle.ang_registry.specs.Types.{type_named, driver_at}
