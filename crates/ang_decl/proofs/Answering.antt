@@ -9,7 +9,7 @@ use Rattle.ang_read.specs.Law.{all_of}
 use Rattle.ang_read.specs.Read.{Outcome, Parser}
 use Rattle.ang_decl.specs.declared.error.DeclError.{DeclError}
 use Rattle.ang_decl.specs.declared.error.DeclError.TheVariants.{Syntax, Unsupported, Memory}
-use Rattle.ang_decl.specs.Meaning.{IsWritten, Declares, IsLeftOut}
+use Rattle.ang_decl.specs.Meaning.{IsWritten, Declares, IsLeftOut, IsAnswer}
 use Rattle.ang_decl.specs.Parsed.{judged, judged_tokens}
 use Rattle.ang_decl.proofs.Exactly.{Exact, OfForm}
 
@@ -64,13 +64,57 @@ module _ (A : Type 0) (reader : ℕ → Parser A) (Spells : A → List Token →
   of_form_answered true s e = cc
   of_form_answered false s e = cc
 
+  -- what is answered of a declaration of the form
+  answered : (text : List ℕ) (x : A) → IsWritten Formed text x → answer text (tokens_of 0 text) ≡ chosen true (left_out x) (signature_of text x)
+  answered text x w =
+      ap (answer text) w.lexed
+      ∙ ap (judged form left_out (signature_of text)) (exact.complete x w.tokens (of_form.spelled x w.tokens w.spelled))
+      ∙ ap (λ b. chosen b (left_out x) (signature_of text x)) (of_form.form_is x w.tokens w.spelled)
+
   none_written : (text : List ℕ) → answer text (tokens_of 0 text) ≡ Err Syntax → (x : A) → IsWritten Formed text x → ⊥
-  none_written text e x w =
-      of_form_answered (left_out x) (signature_of text x)
-      (ap (λ b. chosen b (left_out x) (signature_of text x)) (sym (of_form.form_is x w.tokens w.spelled))
-      ∙ ap (judged form left_out (signature_of text)) (sym (exact.complete x w.tokens (of_form.spelled x w.tokens w.spelled)))
-      ∙ ap (answer text) (sym w.lexed)
-      ∙ e)
+  none_written text e x w = of_form_answered (left_out x) (signature_of text x) (sym (answered text x w) ∙ e)
+
+  -- ---- the other way
+
+  declared_answered : (text : List ℕ) (s : Signature) → Declares Formed left_out signature_of text s → answer text (tokens_of 0 text) ≡ Ok s
+  declared_answered text s d =
+      answered text d.declaration d.written
+      ∙ ap (λ c. chosen true c (signature_of text d.declaration)) d.taken
+      ∙ ap Ok (sym d.signature)
+
+  left_answered : (text : List ℕ) → IsLeftOut Formed left_out text → answer text (tokens_of 0 text) ≡ Err Unsupported
+  left_answered text d =
+      answered text d.declaration d.written
+      ∙ ap (λ c. chosen true c (signature_of text d.declaration)) d.left_out
+
+  never_chosen : (b c : Bool) (s : Signature) → chosen b c s ≡ Err Memory → ⊥
+  never_chosen true true s e = cc
+  never_chosen true false s e = cc
+  never_chosen false c s e = cc
+
+  never_judged : (text : List ℕ) (o : Outcome A) → judged form left_out (signature_of text) o ≡ Err Memory → ⊥
+  never_judged text (Ok p) e = never_chosen (form p.0) (left_out p.0) (signature_of text p.0) e
+  never_judged text (Err f) e = cc
+
+  never_memory : (text : List ℕ) (tokens : Result (List Token) LexError) → answer text tokens ≡ Err Memory → ⊥
+  never_memory text (Ok ts) e = never_judged text (all_of reader ts) e
+  never_memory text (Err f) e = cc
+
+  none_answered : (text : List ℕ) → ((x : A) → IsWritten Formed text x → ⊥) → (r : Result Signature DeclError) → answer text (tokens_of 0 text) ≡ r → r ≡ Err Syntax
+  none_answered text none (Ok s) e = let d : Declares Formed left_out signature_of text s = declares_at text s (tokens_of 0 text) refl e in absurd (none d.declaration d.written)
+  none_answered text none (Err Unsupported) e = let d : IsLeftOut Formed left_out text = left_at text (tokens_of 0 text) refl e in absurd (none d.declaration d.written)
+  none_answered text none (Err Memory) e = absurd (never_memory text (tokens_of 0 text) e)
+  none_answered text none (Err Syntax) e = refl
+
+  -- ---- what the answer is
+
+  pub answer_is : (text : List ℕ) → IsAnswer Formed left_out signature_of text (answer text (tokens_of 0 text))
+  answer_is text = record {
+    signature = λ s. (declares_at text s (tokens_of 0 text) refl, declared_answered text s);
+    unsupported = (left_at text (tokens_of 0 text) refl, left_answered text);
+    syntax = (none_written text, λ none. none_answered text none (answer text (tokens_of 0 text)) refl);
+    memory = never_memory text (tokens_of 0 text);
+  }
 
   -- ---- in the form of a contract
 

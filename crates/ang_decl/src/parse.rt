@@ -93,11 +93,11 @@ fn method_in(alloc: Global, text: &[u8]) -> Result<Signature, DeclError>
     ensures fault { IfErr result (λ e. e ≢ DeclError.Memory → declared_method text.now ≡ Err e) }
 {
     let tokens = lex(alloc, text, 0)?;
-    let function = whole_function(alloc, &tokens)?;
-    if is_function_left_out(&function) {
+    let method = whole_function(alloc, &tokens)?;
+    if is_function_left_out(&method) {
         return Err(DeclError::Unsupported);
     }
-    Ok(function_signature(alloc, text, &function)?)
+    Ok(function_signature(alloc, text, &method)?)
 }
 
 /// The signature of the method that the text declares, by `type NAME params [ "const" ]`: `int get() const`.
@@ -157,14 +157,14 @@ fn factory_in(alloc: Global, text: &[u8]) -> Result<Signature, DeclError>
     ensures fault { IfErr result (λ e. e ≢ DeclError.Memory → declared_factory text.now ≡ Err e) }
 {
     let tokens = lex(alloc, text, 0)?;
-    let function = whole_function(alloc, &tokens)?;
-    if !is_factory_form(&function) {
+    let factory = whole_function(alloc, &tokens)?;
+    if !is_factory_form(&factory) {
         return Err(DeclError::Syntax);
     }
-    if is_factory_left_out(&function) {
+    if is_factory_left_out(&factory) {
         return Err(DeclError::Unsupported);
     }
-    Ok(function_signature(alloc, text, &function)?)
+    Ok(function_signature(alloc, text, &factory)?)
 }
 
 /// The signature of the factory that the text declares, by `T@ NAME params`: `Cell@ f(Cell@+, int)`.
