@@ -20,8 +20,8 @@ pub fn push_text(out: &mut Vec<u8>, text: &str) -> Result<(), AllocError>
 pub fn push_number(out: &mut Vec<u8>, n: u64) -> Result<(), AllocError>
     ensures added { OnOk result (out.new.items ≡ out.old.items ++ decimal n) }
 {
-    let mut buffer = Buffer::new();
-    push_text(out, buffer.format(n))
+    let mut digits = Buffer::new();
+    push_text(out, digits.format(n))
 }
 
 fn push_signed(out: &mut Vec<u8>, n: i64) -> Result<(), AllocError>
@@ -403,4 +403,3 @@ fn push_denials(out: &mut Vec<u8>, denials: &[Denial]) -> Result<(), AllocError>
     }
     Ok(())
 }
-

@@ -17,10 +17,10 @@ use crate::ending::{Status, Stop};
 use crate::lines::{first_line, is_skipped, shown};
 use crate::session_line::LineError;
 use crate::text::push_bad_line;
-use ang_text::push_reply;
 use crate::writing::write_text;
 use ang_engine::{Command, Engine, Outcome, Reply};
 use ang_host::Driver;
+use ang_text::push_reply;
 use std::alloc::Global;
 use std::io::Write;
 
