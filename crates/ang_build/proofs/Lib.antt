@@ -1,0 +1,6 @@
+pub mod Items
+pub mod Building
+pub mod Trees
+pub mod FirstTokens
+pub mod SeenCalls
+pub mod SoFar

@@ -1,0 +1,6 @@
+pub mod Thin
+pub mod Script
+pub mod Reading
+pub mod Build
+pub mod Answer
+pub mod SeenCalls
