@@ -94,10 +94,6 @@ Resumes-failed caller all rest c f was now (inl p) r =
 Resumes-failed caller all rest c f was now (inr p) r =
     subst (IsRun caller all (Failed f)) (sym p.2) (Resumes-faulted caller all rest c was p.0 f p.1 r)
 
--- the same, whatever is read past the end
-pub drop-at : {A : Type 0} (xs : List A) (i : ℕ) (d : A) → i < length xs → drop i xs ≡ get_or xs i d ∷ drop (i + 1) xs
-drop-at xs i d lt = drop-cons xs i d lt ∙ ap (λ n. get_or xs i d ∷ drop n xs) (sym (add-one i))
-
 -- stands past the end of a list of calls
 abbrev pub no_call : HostCall
 no_call = record { entity = record { 0 = 0 }; driver = 0; f = 0; argument = pos 0 }
