@@ -1,0 +1,5 @@
+pub mod Found
+pub mod Sound
+pub mod Complete
+pub mod Exactly
+pub mod Answering
