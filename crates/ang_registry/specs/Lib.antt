@@ -1,5 +1,6 @@
 pub mod Registration
 pub mod Roles
-pub mod Overloads
 pub mod Declarations
+pub mod Overloads
+pub mod Types
 pub mod Refusals

@@ -1,8 +1,10 @@
 -- What can stand beside what under one name (docs/EMBEDDING.md, "Names").
 use Rattle.std.specs.Prelude.{ℕ, Bool, true, false, ◌==◌, ◌&&◌, List, Option, Some, None}
 use Rattle.std.specs.Cmp.Lexicographic.{pointwise}
+use Rattle.std.specs.List.{list_any}
 use Rattle.std.specs.Str.{bytes_eq}
 use Rattle.std.proofs.Math.Bool.{beq}
+use Rattle.ang_kinds.specs.declared.mask.EntityNo.{EntityNo}
 use Rattle.ang_kinds.specs.declared.primitive.Primitive.{Primitive}
 use Rattle.ang_kinds.specs.declared.primitive.Primitive.TheVariants.{I8, I16, I32, I64, U8, U16, U32, U64, Bool as Truth}
 use Rattle.ang_kinds.specs.declared.types.Pass.{Pass}
@@ -16,6 +18,7 @@ use Rattle.ang_kinds.specs.declared.types.TypeRef.TheVariants.{Void, Plain, Obje
 use Rattle.ang_registry.specs.declared.entry.Entry.{Entry}
 use Rattle.ang_registry.specs.declared.entry.EntryKind.{EntryKind}
 use Rattle.ang_registry.specs.declared.entry.EntryKind.TheVariants.{HostType, Factory, Method, Property, Function, Global}
+use Rattle.ang_registry.specs.Registration.{RegistrationList}
 
 -- the primitive types by number, to compare them
 abbrev pub primitive_number : Primitive → ℕ
@@ -62,17 +65,76 @@ same_parameter p q = same_type p.ty q.ty && pass_number p.pass == pass_number q.
 abbrev pub same_parameters : List Param → List Param → Bool
 same_parameters = pointwise same_parameter
 
--- Types, functions and global properties share one space of names; functions of one name differ in their parameters.
--- The members of types have names of their own.
-abbrev pub excludes : EntryKind → List Param → List Param → Bool
-excludes HostType ps qs = true
-excludes Factory ps qs = false
-excludes Method ps qs = false
-excludes Property ps qs = false
-excludes Function ps qs = same_parameters ps qs
-excludes Global ps qs = true
+-- ---- what can't stand beside what
 
--- whether a function of this signature can't stand beside the entry
-abbrev pub clashes : Signature → Option Entry → Bool
-clashes s None = false
-clashes s (Some x) = bytes_eq x.signature.name s.name && excludes x.kind x.signature.params s.params
+-- types, functions and global properties share one space of names
+abbrev pub is_global_name : EntryKind → Bool
+is_global_name HostType = true
+is_global_name Factory = false
+is_global_name Method = false
+is_global_name Property = false
+is_global_name Function = true
+is_global_name Global = true
+
+-- a type's methods and properties share its names
+abbrev pub is_member_name : EntryKind → Bool
+is_member_name HostType = false
+is_member_name Factory = false
+is_member_name Method = true
+is_member_name Property = true
+is_member_name Function = false
+is_member_name Global = false
+
+abbrev pub is_factory : EntryKind → Bool
+is_factory HostType = false
+is_factory Factory = true
+is_factory Method = false
+is_factory Property = false
+is_factory Function = false
+is_factory Global = false
+
+abbrev pub same_name : Signature → Signature → Bool
+same_name x y = bytes_eq x.name y.name
+
+-- both belong to one type
+abbrev pub same_owner : Option EntityNo → Option EntityNo → Bool
+same_owner None None = false
+same_owner None (Some b) = false
+same_owner (Some a) None = false
+same_owner (Some a) (Some b) = a.0 == b.0
+
+-- what a function of the same name can't stand beside: functions of one name differ in their parameters
+abbrev pub excludes_function : EntryKind → Signature → Signature → Bool
+excludes_function HostType x s = true
+excludes_function Factory x s = false
+excludes_function Method x s = false
+excludes_function Property x s = false
+excludes_function Function x s = same_parameters x.params s.params
+excludes_function Global x s = true
+
+-- what a method of the same type and name can't stand beside: methods of one name differ in their parameters or in `const`
+abbrev pub excludes_method : EntryKind → Signature → Signature → Bool
+excludes_method HostType x s = false
+excludes_method Factory x s = false
+excludes_method Method x s = same_parameters x.params s.params && beq x.read_only s.read_only
+excludes_method Property x s = true
+excludes_method Function x s = false
+excludes_method Global x s = false
+
+-- Whether something of this kind, owner and signature can't stand beside the entry. Factories of one type differ in their
+-- parameters, whatever their names.
+abbrev pub clashes_with : EntryKind → Option EntityNo → Signature → Entry → Bool
+clashes_with HostType owner s x = is_global_name x.kind && same_name x.signature s
+clashes_with Factory owner s x = is_factory x.kind && same_owner x.owner owner && same_parameters x.signature.params s.params
+clashes_with Method owner s x = same_owner x.owner owner && same_name x.signature s && excludes_method x.kind x.signature s
+clashes_with Property owner s x = is_member_name x.kind && same_owner x.owner owner && same_name x.signature s
+clashes_with Function owner s x = same_name x.signature s && excludes_function x.kind x.signature s
+clashes_with Global owner s x = is_global_name x.kind && same_name x.signature s
+
+abbrev pub clashes : EntryKind → Option EntityNo → Signature → Option Entry → Bool
+clashes kind owner s None = false
+clashes kind owner s (Some x) = clashes_with kind owner s x
+
+-- The name, or what tells factories apart, is taken: over the whole list, whatever the masks.
+unfoldable pub is_taken : RegistrationList → EntryKind → Option EntityNo → Signature → Bool
+is_taken list kind owner s = list_any (clashes kind owner s) list

@@ -1,63 +1,71 @@
-//! Reads the declaration of a host function.
-ghost use Rattle.std.specs.Prelude.{◌≡◌, IfOk, All, length, option_map};
-ghost use Rattle.ang_lex.specs.Tokens.{IsWithin};
-ghost use Rattle.ang_registry.specs.Declarations.{name_by, declared_function, void_of_int};
+//! What the texts of a host declare.
+ghost use Rattle.std.specs.Prelude.{◌≡◌, ◌≢◌, IfOk, IfErr, OnOk};
+ghost use Rattle.ang_registry.specs.Declarations as spec;
 
-use ang_kinds::{List, Param, Pass, Prim, Signature, TypeRef};
-use ang_lex::{LexError, Token, TokenKind, lex};
-use std::alloc::{AllocError, Global};
+use crate::RegError;
+use ang_decl::{DeclError, parse_factory, parse_function, parse_method, parse_property};
+use ang_kinds::{List, Signature, TypeRef};
+use ang_lex::is_name;
+use std::alloc::Global;
 
-/// The signature that the text declares, or none where it is no declaration `void NAME(int)`.
-pub fn read_function(alloc: Global, text: &[u8]) -> Result<Option<Signature>, AllocError>
-    ensures exact { IfOk result (λ s. s ≡ declared_function text.now) }
+/// A refused text declares nothing; want of memory is passed on.
+fn declared(parsed: Result<Signature, DeclError>) -> Result<Option<Signature>, RegError>
+    ensures exact { IfOk result (λ s. s ≡ spec.signature_in parsed) }
+    ensures memory { IfErr result (λ why. why ≡ RegError.Memory) }
+    ensures known { OnOk result (IfErr parsed (λ e. e ≢ DeclError.Memory)) }
 {
-    let tokens = match lex(alloc, text, 0) {
-        Ok(tokens) => tokens,
-        Err(LexError::Memory) => return Err(AllocError),
-        Err(LexError::TooLong(_))
-        | Err(LexError::BadByte(_))
-        | Err(LexError::BadNumber(_))
-        | Err(LexError::OpenComment(_)) => return Ok(None),
-    };
-    match read_name(text, &tokens) {
-        Some(name) => Ok(Some(signature_of(alloc, name)?)),
-        None => Ok(None),
+    match parsed {
+        Ok(signature) => Ok(Some(signature)),
+        Err(DeclError::Syntax) | Err(DeclError::Unsupported) => Ok(None),
+        Err(DeclError::Memory) => Err(RegError::Memory),
     }
 }
 
-fn read_name<'a>(text: &'a [u8], tokens: &[Token]) -> Option<&'a [u8]>
-    requires { All (IsWithin (length text.now)) tokens.now }
-    ensures exact { option_map (λ x. x.now) result ≡ name_by text.now tokens.now }
+/// The signature that the text declares by `type NAME params`, or none.
+pub fn declared_function(alloc: Global, decl: &[u8]) -> Result<Option<Signature>, RegError>
+    ensures exact { IfOk result (λ s. s ≡ spec.declared_function decl.now) }
+    ensures memory { IfErr result (λ why. why ≡ RegError.Memory) }
 {
-    let [word, name, open, parameter, close] = tokens else {
-        return None;
-    };
-    let is_form = matches!(word.kind, TokenKind::Void)
-        && matches!(name.kind, TokenKind::Name)
-        && matches!(open.kind, TokenKind::LeftParen)
-        && matches!(parameter.kind, TokenKind::Primitive(Prim::I32))
-        && matches!(close.kind, TokenKind::RightParen);
-    if !is_form {
-        return None;
-    }
-    Some(&text[name.span.start as usize..name.span.end as usize])
+    declared(parse_function(alloc, decl))
 }
 
-fn signature_of(alloc: Global, name: &[u8]) -> Result<Signature, AllocError>
-    ensures exact { IfOk result (λ s. s ≡ void_of_int name.now) }
+/// The signature that the text declares by `type NAME params [ "const" ]`, or none.
+pub fn declared_method(alloc: Global, decl: &[u8]) -> Result<Option<Signature>, RegError>
+    ensures exact { IfOk result (λ s. s ≡ spec.declared_method decl.now) }
+    ensures memory { IfErr result (λ why. why ≡ RegError.Memory) }
 {
+    declared(parse_method(alloc, decl))
+}
+
+/// The signature that the text declares by `T@ NAME params`, or none.
+pub fn declared_factory(alloc: Global, decl: &[u8]) -> Result<Option<Signature>, RegError>
+    ensures exact { IfOk result (λ s. s ≡ spec.declared_factory decl.now) }
+    ensures memory { IfErr result (λ why. why ≡ RegError.Memory) }
+{
+    declared(parse_factory(alloc, decl))
+}
+
+/// The signature that the text declares by `[ "const" ] type NAME`, or none.
+pub fn declared_property(alloc: Global, decl: &[u8]) -> Result<Option<Signature>, RegError>
+    ensures exact { IfOk result (λ s. s ≡ spec.declared_property decl.now) }
+    ensures memory { IfErr result (λ why. why ≡ RegError.Memory) }
+{
+    declared(parse_property(alloc, decl))
+}
+
+/// The signature of a type of this name, or none where the name is no identifier.
+pub fn declared_type(alloc: Global, name: &[u8]) -> Result<Option<Signature>, RegError>
+    ensures exact { IfOk result (λ s. s ≡ spec.declared_type name.now) }
+    ensures memory { IfErr result (λ why. why ≡ RegError.Memory) }
+{
+    if !is_name(name) {
+        return Ok(None);
+    }
     let name = Vec::from_slice(alloc, name)?;
-    let mut params = Vec::new(alloc);
-    params.push(Param {
-        ty: TypeRef::Plain(Prim::I32),
-        pass: Pass::Value,
-        read_only: false,
-        name: List::from_vec(Vec::new(alloc)),
-    })?;
-    Ok(Signature {
+    Ok(Some(Signature {
         name: List::from_vec(name),
         result: TypeRef::Void,
-        params: List::from_vec(params),
+        params: List::from_vec(Vec::new(alloc)),
         read_only: false,
-    })
+    }))
 }

@@ -16,16 +16,18 @@ pub enum RegError {
     /// The default mask is 0, so that no module could ever see the entry.
     #[error("the default mask is 0")]
     EmptyMask,
-    /// The text is no declaration of the call's form.
+    /// The text is no declaration of the call's form, a type's name is no identifier, or a factory gives
+    /// another type than its own.
     #[error("no such declaration")]
     BadDeclaration,
-    /// The declaration names a type that is not registered.
+    /// The type that the entry is to belong to, or one that its declaration names, is not registered.
     #[error("an unknown type")]
     UnknownType,
-    /// A driver's number above 63, a second type for one driver, or an object type of another driver.
+    /// The driver's number is above 63, the driver has a type already, or the declaration names a type of
+    /// another driver.
     #[error("the wrong driver")]
     WrongDriver,
-    /// The name is taken, over the whole list, whatever the masks.
+    /// The name is taken, or the parameters of a factory, over the whole list, whatever the masks.
     #[error("the name is taken")]
     Duplicate,
     /// A growth of memory was refused.

@@ -1,41 +1,120 @@
-//! Which functions can share a name.
+//! What can stand beside what.
 ghost use Rattle.std.specs.Prelude.{◌≡◌};
 ghost use Rattle.std.specs.List.{list_any};
-ghost use Rattle.ang_registry.specs.Overloads.{is_handle, same_type, same_parameter, same_parameters, excludes, clashes};
+ghost use Rattle.ang_registry.specs.Overloads as spec;
+ghost use Rattle.ang_registry.specs.Overloads.{is_handle, same_type, same_parameter, same_parameters};
 
 use crate::{Entry, EntryKind};
-use ang_kinds::{Param, Shape, Signature, TypeRef};
+use ang_kinds::{EntityNo, Param, Shape, Signature, TypeRef};
 
-/// Whether a function of this signature can't stand beside what is registered.
-pub fn is_duplicate(entries: &[Option<Entry>], signature: &Signature) -> bool
-    ensures exact { result ≡ list_any (clashes signature.now) entries.now }
+/// Whether the entry can't stand beside what is registered.
+#[tactic(auto, unfolding(crate::specs::Overloads::is_taken))]
+pub fn is_duplicate(entries: &[Option<Entry>], entry: &Entry) -> bool
+    ensures exact { result
+        ≡ spec.is_taken entries.now entry.now.kind entry.now.owner entry.now.signature }
 {
-    entries.iter().any(|entry| clash(signature, entry))
+    entries.iter().any(|other| clash(entry, other))
 }
 
-fn clash(signature: &Signature, entry: &Option<Entry>) -> bool
-    ensures exact { result ≡ clashes signature.now entry.now }
+fn clash(entry: &Entry, other: &Option<Entry>) -> bool
+    ensures exact { result ≡ spec.clashes entry.now.kind entry.now.owner entry.now.signature other.now }
 {
-    match entry {
+    match other {
         None => false,
-        Some(other) => {
-            other.signature.name.as_slice() == signature.name.as_slice()
-                && is_excluded(
-                    other.kind,
-                    other.signature.params.as_slice(),
-                    signature.params.as_slice(),
-                )
+        Some(other) => clash_with(entry, other),
+    }
+}
+
+fn clash_with(entry: &Entry, other: &Entry) -> bool
+    ensures exact { result
+        ≡ spec.clashes_with entry.now.kind entry.now.owner entry.now.signature other.now }
+{
+    let own = &entry.signature;
+    match entry.kind {
+        EntryKind::HostType | EntryKind::Global => {
+            is_global_name(other.kind) && is_same_name(&other.signature, own)
+        }
+        EntryKind::Factory => {
+            matches!(other.kind, EntryKind::Factory)
+                && is_same_owner(other.owner, entry.owner)
+                && have_same_types(other.signature.params.as_slice(), own.params.as_slice())
+        }
+        EntryKind::Method => {
+            is_same_owner(other.owner, entry.owner)
+                && is_same_name(&other.signature, own)
+                && excludes_method(other, own)
+        }
+        EntryKind::Property => {
+            is_member_name(other.kind)
+                && is_same_owner(other.owner, entry.owner)
+                && is_same_name(&other.signature, own)
+        }
+        EntryKind::Function => {
+            is_same_name(&other.signature, own) && excludes_function(other, own)
         }
     }
 }
 
-fn is_excluded(kind: EntryKind, others: &[Param], params: &[Param]) -> bool
-    ensures exact { result ≡ excludes kind others.now params.now }
+fn is_global_name(kind: EntryKind) -> bool
+    ensures exact { result ≡ spec.is_global_name kind }
 {
     match kind {
+        EntryKind::HostType | EntryKind::Function | EntryKind::Global => true,
+        EntryKind::Factory | EntryKind::Method | EntryKind::Property => false,
+    }
+}
+
+fn is_member_name(kind: EntryKind) -> bool
+    ensures exact { result ≡ spec.is_member_name kind }
+{
+    match kind {
+        EntryKind::Method | EntryKind::Property => true,
+        EntryKind::HostType | EntryKind::Factory | EntryKind::Function | EntryKind::Global => false,
+    }
+}
+
+fn is_same_name(other: &Signature, signature: &Signature) -> bool
+    ensures exact { result ≡ spec.same_name other.now signature.now }
+{
+    other.name.as_slice() == signature.name.as_slice()
+}
+
+fn is_same_owner(other: Option<EntityNo>, owner: Option<EntityNo>) -> bool
+    ensures exact { result ≡ spec.same_owner other owner }
+{
+    match (other, owner) {
+        (Some(EntityNo(other)), Some(EntityNo(owner))) => other == owner,
+        _ => false,
+    }
+}
+
+fn excludes_function(other: &Entry, signature: &Signature) -> bool
+    ensures exact { result
+        ≡ spec.excludes_function other.now.kind other.now.signature signature.now }
+{
+    match other.kind {
         EntryKind::HostType | EntryKind::Global => true,
         EntryKind::Factory | EntryKind::Method | EntryKind::Property => false,
-        EntryKind::Function => have_same_types(others, params),
+        EntryKind::Function => have_same_types(
+            other.signature.params.as_slice(),
+            signature.params.as_slice(),
+        ),
+    }
+}
+
+fn excludes_method(other: &Entry, signature: &Signature) -> bool
+    ensures exact { result
+        ≡ spec.excludes_method other.now.kind other.now.signature signature.now }
+{
+    match other.kind {
+        EntryKind::HostType | EntryKind::Factory | EntryKind::Function | EntryKind::Global => false,
+        EntryKind::Property => true,
+        EntryKind::Method => {
+            have_same_types(
+                other.signature.params.as_slice(),
+                signature.params.as_slice(),
+            ) && other.signature.read_only == signature.read_only
+        }
     }
 }
 

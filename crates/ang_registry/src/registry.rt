@@ -1,23 +1,22 @@
 //! The registry.
-ghost use Rattle.std.specs.Prelude.{◌≡◌, ◌≢◌, ◌≤◌, [], length, None, Some, IfOk, IfErr, OnOk, OnErr, option_map, IfSome};
+ghost use Rattle.std.specs.Prelude.{◌≡◌, ◌≢◌, ◌≤◌, ◌<◌, [], length, None, Some, IfOk, IfErr, OnOk, OnErr, option_map, IfSome};
 ghost use Rattle.std.specs.Option.{option_copied};
 ghost use Rattle.ang_registry.specs.Registration.{entry_at, seen, function_named, SeesFunction};
-ghost use Rattle.ang_registry.specs.Declarations.{declared_function};
-ghost use Rattle.ang_registry.specs.Refusals.{refusal_of_function, with_function};
+ghost use Rattle.ang_registry.specs.Types.{type_named};
+ghost use Rattle.ang_registry.specs.Declarations as spec;
+ghost use Rattle.ang_registry.specs.Refusals.{refusal_of_type, with_type, refusal_of_factory, with_factory, refusal_of_method, with_method, refusal_of_property, with_property, refusal_of_function, with_function, refusal_of_global, with_global, refusal_of_blank, with_blank, refusal_of_own, with_own, refusal_of_member, with_member, refusal_of_entry, with_entry, with_last};
 
-use crate::declaration::read_function;
+use crate::declaration::{
+    declared_factory, declared_function, declared_method, declared_property, declared_type,
+};
+use crate::lookup::{find_type, is_wrong_driver, names_unknown, number_of_type};
 use crate::overload::is_duplicate;
-use crate::view::function_index;
+use crate::refusal::{MOST_ENTRIES, check_room, gives_own};
+use crate::view::{View, function_index, view_of};
 use crate::{Entry, EntryKind, RegError};
-use ang_kinds::{EntityNo, Mask};
-use std::alloc::Global;
+use ang_kinds::{EntityNo, Mask, Signature};
+use std::alloc::{AllocError, Global};
 use std::marker::Model;
-
-/// The most entries of a registration list.
-const MOST_ENTRIES: usize = 1024;
-
-/// The greatest number of a driver.
-const LAST_DRIVER: u32 = 63;
 
 /// What a host offers to scripts: a list of entries, numbered from 0 in the order of registration, and
 /// the mask that the next entry gets (docs/EMBEDDING.md, "Registration").
@@ -63,49 +62,271 @@ impl Registry {
         before
     }
 
-    /// Registers a function of a driver, and answers its number. For now the declaration is
-    /// `void NAME(int)`, with white space and comments between the tokens.
+    /// Registers a type of host objects for a driver, and answers its number. Its objects are the driver's, and
+    /// so are the functions that count their references.
     ///
-    /// After a refusal the registry is as it was. `Limit` comes where 1,024 entries are there, then
-    /// `EmptyMask` where the default mask is 0, `BadDeclaration` where the text is not of that form,
-    /// `WrongDriver` where `driver` is above 63, and `Duplicate` where a type or a global property has
-    /// that name, or a function with the same parameters. `Memory` may come in the place of any answer.
-    pub fn function(&mut self, driver: u32, f: u32, decl: &[u8]) -> Result<EntityNo, RegError>
+    /// Refused by the first of these: `Limit` where 1,024 entries are there, `EmptyMask` where the default
+    /// mask is 0, `BadDeclaration` where the name is no identifier, `WrongDriver` where `driver` is above 63 or
+    /// has a type already, and `Duplicate` where a type, a function or a global property has the name. `Memory`
+    /// may come in the place of any answer. After a refusal the registry is as it was.
+    pub fn type_(&mut self, name: &[u8], driver: u32) -> Result<EntityNo, RegError>
         ensures accepted { OnOk result
-            (refusal_of_function self.old driver (declared_function decl.now) ≡ None) }
+            (refusal_of_type self.old driver (spec.declared_type name.now) ≡ None) }
         ensures number { IfOk result (λ number. number.0 ≡ length self.old.entries) }
         ensures added { OnOk result
-            (self.new ≡ with_function self.old driver f (declared_function decl.now)) }
+            (self.new ≡ with_type self.old driver (spec.declared_type name.now)) }
 
         ensures first_refusal { IfErr result (λ why. why ≢ RegError.Memory
-            → refusal_of_function self.old driver (declared_function decl.now) ≡ Some why) }
+            → refusal_of_type self.old driver (spec.declared_type name.now) ≡ Some why) }
+        ensures unchanged { OnErr result (self.new ≡ self.old) }
+    {
+        let declared = declared_type(self.alloc, name)?;
+        self.add_own(EntryKind::HostType, driver, 0, declared)
+    }
+
+    /// Registers a factory of a type, and answers its number: function `f` of the type's driver, which makes
+    /// objects of the type. The declaration is `T@ NAME params`, where `T` is the type.
+    ///
+    /// Refused by the first of these: `Limit` where 1,024 entries are there or the declaration has more than
+    /// 32 parameters, `EmptyMask` where the default mask is 0, `BadDeclaration` where the text is of another
+    /// form or gives another type, `UnknownType` where the type or one that a parameter names is not registered,
+    /// `WrongDriver` where a parameter names a type of another driver, and `Duplicate` where the type has a
+    /// factory with the same parameters. `Memory` may come in the place of any answer. After a refusal the
+    /// registry is as it was.
+    pub fn factory(&mut self, type_name: &[u8], f: u32, decl: &[u8]) -> Result<EntityNo, RegError>
+        ensures accepted { OnOk result
+            (refusal_of_factory self.old type_name.now (spec.declared_factory decl.now) ≡ None) }
+        ensures number { IfOk result (λ number. number.0 ≡ length self.old.entries) }
+        ensures added { OnOk result
+            (self.new ≡ with_factory self.old type_name.now f (spec.declared_factory decl.now)) }
+
+        ensures first_refusal { IfErr result (λ why. why ≢ RegError.Memory
+            → refusal_of_factory self.old type_name.now (spec.declared_factory decl.now) ≡ Some why) }
+        ensures unchanged { OnErr result (self.new ≡ self.old) }
+    {
+        let declared = declared_factory(self.alloc, decl)?;
+        self.add_member(EntryKind::Factory, type_name, f, declared)
+    }
+
+    /// Registers a method of a type, and answers its number: function `f` of the type's driver. The
+    /// declaration is `type NAME params`, with `const` behind it for a method that does not change its object.
+    ///
+    /// Refused as `factory` is, but that the method may give any type that a function may; `Duplicate` comes
+    /// where the type has a property of the name, or a method of the name with the same parameters and `const`.
+    pub fn method(&mut self, type_name: &[u8], f: u32, decl: &[u8]) -> Result<EntityNo, RegError>
+        ensures accepted { OnOk result
+            (refusal_of_method self.old type_name.now (spec.declared_method decl.now) ≡ None) }
+        ensures number { IfOk result (λ number. number.0 ≡ length self.old.entries) }
+        ensures added { OnOk result
+            (self.new ≡ with_method self.old type_name.now f (spec.declared_method decl.now)) }
+
+        ensures first_refusal { IfErr result (λ why. why ≢ RegError.Memory
+            → refusal_of_method self.old type_name.now (spec.declared_method decl.now) ≡ Some why) }
+        ensures unchanged { OnErr result (self.new ≡ self.old) }
+    {
+        let declared = declared_method(self.alloc, decl)?;
+        self.add_member(EntryKind::Method, type_name, f, declared)
+    }
+
+    /// Registers a property of a type's objects, and answers its number: property `f` of the type's driver.
+    /// The declaration is `type NAME`, where the type is a primitive one; with `const` in front of it scripts
+    /// can't write the property.
+    ///
+    /// Refused as `factory` is; `Duplicate` comes where the type has a method or a property of the name.
+    pub fn property(&mut self, type_name: &[u8], f: u32, decl: &[u8]) -> Result<EntityNo, RegError>
+        ensures accepted { OnOk result
+            (refusal_of_property self.old type_name.now (spec.declared_property decl.now) ≡ None) }
+        ensures number { IfOk result (λ number. number.0 ≡ length self.old.entries) }
+        ensures added { OnOk result
+            (self.new ≡ with_property self.old type_name.now f (spec.declared_property decl.now)) }
+
+        ensures first_refusal { IfErr result (λ why. why ≢ RegError.Memory
+            → refusal_of_property self.old type_name.now (spec.declared_property decl.now) ≡ Some why) }
+        ensures unchanged { OnErr result (self.new ≡ self.old) }
+    {
+        let declared = declared_property(self.alloc, decl)?;
+        self.add_member(EntryKind::Property, type_name, f, declared)
+    }
+
+    /// Registers a function of a driver, and answers its number. The declaration is `type NAME params`.
+    ///
+    /// Refused by the first of these: `Limit` where 1,024 entries are there or the declaration has more than
+    /// 32 parameters, `EmptyMask` where the default mask is 0, `BadDeclaration` where the text is of another
+    /// form, `UnknownType` where it names a type that is not registered, `WrongDriver` where `driver` is above
+    /// 63 or the text names a type of another driver, and `Duplicate` where a type or a global property has the
+    /// name, or a function with the same parameters. `Memory` may come in the place of any answer. After a
+    /// refusal the registry is as it was.
+    pub fn function(&mut self, driver: u32, f: u32, decl: &[u8]) -> Result<EntityNo, RegError>
+        ensures accepted { OnOk result
+            (refusal_of_function self.old driver (spec.declared_function decl.now) ≡ None) }
+        ensures number { IfOk result (λ number. number.0 ≡ length self.old.entries) }
+        ensures added { OnOk result
+            (self.new ≡ with_function self.old driver f (spec.declared_function decl.now)) }
+
+        ensures first_refusal { IfErr result (λ why. why ≢ RegError.Memory
+            → refusal_of_function self.old driver (spec.declared_function decl.now) ≡ Some why) }
+        ensures unchanged { OnErr result (self.new ≡ self.old) }
+    {
+        let declared = declared_function(self.alloc, decl)?;
+        self.add_own(EntryKind::Function, driver, f, declared)
+    }
+
+    /// Registers a global property of a driver, and answers its number: property `f` of the driver. The
+    /// declaration is `type NAME`, where the type is a primitive one; with `const` in front of it scripts
+    /// can't write the property.
+    ///
+    /// Refused as `function` is; `Duplicate` comes where a type, a function or a global property has the name.
+    pub fn global_property(
+        &mut self,
+        driver: u32,
+        f: u32,
+        decl: &[u8],
+    ) -> Result<EntityNo, RegError>
+        ensures accepted { OnOk result
+            (refusal_of_global self.old driver (spec.declared_property decl.now) ≡ None) }
+        ensures number { IfOk result (λ number. number.0 ≡ length self.old.entries) }
+        ensures added { OnOk result
+            (self.new ≡ with_global self.old driver f (spec.declared_property decl.now)) }
+
+        ensures first_refusal { IfErr result (λ why. why ≢ RegError.Memory
+            → refusal_of_global self.old driver (spec.declared_property decl.now) ≡ Some why) }
+        ensures unchanged { OnErr result (self.new ≡ self.old) }
+    {
+        let declared = declared_property(self.alloc, decl)?;
+        self.add_own(EntryKind::Global, driver, f, declared)
+    }
+
+    /// Adds a blank, which no mask sees, and answers its number: what is registered behind it keeps the
+    /// number that it has in a list with an entry there.
+    ///
+    /// Refused `Limit` where 1,024 entries are there. `Memory` may come in the place of any answer. After
+    /// a refusal the registry is as it was.
+    pub fn blank(&mut self) -> Result<EntityNo, RegError>
+        ensures accepted { OnOk result (refusal_of_blank self.old ≡ None) }
+        ensures number { IfOk result (λ number. number.0 ≡ length self.old.entries) }
+        ensures added { OnOk result (self.new ≡ with_blank self.old) }
+
+        ensures first_refusal { IfErr result (λ why. why ≢ RegError.Memory
+            → refusal_of_blank self.old ≡ Some why) }
         ensures unchanged { OnErr result (self.new ≡ self.old) }
     {
         if self.len() >= MOST_ENTRIES {
             return Err(RegError::Limit);
         }
-        if self.default_mask.0 == 0 {
-            return Err(RegError::EmptyMask);
-        }
-        let Some(signature) = read_function(self.alloc, decl)? else {
+        self.push(None)
+    }
+
+    /// Adds an entry that belongs to a driver and to no type.
+    fn add_own(
+        &mut self,
+        kind: EntryKind,
+        driver: u32,
+        f: u32,
+        declared: Option<Signature>,
+    ) -> Result<EntityNo, RegError>
+        ensures accepted { OnOk result (refusal_of_own kind self.old driver declared ≡ None) }
+        ensures number { IfOk result (λ number. number.0 ≡ length self.old.entries) }
+        ensures added { OnOk result (self.new ≡ with_own kind self.old driver f declared) }
+        ensures first_refusal { IfErr result (λ why. why ≢ RegError.Memory
+            → refusal_of_own kind self.old driver declared ≡ Some why) }
+        ensures unchanged { OnErr result (self.new ≡ self.old) }
+    {
+        check_room(&self.entries, self.default_mask, &declared)?;
+        let Some(signature) = declared else {
             return Err(RegError::BadDeclaration);
         };
-        if driver > LAST_DRIVER {
-            return Err(RegError::WrongDriver);
+        self.add(kind, None, driver, f, signature)
+    }
+
+    /// Adds an entry that belongs to the type of this name, and so to the type's driver.
+    fn add_member(
+        &mut self,
+        kind: EntryKind,
+        type_name: &[u8],
+        f: u32,
+        declared: Option<Signature>,
+    ) -> Result<EntityNo, RegError>
+        ensures accepted { OnOk result
+            (refusal_of_member kind self.old type_name.now declared ≡ None) }
+        ensures number { IfOk result (λ number. number.0 ≡ length self.old.entries) }
+        ensures added { OnOk result
+            (self.new ≡ with_member kind self.old type_name.now f declared) }
+        ensures first_refusal { IfErr result (λ why. why ≢ RegError.Memory
+            → refusal_of_member kind self.old type_name.now declared ≡ Some why) }
+        ensures unchanged { OnErr result (self.new ≡ self.old) }
+    {
+        check_room(&self.entries, self.default_mask, &declared)?;
+        let Some(signature) = declared else {
+            return Err(RegError::BadDeclaration);
+        };
+        if !gives_own(kind, type_name, &signature) {
+            return Err(RegError::BadDeclaration);
         }
-        if is_duplicate(&self.entries, &signature) {
-            return Err(RegError::Duplicate);
-        }
-        let number = EntityNo(self.len() as u32);
-        self.entries.push(Some(Entry {
-            kind: EntryKind::Function,
-            owner: None,
+        let Some(found) = find_type(&self.entries, type_name) else {
+            return Err(RegError::UnknownType);
+        };
+        self.add(kind, Some(found.number), found.driver, f, signature)
+    }
+
+    /// Adds an entry under the default mask, where none of the last rows of the table applies.
+    fn add(
+        &mut self,
+        kind: EntryKind,
+        owner: Option<EntityNo>,
+        driver: u32,
+        f: u32,
+        signature: Signature,
+    ) -> Result<EntityNo, RegError>
+        requires { length self.old.entries < 1024 }
+        ensures accepted { OnOk result
+            (refusal_of_entry self.old.entries kind owner driver signature ≡ None) }
+        ensures number { IfOk result (λ number. number.0 ≡ length self.old.entries) }
+        ensures added { OnOk result
+            (self.new ≡ with_entry self.old kind owner driver f signature) }
+        ensures first_refusal { IfErr result (λ why. why ≢ RegError.Memory
+            → refusal_of_entry self.old.entries kind owner driver signature ≡ Some why) }
+        ensures unchanged { OnErr result (self.new ≡ self.old) }
+    {
+        let entry = Entry {
+            kind,
+            owner,
             driver,
             f,
             signature,
             mask: self.default_mask,
-        }))?;
+        };
+        if names_unknown(&self.entries, &entry.signature) {
+            return Err(RegError::UnknownType);
+        }
+        if is_wrong_driver(&self.entries, &entry) {
+            return Err(RegError::WrongDriver);
+        }
+        if is_duplicate(&self.entries, &entry) {
+            return Err(RegError::Duplicate);
+        }
+        self.push(Some(entry))
+    }
+
+    /// Puts an entry or a blank last.
+    fn push(&mut self, entry: Option<Entry>) -> Result<EntityNo, RegError>
+        requires { length self.old.entries < 1024 }
+        ensures number { IfOk result (λ number. number.0 ≡ length self.old.entries) }
+        ensures added { OnOk result (self.new ≡ with_last self.old entry) }
+        ensures memory { IfErr result (λ why. why ≡ RegError.Memory) }
+        ensures unchanged { OnErr result (self.new ≡ self.old) }
+    {
+        let number = EntityNo(self.len() as u32);
+        self.entries.push(entry)?;
         Ok(number)
+    }
+
+    /// What a module of the mask sees of the list.
+    ///
+    /// The only error is want of memory.
+    pub fn seen(&self, alloc: Global, mask: Mask) -> Result<View, AllocError>
+        ensures exact { IfOk result (λ view. view ≡ seen self.now.entries mask.0) }
+    {
+        view_of(alloc, &self.entries, mask)
     }
 
     /// The number of entries, blanks included: at most 1,024.
@@ -121,6 +342,14 @@ impl Registry {
         ensures exact { option_copied result ≡ entry_at self.now.entries number.0 }
     {
         self.entries.get(number.0 as usize)?.as_ref()
+    }
+
+    /// The number of the type of this name, whatever its mask. It takes no memory.
+    pub fn find_type(&self, name: &[u8]) -> Option<EntityNo>
+        ensures exact { option_map (λ number. number.0) result
+            ≡ type_named self.now.entries name.now }
+    {
+        number_of_type(&self.entries, name)
     }
 
     /// The number of the first function of the name that a module of the mask sees.
