@@ -1,3 +1,10 @@
 pub mod Plain
 pub mod Console
 pub mod ConsoleState
+pub mod Objects
+pub mod ObjectsLedger
+pub mod Tables
+pub mod Counter
+pub mod CounterState
+pub mod Cell
+pub mod CellState

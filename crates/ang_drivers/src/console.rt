@@ -3,15 +3,10 @@ ghost use Rattle.std.specs.Prelude.{◌≡◌, ◌<◌, ◌^◌, pos, [], IfOk};
 ghost use Rattle.ang_drivers.specs.Console.{IsSum, IsFaultOf};
 ghost use Rattle.ang_drivers.specs.Plain.{IsPlain};
 
+use crate::values::{LIMIT, UNKNOWN};
 use ang_host::{Answer, Driver, Made};
 use ang_kinds::Value;
 use std::alloc::{AllocError, Global};
-
-/// The most that a tally counts to.
-const LIMIT: u64 = 9_223_372_036_854_775_807;
-
-/// The answer where the function number is unknown, or the arguments are of another form.
-const UNKNOWN: u32 = 1;
 
 /// The answer where a sum does not fit into 64 bits.
 const OVERFLOW: u32 = 2;

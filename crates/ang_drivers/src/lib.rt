@@ -1,9 +1,15 @@
 //! Sample drivers, which keep the laws of `Driver`.
 #![tactic(auto)]
 
+mod cell;
 mod console;
+mod counter;
 pub mod laws;
+mod objects;
 #[cfg(test)]
 mod tests;
+mod values;
 
+pub use cell::Cell;
 pub use console::Console;
+pub use counter::Counter;

@@ -1,0 +1,53 @@
+-- Tables of one core are the same table.
+use Rattle.std.specs.Prelude.{ℕ, ℤ, ◌≡◌, List, [], ◌∷◌, ◌++◌}
+use Rattle.std.specs.FinMap as map
+use Rattle.std.specs.FinMap.{same_entries_map}
+use Rattle.std.proofs.Common.{refl, ap}
+use Rattle.ang_kinds.specs.declared.value.Value.TheVariants.{Int}
+use Rattle.ang_drivers.specs.declared.counter.Count.{Count}
+use Rattle.ang_drivers.specs.Objects.{Table}
+use Rattle.ang_drivers.specs.Console.{code_of}
+use Rattle.ang_drivers.specs.Tables.{numbers_of, core_of}
+use Rattle.ang_drivers.specs.Counter.{count_code}
+use Rattle.ang_drivers.specs.Cell.{value_code}
+use Rattle.ang_drivers.proofs.Codes.{code_of-injective}
+
+-- the numbers of a value can be told from those that follow
+abbrev pub IsReadable : {T : Type 0} → (T → List ℕ) → Type 0
+IsReadable {T} code = (v w : T) (xs ys : List ℕ) → code v ++ xs ≡ code w ++ ys → (v ≡ w) × (xs ≡ ys)
+
+module _ {T : Type 0} (code : T → List ℕ) (readable : IsReadable code) where
+  numbers_differ : (es gs : List (ℕ × T)) → numbers_of code es ≡ numbers_of code gs → es ≡ gs
+  numbers_differ [] [] h = refl
+  numbers_differ [] (g ∷ gs) h = absurd (let x : ⊥ = cc in x)
+  numbers_differ (e ∷ es) [] h = absurd (let x : ⊥ = cc in x)
+  numbers_differ (e ∷ es) (g ∷ gs) h =
+      let k : e.0 ≡ g.0 = cc in
+      let t : code e.1 ++ numbers_of code es ≡ code g.1 ++ numbers_of code gs = cc in
+      let p = readable e.1 g.1 (numbers_of code es) (numbers_of code gs) t in
+      let rest : es ≡ gs = numbers_differ es gs p.1 in
+      let first : e ≡ g = λ i. (k i, p.0 i) in
+      λ i. first i ∷ rest i
+
+  pub cores_differ : (x y : Table T) → core_of code x ≡ core_of code y → x ≡ y
+  cores_differ x y h =
+      let n : x.next ≡ y.next = cc in
+      let t : numbers_of code (map.entries x.values) ≡ numbers_of code (map.entries y.values) = cc in
+      let m : x.values ≡ y.values = same_entries_map x.values y.values (numbers_differ (map.entries x.values) (map.entries y.values) t) in
+      λ i. record { next = n i; values = m i }
+
+int_differ : (a b : ℤ) → code_of (Int a) ≡ code_of (Int b) → a ≡ b
+int_differ a b h = let e : Int a ≡ Int b = code_of-injective (Int a) (Int b) h in cc
+
+pub count-readable : IsReadable count_code
+count-readable v w xs ys h =
+    let a : code_of (Int v.value) ≡ code_of (Int w.value) = cc in
+    let b : code_of (Int v.step) ≡ code_of (Int w.step) = cc in
+    let p : v.value ≡ w.value = int_differ v.value w.value a in
+    let q : v.step ≡ w.step = int_differ v.step w.step b in
+    let r : xs ≡ ys = cc in (λ i. record { value = p i; step = q i }, r)
+
+pub value-readable : IsReadable value_code
+value-readable v w xs ys h =
+    let a : code_of (Int v) ≡ code_of (Int w) = cc in
+    let r : xs ≡ ys = cc in (int_differ v w a, r)

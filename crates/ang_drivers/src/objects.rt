@@ -1,0 +1,187 @@
+//! Objects that a driver keeps for scripts, each under a key, with the references that are held to it.
+ghost use Rattle.std.specs.Prelude.{ℕ, ◌+◌, ◌≡◌, ◌<◌, ◌≤◌, ◌^◌, ◌↔◌, cond, Some, IsSome, IsTrue, IfOk, OnErr};
+ghost use Rattle.std.specs.Ordering.{nat_cmp};
+ghost use Rattle.std.specs.FinMap as map;
+ghost use Rattle.std.specs.BTreeMap.{get, is_at};
+ghost use Rattle.ang_host.specs.State.{total, count_at};
+ghost use Rattle.ang_drivers.specs.Objects.{by_key, fresh, IsHeld, IsRevalued, Asks, Inserts, MakesOne, AddsOne, ReleasesOne};
+
+use crate::values::LIMIT;
+use ang_host::Made;
+use std::alloc::{AllocError, Global};
+use std::collections::BTreeMap;
+
+/// An object: the references that are held to it, at least 1, and its value.
+#[derive(Clone, Copy)]
+struct Counted<T> {
+    count: u64,
+    value: T,
+}
+
+/// The live objects by key, and the tallies of a driver that keeps them.
+///
+/// Keys rise from 0 and are not used again: the next key is the number of objects made so far. Each
+/// object that is made takes an asking, so `made` never runs out before `asked`.
+#[derive(Drop)]
+pub struct Objects<T> {
+    live: BTreeMap<u64, Counted<T>>,
+    asked: u64,
+    made: u64,
+    added: u64,
+    released: u64,
+    ghost sums: { made + added ≡ released + total (by_key (λ c. c.count) live.entries) },
+    ghost positive: { (k n : ℕ) → map.get (by_key (λ c. c.count) live.entries) k ≡ Some n → 0 < n },
+    ghost unused: { (k : ℕ) → made ≤ k → count_at (by_key (λ c. c.count) live.entries) k ≡ 0 },
+    ghost makings: { made ≤ asked },
+    ghost few_asked: { asked < 2 ^ 63 },
+    ghost few_added: { added < 2 ^ 63 },
+}
+
+impl<T: Copy> Objects<T> {
+    ghost use Rattle.ang_drivers.specs.ObjectsLedger.{ledger};
+
+    /// No objects, and nothing was asked.
+    pub fn new(alloc: Global) -> Objects<T>
+        ensures { ledger result ≡ fresh }
+    {
+        Objects {
+            live: BTreeMap::new(alloc),
+            asked: 0,
+            made: 0,
+            added: 0,
+            released: 0,
+        }
+    }
+
+    /// Whether no object is live.
+    pub fn is_empty(&self) -> bool
+        ensures { IsTrue result ↔ ((ledger self.now).counts ≡ map.empty) }
+    {
+        self.live.is_empty()
+    }
+
+    /// How many references were added so far.
+    pub fn added(&self) -> u64
+        ensures { result ≡ (ledger self.now).tally.added }
+    {
+        self.added
+    }
+
+    /// Counts an asking. False, with nothing done, where 2^63 - 1 are counted.
+    pub fn ask(&mut self) -> bool
+        ensures { Asks (ledger self.old) result (ledger self.new) }
+    {
+        if self.asked == LIMIT {
+            return false;
+        }
+        self.asked += 1;
+        true
+    }
+
+    /// Makes an object of this value, with one reference: answers its key, or want of memory with
+    /// nothing done. The asking for it has to be counted first (`ask`).
+    pub fn make(&mut self, value: T) -> Made
+        requires { (ledger self.old).tally.made < (ledger self.old).tally.asked }
+        ensures { MakesOne (ledger self.old) value result (ledger self.new) }
+    {
+        match self.insert(value) {
+            Ok(key) => Made::Key(key),
+            Err(_) => Made::Memory,
+        }
+    }
+
+    // The key of the new object.
+    fn insert(&mut self, value: T) -> Result<u64, AllocError>
+        requires { (ledger self.old).tally.made < (ledger self.old).tally.asked }
+        ensures inserted { IfOk result (λ key. Inserts (ledger self.old) value key (ledger self.new)) }
+        ensures unchanged { OnErr result (ledger self.new ≡ ledger self.old) }
+    {
+        let key = self.made;
+        self.live.insert(key, Counted { count: 1, value })?;
+        self.made += 1;
+        Ok(key)
+    }
+
+    /// The value of a live object.
+    pub fn value(&self, key: u64) -> T
+        requires { IsHeld (ledger self.now) key }
+        ensures { map.get (ledger self.now).table.values key ≡ Some result }
+    {
+        object_at(&self.live, key).value
+    }
+
+    /// Gives a live object another value.
+    pub fn set_value(&mut self, key: u64, value: T)
+        requires { IsHeld (ledger self.old) key }
+        ensures { IsRevalued (ledger self.old) key value (ledger self.new) }
+    {
+        let count = object_at(&self.live, key).count;
+        replace(&mut self.live, key, Counted { count, value });
+    }
+
+    /// Adds a reference to a live object. False, with nothing done, where 2^63 - 1 were added.
+    pub fn add_ref(&mut self, key: u64) -> bool
+        requires { IsHeld (ledger self.old) key }
+        ensures { AddsOne (ledger self.old) key result (ledger self.new) }
+    {
+        if self.added == LIMIT {
+            return false;
+        }
+        let Counted { count, value } = object_at(&self.live, key);
+        replace(
+            &mut self.live,
+            key,
+            Counted {
+                count: count + 1,
+                value,
+            },
+        );
+        self.added += 1;
+        true
+    }
+
+    /// Releases a reference to a live object, and tells whether it was the last: then the object is
+    /// gone.
+    pub fn release(&mut self, key: u64) -> bool
+        requires { IsHeld (ledger self.old) key }
+        ensures { ReleasesOne (ledger self.old) key result (ledger self.new) }
+    {
+        let Counted { count, value } = object_at(&self.live, key);
+        self.released += 1;
+        if count == 1 {
+            self.live.remove(&key);
+            return true;
+        }
+        replace(
+            &mut self.live,
+            key,
+            Counted {
+                count: count - 1,
+                value,
+            },
+        );
+        false
+    }
+}
+
+// The object of a live key. A look-up takes time as the logarithm of the number of objects.
+fn object_at<T: Copy>(live: &BTreeMap<u64, Counted<T>>, key: u64) -> Counted<T>
+    requires { IsSome (get nat_cmp live.now key) }
+    ensures { get nat_cmp live.now key ≡ Some result }
+{
+    match live.get(&key) {
+        Some(object) => *object,
+        None => unreachable!(),
+    }
+}
+
+// Puts an object in the place of that of a live key.
+fn replace<T: Copy>(live: &mut BTreeMap<u64, Counted<T>>, key: u64, object: Counted<T>)
+    requires { IsSome (get nat_cmp live.old key) }
+    ensures { (q : ℕ) → get nat_cmp live.new q ≡ cond (is_at (nat_cmp key) q) (Some object) (get nat_cmp live.old q) }
+{
+    match live.get_mut(&key) {
+        Some(place) => *place = object,
+        None => unreachable!(),
+    }
+}

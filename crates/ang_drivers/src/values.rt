@@ -1,0 +1,38 @@
+//! What drivers read from what they are asked.
+ghost use Rattle.std.specs.Prelude.{◌≡◌};
+ghost use Rattle.ang_drivers.specs.Tables.{int_32, one_int_32, property_0};
+
+use ang_kinds::Value;
+
+/// The most that a tally counts to.
+pub const LIMIT: u64 = 9_223_372_036_854_775_807;
+
+/// The answer where the function number is unknown, or the arguments are of another form.
+pub const UNKNOWN: u32 = 1;
+
+/// An `Int` that fits into 32 bits.
+pub fn read_int_32(value: Value) -> Option<i32>
+    ensures { result ≡ int_32 value }
+{
+    match value {
+        Value::Int(number) => i32::try_from(number).ok(),
+        _ => None,
+    }
+}
+
+/// An `Int` that fits into 32 bits, where it is the only argument.
+pub fn read_one_int_32(args: &[Value]) -> Option<i32>
+    ensures { result ≡ one_int_32 args.now }
+{
+    match args {
+        [value] => read_int_32(*value),
+        _ => None,
+    }
+}
+
+/// The object whose property is meant, where there is one and only the property 0 is known.
+pub fn read_property_0(f: u32, object: Option<u64>) -> Option<u64>
+    ensures { result ≡ property_0 f object }
+{
+    if f == 0 { object } else { None }
+}
