@@ -50,7 +50,7 @@ after_names-sound R m ds (e ∷ es) p h = cc
 
 after_reading-sound : (R : RegistrationList) (m : ℕ) (ds : List Declaration) (es : List Error) (p : Program)
     → after_reading (seen R m) ds es ≡ Compiled p → HasSeenCalls R m p
-after_reading-sound R m ds [] p h = after_names-sound R m ds (name_errors [] ds) p h
+after_reading-sound R m ds [] p h = after_names-sound R m ds (name_errors (seen R m) [] ds) p h
 after_reading-sound R m ds (e ∷ es) p h = cc
 
 after_sections-sound : (R : RegistrationList) (m : ℕ) (read : Result (List Source) Error) (p : Program)

@@ -1,10 +1,10 @@
 -- What a build gives (docs/MEANING.md, "A build"; the AngelScript manual, "Script modules"): the errors of the first phase
 -- that refuses something, or the program.
-use Rattle.std.specs.Prelude.{ℕ, ℤ, ◌==◌, Bool, true, false, if◌then◌else◌, List, [], ◌∷◌, ◌++◌, length, Option, Some, None, Result, Ok, Err, bytes_eq, option_to_list, map as list_map}
-use Rattle.std.specs.List.{flat_map}
+use Rattle.std.specs.Prelude.{ℕ, ℤ, ◌==◌, ◌||◌, Bool, true, false, if◌then◌else◌, List, [], ◌∷◌, ◌++◌, length, Option, Some, None, Result, Ok, Err, bytes_eq, option_to_list, map as list_map}
+use Rattle.std.specs.List.{flat_map, list_any}
 use Rattle.ang_kinds.specs.declared.error.Error.{Error}
 use Rattle.ang_kinds.specs.declared.error.ErrorKind.{ErrorKind}
-use Rattle.ang_kinds.specs.declared.error.ErrorKind.TheVariants.{Duplicate, Limit, UnknownName, NoMatch}
+use Rattle.ang_kinds.specs.declared.error.ErrorKind.TheVariants.{Duplicate, Limit, UnknownName, NoMatch, NotYet}
 use Rattle.ang_registry.specs.declared.entry.Entry.{Entry}
 use Rattle.ang_registry.specs.Registration.{RegistrationList, entry_at, function_named}
 use Rattle.ang_build.specs.declared.program.HostCall.{HostCall}
@@ -13,7 +13,8 @@ use Rattle.ang_build.specs.declared.program.Program.{Program}
 use Rattle.ang_build.specs.declared.script.Name.{Name}
 use Rattle.ang_build.specs.declared.script.Statement.{Statement}
 use Rattle.ang_build.specs.declared.script.Declaration.{Declaration}
-use Rattle.ang_build.specs.Thin.{Source, functions_in, errors_in}
+use Rattle.ang_build.specs.Thin.{Source, fault_at, functions_in, errors_in}
+use Rattle.ang_build.specs.Host.{is_taken_by, is_beyond_named}
 use Rattle.ang_build.specs.Script.{sources_of}
 
 pub data Built : Type 0 where
@@ -34,32 +35,30 @@ declares (d ∷ ds) name = if bytes_eq d.name.text name then true else declares 
 abbrev pub most_functions : ℕ
 most_functions = 4096
 
--- A later function of the same name and parameters is refused, and then the first function above the limit. The
--- host's functions take one `int`, so a script's function without parameters overloads theirs.
-abbrev pub name_error : List Declaration → Declaration → Option Error
-name_error before d =
-    if declares before d.name.text then Some (error_at Duplicate d.name)
+-- A later function of the same name and parameters is refused, and a function against what the host has under its name; and then
+-- the first function above the limit.
+abbrev pub name_error : RegistrationList → List Declaration → Declaration → Option Error
+name_error V before d =
+    if list_any (is_taken_by d.name.text) V || declares before d.name.text then Some (error_at Duplicate d.name)
     else (if length before == most_functions then Some (error_at Limit d.name) else None)
 
-abbrev pub name_errors : List Declaration → List Declaration → List Error
-name_errors before [] = []
-name_errors before (d ∷ ds) = option_to_list (name_error before d) ++ name_errors (before ++ d ∷ []) ds
+abbrev pub name_errors : RegistrationList → List Declaration → List Declaration → List Error
+name_errors V before [] = []
+name_errors V before (d ∷ ds) = option_to_list (name_error V before d) ++ name_errors V (before ++ d ∷ []) ds
 
 -- ---- the bodies, looked at where no name is refused
 
--- Every entry is so far a host function of one `int`, and every script function has no parameter: so a call by a name resolves
--- to the seen host function of the name, and a script function of the name takes no argument.
-abbrev pub use_error : Option ℕ → Bool → Option ErrorKind
-use_error (Some number) declared = None
-use_error None true = Some NoMatch
-use_error None false = Some UnknownName
-
-abbrev pub error_at_use : Option ErrorKind → Name → Option Error
-error_at_use None name = None
-error_at_use (Some kind) name = Some (error_at kind name)
+-- A call by a name resolves to the seen host function of the name. It is not built yet where the host has something else to call
+-- under that name, and a script function of the name takes no argument.
+abbrev pub use_error : Bool → Option ℕ → Bool → Name → Option Error
+use_error true number declared callee = Some (fault_at NotYet callee.place)
+use_error false (Some number) declared callee = None
+use_error false None true callee = Some (error_at NoMatch callee)
+use_error false None false callee = Some (error_at UnknownName callee)
 
 abbrev pub statement_error : RegistrationList → List Declaration → Statement → Option Error
-statement_error V ds s = error_at_use (use_error (function_named V s.callee.text) (declares ds s.callee.text)) s.callee
+statement_error V ds s =
+    use_error (list_any (is_beyond_named s.callee.text) V) (function_named V s.callee.text) (declares ds s.callee.text) s.callee
 
 abbrev pub first_of : Option Error → Option Error → Option Error
 first_of (Some e) rest = Some e
@@ -109,7 +108,7 @@ after_names V ds [] = after_bodies V ds (body_errors V ds ds)
 -- the declarations that are not built yet go first
 abbrev pub after_reading : RegistrationList → List Declaration → List Error → Built
 after_reading V ds (e ∷ es) = Errors (e ∷ es)
-after_reading V ds [] = after_names V ds (name_errors [] ds)
+after_reading V ds [] = after_names V ds (name_errors V [] ds)
 
 abbrev pub after_sections : RegistrationList → Result (List Source) Error → Built
 after_sections V (Err e) = Errors (e ∷ [])

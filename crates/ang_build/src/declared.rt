@@ -8,8 +8,9 @@ ghost use Rattle.ang_build.specs.Thin as spec;
 ghost use Rattle.ang_build.specs.Script.{source_of};
 
 use crate::script::Declaration;
+use crate::section::nameless;
 use crate::thin::built_function;
-use ang_kinds::{Error, ErrorKind, List};
+use ang_kinds::{Error, ErrorKind};
 use ang_lex::Token;
 use ang_tree as tree;
 use ang_tree::{Script, TypeName, Variables};
@@ -26,11 +27,7 @@ pub struct Declared<'a> {
 fn not_yet(alloc: Global, first: &Token) -> Error
     ensures { result ≡ spec.fault_at ErrorKind.NotYet first.now.place }
 {
-    Error {
-        kind: ErrorKind::NotYet,
-        place: first.place,
-        name: List::from_vec(Vec::new(alloc)),
-    }
+    nameless(alloc, ErrorKind::NotYet, first.place)
 }
 
 fn first_of_type(declared: &TypeName) -> Token

@@ -4,6 +4,7 @@
 
 mod build;
 mod declared;
+mod host;
 pub mod laws;
 mod program;
 mod script;

@@ -43,7 +43,7 @@ impl<T: Drop> From<AllocFailed<T>> for Unread {
 }
 
 /// An error without a name.
-fn nameless(alloc: Global, kind: ErrorKind, place: Place) -> Error
+pub fn nameless(alloc: Global, kind: ErrorKind, place: Place) -> Error
     ensures { result ≡ fault_at kind place }
 {
     Error {

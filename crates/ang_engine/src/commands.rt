@@ -159,7 +159,10 @@ fn build_module(alloc: Global, registry: &Registry, into: &mut Module) -> Result
     into.built_mask = into.mask;
     into.program = None;
     let sections = mem::replace(&mut into.sections, Vec::new(alloc));
-    match build_sections(alloc, registry, into.mask, &sections) {
+    let Ok(view) = registry.seen(alloc, into.mask) else {
+        return Err(Unbuilt::Memory)
+    };
+    match build_sections(alloc, &view, &sections) {
         Ok(program) => {
             into.program = Some(program);
             Ok(())
