@@ -59,6 +59,15 @@ fn check_name(
     Ok(None)
 }
 
+fn push_error(errors: &mut Vec<Error>, error: Option<Error>) -> Result<(), AllocError>
+    ensures { OnOk result (errors.new.items ≡ errors.old.items ++ option_to_list error) }
+{
+    if let Some(error) = error {
+        errors.push(error)?;
+    }
+    Ok(())
+}
+
 /// The errors of the declarations' names, in order.
 fn check_names(
     alloc: Global,
@@ -69,9 +78,8 @@ fn check_names(
 {
     let mut errors = Vec::new(alloc);
     for (i, declaration) in declarations.iter().enumerate() {
-        if let Some(error) = check_name(alloc, view, &declarations[..i], declaration)? {
-            errors.push(error)?;
-        }
+        let error = check_name(alloc, view, &declarations[..i], declaration)?;
+        push_error(&mut errors, error)?;
     }
     Ok(errors)
 }
@@ -129,9 +137,8 @@ fn check_bodies(
     let mut errors = Vec::new(alloc);
     for declaration in declarations {
         let body = declaration.body.as_slice();
-        if let Some(error) = check_body(alloc, view, declarations, body)? {
-            errors.push(error)?;
-        }
+        let error = check_body(alloc, view, declarations, body)?;
+        push_error(&mut errors, error)?;
     }
     Ok(errors)
 }

@@ -1,10 +1,10 @@
 //! What a module sees of the host under a name.
 ghost use Rattle.std.specs.Prelude.{◌≡◌, option_map, bytes_eq};
-ghost use Rattle.std.specs.List.{list_any};
+ghost use Rattle.std.specs.List.{list_any, list_all};
 ghost use Rattle.ang_registry.specs.Registration.{entry_at, is_function_named, function_named};
 ghost use Rattle.ang_build.specs.Host as spec;
 
-use ang_kinds::{EntityNo, Prim, Signature, TypeRef};
+use ang_kinds::{EntityNo, Param, Prim, Signature, TypeRef};
 use ang_registry::{Entry, EntryKind, View};
 
 fn is_void(ty: &TypeRef) -> bool
@@ -25,12 +25,18 @@ fn is_int(ty: &TypeRef) -> bool
     }
 }
 
+fn are_ints(params: &[Param]) -> bool
+    ensures { result ≡ list_all (λ p. spec.is_int p.ty) params.now }
+{
+    params.iter().all(|param| is_int(&param.ty))
+}
+
 /// Whether it is of the form `void NAME(int)`.
 fn takes_one_int(signature: &Signature) -> bool
     ensures { result ≡ spec.takes_one_int signature.now }
 {
     let params = signature.params.as_slice();
-    is_void(&signature.result) && params.len() == 1 && params.iter().all(|param| is_int(&param.ty))
+    is_void(&signature.result) && params.len() == 1 && are_ints(params)
 }
 
 /// Whether a script's function of the entry's name can't stand beside it.
@@ -92,7 +98,6 @@ fn is_function_at(view: &View, number: u32, name: &[u8]) -> bool
 }
 
 /// Whether a script's function of the name can't stand beside what is seen.
-#[tactic(auto, using(crate::proofs::Searching::any))]
 pub fn is_taken(view: &View, name: &[u8]) -> bool
     ensures { result ≡ list_any (spec.is_taken_by name.now) view.now }
 {
@@ -105,7 +110,6 @@ pub fn is_taken(view: &View, name: &[u8]) -> bool
 }
 
 /// Whether a call by the name is not built yet, for something that is seen under it.
-#[tactic(auto, using(crate::proofs::Searching::any))]
 pub fn is_beyond_built(view: &View, name: &[u8]) -> bool
     ensures { result ≡ list_any (spec.is_beyond_named name.now) view.now }
 {
@@ -118,7 +122,6 @@ pub fn is_beyond_built(view: &View, name: &[u8]) -> bool
 }
 
 /// The number of the first function of the name that is seen.
-#[tactic(auto, using(crate::proofs::Searching::first))]
 pub fn seen_function(view: &View, name: &[u8]) -> Option<EntityNo>
     ensures { option_map (λ number. number.0) result ≡ function_named view.now name.now }
 {
