@@ -19,7 +19,7 @@ use Rattle.ang_engine.specs.declared.reply.Reply.{Reply}
 use Rattle.ang_engine.specs.declared.reply.Refusal.{Refusal}
 use Rattle.ang_engine.specs.declared.reply.Refusal.TheVariants.{Memory, BuildMemory, BuildErrors}
 use Rattle.ang_engine.specs.declared.reply.Outcome.TheVariants.{Done, Refused}
-use Rattle.ang_engine.specs.declared.program.Function.{Function}
+use Rattle.ang_build.specs.declared.program.Function.{Function}
 use Rattle.ang_engine.specs.declared.reply.Outcome.{Outcome}
 use Rattle.ang_engine.specs.World.{World, module_at}
 use Rattle.ang_engine.specs.Meaning.{Input, Room, has_room, is_stopped, IsRun}

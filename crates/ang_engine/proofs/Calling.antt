@@ -18,15 +18,16 @@ use Rattle.ang_engine.specs.declared.reply.Outcome.{Outcome}
 use Rattle.ang_engine.specs.declared.reply.Outcome.TheVariants.{Failed}
 use Rattle.ang_lex.specs.Tokens.{tokens_of}
 use Rattle.ang_engine.specs.declared.reply.Refusal.TheVariants.{BadBudget}
-use Rattle.ang_engine.specs.declared.program.HostCall.{HostCall}
-use Rattle.ang_engine.specs.declared.program.Function.{Function}
-use Rattle.ang_engine.specs.declared.program.Program.{Program}
+use Rattle.ang_build.specs.declared.program.HostCall.{HostCall}
+use Rattle.ang_build.specs.declared.program.Function.{Function}
+use Rattle.ang_build.specs.declared.program.Program.{Program}
 use Rattle.ang_engine.specs.World.{ModuleState, World, index_from, module_named, module_at, no_module}
 use Rattle.ang_engine.specs.Meaning.{Input, Room, Said, Run, after_event, unless_fault, event_of, fault_of, evaluate, entered, ended, IsRun}
-use Rattle.ang_engine.specs.Build.{first_named, function_by, function_of, name_in_declaration}
+use Rattle.ang_engine.specs.Functions.{first_named, function_by, function_of, name_in_declaration}
 use Rattle.ang_engine.specs.Step.{Takes, IsEntitled, reply_of, on_module, call_program, call_function, is_budget, refused, ran}
 use Rattle.ang_engine.specs.Asking.{HaveRoles, AreInList}
-use Rattle.ang_engine.specs.Sound.{IsSeenCall, HasSeenCalls, IfBuilt, AreSoundModules, HaveDrivers}
+use Rattle.ang_build.specs.SeenCalls.{IsSeenCall, HasSeenCalls}
+use Rattle.ang_engine.specs.Sound.{IfBuilt, AreSoundModules, HaveDrivers}
 use Rattle.ang_engine.specs.Outcomes.{IsCalled}
 
 -- ---- the module of a name

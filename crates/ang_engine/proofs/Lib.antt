@@ -1,5 +1,4 @@
 pub mod Running
-pub mod Building
 pub mod Stepping
 pub mod Worlds
 pub mod OnModule
@@ -7,6 +6,4 @@ pub mod Soundness
 pub mod States
 pub mod Calling
 pub mod Applying
-pub mod Trees
-pub mod FirstTokens
-pub mod SoFar
+pub mod Naming

@@ -9,10 +9,10 @@ use Rattle.ang_engine.specs.World.{ModuleState, state_of, world_of, module_named
 use Rattle.ang_engine.specs.Meaning.{Input, Room}
 use Rattle.ang_engine.specs.Step.{Stepped, answered, refused, on_module, add_section, or_limit, is_budget, build, build_within, after_build, emptied, reply_of}
 use Rattle.ang_engine.specs.Outcomes.{IsDone, IsAdded, building}
-use Rattle.ang_engine.specs.Build.{Errors, Compiled, build_of}
+use Rattle.ang_build.specs.Build.{Errors, Compiled, build_of}
 use Rattle.ang_registry.specs.Registration.{RegistrationList, seen}
 use Rattle.ang_kinds.specs.declared.error.Error.{Error}
-use Rattle.ang_engine.specs.declared.program.Program.{Program}
+use Rattle.ang_build.specs.declared.program.Program.{Program}
 use Rattle.ang_engine.proofs.Worlds.{world_of-set, module_at-world, world_of-same}
 
 -- a command on a module of a name is one on the module of its index

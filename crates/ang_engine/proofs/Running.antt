@@ -8,7 +8,7 @@ use Rattle.ang_host.specs.declared.answer.Answer.{Answer}
 use Rattle.ang_host.specs.declared.answer.Answer.TheVariants.{Void}
 use Rattle.ang_host.specs.declared.answer.HostReply.TheVariants.{Asking}
 use Rattle.ang_host.specs.declared.event.HostEvent.{HostEvent}
-use Rattle.ang_engine.specs.declared.program.HostCall.{HostCall}
+use Rattle.ang_build.specs.declared.program.HostCall.{HostCall}
 use Rattle.ang_engine.specs.declared.reply.Outcome.TheVariants.{Done, Failed}
 use Rattle.ang_engine.specs.Meaning.{Input, Room, Said, Run, has_room, is_stopped, after_event, unless_fault, event_of, fault_of, evaluate, IsRun}
 
@@ -93,14 +93,6 @@ Resumes-failed caller all rest c f was now (inl p) r =
     subst (IsRun caller all (Failed f)) (sym p.1) (subst (λ g. IsRun caller all (Failed g) was) (sym p.0) (Resumes-no_room caller all rest c was r))
 Resumes-failed caller all rest c f was now (inr p) r =
     subst (IsRun caller all (Failed f)) (sym p.2) (Resumes-faulted caller all rest c was p.0 f p.1 r)
-
--- the item of an index stands in front of what is behind it
-pub drop-item : {A : Type 0} (xs : List A) (i : ℕ) (x : A) → i < length xs → x ≡ get_or xs i x → drop i xs ≡ x ∷ drop (i + 1) xs
-drop-item xs i x lt e = drop-cons xs i x lt ∙ ap (λ y. y ∷ drop (suc i) xs) (sym e) ∙ ap (λ n. x ∷ drop n xs) (sym (add-one i))
-
--- the same, whatever is read past the end
-pub drop-at : {A : Type 0} (xs : List A) (i : ℕ) (d : A) → i < length xs → drop i xs ≡ get_or xs i d ∷ drop (i + 1) xs
-drop-at xs i d lt = drop-cons xs i d lt ∙ ap (λ n. get_or xs i d ∷ drop n xs) (sym (add-one i))
 
 -- stands past the end of a list of calls
 abbrev pub no_call : HostCall

@@ -8,7 +8,7 @@ use Rattle.ang_host.specs.declared.event.HostEvent.{HostEvent}
 use Rattle.ang_host.specs.declared.event.Role.{Role}
 use Rattle.ang_host.specs.declared.event.Role.TheVariants.{Calling}
 use Rattle.ang_host.specs.Events.{role_at}
-use Rattle.ang_engine.specs.declared.program.HostCall.{HostCall}
+use Rattle.ang_build.specs.declared.program.HostCall.{HostCall}
 use Rattle.ang_engine.specs.Meaning.{event_of, fault_of}
 
 -- Without a fault the driver answered `Void`. With one there was no memory and nothing was asked, or the driver's answer is the fault.

@@ -1,8 +1,4 @@
-pub mod Thin
-pub mod Script
-pub mod Reading
-pub mod Build
-pub mod Answer
+pub mod Functions
 pub mod World
 pub mod Meaning
 pub mod Asking

@@ -10,8 +10,8 @@ use Rattle.ang_host.specs.declared.answer.HostReply.{HostReply}
 use Rattle.ang_host.specs.declared.answer.HostReply.TheVariants.{Asking}
 use Rattle.ang_host.specs.declared.event.HostEvent.{HostEvent}
 use Rattle.ang_host.specs.declared.event.HostEvent.TheVariants.{Called}
-use Rattle.ang_engine.specs.declared.program.HostCall.{HostCall}
-use Rattle.ang_engine.specs.declared.program.Function.{Function}
+use Rattle.ang_build.specs.declared.program.HostCall.{HostCall}
+use Rattle.ang_build.specs.declared.program.Function.{Function}
 use Rattle.ang_engine.specs.declared.reply.Outcome.{Outcome}
 use Rattle.ang_engine.specs.declared.reply.Outcome.TheVariants.{Done, Failed}
 

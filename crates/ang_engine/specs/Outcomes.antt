@@ -7,14 +7,13 @@ use Rattle.ang_engine.specs.declared.reply.Refusal.{Refusal}
 use Rattle.ang_engine.specs.declared.reply.Refusal.TheVariants.{Memory, Limit, BuildMemory, BuildErrors, NoFunction}
 use Rattle.ang_kinds.specs.declared.error.Unbuilt.{Unbuilt}
 use Rattle.ang_kinds.specs.declared.error.Unbuilt.TheVariants as unbuilt
-use Rattle.ang_engine.specs.declared.section.Unread.{Unread}
-use Rattle.ang_engine.specs.declared.section.Unread.TheVariants as unread
-use Rattle.ang_engine.specs.declared.program.Program.{Program}
-use Rattle.ang_engine.specs.declared.program.Function.{Function}
+use Rattle.ang_build.specs.declared.program.Program.{Program}
+use Rattle.ang_build.specs.declared.program.Function.{Function}
 use Rattle.ang_kinds.specs.declared.value.Value.{Value}
 use Rattle.ang_engine.specs.declared.module.Module.{Module}
 use denote.Ref.{Bor}
-use Rattle.ang_engine.specs.Build.{Built, Errors, Compiled, function_of}
+use Rattle.ang_build.specs.Build.{Built, Errors, Compiled}
+use Rattle.ang_engine.specs.Functions.{function_of}
 use Rattle.ang_engine.specs.declared.commands.BuildRefused.{BuildRefused}
 use Rattle.ang_engine.specs.declared.commands.BuildRefused.TheVariants as why
 use Rattle.ang_registry.specs.Registration.{RegistrationList}
@@ -36,12 +35,6 @@ outcome_of (Err why) = Refused why
 abbrev pub IsAdded : {U : Type 0} → Result U Refusal → List ℕ → ModuleState → ModuleState → Type 0
 IsAdded (Ok u) text before after = section_added text before ≡ Some after
 IsAdded (Err why) text before after = ((why ≡ Memory) ⊎ ((why ≡ Limit) × (section_added text before ≡ None))) × (after ≡ before)
-
--- the fault of a section alone, unless memory was refused
-abbrev pub IsOneError : Unbuilt → Unread → Type 0
-IsOneError (unbuilt.Errors es) (unread.Fault e) = es ≡ e ∷ []
-IsOneError (unbuilt.Errors es) unread.Memory = ⊥
-IsOneError unbuilt.Memory u = Unit {0}
 
 -- A module that was built, or not, has lost what it had, and the sections that waited.
 abbrev pub IsModuleBuilt : {U : Type 0} → Result U Unbuilt → Built → ModuleState → ModuleState → Type 0

@@ -4,23 +4,10 @@ use Rattle.std.specs.Prelude.{ℕ, ◌≡◌, ◌<◌, List, All, length, Option
 use Rattle.ang_host.specs.State.{State}
 use Rattle.ang_host.specs.Members.{AreFresh}
 use Rattle.ang_registry.specs.declared.entry.Entry.{Entry}
-use Rattle.ang_registry.specs.declared.entry.EntryKind.TheVariants.{Function}
-use Rattle.ang_registry.specs.Registration.{RegistrationList, seen, entry_at}
-use Rattle.ang_engine.specs.declared.program.HostCall.{HostCall}
-use Rattle.ang_engine.specs.declared.program.Program.{Program}
+use Rattle.ang_registry.specs.Registration.{RegistrationList, entry_at}
+use Rattle.ang_build.specs.declared.program.Program.{Program}
+use Rattle.ang_build.specs.SeenCalls.{HasSeenCalls}
 use Rattle.ang_engine.specs.World.{ModuleState, World}
-
--- The call is of a function that the mask sees, by the driver and the number of its entry.
-pub record IsSeenCall (R : RegistrationList) (mask : ℕ) (c : HostCall) : Type 0 where
-  pub entry : Entry
-  pub registered : entry_at R c.entity.0 ≡ Some entry
-  pub in_view : entry_at (seen R mask) c.entity.0 ≡ Some entry
-  pub is_function : entry.kind ≡ Function
-  pub driver : c.driver ≡ entry.driver
-  pub number : c.f ≡ entry.f
-
-abbrev pub HasSeenCalls : RegistrationList → ℕ → Program → Type 0
-HasSeenCalls R mask p = All (λ f. All (IsSeenCall R mask) f.body) p.functions
 
 abbrev pub IfBuilt : Option Program → (Program → Type 0) → Type 0
 IfBuilt None P = Unit {0}

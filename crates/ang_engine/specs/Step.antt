@@ -13,11 +13,12 @@ use Rattle.ang_engine.specs.declared.reply.Outcome.{Outcome}
 use Rattle.ang_engine.specs.declared.reply.Outcome.TheVariants.{Done, Refused}
 use Rattle.ang_engine.specs.declared.reply.Refusal.{Refusal}
 use Rattle.ang_engine.specs.declared.reply.Refusal.TheVariants.{BadName, ModuleExists, Limit, NoModule, NotBuilt, BadBudget, BuildMemory, BuildErrors, NoFunction, BadArguments, Memory}
-use Rattle.ang_engine.specs.declared.program.Program.{Program}
-use Rattle.ang_engine.specs.declared.program.Function.{Function}
+use Rattle.ang_build.specs.declared.program.Program.{Program}
+use Rattle.ang_build.specs.declared.program.Function.{Function}
 use Rattle.ang_engine.specs.World.{ModuleState, World, module_named, module_at}
 use Rattle.ang_engine.specs.Meaning.{Input, Room, Run, entered, has_room, is_stopped}
-use Rattle.ang_engine.specs.Build.{Built, Errors, Compiled, build_of, function_of}
+use Rattle.ang_build.specs.Build.{Built, Errors, Compiled, build_of}
+use Rattle.ang_engine.specs.Functions.{function_of}
 
 -- the modules of one engine: one, until a later version takes more
 abbrev pub most_modules : ℕ

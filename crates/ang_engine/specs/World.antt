@@ -1,6 +1,6 @@
 -- What an engine keeps from one command to the next.
 use Rattle.std.specs.Prelude.{ℕ, ◌+◌, List, [], ◌∷◌, Option, Some, None, if◌then◌else◌, bytes_eq, slice_index_or, map as list_map}
-use Rattle.ang_engine.specs.declared.program.Program.{Program}
+use Rattle.ang_build.specs.declared.program.Program.{Program}
 use Rattle.ang_engine.specs.declared.module.Module.{Module}
 
 -- a module: its name, the mask that acts at its next build, the mask of its last build, a failed one too (before the first build its mask), the sections that

@@ -4,20 +4,17 @@ ghost use Rattle.std.specs.Option.{option_copied};
 ghost use Rattle.ang_engine.specs.declared.reply.Outcome.TheVariants.{Refused};
 ghost use Rattle.ang_engine.specs.Step.{reply_of, is_budget, added_module, on_module};
 ghost use Rattle.ang_engine.specs.Step as spec;
-ghost use Rattle.ang_engine.specs.Outcomes.{IsDone, IsAdded, IsOneError, IsModuleBuilt, IsBuildDone, IsFound, IsCallable, IsBuildReply, outcome_of};
+ghost use Rattle.ang_engine.specs.Outcomes.{IsDone, IsAdded, IsModuleBuilt, IsBuildDone, IsFound, IsCallable, IsBuildReply, outcome_of};
 ghost use Rattle.ang_registry.specs.Registration.{RegistrationList, seen};
 ghost use Rattle.ang_engine.specs.Sound.{AreSoundModules};
-ghost use Rattle.ang_engine.specs.Build.{build_of, first_named, function_of};
-ghost use Rattle.ang_engine.specs.Build as names;
-ghost use Rattle.ang_engine.specs.Answer.{IsBuilt};
+ghost use Rattle.ang_build.specs.Build.{build_of};
+ghost use Rattle.ang_engine.specs.Functions.{first_named, function_of};
+ghost use Rattle.ang_engine.specs.Functions as names;
 ghost use Rattle.ang_engine.specs.World.{state_of, world_of, module_named};
 
-use crate::build::build_scripts;
 use crate::module::{MOST_SECTIONS, Module};
-use crate::program::{Function, Program};
 use crate::reply::{Outcome, Refusal, Reply};
-use crate::section::{Unread, read_sections};
-use crate::thin::text_at;
+use ang_build::{Function, Program, build_sections, text_at};
 use ang_host::HostEvent;
 use ang_kinds::{Error, List, Mask, Unbuilt, Value};
 use ang_lex::{LexError, Token, TokenKind, is_name, lex};
@@ -155,36 +152,6 @@ pub fn add_text(modules: &mut [Module], name: &[u8], text: List<u8>) -> Result<(
     push_section(&mut modules[i], text)
 }
 
-/// The one error of a section that could not be read.
-fn one_error(alloc: Global, unread: Unread) -> Unbuilt
-    ensures { IsOneError result unread }
-{
-    let Unread::Fault(error) = unread else {
-        return Unbuilt::Memory;
-    };
-    let mut errors = Vec::new(alloc);
-    match errors.push(error) {
-        Ok(()) => Unbuilt::Errors(List::from_vec(errors)),
-        Err(_) => Unbuilt::Memory,
-    }
-}
-
-/// The program of sections over what the mask meets.
-fn build_sections(
-    alloc: Global,
-    registry: &Registry,
-    mask: Mask,
-    sections: &[List<u8>],
-) -> Result<Program, Unbuilt>
-    requires few { length sections.now ≤ 64 }
-    ensures built { IsBuilt result (build_of (seen registry.now.entries mask.0) sections.now) }
-{
-    match read_sections(alloc, sections) {
-        Ok(scripts) => build_scripts(alloc, registry, mask, &scripts),
-        Err(unread) => Err(one_error(alloc, unread)),
-    }
-}
-
 /// Builds the sections that waited, over what the module's mask meets.
 fn build_module(alloc: Global, registry: &Registry, into: &mut Module) -> Result<(), Unbuilt>
     ensures { IsModuleBuilt result (build_of (seen registry.now.entries into.old.mask.0) into.old.sections.items) (state_of into.old) (state_of into.new) }
@@ -192,7 +159,10 @@ fn build_module(alloc: Global, registry: &Registry, into: &mut Module) -> Result
     into.built_mask = into.mask;
     into.program = None;
     let sections = mem::replace(&mut into.sections, Vec::new(alloc));
-    match build_sections(alloc, registry, into.mask, &sections) {
+    let Ok(view) = registry.seen(alloc, into.mask) else {
+        return Err(Unbuilt::Memory)
+    };
+    match build_sections(alloc, &view, &sections) {
         Ok(program) => {
             into.program = Some(program);
             Ok(())

@@ -1,7 +1,7 @@
 //! The modules of an engine.
 ghost use Rattle.std.specs.Prelude.{◌≤◌, length};
 
-use crate::program::Program;
+use ang_build::Program;
 use ang_kinds::{List, Mask};
 
 /// The sections that wait in one module.

@@ -10,8 +10,8 @@ ghost use Rattle.ang_host.specs.Events.{role_at, DriversFollow};
 ghost use Rattle.ang_engine.specs.Meaning.{fault_of, IsRun};
 ghost use Rattle.ang_engine.specs.Asking.{Asked, HaveRoles, AreInList};
 
-use crate::program::HostCall;
 use crate::reply::Outcome;
+use ang_build::HostCall;
 use ang_host::{Answer, Driver, Drivers, HostEvent, call_listed};
 use ang_kinds::{Fault, List, Value};
 use std::alloc::{AllocError, Global};

@@ -10,7 +10,7 @@ use Rattle.ang_engine.specs.declared.reply.Reply.{Reply}
 use Rattle.ang_engine.specs.Step.{Takes, Runs}
 use Rattle.ang_engine.specs.World.{World}
 use Rattle.asrun.specs.Session.{Session}
-use Rattle.asrun.specs.Text.{newline, reply_text}
+use Rattle.ang_text.specs.Text.{newline, reply_text}
 use Rattle.asrun.specs.Writing.{HasFront}
 use Rattle.asrun.specs.declared.action.Action.{Action}
 use Rattle.asrun.specs.declared.action.Action.TheVariants as action

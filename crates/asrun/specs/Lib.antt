@@ -10,6 +10,5 @@ pub mod Profile
 pub mod Reading
 pub mod Session
 pub mod SessionLines
-pub mod Text
 pub mod Whole
 pub mod Writing

@@ -1,4 +1,4 @@
-//! Runs a session of scripts over a profile of host functions, both read from files
+//! Runs a session of scripts over a profile of what a host offers them, both read from files
 //! (docs/EMBEDDING.md, "The program").
 #![tactic(auto)]
 
@@ -23,7 +23,7 @@ mod writing;
 use crate::command::Options;
 use crate::ending::{IoFault, Status};
 use crate::session::SessionEnd;
-use ang_drivers::Console;
+use ang_drivers::{Cell, Console, Counter};
 use ang_host::Driver;
 use std::alloc::AllocError;
 use std::fs::File;
@@ -58,6 +58,8 @@ fn run_files(rt: &HostRuntime, options: &Options) -> Result<u8, AllocError> {
     let alloc = rt.alloc();
     let mut boxes: Vec<Box<dyn Driver>> = Vec::new(alloc);
     boxes.push(Box::new(alloc, Console::new(alloc)?)?)?;
+    boxes.push(Box::new(alloc, Counter::new(alloc)?)?)?;
+    boxes.push(Box::new(alloc, Cell::new(alloc)?)?)?;
     let mut out = io::writer(rt);
     let SessionEnd { outcome, drivers } = session::session(
         alloc,

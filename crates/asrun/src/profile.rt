@@ -1,11 +1,12 @@
 //! Registering what a profile says.
 ghost use Rattle.std.specs.Prelude.{◌≡◌, ◌<◌, ◌^◌, length};
 ghost use Rattle.asrun.specs.Lines.{lines_of};
-ghost use Rattle.asrun.specs.Profile.{line_entered, loaded, Loads, entered};
+ghost use Rattle.asrun.specs.Profile.{line_entered, loaded, Loads, entered, IsJudged};
 ghost use Rattle.asrun.specs.ProfileLines.{entry_of};
 
 use crate::lines::{first_line, is_skipped, shown};
 use crate::profile_line::{ProfileLine, profile_line};
+use ang_kinds::EntityNo;
 use ang_registry::{RegError, Registry};
 
 /// What ends a run at a line of a profile. Lines are numbered from 1.
@@ -26,23 +27,47 @@ pub enum ProfileStop {
     Memory,
 }
 
+/// How line `number` ends, of which this is the registration's answer.
+fn judged(number: u64, answer: Result<EntityNo, RegError>) -> Result<(), ProfileStop>
+    ensures exact { IsJudged result number answer }
+{
+    match answer {
+        Ok(_) => Ok(()),
+        Err(RegError::Memory) => Err(ProfileStop::Memory),
+        Err(why) => Err(ProfileStop::Fault(ProfileFault::Refused(number, why))),
+    }
+}
+
 /// Registers what line `number` says.
+#[tactic(auto, using(crate::proofs::Loading::loads_judged))]
 fn enter(registry: &mut Registry, number: u64, line: &[u8]) -> Result<(), ProfileStop>
     ensures exact { Loads result registry.new (entered number registry.old (entry_of line.now)) }
 {
-    match profile_line(line) {
-        None => Err(ProfileStop::Fault(ProfileFault::BadLine(number))),
-        Some(ProfileLine::Mask(mask)) => {
+    let Some(line) = profile_line(line) else {
+        return Err(ProfileStop::Fault(ProfileFault::BadLine(number)));
+    };
+    match line {
+        ProfileLine::Mask(mask) => {
             registry.set_default_mask(mask);
             Ok(())
         }
-        Some(ProfileLine::Function { driver, f, decl }) => {
-            match registry.function(driver, f, decl) {
-                Ok(_) => Ok(()),
-                Err(RegError::Memory) => Err(ProfileStop::Memory),
-                Err(why) => Err(ProfileStop::Fault(ProfileFault::Refused(number, why))),
-            }
+        ProfileLine::HostType { name, driver } => judged(number, registry.type_(name, driver)),
+        ProfileLine::Factory { type_name, f, decl } => {
+            judged(number, registry.factory(type_name, f, decl))
         }
+        ProfileLine::Method { type_name, f, decl } => {
+            judged(number, registry.method(type_name, f, decl))
+        }
+        ProfileLine::Property { type_name, f, decl } => {
+            judged(number, registry.property(type_name, f, decl))
+        }
+        ProfileLine::Function { driver, f, decl } => {
+            judged(number, registry.function(driver, f, decl))
+        }
+        ProfileLine::Global { driver, f, decl } => {
+            judged(number, registry.global_property(driver, f, decl))
+        }
+        ProfileLine::Blank => judged(number, registry.blank()),
     }
 }
 

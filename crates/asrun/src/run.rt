@@ -8,7 +8,7 @@ ghost use Rattle.asrun.specs.Deeds.{IsDone, IsCut, IsPrinted, IsHalfPrinted, bad
 ghost use Rattle.asrun.specs.Drivers.{kinds_of};
 ghost use Rattle.asrun.specs.Lines.{lines_of};
 ghost use Rattle.asrun.specs.Session.{session_from, budget_after};
-ghost use Rattle.asrun.specs.Text.{reply_text};
+ghost use Rattle.ang_text.specs.Text.{reply_text};
 ghost use Rattle.asrun.specs.Writing.{HasFront};
 ghost use Rattle.asrun.specs.declared.action.Action.TheVariants as action;
 
@@ -16,10 +16,11 @@ use crate::action::{Action, read_act};
 use crate::ending::{Status, Stop};
 use crate::lines::{first_line, is_skipped, shown};
 use crate::session_line::LineError;
-use crate::text::{push_bad_line, push_reply};
+use crate::text::push_bad_line;
 use crate::writing::write_text;
 use ang_engine::{Command, Engine, Outcome, Reply};
 use ang_host::Driver;
+use ang_text::push_reply;
 use std::alloc::Global;
 use std::io::Write;
 

@@ -1,7 +1,7 @@
 //! Whole runs, with readers and writers of their own.
 use crate::ending::{IoFault, Status};
 use crate::session::{SessionEnd, session};
-use ang_drivers::Console;
+use ang_drivers::{Cell, Console, Counter};
 use ang_host::Driver;
 use std::alloc::{AllocError, Global};
 use std::io;
@@ -9,6 +9,27 @@ use std::io::{Error, ErrorKind, Read, Write};
 use std::test::Fail;
 
 const PROFILE: &str = "mask 00000001\nfunction 0 0 void print(int)\n";
+
+/// Types, factories, methods, properties, functions and global properties of all three drivers.
+const ALL_KINDS: &str = "mask 00000001
+type Counter 1
+factory Counter 0 Counter@ f()
+factory Counter 1 Counter@ f(int)
+method Counter 0 void bump()
+method Counter 1 int value() const
+property Counter 0 int step
+type Cell 2
+factory Cell 0 Cell@ f(int)
+factory Cell 1 Cell@ f(Cell@+, int)
+method Cell 0 int get() const
+method Cell 1 void set(int)
+function 2 2 Cell@+ pick(Cell@+)
+function 0 0 void print(int64)
+function 0 1 int64 sum(int64, int64)
+function 0 2 void fail(uint)
+global 0 0 int64 reg
+global 0 0 const int64 limit
+";
 
 const SESSION: &str =
     "module a 00000001\nsection a 1\nvoid main(){ print(1+2); }\nbuild a\ncall a () void main()\n";
@@ -105,7 +126,7 @@ impl Write for Sink {
     }
 }
 
-/// A session with one console as its driver.
+/// A session with a console, a counter and a cell as its drivers.
 fn run<P: Read, S: Read>(
     alloc: Global,
     profile: &mut P,
@@ -114,6 +135,8 @@ fn run<P: Read, S: Read>(
 ) -> Result<Result<Status, IoFault>, AllocError> {
     let mut boxes: Vec<Box<dyn Driver>> = Vec::new(alloc);
     boxes.push(Box::new(alloc, Console::new(alloc)?)?)?;
+    boxes.push(Box::new(alloc, Counter::new(alloc)?)?)?;
+    boxes.push(Box::new(alloc, Cell::new(alloc)?)?)?;
     let SessionEnd { outcome, drivers } = session(
         alloc,
         profile,
@@ -132,7 +155,7 @@ fn run<P: Read, S: Read>(
 }
 
 /// Profile, session, output and status.
-const RUNS: [(&str, &str, &str, Status); 14] = [
+const RUNS: [(&str, &str, &str, Status); 19] = [
     (PROFILE, SESSION, OUTPUT, Status::AllOk),
     (
         PROFILE,
@@ -159,6 +182,31 @@ const RUNS: [(&str, &str, &str, Status); 14] = [
         Status::SomeRefused,
     ),
     (PROFILE, "", "", Status::AllOk),
+    (ALL_KINDS, "", "", Status::AllOk),
+    (
+        ALL_KINDS,
+        "module a 00000001\nbuild a\nsection a 1\nvoid m(){ print(1); }\nbuild a\n",
+        "ok\nok\nok\nerror NotYet 0:1:11 -\nrefused BuildErrors\n",
+        Status::SomeRefused,
+    ),
+    (
+        "mask 00000001\nblank\nfunction 0 0 void print(int)\n",
+        SESSION,
+        "ok\nok\nok\nhost a 1 0 - (3) void\nok\n",
+        Status::AllOk,
+    ),
+    (
+        "mask 00000001\nmethod Cell 0 int get()\n",
+        SESSION,
+        "profile 2 UnknownType\n",
+        Status::BadInput,
+    ),
+    (
+        "mask 00000001\ntype Cell 2\nfunction 0 0 void take(Cell@+)\n",
+        SESSION,
+        "profile 3 WrongDriver\n",
+        Status::BadInput,
+    ),
     (
         "mask 00000001\nmask 1\n",
         SESSION,
@@ -172,13 +220,13 @@ const RUNS: [(&str, &str, &str, Status); 14] = [
         Status::BadInput,
     ),
     (
-        "mask 00000000\nfunction 0 0 void p(int)\n",
+        "mask 00000000\nfunction 0 0 void p()\n",
         SESSION,
         "profile 2 EmptyMask\n",
         Status::BadInput,
     ),
     (
-        "function 1 0 void p(int)\n",
+        "function 3 0 void p(int)\n",
         SESSION,
         "engine NoDriver\n",
         Status::BadInput,

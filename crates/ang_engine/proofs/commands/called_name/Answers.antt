@@ -1,5 +1,5 @@
 use Rattle.std.proofs.Common.{sym, ◌∙◌}
-use Rattle.ang_engine.proofs.Trees.{called_name-found, called_name-other}
+use Rattle.ang_engine.proofs.Naming.{called_name-found, called_name-other}
 use Rattle.ang_engine.proofs.commands.called_name.Goals as goal
 
 pub returns-then-are_declared : goal.returns-then-are_declared

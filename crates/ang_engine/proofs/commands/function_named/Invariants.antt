@@ -1,5 +1,5 @@
 use Rattle.std.proofs.Common.{◌≡◌, drop}
-use Rattle.ang_engine.specs.Build.{first_named}
+use Rattle.ang_engine.specs.Functions.{first_named}
 use Rattle.ang_engine.proofs.commands.function_named.Given as goal
 
 abbrev pub invariant-loop-function : goal.invariant-loop-function

@@ -3,7 +3,8 @@ use Rattle.std.proofs.lemmas.List.{drop_all}
 use Rattle.ang_host.specs.Boxes.{members}
 use Rattle.ang_host.specs.Events.{DriversFollow}
 use Rattle.ang_host.proofs.Events.{AllFollow-join}
-use Rattle.ang_engine.proofs.Running.{Resumes, Resumes-went, Resumes-failed, Resumes-ended, drop-at, no_call}
+use Rattle.ang_engine.proofs.Running.{Resumes, Resumes-went, Resumes-failed, Resumes-ended, no_call}
+use Rattle.ang_build.proofs.Items.{drop-at}
 use Rattle.ang_engine.proofs.run.run_body.Goals as goal
 
 pub returns-in-Err-clause-run : goal.returns-in-Err-clause-run

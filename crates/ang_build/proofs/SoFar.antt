@@ -1,0 +1,13 @@
+-- What a loop has so far, in front of what is left.
+use Rattle.std.specs.Prelude.{List, ◌++◌, Option, Some, None, Result, Ok, Err}
+use Rattle.ang_kinds.specs.declared.error.Error.{Error}
+use Rattle.ang_build.specs.declared.script.Statement.{Statement}
+use Rattle.ang_build.specs.Thin.{Source}
+
+abbrev pub all_in_front : List Statement → Option (List Statement) → Option (List Statement)
+all_in_front ss None = None
+all_in_front ss (Some others) = Some (ss ++ others)
+
+abbrev pub all_joined : List Source → Result (List Source) Error → Result (List Source) Error
+all_joined ss (Err e) = Err e
+all_joined ss (Ok others) = Ok (ss ++ others)

@@ -1,0 +1,20 @@
+-- What the builder answers.
+use Rattle.std.specs.Prelude.{◌≡◌, [], ◌∷◌, Result, Ok, Err}
+use Rattle.ang_kinds.specs.declared.error.Unbuilt.{Unbuilt}
+use Rattle.ang_kinds.specs.declared.error.Unbuilt.TheVariants as unbuilt
+use Rattle.ang_build.specs.declared.program.Program.{Program}
+use Rattle.ang_build.specs.declared.section.Unread.{Unread}
+use Rattle.ang_build.specs.declared.section.Unread.TheVariants as unread
+use Rattle.ang_build.specs.Build.{Built, Errors, Compiled}
+
+-- the program or the errors, unless memory was refused
+abbrev pub IsBuilt : Result Program Unbuilt → Built → Type 0
+IsBuilt (Ok p) built = built ≡ Compiled p
+IsBuilt (Err (unbuilt.Errors es)) built = built ≡ Errors es
+IsBuilt (Err unbuilt.Memory) built = Unit {0}
+
+-- the fault of a section alone, unless memory was refused
+abbrev pub IsOneError : Unbuilt → Unread → Type 0
+IsOneError (unbuilt.Errors es) (unread.Fault e) = es ≡ e ∷ []
+IsOneError (unbuilt.Errors es) unread.Memory = ⊥
+IsOneError unbuilt.Memory u = Unit {0}

@@ -1,0 +1,16 @@
+//! Builds a module's program: from sections of text, over what the module's mask sees of a registration
+//! list, to the program or the errors (docs/LANGUAGE.md, "What is built so far").
+#![tactic(auto)]
+
+mod build;
+mod declared;
+mod host;
+pub mod laws;
+mod program;
+mod script;
+mod section;
+mod thin;
+
+pub use build::build_sections;
+pub use program::{Function, HostCall, Program};
+pub use thin::text_at;

@@ -1,8 +1,0 @@
-use Rattle.std.proofs.Common.{◌≡◌, ◌++◌, drop}
-use Rattle.ang_registry.specs.Registration.{seen}
-use Rattle.ang_engine.specs.Build.{body_errors}
-use Rattle.ang_engine.proofs.build.check_bodies.Given as goal
-
-abbrev pub invariant-loop-declaration : goal.invariant-loop-declaration
-invariant-loop-declaration l =
-    body_errors (seen l.registry.entries l.mask.0) l.declarations l.declarations ≡ l.errors.items ++ body_errors (seen l.registry.entries l.mask.0) l.declarations (drop l.declaration-index l.declarations)

@@ -1,8 +1,0 @@
-use Rattle.ang_registry.specs.Registration.{seen}
-use Rattle.ang_engine.proofs.Building.{more_calls}
-use Rattle.ang_engine.proofs.build.resolve_body.Goals as goal
-
-pub loop-statement-preserved : goal.loop-statement-preserved
-loop-statement-preserved c =
-    more_calls (seen c.args.registry.now.entries c.args.mask.0) c.args.body.now c.loop-statement.statement-index c.statement-item.result c.loop-statement.calls.items _ _
-    c.loop-statement.invariant c.loop-statement-test.true c.statement-item.is c.resolve.ensures c.in_ok-push_call.ensures

@@ -1,8 +1,0 @@
-use Rattle.std.proofs.Common.{◌≡◌, ◌++◌, drop}
-use Rattle.ang_registry.specs.Registration.{seen}
-use Rattle.ang_engine.specs.Build.{resolved_body}
-use Rattle.ang_engine.proofs.build.resolve_body.Given as goal
-
-abbrev pub invariant-loop-statement : goal.invariant-loop-statement
-invariant-loop-statement l =
-    resolved_body (seen l.registry.entries l.mask.0) l.body ≡ l.calls.items ++ resolved_body (seen l.registry.entries l.mask.0) (drop l.statement-index l.body)

@@ -1,0 +1,7 @@
+//! The text of replies: each event, error, denial and outcome on a line of its own
+//! (docs/EMBEDDING.md, "The program").
+#![tactic(auto)]
+
+mod reply;
+
+pub use reply::{push_number, push_reply, push_text};
