@@ -1,5 +1,5 @@
 -- A profile's lines, one after the other.
-use Rattle.std.proofs.Common.{◌≡◌, ◌≢◌, ℕ, ◌+◌, List, [], ◌∷◌, Option, Some, None, Result, Ok, Err, refl, ap, sym, ◌∙◌, subst}
+use Rattle.std.proofs.Common.{◌≡◌, ◌≢◌, ℕ, ◌+◌, List, [], ◌∷◌, Option, Some, None, true, false, Result, Ok, Err, refl, ap, sym, ◌∙◌, subst}
 use Rattle.std.specs.Prelude.{OnOk, IfErr}
 use Rattle.ang_kinds.specs.declared.mask.EntityNo.{EntityNo}
 use Rattle.ang_registry.specs.declared.error.RegError.{RegError}
@@ -36,7 +36,7 @@ pub loads_judged : {U : Type 0} (r : Result U ProfileStop) (n : ℕ) (answer : R
     → IsJudged r n answer → OnOk answer (refusal ≡ None) → OnOk answer (now ≡ after) → IfErr answer (λ why. why ≢ NoMemory → refusal ≡ Some why)
     → Loads r now (registered n refusal after)
 loads_judged (Ok u) n (Ok number) refusal after now j none added first = ap (λ o. registered n o after) none ∙ ap Ok (sym added)
-loads_judged (Ok u) n (Err why) refusal after now j none added first = absurd j
+loads_judged (Ok u) n (Err why) refusal after now j none added first = let differ : false ≡ true = j in cc
 loads_judged (Err (stop.Fault fault)) n (Ok number) refusal after now (why, e, other, is) none added first = absurd (cc)
 loads_judged (Err (stop.Fault fault)) n (Err was) refusal after now (why, e, other, is) none added first =
     let same : was ≡ why = cc in
