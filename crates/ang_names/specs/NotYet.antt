@@ -1,0 +1,129 @@
+-- Declarations beyond what is built so far (docs/LANGUAGE.md, "What is built so far"): those that use classes, interfaces,
+-- imports, object types, handles, `this`, `null`, `cast`, `is`, `!is` or a member.
+use Rattle.std.specs.Prelude.{ℕ, Bool, true, false, ◌||◌, is_some, List, Option, Some, None}
+use Rattle.std.specs.List.{list_any}
+use Rattle.ang_kinds.specs.declared.error.Error.{Error}
+use Rattle.ang_kinds.specs.declared.error.ErrorKind.TheVariants as kind
+use Rattle.ang_lex.specs.declared.token.Token.{Token}
+use Rattle.ang_lex.specs.declared.token.TokenKind.{TokenKind}
+use Rattle.ang_lex.specs.declared.token.TokenKind.TheVariants as k
+use Rattle.ang_registry.specs.Registration.{RegistrationList}
+use Rattle.ang_registry.specs.Types.{type_named}
+use Rattle.ang_tree.specs.declared.type_name.TypeName.{TypeName}
+use Rattle.ang_tree.specs.declared.declaration.Parameter.{Parameter}
+use Rattle.ang_tree.specs.Tree.{Tree, Args, Trees, literal, name, call, scoped_call, cast, convert, group, postfix, member, method_call, prefix, binary, conditional, assignment, arguments, none, more}
+use Rattle.ang_tree.specs.Stmt.{Init, absent, value, constructor, Var, Vars, Start, with_variables, with_expression, Stmt, Body, Stmts, block, variables, expression, break, continue, return, when, either, while, do_while, for, body, end, then}
+use Rattle.ang_names.specs.declared.listed.Declared.{Declared}
+use Rattle.ang_names.specs.declared.listed.Part.{Part}
+use Rattle.ang_names.specs.declared.listed.Part.TheVariants as part
+use Rattle.ang_names.specs.Sources.{text_of, fault_at}
+
+-- `null` and `this`
+abbrev pub is_object_word : TokenKind → Bool
+is_object_word k.Null = true
+is_object_word k.This = true
+is_object_word _ = false
+
+-- `is` and `!is`
+abbrev pub is_identity : TokenKind → Bool
+is_identity k.Is = true
+is_identity k.NotIs = true
+is_identity _ = false
+
+-- `@`
+abbrev pub is_handle_sign : TokenKind → Bool
+is_handle_sign k.At = true
+is_handle_sign _ = false
+
+-- Over a view, in a section of these bytes:
+module _ (V : RegistrationList) (text : List ℕ) where
+  -- the token is the name of a type that the view has
+  unfoldable pub is_host_type : Token → Bool
+  is_host_type t = is_some (type_named V (text_of text t))
+
+  -- a handle, or an object type
+  abbrev pub is_type_beyond : TypeName → Bool
+  is_type_beyond y = is_some y.handle || is_host_type y.name
+
+  abbrev mutual
+    pub is_beyond : Tree → Bool
+    is_beyond (literal t) = is_object_word t.kind
+    is_beyond (name x) = false
+    is_beyond (call x es) = is_host_type x || are_args_beyond es
+    is_beyond (scoped_call c s x es) = true
+    is_beyond (cast word less y greater left e right) = true
+    is_beyond (convert p left e right) = is_beyond e
+    is_beyond (group left e right) = is_beyond e
+    is_beyond (postfix e op) = is_beyond e
+    is_beyond (member e dot x) = true
+    is_beyond (method_call e dot x es) = true
+    is_beyond (prefix op e) = is_handle_sign op.kind || is_beyond e
+    is_beyond (binary l op r) = is_identity op.kind || is_beyond l || is_beyond r
+    is_beyond (conditional c question l colon r) = is_beyond c || is_beyond l || is_beyond r
+    is_beyond (assignment l op r) = is_beyond l || is_beyond r
+
+    pub are_args_beyond : Args → Bool
+    are_args_beyond (arguments left es right) = are_beyond es
+
+    pub are_beyond : Trees → Bool
+    are_beyond none = false
+    are_beyond (more comma e es) = is_beyond e || are_beyond es
+
+  -- where something is written
+  abbrev pub is_option_beyond : Option Tree → Bool
+  is_option_beyond None = false
+  is_option_beyond (Some e) = is_beyond e
+
+  abbrev pub is_init_beyond : Init → Bool
+  is_init_beyond absent = false
+  is_init_beyond (value equals e) = is_beyond e
+  is_init_beyond (constructor es) = are_args_beyond es
+
+  abbrev pub are_vars_beyond : List Var → Bool
+  are_vars_beyond vs = list_any (λ v. is_init_beyond v.initializer) vs
+
+  -- variables of one type
+  abbrev pub are_locals_beyond : Vars → Bool
+  are_locals_beyond vs = is_type_beyond vs.declared_type || are_vars_beyond vs.items
+
+  abbrev pub is_start_beyond : Start → Bool
+  is_start_beyond (with_variables vs) = are_locals_beyond vs
+  is_start_beyond (with_expression e semicolon) = is_option_beyond e
+
+  abbrev mutual
+    pub is_stmt_beyond : Stmt → Bool
+    is_stmt_beyond (block b) = is_body_beyond b
+    is_stmt_beyond (variables vs) = are_locals_beyond vs
+    is_stmt_beyond (expression e semicolon) = is_option_beyond e
+    is_stmt_beyond (break word semicolon) = false
+    is_stmt_beyond (continue word semicolon) = false
+    is_stmt_beyond (return word e semicolon) = is_option_beyond e
+    is_stmt_beyond (when word left c right s) = is_beyond c || is_stmt_beyond s
+    is_stmt_beyond (either word left c right s other r) = is_beyond c || is_stmt_beyond s || is_stmt_beyond r
+    is_stmt_beyond (while word left c right s) = is_beyond c || is_stmt_beyond s
+    is_stmt_beyond (do_while word s again left c right semicolon) = is_stmt_beyond s || is_beyond c
+    is_stmt_beyond (for word left b c semicolon steps right s) =
+        is_start_beyond b || is_option_beyond c || are_beyond steps || is_stmt_beyond s
+
+    pub is_body_beyond : Body → Bool
+    is_body_beyond (body left ss right) = are_stmts_beyond ss
+
+    pub are_stmts_beyond : Stmts → Bool
+    are_stmts_beyond end = false
+    are_stmts_beyond (then s ss) = is_stmt_beyond s || are_stmts_beyond ss
+
+  abbrev pub are_parameters_beyond : List Parameter → Bool
+  are_parameters_beyond ps = list_any (λ p. is_type_beyond p.declared_type) ps
+
+  abbrev pub is_part_beyond : Part → Bool
+  is_part_beyond (part.Function y ps b) = is_type_beyond y || are_parameters_beyond ps || is_body_beyond b
+  is_part_beyond (part.Global y i) = is_type_beyond y || is_init_beyond i
+  is_part_beyond part.Other = true
+
+abbrev pub not_yet_where : Bool → Declared → Option Error
+not_yet_where true d = Some (fault_at kind.NotYet d.first)
+not_yet_where false d = None
+
+-- A declaration beyond what is built is refused at its first token, without a name.
+unfoldable pub not_yet : RegistrationList → Declared → Option Error
+not_yet V d = not_yet_where (is_part_beyond V d.text d.part) d

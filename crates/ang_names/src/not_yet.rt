@@ -1,0 +1,275 @@
+//! Declarations beyond what is built so far: those that use classes, interfaces, imports, object types,
+//! handles, `this`, `null`, `cast`, `is`, `!is` or a member.
+ghost use Rattle.std.specs.Prelude.{◌≡◌, map as list_map};
+ghost use Rattle.ang_tree.specs.View.{view_expr, view_items, view_args, view_option, view_init, view_var, view_vars, view_start, view_stmt, view_stmts, view_body};
+ghost use Rattle.ang_names.specs.NotYet as spec;
+
+use crate::listed::{Declared, Part};
+use crate::sources::{fault_at, text_at};
+use crate::types::type_number;
+use ang_kinds::{Error, ErrorKind};
+use ang_lex::{Token, TokenKind};
+use ang_registry::View;
+use ang_tree::{
+    Argument, Arguments, Block, Expression, ForStart, Initializer, Parameter, Statement, TypeName, Variable,
+    Variables,
+};
+use std::alloc::Global;
+
+/// Whether the token is the name of a type that the module sees.
+#[tactic(auto, unfolding(crate::specs::NotYet::is_host_type))]
+fn is_host_type(view: &View, text: &[u8], token: &Token) -> bool
+    ensures exact { result ≡ spec.is_host_type view.now text.now token.now }
+{
+    type_number(view, text_at(text, token)).is_some()
+}
+
+fn is_type_beyond(view: &View, text: &[u8], declared: &TypeName) -> bool
+    ensures exact { result ≡ spec.is_type_beyond view.now text.now declared.now }
+{
+    declared.handle.is_some() || is_host_type(view, text, &declared.name)
+}
+
+fn is_object_word(kind: TokenKind) -> bool
+    ensures exact { result ≡ spec.is_object_word kind }
+{
+    matches!(kind, TokenKind::Null | TokenKind::This)
+}
+
+fn is_identity(kind: TokenKind) -> bool
+    ensures exact { result ≡ spec.is_identity kind }
+{
+    matches!(kind, TokenKind::Is | TokenKind::NotIs)
+}
+
+fn is_handle_sign(kind: TokenKind) -> bool
+    ensures exact { result ≡ spec.is_handle_sign kind }
+{
+    matches!(kind, TokenKind::At)
+}
+
+/// Whether an expression uses what is not built.
+#[cycle(expression)]
+fn is_beyond(view: &View, text: &[u8], expression: &Expression) -> bool
+    ensures exact { result ≡ spec.is_beyond view.now text.now (view_expr expression.now) }
+{
+    match expression {
+        Expression::Literal(token) => is_object_word(token.kind),
+        Expression::Name(_) => false,
+        Expression::Call { name, arguments } => {
+            is_host_type(view, text, name) || are_args_beyond(view, text, arguments)
+        }
+        Expression::ScopedCall { .. }
+        | Expression::Cast { .. }
+        | Expression::Member { .. }
+        | Expression::MethodCall { .. } => true,
+        Expression::Convert { operand, .. } => is_beyond(view, text, operand),
+        Expression::Parenthesized { inner, .. } => is_beyond(view, text, inner),
+        Expression::Postfix { operand, .. } => is_beyond(view, text, operand),
+        Expression::Prefix { operator, operand } => {
+            is_handle_sign(operator.kind) || is_beyond(view, text, operand)
+        }
+        Expression::Binary {
+            left,
+            operator,
+            right,
+        } => {
+            is_identity(operator.kind)
+                || is_beyond(view, text, left)
+                || is_beyond(view, text, right)
+        }
+        Expression::Conditional {
+            condition,
+            then,
+            otherwise,
+            ..
+        } => {
+            is_beyond(view, text, condition)
+                || is_beyond(view, text, then)
+                || is_beyond(view, text, otherwise)
+        }
+        Expression::Assignment { target, value, .. } => {
+            is_beyond(view, text, target) || is_beyond(view, text, value)
+        }
+    }
+}
+
+#[cycle(expression)]
+fn are_args_beyond(view: &View, text: &[u8], arguments: &Arguments) -> bool
+    ensures exact { result ≡ spec.are_args_beyond view.now text.now (view_args arguments.now) }
+{
+    are_beyond(view, text, arguments.items.as_slice())
+}
+
+#[cycle(expression)]
+fn are_beyond(view: &View, text: &[u8], items: &[Argument]) -> bool
+    ensures exact { result ≡ spec.are_beyond view.now text.now (view_items items.now) }
+{
+    for item in items {
+        if is_beyond(view, text, &item.value) {
+            return true;
+        }
+    }
+    false
+}
+
+fn is_option_beyond(view: &View, text: &[u8], expression: &Option<Expression>) -> bool
+    ensures exact { result ≡ spec.is_option_beyond view.now text.now (view_option expression.now) }
+{
+    match expression {
+        None => false,
+        Some(expression) => is_beyond(view, text, expression),
+    }
+}
+
+fn is_init_beyond(view: &View, text: &[u8], initializer: &Initializer) -> bool
+    ensures exact { result ≡ spec.is_init_beyond view.now text.now (view_init initializer.now) }
+{
+    match initializer {
+        Initializer::Absent => false,
+        Initializer::Value { value, .. } => is_beyond(view, text, value),
+        Initializer::Constructor(arguments) => are_args_beyond(view, text, arguments),
+    }
+}
+
+fn are_items_beyond(view: &View, text: &[u8], items: &[Variable]) -> bool
+    ensures exact { result ≡ spec.are_vars_beyond view.now text.now (list_map view_var items.now) }
+{
+    for item in items {
+        if is_init_beyond(view, text, &item.initializer) {
+            return true;
+        }
+    }
+    false
+}
+
+/// Whether local variables use what is not built.
+fn are_locals_beyond(view: &View, text: &[u8], variables: &Variables) -> bool
+    ensures exact { result ≡ spec.are_locals_beyond view.now text.now (view_vars variables.now) }
+{
+    is_type_beyond(view, text, &variables.declared_type)
+        || are_items_beyond(view, text, variables.items.as_slice())
+}
+
+fn is_start_beyond(view: &View, text: &[u8], start: &ForStart) -> bool
+    ensures exact { result ≡ spec.is_start_beyond view.now text.now (view_start start.now) }
+{
+    match start {
+        ForStart::Variables(variables) => are_locals_beyond(view, text, variables),
+        ForStart::Expression { value, .. } => is_option_beyond(view, text, value),
+    }
+}
+
+/// Whether a statement uses what is not built.
+#[cycle(statement)]
+fn is_stmt_beyond(view: &View, text: &[u8], statement: &Statement) -> bool
+    ensures exact { result ≡ spec.is_stmt_beyond view.now text.now (view_stmt statement.now) }
+{
+    match statement {
+        Statement::Block(block) => is_body_beyond(view, text, block),
+        Statement::Variables(variables) => are_locals_beyond(view, text, variables),
+        Statement::Expression { value, .. } => is_option_beyond(view, text, value),
+        Statement::Break { .. } | Statement::Continue { .. } => false,
+        Statement::Return { value, .. } => is_option_beyond(view, text, value),
+        Statement::If {
+            condition,
+            then,
+            otherwise: None,
+            ..
+        } => is_beyond(view, text, condition) || is_stmt_beyond(view, text, then),
+        Statement::If {
+            condition,
+            then,
+            otherwise: Some(other),
+            ..
+        } => {
+            is_beyond(view, text, condition)
+                || is_stmt_beyond(view, text, then)
+                || is_stmt_beyond(view, text, &other.branch)
+        }
+        Statement::While {
+            condition,
+            body,
+            ..
+        } => is_beyond(view, text, condition) || is_stmt_beyond(view, text, body),
+        Statement::DoWhile {
+            body,
+            condition,
+            ..
+        } => is_stmt_beyond(view, text, body) || is_beyond(view, text, condition),
+        Statement::For {
+            start,
+            condition,
+            steps,
+            body,
+            ..
+        } => {
+            is_start_beyond(view, text, start)
+                || is_option_beyond(view, text, condition)
+                || are_beyond(view, text, steps.as_slice())
+                || is_stmt_beyond(view, text, body)
+        }
+    }
+}
+
+#[cycle(statement)]
+fn is_body_beyond(view: &View, text: &[u8], block: &Block) -> bool
+    ensures exact { result ≡ spec.is_body_beyond view.now text.now (view_body block.now) }
+{
+    are_stmts_beyond(view, text, block.statements.as_slice())
+}
+
+#[cycle(statement)]
+fn are_stmts_beyond(view: &View, text: &[u8], statements: &[Statement]) -> bool
+    ensures exact { result ≡ spec.are_stmts_beyond view.now text.now (view_stmts statements.now) }
+{
+    for statement in statements {
+        if is_stmt_beyond(view, text, statement) {
+            return true;
+        }
+    }
+    false
+}
+
+fn are_parameters_beyond(view: &View, text: &[u8], parameters: &[Parameter]) -> bool
+    ensures exact { result ≡ spec.are_parameters_beyond view.now text.now parameters.now }
+{
+    parameters
+        .iter()
+        .any(|parameter| is_type_beyond(view, text, &parameter.declared_type))
+}
+
+fn is_part_beyond(view: &View, text: &[u8], part: &Part<'_>) -> bool
+    ensures exact { result ≡ spec.is_part_beyond view.now text.now part.now }
+{
+    match part {
+        Part::Function {
+            result,
+            params,
+            body,
+        } => {
+            is_type_beyond(view, text, result)
+                || are_parameters_beyond(view, text, params.items())
+                || is_body_beyond(view, text, body.block())
+        }
+        Part::Global {
+            declared_type,
+            initializer,
+        } => {
+            is_type_beyond(view, text, declared_type)
+                || is_init_beyond(view, text, initializer.initializer())
+        }
+        Part::Other => true,
+    }
+}
+
+/// Refuses a declaration that uses what is not built, at its first token.
+#[tactic(auto, unfolding(crate::specs::NotYet::not_yet))]
+pub fn not_yet(alloc: Global, view: &View, declared: &Declared<'_>) -> Option<Error>
+    ensures exact { result ≡ spec.not_yet view.now declared.now }
+{
+    if is_part_beyond(view, declared.text.bytes(), &declared.part) {
+        return Some(fault_at(alloc, ErrorKind::NotYet, declared.first));
+    }
+    None
+}
