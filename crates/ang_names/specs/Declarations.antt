@@ -1,11 +1,11 @@
 -- What scripts declare (docs/LANGUAGE.md, "Declarations"; the AngelScript manual, "Global entities"): all declarations, in the
--- order of sections and text.
+-- order of sections and text. Each knows where it stands, and its body or initializer with it.
 use Rattle.std.specs.Prelude.{ℕ, ◌+◌, List, [], ◌∷◌, ◌++◌, Option, Some, None}
 use Rattle.ang_kinds.specs.declared.place.Place.{Place}
 use Rattle.ang_lex.specs.declared.token.Token.{Token}
 use Rattle.ang_tree.specs.declared.type_name.TypeName.{TypeName}
 use Rattle.ang_tree.specs.declared.declaration.Parameter.{Parameter}
-use Rattle.ang_tree.specs.Stmt.{Var, Body}
+use Rattle.ang_tree.specs.Stmt.{Var}
 use Rattle.ang_tree.specs.Declarations.{Decl, class, interface, import, function, globals, empty}
 use Rattle.ang_names.specs.declared.origin.Origin.{Origin}
 use Rattle.ang_names.specs.declared.listed.Declared.{Declared}
@@ -30,12 +30,12 @@ module _ (script : ℕ) (text : List ℕ) where
   declared_as n i first name p = record { origin = stands_at script n i; text = text; first = first.place; name = name; part = p }
 
   -- a function
-  abbrev pub function_at : ℕ → TypeName → Token → List Parameter → Body → Declared
-  function_at n y x ps b = declared_as n 0 (first_of_type y) x (part.Function y ps b)
+  abbrev pub function_at : ℕ → TypeName → Token → List Parameter → Declared
+  function_at n y x ps = declared_as n 0 (first_of_type y) x (part.Function y ps)
 
   -- one of the names of a declaration of globals, which has the type and the first token of the whole
-  abbrev pub global_at : ℕ → ℕ → TypeName → Var → Declared
-  global_at n i y v = declared_as n i (first_of_type y) v.name (part.Global y v.initializer)
+  abbrev pub global_at : ℕ → ℕ → TypeName → Token → Declared
+  global_at n i y x = declared_as n i (first_of_type y) x (part.Global y)
 
   -- a class, an interface or an import
   abbrev pub other_at : ℕ → Token → Token → Declared
@@ -43,7 +43,7 @@ module _ (script : ℕ) (text : List ℕ) where
 
   abbrev pub globals_from : ℕ → TypeName → ℕ → List Var → List Declared
   globals_from n y i [] = []
-  globals_from n y i (v ∷ vs) = global_at n i y v ∷ globals_from n y (i + 1) vs
+  globals_from n y i (v ∷ vs) = global_at n i y v.name ∷ globals_from n y (i + 1) vs
 
   -- What the declaration at this place declares: each name of a declaration of globals is a declaration of its own, and a `;`
   -- alone declares nothing.
@@ -51,7 +51,7 @@ module _ (script : ℕ) (text : List ℕ) where
   declared_by n (class final word x bases left members right) = other_at n (token_or final word) x ∷ []
   declared_by n (interface word x bases left methods right) = other_at n word x ∷ []
   declared_by n (import word y x ps from module_name semicolon) = other_at n word x ∷ []
-  declared_by n (function y x ps b) = function_at n y x ps.items b ∷ []
+  declared_by n (function y x ps b) = function_at n y x ps.items ∷ []
   declared_by n (globals vs) = globals_from n vs.declared_type 0 vs.items
   declared_by n (empty semicolon) = []
 

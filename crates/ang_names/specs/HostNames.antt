@@ -12,7 +12,7 @@ use Rattle.ang_kinds.specs.declared.types.TypeRef.TheVariants as ref
 use Rattle.ang_registry.specs.declared.entry.Entry.{Entry}
 use Rattle.ang_registry.specs.declared.entry.EntryKind.{EntryKind}
 use Rattle.ang_registry.specs.declared.entry.EntryKind.TheVariants as entry
-use Rattle.ang_registry.specs.Registration.{RegistrationList, is_function_named}
+use Rattle.ang_registry.specs.Registration.{RegistrationList}
 use Rattle.ang_registry.specs.Types.{type_named}
 use Rattle.ang_types.specs.declared.arg_type.ArgType.{ArgType}
 use Rattle.ang_types.specs.declared.arg_type.ArgType.TheVariants as type
@@ -47,14 +47,14 @@ abbrev pub host_params : RegistrationList → List Param → Option (List (ArgTy
 host_params V [] = Some []
 host_params V (p ∷ ps) = in_front (host_type V p.ty) p.pass (host_params V ps)
 
-abbrev pub host_function : ℕ → Option ArgType → Option (List (ArgType × Pass)) → Option HostFunction
-host_function n None params = None
-host_function n (Some t) None = None
-host_function n (Some t) (Some params) = Some (record { entity = record { 0 = n }; result = t; params = params })
+abbrev pub host_function : ℕ → Entry → Option ArgType → Option (List (ArgType × Pass)) → Option HostFunction
+host_function n x None params = None
+host_function n x (Some t) None = None
+host_function n x (Some t) (Some params) = Some (record { entity = record { 0 = n }; driver = x.driver; f = x.f; result = t; params = params })
 
 -- the function of an entry
 abbrev pub function_in : RegistrationList → ℕ → Entry → Option HostFunction
-function_in V n x = host_function n (host_type V x.signature.result) (host_params V x.signature.params)
+function_in V n x = host_function n x (host_type V x.signature.result) (host_params V x.signature.params)
 
 abbrev pub is_function : EntryKind → Bool
 is_function entry.HostType = false
@@ -64,9 +64,12 @@ is_function entry.Property = false
 is_function entry.Function = true
 is_function entry.Global = false
 
+abbrev pub is_function_named : List ℕ → Entry → Bool
+is_function_named name x = is_function x.kind && bytes_eq x.signature.name name
+
 abbrev pub function_in_entry : RegistrationList → List ℕ → ℕ → Option Entry → Option HostFunction
 function_in_entry V name n None = None
-function_in_entry V name n (Some x) = if is_function x.kind && bytes_eq x.signature.name name then function_in V n x else None
+function_in_entry V name n (Some x) = if is_function_named name x then function_in V n x else None
 
 abbrev pub functions_from : RegistrationList → List ℕ → ℕ → RegistrationList → List HostFunction
 functions_from V name n [] = []
@@ -90,13 +93,13 @@ abbrev pub is_global_named : List ℕ → Option Entry → Bool
 is_global_named name None = false
 is_global_named name (Some x) = is_global x.kind && bytes_eq x.signature.name name
 
-abbrev pub global_with : ℕ → Bool → Option ArgType → Option HostGlobal
-global_with n read_only None = None
-global_with n read_only (Some t) = Some (record { entity = record { 0 = n }; ty = t; read_only = read_only })
+abbrev pub global_with : ℕ → Entry → Option ArgType → Option HostGlobal
+global_with n x None = None
+global_with n x (Some t) = Some (record { entity = record { 0 = n }; driver = x.driver; f = x.f; ty = t; read_only = x.signature.read_only })
 
 abbrev pub global_in_entry : RegistrationList → ℕ → Option Entry → Option HostGlobal
 global_in_entry V n None = None
-global_in_entry V n (Some x) = global_with n x.signature.read_only (host_type V x.signature.result)
+global_in_entry V n (Some x) = global_with n x (host_type V x.signature.result)
 
 abbrev pub or_else : Bool → Option HostGlobal → Option HostGlobal → Option HostGlobal
 or_else true here rest = here

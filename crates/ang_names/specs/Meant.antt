@@ -38,8 +38,8 @@ function_refusal V text name y ps =
     first_of (refused text y.name (type_of V text y)) (first_of (parameter_limit text name ps) (parameters_refusal V text ps))
 
 abbrev pub part_refusal : RegistrationList → List ℕ → Token → Part → Option Error
-part_refusal V text name (part.Function y ps b) = function_refusal V text name y ps
-part_refusal V text name (part.Global y i) = refused text y.name (value_type_of V text y)
+part_refusal V text name (part.Function y ps) = function_refusal V text name y ps
+part_refusal V text name (part.Global y) = refused text y.name (value_type_of V text y)
 part_refusal V text name part.Other = None
 
 unfoldable pub type_refusal : RegistrationList → Declared → Option Error

@@ -1,7 +1,7 @@
 -- Declarations beyond what is built so far (docs/LANGUAGE.md, "What is built so far"): those that use classes, interfaces,
 -- imports, object types, handles, `this`, `null`, `cast`, `is`, `!is` or a member.
-use Rattle.std.specs.Prelude.{ℕ, Bool, true, false, ◌||◌, is_some, List, Option, Some, None}
-use Rattle.std.specs.List.{list_any}
+use Rattle.std.specs.Prelude.{ℕ, Bool, true, false, ◌||◌, is_some, List, [], ◌∷◌, Option, Some, None}
+use Rattle.std.specs.List.{list_any, flat_map}
 use Rattle.ang_kinds.specs.declared.error.Error.{Error}
 use Rattle.ang_kinds.specs.declared.error.ErrorKind.TheVariants as kind
 use Rattle.ang_lex.specs.declared.token.Token.{Token}
@@ -13,10 +13,9 @@ use Rattle.ang_tree.specs.declared.type_name.TypeName.{TypeName}
 use Rattle.ang_tree.specs.declared.declaration.Parameter.{Parameter}
 use Rattle.ang_tree.specs.Tree.{Tree, Args, Trees, literal, name, call, scoped_call, cast, convert, group, postfix, member, method_call, prefix, binary, conditional, assignment, arguments, none, more}
 use Rattle.ang_tree.specs.Stmt.{Init, absent, value, constructor, Var, Vars, Start, with_variables, with_expression, Stmt, Body, Stmts, block, variables, expression, break, continue, return, when, either, while, do_while, for, body, end, then}
-use Rattle.ang_names.specs.declared.listed.Declared.{Declared}
-use Rattle.ang_names.specs.declared.listed.Part.{Part}
-use Rattle.ang_names.specs.declared.listed.Part.TheVariants as part
-use Rattle.ang_names.specs.Sources.{text_of, fault_at}
+use Rattle.ang_tree.specs.Declarations.{Decl, class, interface, import, function, globals, empty}
+use Rattle.ang_names.specs.Sources.{Source, text_of, fault_at}
+use Rattle.ang_names.specs.Declarations.{token_or, first_of_type}
 
 -- `null` and `this`
 abbrev pub is_object_word : TokenKind → Bool
@@ -34,6 +33,11 @@ is_identity _ = false
 abbrev pub is_handle_sign : TokenKind → Bool
 is_handle_sign k.At = true
 is_handle_sign _ = false
+
+-- one error at the first token, without a name
+abbrev pub refused_where : Bool → Token → List Error
+refused_where true first = fault_at kind.NotYet first.place ∷ []
+refused_where false first = []
 
 -- Over a view, in a section of these bytes:
 module _ (V : RegistrationList) (text : List ℕ) where
@@ -115,15 +119,27 @@ module _ (V : RegistrationList) (text : List ℕ) where
   abbrev pub are_parameters_beyond : List Parameter → Bool
   are_parameters_beyond ps = list_any (λ p. is_type_beyond p.declared_type) ps
 
-  abbrev pub is_part_beyond : Part → Bool
-  is_part_beyond (part.Function y ps b) = is_type_beyond y || are_parameters_beyond ps || is_body_beyond b
-  is_part_beyond (part.Global y i) = is_type_beyond y || is_init_beyond i
-  is_part_beyond part.Other = true
+  abbrev pub is_function_beyond : TypeName → List Parameter → Body → Bool
+  is_function_beyond y ps b = is_type_beyond y || are_parameters_beyond ps || is_body_beyond b
 
-abbrev pub not_yet_where : Bool → Declared → Option Error
-not_yet_where true d = Some (fault_at kind.NotYet d.first)
-not_yet_where false d = None
+  abbrev pub is_global_beyond : TypeName → Init → Bool
+  is_global_beyond y i = is_type_beyond y || is_init_beyond i
 
--- A declaration beyond what is built is refused at its first token, without a name.
-unfoldable pub not_yet : RegistrationList → Declared → Option Error
-not_yet V d = not_yet_where (is_part_beyond V d.text d.part) d
+  abbrev pub global_errors : TypeName → Var → List Error
+  global_errors y v = refused_where (is_global_beyond y v.initializer) (first_of_type y)
+
+  -- The error of a declaration that is beyond what is built. Each name of a declaration of globals is one of its own.
+  abbrev pub declaration_errors : Decl → List Error
+  declaration_errors (class final word x bases left members right) = refused_where true (token_or final word)
+  declaration_errors (interface word x bases left methods right) = refused_where true word
+  declaration_errors (import word y x ps from module_name semicolon) = refused_where true word
+  declaration_errors (function y x ps b) = refused_where (is_function_beyond y ps.items b) (first_of_type y)
+  declaration_errors (globals vs) = flat_map (global_errors vs.declared_type) vs.items
+  declaration_errors (empty semicolon) = []
+
+abbrev pub section_errors : RegistrationList → Source → List Error
+section_errors V s = flat_map (declaration_errors V s.text) s.declarations
+
+-- The errors of all declarations that are beyond what is built, in order.
+unfoldable pub not_yet : RegistrationList → List Source → List Error
+not_yet V ss = flat_map (section_errors V) ss

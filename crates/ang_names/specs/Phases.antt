@@ -8,13 +8,14 @@ use Rattle.ang_registry.specs.Registration.{RegistrationList}
 use Rattle.ang_names.specs.declared.listed.Declared.{Declared}
 use Rattle.ang_names.specs.declared.phase.Phase.{Phase}
 use Rattle.ang_names.specs.declared.phase.Phase.TheVariants as phase
+use Rattle.ang_names.specs.Sources.{Source}
+use Rattle.ang_names.specs.Declarations.{declarations_of}
 use Rattle.ang_names.specs.NotYet.{not_yet}
 use Rattle.ang_names.specs.Taken.{name_refusal}
 use Rattle.ang_names.specs.Meant.{type_refusal}
 
 -- why a phase refuses a declaration, behind those before it
 abbrev pub refusal : RegistrationList → Phase → List Declared → Declared → Option Error
-refusal V phase.Built before d = not_yet V d
 refusal V phase.Names before d = name_refusal V before d
 refusal V phase.Types before d = type_refusal V d
 
@@ -34,11 +35,12 @@ first_errors V (p ∷ ps) ds = errors_or (refusals V p [] ds) (first_errors V ps
 
 -- the phases, in order
 abbrev pub all_phases : List Phase
-all_phases = phase.Built ∷ phase.Names ∷ phase.Types ∷ []
+all_phases = phase.Names ∷ phase.Types ∷ []
 
--- The errors of declarations over what the module sees: none where each phase accepts each of them.
-unfoldable pub errors_of : RegistrationList → List Declared → List Error
-errors_of V ds = first_errors V all_phases ds
+-- The errors of the declarations of these sections over what the module sees, those beyond what is built first: none where
+-- each phase accepts each of them.
+unfoldable pub errors_of : RegistrationList → List Source → List Error
+errors_of V ss = errors_or (not_yet V ss) (first_errors V all_phases (declarations_of ss))
 
 -- what is refused: these errors, of which there is one at least, or memory was short
 abbrev pub IsRefused : Unbuilt → List Error → Type 0

@@ -49,13 +49,13 @@ global_with V d y = record {
 }
 
 abbrev pub function_by : RegistrationList → Declared → Part → Option ScriptFunction
-function_by V d (part.Function y ps b) = Some (function_with V d y ps)
-function_by V d (part.Global y i) = None
+function_by V d (part.Function y ps) = Some (function_with V d y ps)
+function_by V d (part.Global y) = None
 function_by V d part.Other = None
 
 abbrev pub global_by : RegistrationList → Declared → Part → Option ScriptGlobal
-global_by V d (part.Function y ps b) = None
-global_by V d (part.Global y i) = Some (global_with V d y)
+global_by V d (part.Function y ps) = None
+global_by V d (part.Global y) = Some (global_with V d y)
 global_by V d part.Other = None
 
 -- the function that a declaration declares, if it declares one

@@ -24,14 +24,14 @@ declared_name d = text_of d.text d.name
 
 -- what a function with these parameters can't stand beside, under its name
 abbrev pub excludes_function : List ℕ → List Parameter → List ℕ → Part → Bool
-excludes_function text ps other (part.Function y qs b) = same_parameters text ps other qs
-excludes_function text ps other (part.Global y i) = true
+excludes_function text ps other (part.Function y qs) = same_parameters text ps other qs
+excludes_function text ps other (part.Global y) = true
 excludes_function text ps other part.Other = true
 
 -- Functions of one name differ in their parameters; nothing else shares a name.
 abbrev pub excludes : List ℕ → Part → List ℕ → Part → Bool
-excludes text (part.Function y ps b) other q = excludes_function text ps other q
-excludes text (part.Global y i) other q = true
+excludes text (part.Function y ps) other q = excludes_function text ps other q
+excludes text (part.Global y) other q = true
 excludes text part.Other other q = true
 
 -- the declaration can't stand beside the earlier one
@@ -41,8 +41,8 @@ clashes d earlier = bytes_eq (declared_name d) (declared_name earlier) && exclud
 -- ---- against the host's names
 
 abbrev pub overloads_host : List ℕ → Part → List Param → Bool
-overloads_host text (part.Function y ps b) qs = same_as_host text ps qs
-overloads_host text (part.Global y i) qs = true
+overloads_host text (part.Function y ps) qs = same_as_host text ps qs
+overloads_host text (part.Global y) qs = true
 overloads_host text part.Other qs = true
 
 -- a type's factories, methods and properties have names of their own
@@ -71,19 +71,19 @@ abbrev pub most_globals : ℕ
 most_globals = 4096
 
 abbrev pub is_function : Part → Bool
-is_function (part.Function y ps b) = true
-is_function (part.Global y i) = false
+is_function (part.Function y ps) = true
+is_function (part.Global y) = false
 is_function part.Other = false
 
 abbrev pub is_global : Part → Bool
-is_global (part.Function y ps b) = false
-is_global (part.Global y i) = true
+is_global (part.Function y ps) = false
+is_global (part.Global y) = true
 is_global part.Other = false
 
 -- as many stand before it as a module can have, so it is the first above
 abbrev pub is_first_above : List Declared → Part → Bool
-is_first_above before (part.Function y ps b) = count_by (λ d. is_function d.part) before == most_functions
-is_first_above before (part.Global y i) = count_by (λ d. is_global d.part) before == most_globals
+is_first_above before (part.Function y ps) = count_by (λ d. is_function d.part) before == most_functions
+is_first_above before (part.Global y) = count_by (λ d. is_global d.part) before == most_globals
 is_first_above before part.Other = false
 
 -- What is refused of a declaration's name, at the name, behind the declarations before it.

@@ -1,6 +1,6 @@
 //! What a module sees of the host's functions and global properties, by name.
-ghost use Rattle.std.specs.Prelude.{◌≡◌, ◌++◌, IfOk, OnOk, option_to_list};
-ghost use Rattle.std.specs.Option.{option_copied};
+ghost use Rattle.std.specs.Prelude.{◌≡◌, ◌++◌, IfOk, OnOk, Some, option_to_list};
+ghost use Rattle.ang_registry.specs.Registration.{entry_at};
 ghost use Rattle.ang_names.specs.HostNames as spec;
 
 use crate::types::type_number;
@@ -14,6 +14,10 @@ use std::alloc::{AllocError, Global};
 pub struct HostFunction {
     /// Its entry.
     pub entity: EntityNo,
+    /// The driver that answers for it.
+    pub driver: u32,
+    /// The driver's own number for it.
+    pub f: u32,
     /// The type of the result.
     pub result: ArgType,
     /// The types and passings of the parameters, in order.
@@ -25,6 +29,10 @@ pub struct HostFunction {
 pub struct HostGlobal {
     /// Its entry.
     pub entity: EntityNo,
+    /// The driver that answers for it.
+    pub driver: u32,
+    /// The driver's own number for it.
+    pub f: u32,
     /// The type.
     pub ty: ArgType,
     /// Whether scripts can't write it.
@@ -93,28 +101,33 @@ fn function_in(
     };
     Ok(Some(HostFunction {
         entity,
+        driver: entry.driver,
+        f: entry.f,
         result,
         params,
     }))
 }
 
-fn function_in_entry(
+fn is_function_named(entry: &Entry, name: &[u8]) -> bool
+    ensures exact { result ≡ spec.is_function_named name.now entry.now }
+{
+    matches!(entry.kind, EntryKind::Function) && entry.signature.name.as_slice() == name
+}
+
+/// The function of an entry, if it is one of this name.
+fn function_at(
     alloc: Global,
     view: &View,
     name: &[u8],
     entity: EntityNo,
-    entry: Option<&Entry>,
 ) -> Result<Option<HostFunction>, AllocError>
     ensures exact { IfOk result (λ found. found
-        ≡ spec.function_in_entry view.now name.now entity.0 (option_copied entry)) }
+        ≡ spec.function_in_entry view.now name.now entity.0 (entry_at view.now entity.0)) }
 {
-    let Some(entry) = entry else {
-        return Ok(None);
-    };
-    if matches!(entry.kind, EntryKind::Function) && entry.signature.name.as_slice() == name {
-        return function_in(alloc, view, entity, entry);
+    match view.get(entity) {
+        Some(entry) if is_function_named(entry, name) => function_in(alloc, view, entity, entry),
+        _ => Ok(None),
     }
-    Ok(None)
 }
 
 fn push_function(
@@ -143,30 +156,37 @@ pub fn view_functions_named(
     let mut functions = Vec::new(alloc);
     for number in 0..view.len() {
         let entity = EntityNo(number as u32);
-        let function = function_in_entry(alloc, view, name, entity, view.get(entity))?;
+        let function = function_at(alloc, view, name, entity)?;
         push_function(&mut functions, function)?;
     }
     Ok(functions)
 }
 
-fn is_global_named(entry: Option<&Entry>, name: &[u8]) -> bool
-    ensures exact { result ≡ spec.is_global_named name.now (option_copied entry) }
+fn is_global_named(entry: &Entry, name: &[u8]) -> bool
+    ensures exact { result ≡ spec.is_global_named name.now (Some entry.now) }
 {
-    match entry {
+    matches!(entry.kind, EntryKind::Global) && entry.signature.name.as_slice() == name
+}
+
+fn is_global_at(view: &View, entity: EntityNo, name: &[u8]) -> bool
+    ensures exact { result ≡ spec.is_global_named name.now (entry_at view.now entity.0) }
+{
+    match view.get(entity) {
         None => false,
-        Some(entry) => {
-            matches!(entry.kind, EntryKind::Global) && entry.signature.name.as_slice() == name
-        }
+        Some(entry) => is_global_named(entry, name),
     }
 }
 
-fn global_in_entry(view: &View, entity: EntityNo, entry: Option<&Entry>) -> Option<HostGlobal>
-    ensures exact { result ≡ spec.global_in_entry view.now entity.0 (option_copied entry) }
+/// The global property of an entry.
+fn global_at(view: &View, entity: EntityNo) -> Option<HostGlobal>
+    ensures exact { result ≡ spec.global_in_entry view.now entity.0 (entry_at view.now entity.0) }
 {
-    let entry = entry?;
+    let entry = view.get(entity)?;
     let ty = host_type(view, &entry.signature.result)?;
     Some(HostGlobal {
         entity,
+        driver: entry.driver,
+        f: entry.f,
         ty,
         read_only: entry.signature.read_only,
     })
@@ -179,9 +199,8 @@ pub fn view_global_named(view: &View, name: &[u8]) -> Option<HostGlobal>
 {
     for number in 0..view.len() {
         let entity = EntityNo(number as u32);
-        let entry = view.get(entity);
-        if is_global_named(entry, name) {
-            return global_in_entry(view, entity, entry);
+        if is_global_at(view, entity, name) {
+            return global_at(view, entity);
         }
     }
     None

@@ -5,7 +5,7 @@
 //! with what their types mean. Beside it stand the look-ups that the checker of bodies makes.
 #![tactic(auto)]
 
-mod declare;
+mod declaring;
 mod host;
 mod listed;
 mod lookup;
@@ -21,7 +21,7 @@ mod taken;
 mod types;
 mod written;
 
-pub use declare::declare;
+pub use declaring::declare;
 pub use host::{HostFunction, HostGlobal, view_functions_named, view_global_named};
 pub use lookup::{candidate_of, functions_named, global_named};
 pub use names::{Names, ScriptFunction, ScriptGlobal, ScriptParameter};

@@ -1,15 +1,15 @@
 //! The declarations of all scripts, in order.
 ghost use Rattle.std.specs.Prelude.{◌≡◌, ◌++◌, IfOk, OnOk, map as list_map};
 ghost use Rattle.ang_tree.specs.Declarations.{globals};
-ghost use Rattle.ang_tree.specs.View.{view_body, view_decl, view_params, view_script, view_var, view_vars};
+ghost use Rattle.ang_tree.specs.View.{view_decl, view_params, view_script, view_vars};
 ghost use Rattle.ang_names.specs.Sources.{source_of};
 ghost use Rattle.ang_names.specs.Declarations as spec;
 
 use crate::Origin;
-use crate::written::{Text, WrittenBody, WrittenInitializer, WrittenParameters};
+use crate::written::{Text, WrittenParameters};
 use ang_kinds::Place;
 use ang_lex::Token;
-use ang_tree::{Declaration, Function, Script, TypeName, Variable, Variables};
+use ang_tree::{Declaration, Function, Script, TypeName, Variables};
 use std::alloc::{AllocError, Global};
 
 /// A declaration of a script. Each name of a declaration of globals is one of its own.
@@ -32,21 +32,17 @@ pub struct Declared<'a> {
 pub enum Part<'a> {
     /// A function.
     Function {
-        result: TypeName,
+        result_type: TypeName,
         params: WrittenParameters<'a>,
-        body: WrittenBody<'a>,
     },
-    /// A global variable.
-    Global {
-        declared_type: TypeName,
-        initializer: WrittenInitializer<'a>,
-    },
+    /// A global variable, of this type.
+    Global(TypeName),
     /// A class, an interface or an import.
     Other,
 }
 
 /// The first token of a type: its `const`, or else its name.
-fn first_of_type(declared: &TypeName) -> Token
+pub fn first_of_type(declared: &TypeName) -> Token
     ensures exact { result ≡ spec.first_of_type declared.now }
 {
     declared.constant.unwrap_or(declared.name)
@@ -57,20 +53,17 @@ fn list_global<'a>(
     origin: Origin,
     text: &'a [u8],
     declared_type: TypeName,
-    variable: &'a Variable,
+    name: Token,
 ) -> Declared<'a>
     ensures exact { result
-        ≡ spec.global_at origin.script text.now origin.declaration origin.variable declared_type (view_var variable.now) }
+        ≡ spec.global_at origin.script text.now origin.declaration origin.variable declared_type name }
 {
     Declared {
         origin,
         text: Text::new(text),
         first: first_of_type(&declared_type).place,
-        name: variable.name,
-        part: Part::Global {
-            declared_type,
-            initializer: WrittenInitializer::new(&variable.initializer),
-        },
+        name,
+        part: Part::Global(declared_type),
     }
 }
 
@@ -91,7 +84,7 @@ fn list_globals<'a>(
             declaration,
             variable,
         };
-        found.push(list_global(origin, text, variables.declared_type, written))?;
+        found.push(list_global(origin, text, variables.declared_type, written.name))?;
     }
     Ok(())
 }
@@ -99,7 +92,7 @@ fn list_globals<'a>(
 /// A function.
 fn list_function<'a>(origin: Origin, text: &'a [u8], written: &'a Function) -> Declared<'a>
     ensures exact { result ≡ spec.function_at origin.script text.now origin.declaration written.now.result
-        written.now.name (view_params written.now.parameters).items (view_body written.now.body) }
+        written.now.name (view_params written.now.parameters).items }
 {
     Declared {
         origin,
@@ -107,9 +100,8 @@ fn list_function<'a>(origin: Origin, text: &'a [u8], written: &'a Function) -> D
         first: first_of_type(&written.result).place,
         name: written.name,
         part: Part::Function {
-            result: written.result,
+            result_type: written.result,
             params: WrittenParameters::new(written.parameters.items.as_slice()),
-            body: WrittenBody::new(&written.body),
         },
     }
 }

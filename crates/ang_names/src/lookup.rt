@@ -19,7 +19,8 @@ pub fn functions_named(
     ensures exact { IfOk result (λ numbers. numbers.items ≡ spec.functions_named names.now.functions name.now) }
 {
     let mut numbers = Vec::new(alloc);
-    for (number, function) in names.functions.as_slice().iter().enumerate() {
+    let functions = names.functions.as_slice();
+    for (number, function) in functions.iter().enumerate() {
         if function.name.as_slice() == name {
             numbers.push(number)?;
         }
@@ -49,9 +50,11 @@ pub fn candidate_of(
 ) -> Result<List<(ArgType, Pass)>, AllocError>
     ensures exact { IfOk result (λ params. params ≡ spec.candidate_of function.now) }
 {
-    let mut params = Vec::new(alloc);
-    for param in function.params.as_slice() {
-        params.push((param.ty, param.pass))?;
-    }
+    let params = function
+        .params
+        .as_slice()
+        .iter()
+        .map(|param| (param.ty, param.pass))
+        .collect(alloc)?;
     Ok(List::from_vec(params))
 }

@@ -80,13 +80,13 @@ fn function_refusal(
     view: &View,
     text: &[u8],
     name: &Token,
-    result: &TypeName,
+    result_type: &TypeName,
     parameters: &[Parameter],
 ) -> Result<Option<Error>, AllocError>
     ensures exact { IfOk result (λ error. error
-        ≡ spec.function_refusal view.now text.now name.now result.now parameters.now) }
+        ≡ spec.function_refusal view.now text.now name.now result_type.now parameters.now) }
 {
-    if let Some(error) = refused(alloc, text, &result.name, type_of(view, text, result))? {
+    if let Some(error) = refused(alloc, text, &result_type.name, type_of(view, text, result_type))? {
         return Ok(Some(error));
     }
     if let Some(error) = parameter_limit(alloc, text, name, parameters)? {
@@ -107,10 +107,18 @@ pub fn type_refusal(
 {
     let text = declared.text.bytes();
     match &declared.part {
-        Part::Function { result, params, .. } => {
-            function_refusal(alloc, view, text, &declared.name, result, params.items())
-        }
-        Part::Global { declared_type, .. } => {
+        Part::Function {
+            result_type,
+            params,
+        } => function_refusal(
+            alloc,
+            view,
+            text,
+            &declared.name,
+            result_type,
+            params.items(),
+        ),
+        Part::Global(declared_type) => {
             let meaning = value_type_of(view, text, declared_type);
             refused(alloc, text, &declared_type.name, meaning)
         }

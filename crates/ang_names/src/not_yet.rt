@@ -1,20 +1,22 @@
 //! Declarations beyond what is built so far: those that use classes, interfaces, imports, object types,
 //! handles, `this`, `null`, `cast`, `is`, `!is` or a member.
-ghost use Rattle.std.specs.Prelude.{◌≡◌, map as list_map};
-ghost use Rattle.ang_tree.specs.View.{view_expr, view_items, view_args, view_option, view_init, view_var, view_vars, view_start, view_stmt, view_stmts, view_body};
+ghost use Rattle.std.specs.Prelude.{◌≡◌, ◌++◌, IfOk, OnOk, map as list_map};
+ghost use Rattle.ang_tree.specs.Declarations.{globals};
+ghost use Rattle.ang_tree.specs.View.{view_expr, view_items, view_args, view_option, view_init, view_var, view_vars, view_start, view_stmt, view_stmts, view_body, view_params, view_decl};
 ghost use Rattle.ang_names.specs.NotYet as spec;
+ghost use Rattle.ang_names.specs.Sources.{source_of};
 
-use crate::listed::{Declared, Part};
+use crate::listed::first_of_type;
 use crate::sources::{fault_at, text_at};
 use crate::types::type_number;
 use ang_kinds::{Error, ErrorKind};
 use ang_lex::{Token, TokenKind};
 use ang_registry::View;
 use ang_tree::{
-    Argument, Arguments, Block, Expression, ForStart, Initializer, Parameter, Statement, TypeName, Variable,
-    Variables,
+    Argument, Arguments, Block, Declaration, Expression, ForStart, Function, Initializer, Parameter, Script,
+    Statement, TypeName, Variable, Variables,
 };
-use std::alloc::Global;
+use std::alloc::{AllocError, Global};
 
 /// Whether the token is the name of a type that the module sees.
 #[tactic(auto, unfolding(crate::specs::NotYet::is_host_type))]
@@ -239,37 +241,112 @@ fn are_parameters_beyond(view: &View, text: &[u8], parameters: &[Parameter]) -> 
         .any(|parameter| is_type_beyond(view, text, &parameter.declared_type))
 }
 
-fn is_part_beyond(view: &View, text: &[u8], part: &Part<'_>) -> bool
-    ensures exact { result ≡ spec.is_part_beyond view.now text.now part.now }
+fn is_function_beyond(view: &View, text: &[u8], function: &Function) -> bool
+    ensures exact { result ≡ spec.is_function_beyond view.now text.now function.now.result
+        (view_params function.now.parameters).items (view_body function.now.body) }
 {
-    match part {
-        Part::Function {
-            result,
-            params,
-            body,
-        } => {
-            is_type_beyond(view, text, result)
-                || are_parameters_beyond(view, text, params.items())
-                || is_body_beyond(view, text, body.block())
+    is_type_beyond(view, text, &function.result)
+        || are_parameters_beyond(view, text, function.parameters.items.as_slice())
+        || is_body_beyond(view, text, &function.body)
+}
+
+fn is_global_beyond(
+    view: &View,
+    text: &[u8],
+    declared: &TypeName,
+    initializer: &Initializer,
+) -> bool
+    ensures exact { result ≡ spec.is_global_beyond view.now text.now declared.now (view_init initializer.now) }
+{
+    is_type_beyond(view, text, declared) || is_init_beyond(view, text, initializer)
+}
+
+/// One more error, at this token, where something is refused.
+fn refuse_where(
+    alloc: Global,
+    is_refused: bool,
+    first: Token,
+    errors: &mut Vec<Error>,
+) -> Result<(), AllocError>
+    ensures added { OnOk result (errors.new.items ≡ errors.old.items ++ spec.refused_where is_refused first) }
+{
+    if is_refused {
+        errors.push(fault_at(alloc, ErrorKind::NotYet, first.place))?;
+    }
+    Ok(())
+}
+
+/// One error for each of the variables that is beyond what is built.
+fn refuse_globals(
+    alloc: Global,
+    view: &View,
+    text: &[u8],
+    variables: &Variables,
+    errors: &mut Vec<Error>,
+) -> Result<(), AllocError>
+    ensures added { OnOk result (errors.new.items
+        ≡ errors.old.items ++ spec.declaration_errors view.now text.now (globals (view_vars variables.now))) }
+{
+    let declared = &variables.declared_type;
+    for variable in &variables.items {
+        let is_refused = is_global_beyond(view, text, declared, &variable.initializer);
+        refuse_where(alloc, is_refused, first_of_type(declared), errors)?;
+    }
+    Ok(())
+}
+
+/// The errors of one declaration that is beyond what is built.
+fn refuse_declaration(
+    alloc: Global,
+    view: &View,
+    text: &[u8],
+    declaration: &Declaration,
+    errors: &mut Vec<Error>,
+) -> Result<(), AllocError>
+    ensures added { OnOk result (errors.new.items
+        ≡ errors.old.items ++ spec.declaration_errors view.now text.now (view_decl declaration.now)) }
+{
+    match declaration {
+        Declaration::Class(class) => {
+            let first = class.final_word.unwrap_or(class.word);
+            refuse_where(alloc, true, first, errors)
         }
-        Part::Global {
-            declared_type,
-            initializer,
-        } => {
-            is_type_beyond(view, text, declared_type)
-                || is_init_beyond(view, text, initializer.initializer())
+        Declaration::Interface(interface) => refuse_where(alloc, true, interface.word, errors),
+        Declaration::Import(import) => refuse_where(alloc, true, import.word, errors),
+        Declaration::Function(function) => {
+            let is_refused = is_function_beyond(view, text, function);
+            refuse_where(alloc, is_refused, first_of_type(&function.result), errors)
         }
-        Part::Other => true,
+        Declaration::Globals(variables) => refuse_globals(alloc, view, text, variables, errors),
+        Declaration::Empty(_) => Ok(()),
     }
 }
 
-/// Refuses a declaration that uses what is not built, at its first token.
-#[tactic(auto, unfolding(crate::specs::NotYet::not_yet))]
-pub fn not_yet(alloc: Global, view: &View, declared: &Declared<'_>) -> Option<Error>
-    ensures exact { result ≡ spec.not_yet view.now declared.now }
+/// The errors of one section.
+fn refuse_section(
+    alloc: Global,
+    view: &View,
+    script: &Script,
+    errors: &mut Vec<Error>,
+) -> Result<(), AllocError>
+    ensures added { OnOk result (errors.new.items
+        ≡ errors.old.items ++ spec.section_errors view.now (source_of script.now)) }
 {
-    if is_part_beyond(view, declared.text.bytes(), &declared.part) {
-        return Some(fault_at(alloc, ErrorKind::NotYet, declared.first));
+    let text = script.source.as_slice();
+    for declaration in &script.declarations {
+        refuse_declaration(alloc, view, text, declaration, errors)?;
     }
-    None
+    Ok(())
+}
+
+/// The errors of all declarations that are beyond what is built, each at its first token, in order.
+#[tactic(auto, unfolding(crate::specs::NotYet::not_yet))]
+pub fn not_yet(alloc: Global, view: &View, scripts: &[Script]) -> Result<Vec<Error>, AllocError>
+    ensures exact { IfOk result (λ errors. errors.items ≡ spec.not_yet view.now (list_map source_of scripts.now)) }
+{
+    let mut errors = Vec::new(alloc);
+    for script in scripts {
+        refuse_section(alloc, view, script, &mut errors)?;
+    }
+    Ok(errors)
 }

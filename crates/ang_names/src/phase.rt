@@ -4,7 +4,6 @@ ghost use Rattle.ang_names.specs.Phases as spec;
 
 use crate::listed::Declared;
 use crate::meant::type_refusal;
-use crate::not_yet::not_yet;
 use crate::taken::name_refusal;
 use ang_kinds::Error;
 use ang_registry::View;
@@ -13,9 +12,7 @@ use std::alloc::{AllocError, Global};
 /// One of the phases, each of which looks at all declarations.
 #[derive(Clone, Copy, PartialEq, Eq)]
 pub enum Phase {
-    /// Whether the declaration is of the part of the language that is built so far.
-    Built,
-    /// Whether its name is free, and one of few enough.
+    /// Whether the declaration's name is free, and one of few enough.
     Names,
     /// Whether its types are known, and can stand where they stand.
     Types,
@@ -32,7 +29,6 @@ fn refusal(
     ensures exact { IfOk result (λ error. error ≡ spec.refusal view.now phase before.now declared.now) }
 {
     match phase {
-        Phase::Built => Ok(not_yet(alloc, view, declared)),
         Phase::Names => name_refusal(alloc, view, before, declared),
         Phase::Types => type_refusal(alloc, view, declared),
     }
@@ -84,14 +80,14 @@ fn first_errors(
 }
 
 /// The errors of the first phase that has some.
-#[tactic(auto, unfolding(crate::specs::Phases::errors_of))]
-pub fn errors_of(
+pub fn phase_errors(
     alloc: Global,
     view: &View,
     declarations: &[Declared<'_>],
 ) -> Result<Vec<Error>, AllocError>
-    ensures exact { IfOk result (λ errors. errors.items ≡ spec.errors_of view.now declarations.now) }
+    ensures exact { IfOk result (λ errors. errors.items
+        ≡ spec.first_errors view.now spec.all_phases declarations.now) }
 {
-    let phases = [Phase::Built, Phase::Names, Phase::Types];
+    let phases = [Phase::Names, Phase::Types];
     first_errors(alloc, view, &phases, declarations)
 }

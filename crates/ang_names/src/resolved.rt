@@ -60,11 +60,11 @@ fn function_with(
     alloc: Global,
     view: &View,
     declared: &Declared<'_>,
-    result: &TypeName,
+    result_type: &TypeName,
     parameters: &[Parameter],
 ) -> Result<ScriptFunction, AllocError>
     ensures exact { IfOk result (λ f. f
-        ≡ spec.function_with view.now declared.now result.now parameters.now) }
+        ≡ spec.function_with view.now declared.now result_type.now parameters.now) }
 {
     let text = declared.text.bytes();
     let name = copy_at(alloc, text, &declared.name)?;
@@ -72,7 +72,7 @@ fn function_with(
     Ok(ScriptFunction {
         name,
         place: declared.name.place,
-        result: settled(type_of(view, text, result)),
+        result: settled(type_of(view, text, result_type)),
         params,
         origin: declared.origin,
     })
@@ -88,11 +88,14 @@ fn function_of(
     ensures exact { IfOk result (λ f. f ≡ spec.function_of view.now declared.now) }
 {
     match &declared.part {
-        Part::Function { result, params, .. } => {
-            let function = function_with(alloc, view, declared, result, params.items())?;
+        Part::Function {
+            result_type,
+            params,
+        } => {
+            let function = function_with(alloc, view, declared, result_type, params.items())?;
             Ok(Some(function))
         }
-        Part::Global { .. } | Part::Other => Ok(None),
+        Part::Global(_) | Part::Other => Ok(None),
     }
 }
 
@@ -125,7 +128,7 @@ fn global_of(
     ensures exact { IfOk result (λ g. g ≡ spec.global_of view.now declared.now) }
 {
     match &declared.part {
-        Part::Global { declared_type, .. } => {
+        Part::Global(declared_type) => {
             Ok(Some(global_with(alloc, view, declared, declared_type)?))
         }
         Part::Function { .. } | Part::Other => Ok(None),

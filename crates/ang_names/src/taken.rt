@@ -1,7 +1,7 @@
 //! Names that are taken, and too many of them.
-ghost use Rattle.std.specs.Prelude.{◌≡◌, IfOk, count_by};
+ghost use Rattle.std.specs.Prelude.{◌≡◌, IfOk, Some, count_by};
 ghost use Rattle.std.specs.List.{list_any};
-ghost use Rattle.std.specs.Option.{option_copied};
+ghost use Rattle.ang_registry.specs.Registration.{entry_at};
 ghost use Rattle.ang_names.specs.Taken as spec;
 
 use crate::listed::{Declared, Part};
@@ -52,7 +52,7 @@ fn overloads_host(text: &[u8], part: &Part<'_>, others: &[Param]) -> bool
 {
     match part {
         Part::Function { params, .. } => have_same_types_as_host(text, params.items(), others),
-        Part::Global { .. } | Part::Other => true,
+        Part::Global(_) | Part::Other => true,
     }
 }
 
@@ -66,20 +66,24 @@ fn excludes_host(text: &[u8], part: &Part<'_>, kind: EntryKind, others: &[Param]
     }
 }
 
-fn clashes_with_host(declared: &Declared<'_>, entry: Option<&Entry>) -> bool
-    ensures exact { result ≡ spec.clashes_with_host declared.now (option_copied entry) }
+fn clashes_with_entry(declared: &Declared<'_>, entry: &Entry) -> bool
+    ensures exact { result ≡ spec.clashes_with_host declared.now (Some entry.now) }
 {
-    match entry {
+    declared_name(declared) == entry.signature.name.as_slice()
+        && excludes_host(
+            declared.text.bytes(),
+            &declared.part,
+            entry.kind,
+            entry.signature.params.as_slice(),
+        )
+}
+
+fn clashes_at(view: &View, number: EntityNo, declared: &Declared<'_>) -> bool
+    ensures exact { result ≡ spec.clashes_with_host declared.now (entry_at view.now number.0) }
+{
+    match view.get(number) {
         None => false,
-        Some(entry) => {
-            declared_name(declared) == entry.signature.name.as_slice()
-                && excludes_host(
-                    declared.text.bytes(),
-                    &declared.part,
-                    entry.kind,
-                    entry.signature.params.as_slice(),
-                )
-        }
+        Some(entry) => clashes_with_entry(declared, entry),
     }
 }
 
@@ -87,7 +91,7 @@ fn is_taken_by_host(view: &View, declared: &Declared<'_>) -> bool
     ensures exact { result ≡ list_any (spec.clashes_with_host declared.now) view.now }
 {
     for number in 0..view.len() {
-        if clashes_with_host(declared, view.get(EntityNo(number as u32))) {
+        if clashes_at(view, EntityNo(number as u32), declared) {
             return true;
         }
     }
@@ -116,7 +120,7 @@ fn is_function(part: &Part<'_>) -> bool
 fn is_global(part: &Part<'_>) -> bool
     ensures exact { result ≡ spec.is_global part.now }
 {
-    matches!(part, Part::Global { .. })
+    matches!(part, Part::Global(_))
 }
 
 /// Whether as many of the kind stand before it as a module can have.
@@ -127,7 +131,7 @@ fn is_first_above(before: &[Declared<'_>], part: &Part<'_>) -> bool
         Part::Function { .. } => {
             before.iter().filter(|d| is_function(&d.part)).count() == MOST_FUNCTIONS
         }
-        Part::Global { .. } => {
+        Part::Global(_) => {
             before.iter().filter(|d| is_global(&d.part)).count() == MOST_GLOBALS
         }
         Part::Other => false,

@@ -1,36 +1,21 @@
 //! What written types mean.
-ghost use Rattle.std.specs.Prelude.{◌≡◌, ◌<◌, ◌^◌, IfSome, option_map};
-ghost use Rattle.ang_registry.specs.Types.{type_named, is_type_named};
+ghost use Rattle.std.specs.Prelude.{◌≡◌};
+ghost use Rattle.ang_registry.specs.Types.{type_named};
 ghost use Rattle.ang_names.specs.Types as spec;
 
 use crate::sources::text_at;
 use ang_kinds::{EntityNo, ErrorKind, Pass};
 use ang_lex::{Token, TokenKind};
-use ang_registry::{Entry, EntryKind, View};
+use ang_registry::View;
 use ang_tree::{Handle, Parameter, Reference, TypeName};
 use ang_types::ArgType;
-
-fn is_type(entry: Option<&Entry>, name: &[u8]) -> bool
-    ensures exact { result ≡ is_type_named name.now (option_copied entry) }
-{
-    match entry {
-        None => false,
-        Some(entry) => {
-            matches!(entry.kind, EntryKind::HostType) && entry.signature.name.as_slice() == name
-        }
-    }
-}
 
 /// The number of the type of this name that the module sees.
 pub fn type_number(view: &View, name: &[u8]) -> Option<u32>
     ensures exact { result ≡ type_named view.now name.now }
 {
-    for number in 0..view.len() {
-        if is_type(view.get(EntityNo(number as u32)), name) {
-            return Some(number as u32);
-        }
-    }
-    None
+    let EntityNo(number) = view.find_type(name)?;
+    Some(number)
 }
 
 /// A primitive type and `void` have no handles.

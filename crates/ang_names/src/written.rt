@@ -1,5 +1,5 @@
-//! Parts of sections and of their trees, which contracts see without where they lie in memory.
-use ang_tree::{Block, Initializer, Parameter};
+//! Parts of sections and of trees, which contracts see without where they lie in memory.
+use ang_tree::Parameter;
 use std::marker::Model;
 
 /// Bytes of a section.
@@ -60,69 +60,5 @@ impl<'a> WrittenParameters<'a> {
         ensures { result.now ≡ self.now }
     {
         self.items
-    }
-}
-
-/// The body of a function.
-#[derive(Drop)]
-pub struct WrittenBody<'a> {
-    block: &'a Block,
-}
-
-impl<'a> Model for WrittenBody<'a> {
-    ghost use Rattle.ang_tree.specs.Stmt.{Body};
-    ghost use Rattle.ang_tree.specs.View.{view_body};
-
-    ghost Value = { Body };
-
-    ghost view = { λ b. view_body b.block.now };
-}
-
-impl<'a> WrittenBody<'a> {
-    ghost use Rattle.std.specs.Prelude.{◌≡◌};
-    ghost use Rattle.ang_tree.specs.View.{view_body};
-
-    pub fn new(block: &'a Block) -> WrittenBody<'a>
-        ensures { result ≡ view_body block.now }
-    {
-        WrittenBody { block }
-    }
-
-    pub fn block(&self) -> &'a Block
-        ensures { view_body result.now ≡ self.now }
-    {
-        self.block
-    }
-}
-
-/// What a global variable begins with.
-#[derive(Drop)]
-pub struct WrittenInitializer<'a> {
-    initializer: &'a Initializer,
-}
-
-impl<'a> Model for WrittenInitializer<'a> {
-    ghost use Rattle.ang_tree.specs.Stmt.{Init};
-    ghost use Rattle.ang_tree.specs.View.{view_init};
-
-    ghost Value = { Init };
-
-    ghost view = { λ i. view_init i.initializer.now };
-}
-
-impl<'a> WrittenInitializer<'a> {
-    ghost use Rattle.std.specs.Prelude.{◌≡◌};
-    ghost use Rattle.ang_tree.specs.View.{view_init};
-
-    pub fn new(initializer: &'a Initializer) -> WrittenInitializer<'a>
-        ensures { result ≡ view_init initializer.now }
-    {
-        WrittenInitializer { initializer }
-    }
-
-    pub fn initializer(&self) -> &'a Initializer
-        ensures { view_init result.now ≡ self.now }
-    {
-        self.initializer
     }
 }

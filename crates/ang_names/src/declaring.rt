@@ -8,7 +8,8 @@ ghost use Rattle.ang_names.specs.Resolved as resolved;
 
 use crate::listed::declarations_of;
 use crate::names::Names;
-use crate::phase::errors_of;
+use crate::not_yet::not_yet;
+use crate::phase::phase_errors;
 use crate::resolved::names_of;
 use ang_kinds::{List, Unbuilt};
 use ang_registry::View;
@@ -19,18 +20,24 @@ use std::alloc::Global;
 ///
 /// `Errors` are those of the first phase that refuses a declaration (docs/LANGUAGE.md, "Phases"): each
 /// refused declaration's first error, in the order of sections and text. `Memory` is want of memory.
+#[tactic(auto, unfolding(crate::specs::Phases::errors_of))]
 pub fn declare(alloc: Global, view: &View, scripts: &[Script]) -> Result<Names, Unbuilt>
-    ensures accepted { OnOk result
-        (spec.errors_of view.now (all_declarations (list_map source_of scripts.now)) ≡ []) }
+    ensures accepted { OnOk result (spec.errors_of view.now (list_map source_of scripts.now) ≡ []) }
     ensures names { IfOk result (λ names. names
         ≡ resolved.names_of view.now (all_declarations (list_map source_of scripts.now))) }
     ensures refused { IfErr result (λ why. IsRefused why
-        (spec.errors_of view.now (all_declarations (list_map source_of scripts.now)))) }
+        (spec.errors_of view.now (list_map source_of scripts.now))) }
 {
+    let Ok(beyond) = not_yet(alloc, view, scripts) else {
+        return Err(Unbuilt::Memory);
+    };
+    if !beyond.is_empty() {
+        return Err(Unbuilt::Errors(List::from_vec(beyond)));
+    }
     let Ok(declarations) = declarations_of(alloc, scripts) else {
         return Err(Unbuilt::Memory);
     };
-    let Ok(errors) = errors_of(alloc, view, &declarations) else {
+    let Ok(errors) = phase_errors(alloc, view, &declarations) else {
         return Err(Unbuilt::Memory);
     };
     if !errors.is_empty() {
