@@ -1,7 +1,7 @@
--- What scripts declare (docs/LANGUAGE.md, "Declarations"; the AngelScript manual, "Global entities"): all declarations, in the
--- order of sections and text. Each knows where it stands, and its body or initializer with it.
-use Rattle.std.specs.Prelude.{ℕ, ◌+◌, List, [], ◌∷◌, ◌++◌, Option, Some, None}
-use Rattle.ang_kinds.specs.declared.place.Place.{Place}
+-- What scripts declare (docs/LANGUAGE.md, "Names of a build"; the AngelScript manual, "Global entities"): all declarations, in
+-- the order of sections and text. Each has its heading, and where it stands; its body or initializer stands there too, which no
+-- phase over the declarations looks at.
+use Rattle.std.specs.Prelude.{ℕ, ◌+◌, List, [], ◌∷◌, ◌++◌}
 use Rattle.ang_lex.specs.declared.token.Token.{Token}
 use Rattle.ang_tree.specs.declared.type_name.TypeName.{TypeName}
 use Rattle.ang_tree.specs.declared.declaration.Parameter.{Parameter}
@@ -13,33 +13,25 @@ use Rattle.ang_names.specs.declared.listed.Part.{Part}
 use Rattle.ang_names.specs.declared.listed.Part.TheVariants as part
 use Rattle.ang_names.specs.Sources.{Source}
 
--- the token, where it is written, or else the one behind it
-abbrev pub token_or : Option Token → Token → Token
-token_or None next = next
-token_or (Some t) next = t
-
-abbrev pub first_of_type : TypeName → Token
-first_of_type y = token_or y.constant y.name
-
 abbrev pub stands_at : ℕ → ℕ → ℕ → Origin
 stands_at script declaration variable = record { script = script; declaration = declaration; variable = variable }
 
 -- In one section, whose number and bytes are these:
 module _ (script : ℕ) (text : List ℕ) where
-  abbrev pub declared_as : ℕ → ℕ → Token → Token → Part → Declared
-  declared_as n i first name p = record { origin = stands_at script n i; text = text; first = first.place; name = name; part = p }
+  abbrev pub declared_as : ℕ → ℕ → Token → Part → Declared
+  declared_as n i name p = record { origin = stands_at script n i; text = text; name = name; part = p }
 
   -- a function
   abbrev pub function_at : ℕ → TypeName → Token → List Parameter → Declared
-  function_at n y x ps = declared_as n 0 (first_of_type y) x (part.Function y ps)
+  function_at n y x ps = declared_as n 0 x (part.Function y ps)
 
-  -- one of the names of a declaration of globals, which has the type and the first token of the whole
+  -- one of the names of a declaration of globals, which has the type of the whole
   abbrev pub global_at : ℕ → ℕ → TypeName → Token → Declared
-  global_at n i y x = declared_as n i (first_of_type y) x (part.Global y)
+  global_at n i y x = declared_as n i x (part.Global y)
 
   -- a class, an interface or an import
-  abbrev pub other_at : ℕ → Token → Token → Declared
-  other_at n first name = declared_as n 0 first name part.Other
+  abbrev pub other_at : ℕ → Token → Declared
+  other_at n x = declared_as n 0 x part.Other
 
   abbrev pub globals_from : ℕ → TypeName → ℕ → List Var → List Declared
   globals_from n y i [] = []
@@ -48,9 +40,9 @@ module _ (script : ℕ) (text : List ℕ) where
   -- What the declaration at this place declares: each name of a declaration of globals is a declaration of its own, and a `;`
   -- alone declares nothing.
   abbrev pub declared_by : ℕ → Decl → List Declared
-  declared_by n (class final word x bases left members right) = other_at n (token_or final word) x ∷ []
-  declared_by n (interface word x bases left methods right) = other_at n word x ∷ []
-  declared_by n (import word y x ps from module_name semicolon) = other_at n word x ∷ []
+  declared_by n (class final word x bases left members right) = other_at n x ∷ []
+  declared_by n (interface word x bases left methods right) = other_at n x ∷ []
+  declared_by n (import word y x ps from module_name semicolon) = other_at n x ∷ []
   declared_by n (function y x ps b) = function_at n y x ps.items ∷ []
   declared_by n (globals vs) = globals_from n vs.declared_type 0 vs.items
   declared_by n (empty semicolon) = []

@@ -1,4 +1,5 @@
--- What a module sees of the host's functions and global properties, by name, with what their types mean. A function of which
+-- What a module sees of the host's functions and global properties, by name, with what their types mean (docs/LANGUAGE.md,
+-- "Names of a build"; the AngelScript manual, "Registering a function" and "Registering global properties"). A function of which
 -- some type is not in the view is none that a script can call; the view of a mask has all types that it names.
 use Rattle.std.specs.Prelude.{ℕ, ◌+◌, Bool, true, false, ◌&&◌, List, [], ◌∷◌, ◌++◌, Option, Some, None, bytes_eq, option_to_list, if◌then◌else◌}
 use Rattle.std.specs.List.{position}
@@ -12,7 +13,7 @@ use Rattle.ang_kinds.specs.declared.types.TypeRef.TheVariants as ref
 use Rattle.ang_registry.specs.declared.entry.Entry.{Entry}
 use Rattle.ang_registry.specs.declared.entry.EntryKind.{EntryKind}
 use Rattle.ang_registry.specs.declared.entry.EntryKind.TheVariants as entry
-use Rattle.ang_registry.specs.Registration.{RegistrationList}
+use Rattle.ang_registry.specs.Registration.{RegistrationList, is_function}
 use Rattle.ang_registry.specs.Types.{type_named}
 use Rattle.ang_types.specs.declared.arg_type.ArgType.{ArgType}
 use Rattle.ang_types.specs.declared.arg_type.ArgType.TheVariants as type
@@ -55,14 +56,6 @@ host_function n x (Some t) (Some params) = Some (record { entity = record { 0 = 
 -- the function of an entry
 abbrev pub function_in : RegistrationList → ℕ → Entry → Option HostFunction
 function_in V n x = host_function n x (host_type V x.signature.result) (host_params V x.signature.params)
-
-abbrev pub is_function : EntryKind → Bool
-is_function entry.HostType = false
-is_function entry.Factory = false
-is_function entry.Method = false
-is_function entry.Property = false
-is_function entry.Function = true
-is_function entry.Global = false
 
 abbrev pub is_function_named : List ℕ → Entry → Bool
 is_function_named name x = is_function x.kind && bytes_eq x.signature.name name

@@ -1,10 +1,12 @@
--- A script's functions and globals by name. Numbers are places in `Names`.
+-- A script's functions and globals by name (docs/LANGUAGE.md, "Names of a build"; the AngelScript manual, "Function
+-- overloading"). Numbers are places in `Names`.
 use Rattle.std.specs.Prelude.{ℕ, ◌+◌, if◌then◌else◌, List, [], ◌∷◌, map, Option, Some, None, bytes_eq, slice_get}
 use Rattle.std.specs.List.{position}
 use Rattle.ang_kinds.specs.declared.types.Pass.{Pass}
 use Rattle.ang_types.specs.declared.arg_type.ArgType.{ArgType}
 use Rattle.ang_names.specs.declared.names.ScriptFunction.{ScriptFunction}
 use Rattle.ang_names.specs.declared.names.ScriptGlobal.{ScriptGlobal}
+use Rattle.ang_names.specs.declared.names.ScriptParameter.{ScriptParameter}
 
 abbrev pub functions_from : ℕ → List ScriptFunction → List ℕ → List ℕ
 functions_from n [] name = []
@@ -25,6 +27,9 @@ function_at fs n = slice_get fs n
 abbrev pub global_at : List ScriptGlobal → ℕ → Option ScriptGlobal
 global_at gs n = slice_get gs n
 
+abbrev pub passing_of : ScriptParameter → ArgType × Pass
+passing_of p = (p.ty, p.pass)
+
 -- the types and passings of a function's parameters
 unfoldable pub candidate_of : ScriptFunction → List (ArgType × Pass)
-candidate_of f = map (λ p. (p.ty, p.pass)) f.params
+candidate_of f = map passing_of f.params

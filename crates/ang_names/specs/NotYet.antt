@@ -1,13 +1,18 @@
--- Declarations beyond what is built so far (docs/LANGUAGE.md, "What is built so far"): those that use classes, interfaces,
--- imports, object types, handles, `this`, `null`, `cast`, `is`, `!is` or a member.
-use Rattle.std.specs.Prelude.{ℕ, Bool, true, false, ◌||◌, is_some, List, [], ◌∷◌, Option, Some, None}
+-- Declarations beyond what is built so far (docs/LANGUAGE.md, "What is built so far"; what comes when is this profile's own):
+-- classes, interfaces and imports, and declarations that use object types, host functions that take or give objects, handles,
+-- `this`, `null`, `cast`, `is`, `!is` or a member.
+use Rattle.std.specs.Prelude.{ℕ, Bool, true, false, ◌&&◌, ◌||◌, bytes_eq, is_some, List, [], ◌∷◌, Option, Some, None}
 use Rattle.std.specs.List.{list_any, flat_map}
 use Rattle.ang_kinds.specs.declared.error.Error.{Error}
 use Rattle.ang_kinds.specs.declared.error.ErrorKind.TheVariants as kind
 use Rattle.ang_lex.specs.declared.token.Token.{Token}
 use Rattle.ang_lex.specs.declared.token.TokenKind.{TokenKind}
 use Rattle.ang_lex.specs.declared.token.TokenKind.TheVariants as k
-use Rattle.ang_registry.specs.Registration.{RegistrationList}
+use Rattle.ang_kinds.specs.declared.types.Signature.{Signature}
+use Rattle.ang_kinds.specs.declared.types.TypeRef.{TypeRef}
+use Rattle.ang_kinds.specs.declared.types.TypeRef.TheVariants as ref
+use Rattle.ang_registry.specs.declared.entry.Entry.{Entry}
+use Rattle.ang_registry.specs.Registration.{RegistrationList, is_function}
 use Rattle.ang_registry.specs.Types.{type_named}
 use Rattle.ang_tree.specs.declared.type_name.TypeName.{TypeName}
 use Rattle.ang_tree.specs.declared.declaration.Parameter.{Parameter}
@@ -15,7 +20,6 @@ use Rattle.ang_tree.specs.Tree.{Tree, Args, Trees, literal, name, call, scoped_c
 use Rattle.ang_tree.specs.Stmt.{Init, absent, value, constructor, Var, Vars, Start, with_variables, with_expression, Stmt, Body, Stmts, block, variables, expression, break, continue, return, when, either, while, do_while, for, body, end, then}
 use Rattle.ang_tree.specs.Declarations.{Decl, class, interface, import, function, globals, empty}
 use Rattle.ang_names.specs.Sources.{Source, text_of, fault_at}
-use Rattle.ang_names.specs.Declarations.{token_or, first_of_type}
 
 -- `null` and `this`
 abbrev pub is_object_word : TokenKind → Bool
@@ -34,6 +38,30 @@ abbrev pub is_handle_sign : TokenKind → Bool
 is_handle_sign k.At = true
 is_handle_sign _ = false
 
+-- the token, where it is written, or else the one behind it
+abbrev pub token_or : Option Token → Token → Token
+token_or None next = next
+token_or (Some t) next = t
+
+abbrev pub first_of_type : TypeName → Token
+first_of_type y = token_or y.constant y.name
+
+-- ---- host functions that take or give objects
+
+abbrev pub is_object : TypeRef → Bool
+is_object ref.Void = false
+is_object (ref.Plain p) = false
+is_object (ref.Object name s o h) = true
+
+abbrev pub has_objects : Signature → Bool
+has_objects s = is_object s.result || list_any (λ p. is_object p.ty) s.params
+
+abbrev pub is_object_function : List ℕ → Option Entry → Bool
+is_object_function name None = false
+is_object_function name (Some x) = is_function x.kind && bytes_eq x.signature.name name && has_objects x.signature
+
+-- ---- declarations
+
 -- one error at the first token, without a name
 abbrev pub refused_where : Bool → Token → List Error
 refused_where true first = fault_at kind.NotYet first.place ∷ []
@@ -45,6 +73,10 @@ module _ (V : RegistrationList) (text : List ℕ) where
   unfoldable pub is_host_type : Token → Bool
   is_host_type t = is_some (type_named V (text_of text t))
 
+  -- some function of this name that the view has takes or gives objects
+  unfoldable pub is_object_call : Token → Bool
+  is_object_call t = list_any (is_object_function (text_of text t)) V
+
   -- a handle, or an object type
   abbrev pub is_type_beyond : TypeName → Bool
   is_type_beyond y = is_some y.handle || is_host_type y.name
@@ -53,7 +85,7 @@ module _ (V : RegistrationList) (text : List ℕ) where
     pub is_beyond : Tree → Bool
     is_beyond (literal t) = is_object_word t.kind
     is_beyond (name x) = false
-    is_beyond (call x es) = is_host_type x || are_args_beyond es
+    is_beyond (call x es) = is_host_type x || is_object_call x || are_args_beyond es
     is_beyond (scoped_call c s x es) = true
     is_beyond (cast word less y greater left e right) = true
     is_beyond (convert p left e right) = is_beyond e

@@ -1,5 +1,5 @@
--- The phases of a build over the declarations (docs/LANGUAGE.md, "Phases"): each is a property of the list of all declarations,
--- and the first that refuses one decides.
+-- The phases of a build over the declarations (docs/LANGUAGE.md, "Names of a build"; they are this profile's own): each is a
+-- property of the list of all declarations, and the first that refuses one decides.
 use Rattle.std.specs.Prelude.{◌≡◌, ◌≢◌, List, [], ◌∷◌, ◌++◌, Option, option_to_list}
 use Rattle.ang_kinds.specs.declared.error.Error.{Error}
 use Rattle.ang_kinds.specs.declared.error.Unbuilt.{Unbuilt}

@@ -1,5 +1,6 @@
--- The names of declarations that no phase refuses, with what their types mean.
-use Rattle.std.specs.Prelude.{ℕ, List, map, Option, Some, None, Result, Ok, Err}
+-- The names of declarations that no phase refuses, with what their types mean (docs/LANGUAGE.md, "Names of a build"; the
+-- AngelScript manual, "Functions" and "Global variables").
+use Rattle.std.specs.Prelude.{ℕ, is_some, List, map, Option, Some, None, Result, Ok, Err}
 use Rattle.std.specs.List.{filter_map}
 use Rattle.ang_lex.specs.declared.token.Token.{Token}
 use Rattle.ang_registry.specs.Registration.{RegistrationList}
@@ -17,7 +18,7 @@ use Rattle.ang_names.specs.declared.names.ScriptParameter.{ScriptParameter}
 use Rattle.ang_names.specs.Sources.{text_of, name_of}
 use Rattle.ang_names.specs.Types.{Meaning, type_of, value_type_of, parameter_type_of, pass_of, is_read_only}
 
--- the type; where there is none, the declaration is refused
+-- the type that is meant; `Void` where there is none, which is not met where no phase refuses
 abbrev pub settled : Meaning → ArgType
 settled (Ok t) = t
 settled (Err kind) = type.Void
@@ -35,6 +36,7 @@ function_with V d y ps = record {
   name = text_of d.text d.name;
   place = d.name.place;
   result = settled (type_of V d.text y);
+  const_result = is_some y.constant;
   params = map (parameter_of V d.text) ps;
   origin = d.origin;
 }

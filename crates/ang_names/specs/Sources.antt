@@ -1,4 +1,4 @@
--- Sections as they were read, and the errors at their tokens (docs/LANGUAGE.md, "Places").
+-- Sections as they were read, and the errors at their tokens (docs/LANGUAGE.md, "Tokens": places; errors are this profile's own).
 use Rattle.std.specs.Prelude.{ℕ, List, [], Option, Some, None, slice_range}
 use Rattle.ang_kinds.specs.declared.error.Error.{Error}
 use Rattle.ang_kinds.specs.declared.error.ErrorKind.{ErrorKind}

@@ -1,4 +1,5 @@
--- How parameters are spelled, for functions that overload one name (docs/LANGUAGE.md, "Phases"): two parameters are the same
+-- How parameters are spelled, for functions that overload one name (docs/LANGUAGE.md, "Names of a build"; the AngelScript manual,
+-- "Function overloading"; what is the same is this profile's own): two parameters are the same
 -- where their types are spelled the same (`int32` is `int`, `T@+` is `T@`), both are `const` or neither, and they are passed alike.
 use Rattle.std.specs.Prelude.{ℕ, Bool, true, false, ◌==◌, ◌&&◌, is_some, List, Option, Some, None, bytes_eq}
 use Rattle.std.specs.Cmp.Lexicographic.{pointwise}

@@ -1,5 +1,6 @@
--- Names that are taken, and too many of them (docs/LANGUAGE.md, "Phases", the first): types, functions and globals, those that
--- the module sees of the host's included, share one space of names.
+-- Names that are taken, and too many of them (docs/LANGUAGE.md, "Names of a build"; the AngelScript manual, "Function
+-- overloading"; the limits are this profile's own): types, functions and globals, those that the module sees of the host's
+-- included, share one space of names. The rows of `Other` are not met while classes, interfaces and imports are refused before.
 use Rattle.std.specs.Prelude.{ℕ, ◌==◌, Bool, true, false, ◌&&◌, ◌||◌, if◌then◌else◌, List, Option, Some, None, bytes_eq, count_by}
 use Rattle.std.specs.List.{list_any}
 use Rattle.ang_kinds.specs.declared.error.Error.{Error}

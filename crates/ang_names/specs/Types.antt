@@ -1,4 +1,4 @@
--- What written types mean (docs/LANGUAGE.md, "Types"; the AngelScript manual, "Data types", "Object handles" and "Parameter
+-- What written types mean (docs/LANGUAGE.md, "Names of a build"; the AngelScript manual, "Data types", "Object handles" and "Parameter
 -- references"). Object types go by number: a seen host type by its entry's.
 use Rattle.std.specs.Prelude.{ℕ, Bool, true, false, is_some, List, Option, Some, None, Result, Ok, Err}
 use Rattle.ang_kinds.specs.declared.error.ErrorKind.{ErrorKind}
@@ -71,7 +71,7 @@ abbrev pub pass_of : Option Reference → Pass
 pass_of None = pass.Value
 pass_of (Some r) = pass_in r.direction
 
--- `&inout` takes objects alone
+-- what `&inout` takes: objects alone
 abbrev pub changed : ArgType → Meaning
 changed type.Void = Err BadType
 changed type.Null = Err BadType

@@ -18,7 +18,7 @@ use std::alloc::Global;
 
 /// The names that the scripts declare, over what their module sees of the host.
 ///
-/// `Errors` are those of the first phase that refuses a declaration (docs/LANGUAGE.md, "Phases"): each
+/// `Errors` are those of the first phase that refuses a declaration (docs/LANGUAGE.md, "Names of a build"): each
 /// refused declaration's first error, in the order of sections and text. `Memory` is want of memory.
 #[tactic(auto, unfolding(crate::specs::Phases::errors_of))]
 pub fn declare(alloc: Global, view: &View, scripts: &[Script]) -> Result<Names, Unbuilt>

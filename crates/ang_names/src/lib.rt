@@ -1,7 +1,7 @@
 //! The names of a build: what scripts declare, over what their module sees of the host.
 //!
 //! `declare` goes over all declarations in phases, in the order of sections and text (docs/LANGUAGE.md,
-//! "Phases"); the first phase that refuses some gives the errors. Else it gives the functions and globals,
+//! "Names of a build"); the first phase that refuses some gives the errors. Else it gives the functions and globals,
 //! with what their types mean. Beside it stand the look-ups that the checker of bodies makes.
 #![tactic(auto)]
 

@@ -7,7 +7,6 @@ ghost use Rattle.ang_names.specs.Declarations as spec;
 
 use crate::Origin;
 use crate::written::{Text, WrittenParameters};
-use ang_kinds::Place;
 use ang_lex::Token;
 use ang_tree::{Declaration, Function, Script, TypeName, Variables};
 use std::alloc::{AllocError, Global};
@@ -19,8 +18,6 @@ pub struct Declared<'a> {
     pub origin: Origin,
     /// The bytes of its section.
     pub text: Text<'a>,
-    /// The place of the first token; of a global, that of the whole declaration.
-    pub first: Place,
     /// The name.
     pub name: Token,
     /// What is declared.
@@ -41,13 +38,6 @@ pub enum Part<'a> {
     Other,
 }
 
-/// The first token of a type: its `const`, or else its name.
-pub fn first_of_type(declared: &TypeName) -> Token
-    ensures exact { result ≡ spec.first_of_type declared.now }
-{
-    declared.constant.unwrap_or(declared.name)
-}
-
 /// One of the names of a declaration of globals.
 fn list_global<'a>(
     origin: Origin,
@@ -61,7 +51,6 @@ fn list_global<'a>(
     Declared {
         origin,
         text: Text::new(text),
-        first: first_of_type(&declared_type).place,
         name,
         part: Part::Global(declared_type),
     }
@@ -91,13 +80,13 @@ fn list_globals<'a>(
 
 /// A function.
 fn list_function<'a>(origin: Origin, text: &'a [u8], written: &'a Function) -> Declared<'a>
+    requires { origin.variable ≡ 0 }
     ensures exact { result ≡ spec.function_at origin.script text.now origin.declaration written.now.result
         written.now.name (view_params written.now.parameters).items }
 {
     Declared {
         origin,
         text: Text::new(text),
-        first: first_of_type(&written.result).place,
         name: written.name,
         part: Part::Function {
             result_type: written.result,
@@ -107,14 +96,13 @@ fn list_function<'a>(origin: Origin, text: &'a [u8], written: &'a Function) -> D
 }
 
 /// A class, an interface or an import.
-fn list_other<'a>(origin: Origin, text: &'a [u8], first: Token, name: Token) -> Declared<'a>
+fn list_other<'a>(origin: Origin, text: &'a [u8], name: Token) -> Declared<'a>
     requires { origin.variable ≡ 0 }
-    ensures exact { result ≡ spec.other_at origin.script text.now origin.declaration first name }
+    ensures exact { result ≡ spec.other_at origin.script text.now origin.declaration name }
 {
     Declared {
         origin,
         text: Text::new(text),
-        first: first.place,
         name,
         part: Part::Other,
     }
@@ -142,16 +130,9 @@ fn list_declaration<'a>(
             return list_globals(script, declaration, text, variables, found);
         }
         Declaration::Function(function) => list_function(origin, text, function),
-        Declaration::Class(class) => list_other(
-            origin,
-            text,
-            class.final_word.unwrap_or(class.word),
-            class.name,
-        ),
-        Declaration::Interface(interface) => {
-            list_other(origin, text, interface.word, interface.name)
-        }
-        Declaration::Import(import) => list_other(origin, text, import.word, import.name),
+        Declaration::Class(class) => list_other(origin, text, class.name),
+        Declaration::Interface(interface) => list_other(origin, text, interface.name),
+        Declaration::Import(import) => list_other(origin, text, import.name),
     };
     found.push(one)?;
     Ok(())

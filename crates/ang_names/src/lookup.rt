@@ -50,11 +50,10 @@ pub fn candidate_of(
 ) -> Result<List<(ArgType, Pass)>, AllocError>
     ensures exact { IfOk result (λ params. params ≡ spec.candidate_of function.now) }
 {
-    let params = function
-        .params
-        .as_slice()
-        .iter()
-        .map(|param| (param.ty, param.pass))
-        .collect(alloc)?;
+    let written = function.params.as_slice();
+    let mut params = Vec::new(alloc);
+    for param in written {
+        params.push((param.ty, param.pass))?;
+    }
     Ok(List::from_vec(params))
 }

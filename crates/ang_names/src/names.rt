@@ -23,6 +23,8 @@ pub struct ScriptFunction {
     pub place: Place,
     /// The type of the result.
     pub result: ArgType,
+    /// Whether the result is written with `const` in front, which a call by declaration compares.
+    pub const_result: bool,
     /// At most 32, in order.
     pub params: List<ScriptParameter>,
     /// Where it stands, and its body with it.

@@ -1,22 +1,89 @@
-//! Declarations beyond what is built so far: those that use classes, interfaces, imports, object types,
-//! handles, `this`, `null`, `cast`, `is`, `!is` or a member.
-ghost use Rattle.std.specs.Prelude.{◌≡◌, ◌++◌, IfOk, OnOk, map as list_map};
+//! Declarations beyond what is built so far: classes, interfaces and imports, and declarations that use
+//! object types, host functions that take or give objects, handles, `this`, `null`, `cast`, `is`, `!is` or a
+//! member.
+ghost use Rattle.std.specs.Prelude.{◌≡◌, ◌++◌, IfOk, OnOk, Some, map as list_map};
+ghost use Rattle.std.specs.List.{list_any};
+ghost use Rattle.ang_registry.specs.Registration.{entry_at};
 ghost use Rattle.ang_tree.specs.Declarations.{globals};
 ghost use Rattle.ang_tree.specs.View.{view_expr, view_items, view_args, view_option, view_init, view_var, view_vars, view_start, view_stmt, view_stmts, view_body, view_params, view_decl};
 ghost use Rattle.ang_names.specs.NotYet as spec;
 ghost use Rattle.ang_names.specs.Sources.{source_of};
 
-use crate::listed::first_of_type;
 use crate::sources::{fault_at, text_at};
 use crate::types::type_number;
-use ang_kinds::{Error, ErrorKind};
+use ang_kinds::{EntityNo, Error, ErrorKind, Param, Signature, TypeRef};
 use ang_lex::{Token, TokenKind};
-use ang_registry::View;
+use ang_registry::{Entry, EntryKind, View};
 use ang_tree::{
     Argument, Arguments, Block, Declaration, Expression, ForStart, Function, Initializer, Parameter, Script,
     Statement, TypeName, Variable, Variables,
 };
 use std::alloc::{AllocError, Global};
+
+/// The first token of a type: its `const`, or else its name.
+fn first_of_type(declared: &TypeName) -> Token
+    ensures exact { result ≡ spec.first_of_type declared.now }
+{
+    declared.constant.unwrap_or(declared.name)
+}
+
+fn is_object(ty: &TypeRef) -> bool
+    ensures exact { result ≡ spec.is_object ty.now }
+{
+    match ty {
+        TypeRef::Void | TypeRef::Plain(_) => false,
+        TypeRef::Object { .. } => true,
+    }
+}
+
+fn takes_objects(params: &[Param]) -> bool
+    ensures exact { result ≡ list_any (λ p. spec.is_object p.ty) params.now }
+{
+    params.iter().any(|param| is_object(&param.ty))
+}
+
+/// Whether a signature takes or gives objects.
+fn has_objects(signature: &Signature) -> bool
+    ensures exact { result ≡ spec.has_objects signature.now }
+{
+    is_object(&signature.result) || takes_objects(signature.params.as_slice())
+}
+
+fn is_object_function(entry: &Entry, name: &[u8]) -> bool
+    ensures exact { result ≡ spec.is_object_function name.now (Some entry.now) }
+{
+    matches!(entry.kind, EntryKind::Function)
+        && entry.signature.name.as_slice() == name
+        && has_objects(&entry.signature)
+}
+
+fn is_object_function_at(view: &View, number: EntityNo, name: &[u8]) -> bool
+    ensures exact { result ≡ spec.is_object_function name.now (entry_at view.now number.0) }
+{
+    match view.get(number) {
+        None => false,
+        Some(entry) => is_object_function(entry, name),
+    }
+}
+
+/// Whether some function of this name that the module sees takes or gives objects.
+fn names_object_function(view: &View, name: &[u8]) -> bool
+    ensures exact { result ≡ list_any (spec.is_object_function name.now) view.now }
+{
+    for number in 0..view.len() {
+        if is_object_function_at(view, EntityNo(number as u32), name) {
+            return true;
+        }
+    }
+    false
+}
+
+#[tactic(auto, unfolding(crate::specs::NotYet::is_object_call))]
+fn is_object_call(view: &View, text: &[u8], token: &Token) -> bool
+    ensures exact { result ≡ spec.is_object_call view.now text.now token.now }
+{
+    names_object_function(view, text_at(text, token))
+}
 
 /// Whether the token is the name of a type that the module sees.
 #[tactic(auto, unfolding(crate::specs::NotYet::is_host_type))]
@@ -59,7 +126,9 @@ fn is_beyond(view: &View, text: &[u8], expression: &Expression) -> bool
         Expression::Literal(token) => is_object_word(token.kind),
         Expression::Name(_) => false,
         Expression::Call { name, arguments } => {
-            is_host_type(view, text, name) || are_args_beyond(view, text, arguments)
+            is_host_type(view, text, name)
+                || is_object_call(view, text, name)
+                || are_args_beyond(view, text, arguments)
         }
         Expression::ScopedCall { .. }
         | Expression::Cast { .. }

@@ -73,6 +73,7 @@ fn function_with(
         name,
         place: declared.name.place,
         result: settled(type_of(view, text, result_type)),
+        const_result: result_type.constant.is_some(),
         params,
         origin: declared.origin,
     })
