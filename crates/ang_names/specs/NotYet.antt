@@ -51,14 +51,14 @@ first_of_type y = token_or y.constant y.name
 abbrev pub is_object : TypeRef → Bool
 is_object ref.Void = false
 is_object (ref.Plain p) = false
-is_object (ref.Object name s o h) = true
+is_object (ref.Object own s o h) = true
 
 abbrev pub has_objects : Signature → Bool
 has_objects s = is_object s.result || list_any (λ p. is_object p.ty) s.params
 
 abbrev pub is_object_function : List ℕ → Option Entry → Bool
-is_object_function name None = false
-is_object_function name (Some x) = is_function x.kind && bytes_eq x.signature.name name && has_objects x.signature
+is_object_function called None = false
+is_object_function called (Some x) = is_function x.kind && bytes_eq x.signature.name called && has_objects x.signature
 
 -- ---- declarations
 

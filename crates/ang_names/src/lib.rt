@@ -18,6 +18,8 @@ mod resolved;
 mod sources;
 mod spelling;
 mod taken;
+#[cfg(test)]
+mod tests;
 mod types;
 mod written;
 

@@ -11,11 +11,7 @@ use std::alloc::{AllocError, Global};
 ///
 /// The only error is want of memory.
 #[tactic(auto, unfolding(crate::specs::Lookup::functions_named))]
-pub fn functions_named(
-    alloc: Global,
-    names: &Names,
-    name: &[u8],
-) -> Result<Vec<usize>, AllocError>
+pub fn functions_named(alloc: Global, names: &Names, name: &[u8]) -> Result<Vec<usize>, AllocError>
     ensures exact { IfOk result (λ numbers. numbers.items ≡ spec.functions_named names.now.functions name.now) }
 {
     let mut numbers = Vec::new(alloc);

@@ -86,7 +86,12 @@ fn function_refusal(
     ensures exact { IfOk result (λ error. error
         ≡ spec.function_refusal view.now text.now name.now result_type.now parameters.now) }
 {
-    if let Some(error) = refused(alloc, text, &result_type.name, type_of(view, text, result_type))? {
+    if let Some(error) = refused(
+        alloc,
+        text,
+        &result_type.name,
+        type_of(view, text, result_type),
+    )? {
         return Ok(Some(error));
     }
     if let Some(error) = parameter_limit(alloc, text, name, parameters)? {

@@ -15,8 +15,8 @@ use ang_kinds::{EntityNo, Error, ErrorKind, Param, Signature, TypeRef};
 use ang_lex::{Token, TokenKind};
 use ang_registry::{Entry, EntryKind, View};
 use ang_tree::{
-    Argument, Arguments, Block, Declaration, Expression, ForStart, Function, Initializer, Parameter, Script,
-    Statement, TypeName, Variable, Variables,
+    Argument, Arguments, Block, Declaration, Expression, ForStart, Function, Initializer,
+    Parameter, Script, Statement, TypeName, Variable, Variables,
 };
 use std::alloc::{AllocError, Global};
 
@@ -305,9 +305,7 @@ fn are_stmts_beyond(view: &View, text: &[u8], statements: &[Statement]) -> bool
 fn are_parameters_beyond(view: &View, text: &[u8], parameters: &[Parameter]) -> bool
     ensures exact { result ≡ spec.are_parameters_beyond view.now text.now parameters.now }
 {
-    parameters
-        .iter()
-        .any(|parameter| is_type_beyond(view, text, &parameter.declared_type))
+    parameters.iter().any(|parameter| is_type_beyond(view, text, &parameter.declared_type))
 }
 
 fn is_function_beyond(view: &View, text: &[u8], function: &Function) -> bool

@@ -16,11 +16,7 @@ pub fn text_at<'a>(text: &'a [u8], token: &Token) -> &'a [u8]
 }
 
 /// A copy of a token's text, or nothing where no token is written.
-pub fn name_at(
-    alloc: Global,
-    text: &[u8],
-    token: &Option<Token>,
-) -> Result<List<u8>, AllocError>
+pub fn name_at(alloc: Global, text: &[u8], token: &Option<Token>) -> Result<List<u8>, AllocError>
     ensures exact { IfOk result (λ name. name ≡ spec.name_of text.now token.now) }
 {
     match token {

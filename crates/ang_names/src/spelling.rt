@@ -54,7 +54,11 @@ fn base_of<'a>(text: &'a [u8], declared: &TypeName) -> Base<'a>
 fn handle_sign(is_const: bool) -> Sign
     ensures exact { result ≡ spec.sign_by is_const }
 {
-    if is_const { Sign::ConstHandle } else { Sign::Handle }
+    if is_const {
+        Sign::ConstHandle
+    } else {
+        Sign::Handle
+    }
 }
 
 fn sign_of(handle: &Option<Handle>) -> Sign
@@ -172,10 +176,9 @@ pub fn have_same_types(
     ensures exact { result ≡ spec.same_parameters text.now params.now other_text.now others.now }
 {
     params.len() == others.len()
-        && params
-            .iter()
-            .zip(others)
-            .all(|(one, other)| is_same_parameter(text, one, other_text, other))
+        && params.iter().zip(others).all(|(one, other)| is_same_parameter(
+            text, one, other_text, other,
+        ))
 }
 
 /// Whether a function with these parameters can't overload a host function with those.

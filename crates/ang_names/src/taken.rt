@@ -131,9 +131,7 @@ fn is_first_above(before: &[Declared<'_>], part: &Part<'_>) -> bool
         Part::Function { .. } => {
             before.iter().filter(|d| is_function(&d.part)).count() == MOST_FUNCTIONS
         }
-        Part::Global(_) => {
-            before.iter().filter(|d| is_global(&d.part)).count() == MOST_GLOBALS
-        }
+        Part::Global(_) => { before.iter().filter(|d| is_global(&d.part)).count() == MOST_GLOBALS }
         Part::Other => false,
     }
 }
