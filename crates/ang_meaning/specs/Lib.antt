@@ -1,0 +1,6 @@
+pub mod Numbers
+pub mod World
+pub mod Setting
+pub mod Hosts
+pub mod Perform
+pub mod Results
