@@ -1,13 +1,7 @@
-// A library with one function.
+//! The core tree: a script's bodies in a few forms, with every name a number and every conversion written
+//! out. In `specs/` stands what such a body does, by cases on the tree (docs/MEANING.md).
 #![tactic(auto)]
 
-ghost use Rattle.std.specs.Prelude.{◌≡◌};
-ghost use Rattle.ang_core.specs.Echo.{echo_of};
+mod tree;
 
-// The `ensures` clause is the contract: what `echo` returns is `echo_of` of its argument, a definition
-// in `specs/Echo.antt`, which a caller's clause can cite too.
-pub fn echo(x: usize) -> usize
-    ensures { result ≡ echo_of x }
-{
-    x
-}
+pub use tree::{Body, Expression, Statement};
