@@ -1,13 +1,7 @@
-// A library with one function.
+//! Instructions of the stack machine. In `specs/` stands what each of them does: the code's own meaning
+//! (docs/MEANING.md).
 #![tactic(auto)]
 
-ghost use Rattle.std.specs.Prelude.{◌≡◌};
-ghost use Rattle.ang_code.specs.Echo.{echo_of};
+mod instruction;
 
-// The `ensures` clause is the contract: what `echo` returns is `echo_of` of its argument, a definition
-// in `specs/Echo.antt`, which a caller's clause can cite too.
-pub fn echo(x: usize) -> usize
-    ensures { result ≡ echo_of x }
-{
-    x
-}
+pub use instruction::{Frame, Instruction, RoutineCode};

@@ -4,3 +4,4 @@ pub mod Setting
 pub mod Hosts
 pub mod Perform
 pub mod Results
+pub mod Told
