@@ -3,5 +3,6 @@
 #![tactic(auto)]
 
 mod instruction;
+pub mod laws;
 
 pub use instruction::{Frame, Instruction, RoutineCode};
