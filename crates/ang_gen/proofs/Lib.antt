@@ -1,0 +1,4 @@
+pub mod Stacks
+pub mod Relate
+pub mod Outs
+pub mod Exprs
