@@ -2,3 +2,4 @@ pub mod Stacks
 pub mod Relate
 pub mod Outs
 pub mod Exprs
+pub mod Stmts
