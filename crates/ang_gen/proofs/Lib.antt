@@ -3,3 +3,4 @@ pub mod Relate
 pub mod Outs
 pub mod Exprs
 pub mod Stmts
+pub mod Bodies
