@@ -230,3 +230,109 @@ module _ (z : Setting) (code : Texts) (r : Running) (ps : List Passing) (ps_is :
             (seq_goes z code r ps x _ (pc + length cs) (pc + length cs + length cr) n m m (row_declared rest + m) t (run z r.of.home calls passes s ls t w) (λ ls' t' w'. run_row z r.of.home calls passes rest ls' t' w') (omega arith)
               (stmt_runs s x (kb + length cr) (kc + length cr) pc n ls t w n_is st1 ok.0 low.0 le)
               (λ ls' t' w' n2_is lt. row_runs rest x kb kc (pc + length cs) m ls' t' w' n2_is st2 ok.1 low.1 (omega arith))))
+
+  -- one pass of a loop, its tick taken
+  pass_runs : (y : Exits) (n : ℕ) (e : Expression) (s step : Statement) (pc : ℕ) (ls : List Slot) (t : ℕ) (w : World) → length ls ≡ n → LoopStands z code r q h e s step pc n → t ≤ fuel → RunGoes z code r ps (at r (pc + 1) (ls ++ r.below) t w) (pc + length (loop_code q n e s step)) y n n t (pass z r.of.home calls passes e s step ls t w)
+  pass_runs y n e s step pc ls t w n_is st le =
+      let ce = expr_code 0 e in
+      let cp = block_code (stmt_code q n 0 0 0 step) (declared step) in
+      let lb = leave_code (declared s) in
+      let cs = block_code (stmt_code q n n (length lb + length cp + 1) (length lb) s) (declared s) in
+      let skip = length cs + length cp + 1 in
+      let end = pc + length (loop_code q n e s step) in
+      let p0 = pc + 1 + length ce in
+      let h1 = has_back (code.text r.of) (pc + 1) ce _ st.has.1 in
+      let end_len1 = length-append ce (SkipIfFalse skip ∷ (cs ++ (cp ++ Back (length ce + 1 + length cs + length cp) ∷ []))) in
+      let end_len2 = length-append cs (cp ++ Back (length ce + 1 + length cs + length cp) ∷ []) in
+      let end_len3 = length-append cp (Back (length ce + 1 + length cs + length cp) ∷ []) in
+      let out_is : p0 + 1 + skip ≡ end = omega (arith, end_len1, end_len2, end_len3) in
+      let next = λ (ls' : List Slot) (t' : ℕ) (w' : World). passes e s step ls' t' w' in
+      value_goes z code r ps y _ p0 end n n n t (eval z r.of.home calls e ls t w)
+        (λ v ls' t' w'. on_test v (Halted NullFault ls' (give v w')) (Went ls' t' w') (turned (length ls') (run z r.of.home calls passes s ls' t' w') (run z r.of.home calls passes step) next))
+        (expr_runs e (pc + 1) n ls t w n_is (has_front (code.text r.of) (pc + 1) ce _ st.has.1) st.sound_test st.low_test le)
+        (λ v ls' t' w' n2_is lt.
+           let inside = run z r.of.home calls passes s ls' t' w' in
+           let turn = turn_runs y n e s step pc ls' t' w' inside (run z r.of.home calls passes step) st (omega arith)
+                 (λ body_st. stmt_runs s _ _ _ (p0 + 1) n ls' t' w' n2_is body_st st.sound_body st.low_body (omega arith))
+                 (λ ls2 t2 w2 n3_is lt2 step_st. stmt_runs step _ 0 0 _ n ls2 t2 w2 n3_is step_st st.sound_step st.low_step (omega arith)) in
+           branch_run z code r ps y _ end n n t' ls' w' v _ _ (Went ls' t' w') (turned (length ls') inside (run z r.of.home calls passes step) next)
+             (one_step z code r.of p0 r.room (v ∷ (ls' ++ r.below)) r.callers t' w' (SkipIfFalse skip) h1.0)
+             (comes_to z code _ _ _ (here z code _) (ap (λ j. at r j (ls' ++ r.below) t' w') out_is), n2_is, omega arith)
+             (subst (λ m. RunGoes z code r ps (at r (p0 + 1) (ls' ++ r.below) t' w') end y n n t' (turned m inside (run z r.of.home calls passes step) next)) (sym n2_is) turn))
+
+  -- a value goes to the caller
+  yield_goes : (start : Config) (t : ℕ) (v : Slot) (ls : List Slot) (t' : ℕ) (w : World) → Comes z code start (returning r ps v ls t' w) → t' ≤ t → q ≤ length ls → ReplyGoes z code start r.callers r.below (out_count ps) t (yielded ps v ls t' w)
+  yield_goes start t v ls t' w p le long =
+      let i = length ls - length ps in
+      let len : length (drop_some i ls) ≡ length ps = length_drop i ls (omega arith) ∙ omega arith in
+      (p, le, length_outs ps (drop_some i ls) len)
+
+  -- a whole body, which is in no loop
+  finish_goes : (x : Exits) (start : Config) (pc n t : ℕ) (s : Statement) (o : Ran) → x.loop ≡ false → n ≡ declared s + q → n < h → HasAt (code.text r.of) pc (PushBits 0 ∷ Return (declared s) ∷ []) → RunGoes z code r ps start pc x q n t o → ReplyGoes z code start r.callers r.below (out_count ps) t (finished ps o)
+  finish_goes x start pc n t s (Went ls t' w) no_loop n_is low has p =
+      let stack = ls ++ r.below in
+      let fits : length stack < r.room = omega (arith, room_is, p.1, low, length-append ls r.below) in
+      let p1 = comes_to z code start _ (at r (pc + 1) (Bits 0 ∷ stack) t' w) (then_step z code start r.of pc r.room stack r.callers t' w (PushBits 0) has.0 p.0) (roomy_on r.room stack _ fits) in
+      let long : q ≤ length ls = omega (arith, p.1, n_is) in
+      let k_is : declared s ≡ length ls - length ps = omega (arith, p.1, n_is) in
+      yield_goes start t (Bits 0) ls t' w (return_goes z code r ps start (pc + 1) (declared s) t' (Bits 0) ls w ps_is has.1.0 k_is long p1) p.2 long
+  finish_goes x start pc n t s (Returned v ls t' w) no_loop n_is low has p = yield_goes start t v ls t' w p.0 p.1 p.2
+  finish_goes x start pc n t s (Halted f ls w) no_loop n_is low has p = comes_to z code start _ _ p (ap (λ u. Over (Faulted f u)) (give_append ls r.below w))
+  finish_goes x start pc n t s (Broken ls t' w) no_loop n_is low has p = absurd (no_true x.loop no_loop p.3)
+  finish_goes x start pc n t s (Continued ls t' w) no_loop n_is low has p = absurd (no_true x.loop no_loop p.3)
+
+  body_runs : (s : Statement) (vs : List Slot) (t : ℕ) (w : World) → length vs ≡ q → code.text r.of ≡ body_code q s → SoundStatement z r.of.home false q s → BelowBody h q s → t ≤ fuel → ReplyGoes z code (at r 0 (vs ++ r.below) t w) r.callers r.below (out_count ps) t (finished ps (run z r.of.home calls passes s vs t w))
+  body_runs s vs t w vs_is text ok low le =
+      let sc = stmt_code q q 0 0 0 s in
+      let tail = PushBits 0 ∷ Return (declared s) ∷ [] in
+      let has = subst (λ l. HasAt l 0 (sc ++ tail)) (sym text) (has_all (sc ++ tail) []) in
+      let x = no_loop_at (0 + length sc + 0) in
+      let st : Stands code r q sc 0 0 0 q x = record { has = has_front (code.text r.of) 0 sc tail has; params = omega arith; alive = omega arith; out = refl; again = refl } in
+      let p = stmt_runs s x 0 0 0 q vs t w vs_is st ok low.inside le in
+      finish_goes x _ (0 + length sc) (declared s + q) t s (run z r.of.home calls passes s vs t w) refl refl low.at_end (has_back (code.text r.of) 0 sc tail has) p
+
+-- The program's code is the code of each body, and each body is sound.
+module _ (z : Setting) (bodies : Bodies) (code : Texts) (sound : AreSound z bodies) (is_code : IsCode z bodies code) where
+
+  record Follows (n : ℕ) : Type 0 where
+    bodies_go : (g : Routine) (ps : List Passing) (vs s : List Slot) (fr : List Frame) (t : ℕ) (w : World) → z.params g ≡ Some ps → length ps ≡ length vs → t < n → ReplyGoes z code (At g 0 (length (vs ++ s) + code.height g) (vs ++ s) fr t w) fr s (out_count ps) t (body_at z bodies n (length fr) g vs t w)
+    passes_go : (r : Running) (ps : List Passing) (h : ℕ) (y : Exits) (n1 : ℕ) (e : Expression) (s step : Statement) (pc : ℕ) (ls : List Slot) (t : ℕ) (w : World) → params_of z r.of ≡ ps → r.room ≡ length r.below + h → length ls ≡ n1 → LoopStands z code r (length ps) h e s step pc n1 → t < n → RunGoes z code r ps (at r (pc + 1) (ls ++ r.below) t w) (pc + length (loop_code (length ps) n1 e s step)) y n1 n1 t (pass_at z bodies n (length r.callers) r.of.home e s step ls t w)
+
+  follows : (n : ℕ) → Follows n
+  follows zero = record { bodies_go = λ g ps vs s fr t w known count lt. absurd (omega arith); passes_go = λ r ps h y n1 e s step pc ls t w ps_is room_is n_is st lt. absurd (omega arith) }
+  follows (suc n) =
+      let under = follows n in
+      let deeper = λ (r : Running) (g : Routine) (qs : List Passing) (vs s : List Slot) (fr2 : List Frame) (t : ℕ) (w : World) (e : length fr2 ≡ suc (length r.callers)) (known : z.params g ≡ Some qs) (count : length qs ≡ length vs) (lt : t < n).
+            subst (λ d. ReplyGoes z code (At g 0 (length (vs ++ s) + code.height g) (vs ++ s) fr2 t w) fr2 s (out_count qs) t (body_at z bodies n d g vs t w)) e (under.bodies_go g qs vs s fr2 t w known count lt) in
+      record {
+        bodies_go = λ g ps vs s fr t w known count lt.
+          let r : Running = record { of = g; callers = fr; room = length (vs ++ s) + code.height g; below = s } in
+          let h = length ps + code.height g in
+          let ps_is : params_of z g ≡ ps = ap params_in known in
+          let room_is : r.room ≡ length s + h = omega (arith, length-append vs s, count) in
+          let body = body_at z bodies n (suc (length fr)) in
+          let passes = pass_at z bodies n (length fr) g.home in
+          let p = body_runs z code r ps ps_is h room_is body passes n (deeper r) (λ y n1 e s2 step pc ls t2 w2 n_is st lt2. under.passes_go r ps h y n1 e s2 step pc ls t2 w2 ps_is room_is n_is st lt2) (bodies g) vs t w (sym count) (is_code.text g ps known) (sound.each g ps known) (is_code.room g ps known) (omega arith) in
+          subst (λ qs. ReplyGoes z code (At g 0 (length (vs ++ s) + code.height g) (vs ++ s) fr t w) fr s (out_count ps) t (finished qs (run z g.home (enter z body (length fr) g.home) passes (bodies g) vs t w))) (sym ps_is) p;
+        passes_go = λ r ps h y n1 e s step pc ls t w ps_is room_is n_is st lt.
+          pass_runs z code r ps ps_is h room_is (body_at z bodies n (suc (length r.callers))) (pass_at z bodies n (length r.callers) r.of.home) n (deeper r) (λ y2 n2 e2 s2 step2 pc2 ls2 t2 w2 n2_is st2 lt2. under.passes_go r ps h y2 n2 e2 s2 step2 pc2 ls2 t2 w2 ps_is room_is n2_is st2 lt2) y n1 e s step pc ls t w n_is st (omega arith)
+      }
+
+  reply_ends : (start : Config) (t k : ℕ) (o : Reply) → ReplyGoes z code start [] [] k t o → Comes z code start (Over (outcome_of o))
+  reply_ends start t k (Yields v outs t' w) p = comes_to z code start _ _ p.0 (ap (λ l. Over (Finished v t' (give_all l w))) (append-nil outs))
+  reply_ends start t k (Raises x w) p = p
+
+  started : (g : Routine) (ps : List Passing) (vs : List Slot) (t : ℕ) (o : Tried) → z.params g ≡ Some ps → length ps ≡ length vs → Comes z code (or_else o (λ w'. fault Memory vs w') (λ w'. At g 0 (length vs + code.height g) vs [] t w')) (Over (outcome_of (or_else o (λ w'. Raises Memory (give_all vs w')) (λ w'. body_at z bodies (suc t) 0 g vs t w'))))
+  started g ps vs t (No w') known count = here z code _
+  started g ps vs t (Yes w') known count =
+      reply_ends _ t (out_count ps) _ (subst (λ s. ReplyGoes z code (At g 0 (length s + code.height g) s [] t w') [] [] (out_count ps) t (body_at z bodies (suc t) 0 g vs t w')) (append-nil vs) ((follows (suc t)).bodies_go g ps vs [] [] t w' known count (omega arith)))
+
+  called : (budget : ℕ) (g : Routine) (ps : List Passing) (vs : List Slot) (w : World) → z.params g ≡ Some ps → length ps ≡ length vs → Comes z code (call_begins z code budget g vs w) (Over (outcome_of (called_with z bodies budget g vs w)))
+  called zero g ps vs w known count = here z code _
+  called (suc t) g ps vs w known count = started g ps vs t (memory_step w) known count
+
+  pub behaves : Behaves z bodies code
+  behaves = record {
+      calls = λ budget g ps vs w known count. let p = called budget g ps vs w known count in (p.count, p.leads);
+      initializers = λ ticks g w known. let p = started g [] [] ticks (memory_step w) known refl in (p.count, p.leads)
+    }
