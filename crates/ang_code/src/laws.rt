@@ -6,5 +6,4 @@ ghost use Rattle.ang_code.specs.Weight.{EachStepLighter};
 #[tactic(auto, using(crate::proofs::Lightening::each_step_lighter))]
 pub fn each_step_lighter()
     ensures lighter { EachStepLighter }
-{
-}
+{}

@@ -54,7 +54,7 @@ abbrev mutual
   run z m c p (Block' shape row) ls t w = leave (length ls) (run_row z m c p row ls t w)
   run z m c p (If' e x a y b) ls t w =
       with_value (eval z m c e ls t w)
-        (λ v ls' t' w'. on_test v (Halted Null ls' (give v w')) (leave (length ls') (run z m c p b ls' t' w')) (leave (length ls') (run z m c p a ls' t' w')))
+      (λ v ls' t' w'. on_test v (Halted Null ls' (give v w')) (leave (length ls') (run z m c p b ls' t' w')) (leave (length ls') (run z m c p a ls' t' w')))
   run z m c p (While' e x s y step) ls t w = ticked t (Halted Budget ls w) (λ t'. p e s step ls t' w)
   run z m c p (DoWhile' e x s) ls t w =
       turned (length ls) (run z m c p s ls t w) (λ ls' t' w'. Went ls' t' w') (λ ls' t' w'. p e s Skip ls' t' w')
@@ -70,8 +70,8 @@ abbrev mutual
 abbrev pub pass : Setting → ℕ → Callees → Passes → Passes
 pass z m c p e s step ls t w =
     with_value (eval z m c e ls t w)
-      (λ v ls' t' w'. on_test v (Halted Null ls' (give v w')) (Went ls' t' w')
-        (turned (length ls') (run z m c p s ls' t' w') (run z m c p step) (λ ls'' t'' w''. p e s step ls'' t'' w'')))
+    (λ v ls' t' w'. on_test v (Halted Null ls' (give v w')) (Went ls' t' w')
+    (turned (length ls') (run z m c p s ls' t' w') (run z m c p step) (λ ls'' t'' w''. p e s step ls'' t'' w'')))
 
 -- the statement of each function's body
 abbrev pub Bodies : Type 0

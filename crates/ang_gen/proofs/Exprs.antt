@@ -52,11 +52,13 @@ module _ (z : Setting) (code : Texts) (r : Running) where
 
   store_goes : (start : Config) (pc i d : ℕ) (s ls : List Slot) (t : ℕ) (v : Slot) (o : Tried) → i < length ls → d ≡ length s + i → Comes z code start (or_else o (λ w'. fault Tally (v ∷ (s ++ (ls ++ r.below))) w') (λ w'. at r (pc + 1) (v ∷ local_set (s ++ (ls ++ r.below)) d v) t (give (local_at (s ++ (ls ++ r.below)) d) w'))) → EvalGoes z code r start (pc + 1) s (length ls) t (or_else o (λ w'. Failed Tally ls (give v w')) (λ w'. Gave v (local_set ls i v) t (give (local_at ls i) w')))
   store_goes start pc i d s ls t v (No w') h e p = p
-  store_goes start pc i d s ls t v (Yes w') h e p =
-      (comes_to z code start _ _ p
-         (ap (λ l. at r (pc + 1) (v ∷ l) t (give (local_at (s ++ (ls ++ r.below)) d) w')) (set_under s ls r.below i d v h e)
-          ∙ ap (λ x. at r (pc + 1) (v ∷ (s ++ (local_set ls i v ++ r.below))) t (give x w')) (local_under s ls r.below i d h e)),
-       length_set ls i v, omega arith)
+  store_goes start pc i d s ls t v (Yes w') h e p = (
+    comes_to z code start _ _ p
+        (ap (λ l. at r (pc + 1) (v ∷ l) t (give (local_at (s ++ (ls ++ r.below)) d) w')) (set_under s ls r.below i d v h e)
+        ∙ ap (λ x. at r (pc + 1) (v ∷ (s ++ (local_set ls i v ++ r.below))) t (give x w')) (local_under s ls r.below i d h e)),
+    length_set ls i v,
+    omega arith,
+  )
 
   change_goes : (start : Config) (pc i d : ℕ) (s ls : List Slot) (t : ℕ) (w : World) (v : Slot) (o : Changed) → i < length ls → d ≡ length s + i → Comes z code start (changed_into o (v ∷ (s ++ (ls ++ r.below))) w (λ stored given. at r (pc + 1) (Bits given ∷ local_set (s ++ (ls ++ r.below)) d (Bits stored)) t w)) → EvalGoes z code r start (pc + 1) s (length ls) t (altered_by i o v ls t w)
   change_goes start pc i d s ls t w v (Never x) h e p = p
@@ -105,8 +107,8 @@ module _ (z : Setting) (code : Texts) (r : Running) where
   choose_goes start pc pc' k s n t (Failed x ls w) one two has q on off = q
   choose_goes start pc pc' k s n t (Gave v ls t' w) one two has q on off =
       after_eval start start pc' s n (length ls) t t' _ (here z code start) q.1 q.2
-        (branch_goes start pc' (length ls) t' s ls w v _ _ (two ls t' w) (one ls t' w)
-          (then_step z code start r.of pc r.room (v ∷ (s ++ (ls ++ r.below))) r.callers t' w (SkipIfFalse k) has q.0) (off ls t' w q.1 q.2) (on ls t' w q.1 q.2))
+      (branch_goes start pc' (length ls) t' s ls w v _ _ (two ls t' w) (one ls t' w)
+      (then_step z code start r.of pc r.room (v ∷ (s ++ (ls ++ r.below))) r.callers t' w (SkipIfFalse k) has q.0) (off ls t' w q.1 q.2) (on ls t' w q.1 q.2))
 
   then_args : (start : Config) (pc pc' : ℕ) (vs s : List Slot) (n m t : ℕ) (o : Evaluated) (go : Slot → List Slot → ℕ → World → Gathered) → EvalGoes z code r start pc (vs ++ s) n t o → ((v : Slot) (ls : List Slot) (t' : ℕ) (w : World) → length ls ≡ n → t' ≤ t → ArgsGo z code r (at r pc (v ∷ ((vs ++ s) ++ (ls ++ r.below))) t' w) pc' s (length ls) m t' (go v ls t' w)) → ArgsGo z code r start pc' s n m t (then_rest vs o go)
   then_args start pc pc' vs s n m t (Failed x ls w) go q k = comes_to z code start _ _ q (ap (λ y. Over (Faulted x y)) (give_two vs s (ls ++ r.below) w))
@@ -132,9 +134,9 @@ module _ (z : Setting) (code : Texts) (r : Running) where
         let roomy_dropped : length (drop_some k top) < r.room = omega (arith, ap length dropped) in
         let p = then_step z code start r.of pc r.room top r.callers t' w (Do o) has q.0 in
         let p' = comes_to z code start _ (did (perform z r.of.home o vs w) top (λ v w'. at r (pc + 1) (v ∷ rest) t' w')) p
-                   (enough_on k top _ there ∙ roomy_on r.room (drop_some k top) _ roomy_dropped
-                    ∙ ap (λ l. did (perform z r.of.home o l w) top (λ v w'. at r (pc + 1) (v ∷ drop_some k top) t' w')) taken
-                    ∙ ap (λ l. did (perform z r.of.home o vs w) top (λ v w'. at r (pc + 1) (v ∷ l) t' w')) dropped) in
+        (enough_on k top _ there ∙ roomy_on r.room (drop_some k top) _ roomy_dropped
+        ∙ ap (λ l. did (perform z r.of.home o l w) top (λ v w'. at r (pc + 1) (v ∷ drop_some k top) t' w')) taken
+        ∙ ap (λ l. did (perform z r.of.home o vs w) top (λ v w'. at r (pc + 1) (v ∷ l) t' w')) dropped) in
         after_eval start start (pc + 1) s n (length ls) t t' _ (here z code start) q.1 q.3 (did_goes start pc vs s ls t' (perform z r.of.home o vs w) p')
 
     -- the values that a body gives go on the stack, and its `&out` values into their targets
@@ -149,7 +151,6 @@ module _ (z : Setting) (code : Texts) (r : Running) where
 
     module _ (body : Calls) (fuel : ℕ)
         (bodies_go : (g : Routine) (ps : List Passing) (vs s : List Slot) (fr2 : List Frame) (t : ℕ) (w : World) → length fr2 ≡ suc (length r.callers) → z.params g ≡ Some ps → length ps ≡ length vs → t < fuel → ReplyGoes z code (At g 0 (length (vs ++ s) + code.height g) (vs ++ s) fr2 t w) fr2 s (out_count ps) t (body g vs t w)) where
-
       module _ (pc : ℕ) (xs : List Target) (s ls : List Slot) (has : HasAt (code.text r.of) pc (outs_code (length s) xs)) (ok : AreSpots (length ls) xs) (lt : length xs + (length s + length ls) < h) where
         begin_goes : (start : Config) (g : Routine) (ps : List Passing) (vs : List Slot) (t : ℕ) (o : Tried) → z.params g ≡ Some ps → length ps ≡ length vs → out_count ps ≡ length xs → t < fuel → Comes z code start (or_else o (λ w'. fault Memory ((vs ++ s) ++ (ls ++ r.below)) w') (λ w'. At g 0 (length ((vs ++ s) ++ (ls ++ r.below)) + code.height g) ((vs ++ s) ++ (ls ++ r.below)) (record { of = r.of; at = pc; room = r.room } ∷ r.callers) t w')) → EvalGoes z code r start (pc + length (outs_code (length s) xs)) s (length ls) t (replied r.of.home xs (or_else o (λ w'. Raises Memory (give_all vs w')) (λ w'. body g vs t w')) ls)
         begin_goes start g ps vs t (No w') known count outs le p = comes_to z code start _ _ p (ap (λ y. Over (Faulted Memory y)) (give_two vs s (ls ++ r.below) w'))
@@ -158,7 +159,7 @@ module _ (z : Setting) (code : Texts) (r : Running) where
             let p' = comes_to z code start _ _ p (ap (λ l. At g 0 (length l + code.height g) l fr2 t w') (append_assoc vs s (ls ++ r.below))) in
             let body_at = At g 0 (length (vs ++ (s ++ (ls ++ r.below))) + code.height g) (vs ++ (s ++ (ls ++ r.below))) fr2 t w' in
             after_eval start body_at (pc + length (outs_code (length s) xs)) s (length ls) (length ls) t t (replied r.of.home xs (body g vs t w') ls) p' refl (omega arith)
-              (reply_goes body_at pc xs s ls t (out_count ps) (body g vs t w') has ok outs lt (bodies_go g ps vs (s ++ (ls ++ r.below)) fr2 t w' refl known count le))
+            (reply_goes body_at pc xs s ls t (out_count ps) (body g vs t w') has ok outs lt (bodies_go g ps vs (s ++ (ls ++ r.below)) fr2 t w' refl known count le))
 
         tick_goes : (start : Config) (g : Routine) (ps : List Passing) (vs : List Slot) (t : ℕ) (w : World) (objects nest : Bool) → z.params g ≡ Some ps → length ps ≡ length vs → out_count ps ≡ length xs → t ≤ fuel → Comes z code start (cond objects (cond nest (ticked t (fault Budget ((vs ++ s) ++ (ls ++ r.below)) w) (λ t'. begins code g ((vs ++ s) ++ (ls ++ r.below)) (record { of = r.of; at = pc; room = r.room } ∷ r.callers) t' w)) (fault Depth ((vs ++ s) ++ (ls ++ r.below)) w)) (fault NullFault ((vs ++ s) ++ (ls ++ r.below)) w)) → EvalGoes z code r start (pc + length (outs_code (length s) xs)) s (length ls) t (replied r.of.home xs (cond objects (cond nest (ticked t (Raises Budget (give_all vs w)) (λ t'. or_else (memory_step w) (λ w'. Raises Memory (give_all vs w')) (λ w'. body g vs t' w'))) (Raises Depth (give_all vs w))) (Raises NullFault (give_all vs w))) ls)
         tick_goes start g ps vs t w false nest known count outs le p = comes_to z code start _ _ p (ap (λ y. Over (Faulted NullFault y)) (give_two vs s (ls ++ r.below) w))
@@ -188,8 +189,8 @@ module _ (z : Setting) (code : Texts) (r : Running) where
       call_goes start pc f xs s n m t (Broke x ls w) has fit ok lt le q = q
       call_goes start pc f xs s n m t (Ready vs ls t' w) has fit ok lt le q =
           after_eval start start (pc + 1 + length (outs_code (length s) xs)) s n (length ls) t t' (replied r.of.home xs (found_entered z body (length r.callers) (target z r.of.home f) vs t' w) ls) (here z code start) q.1 q.3
-            (found_goes (pc + 1) xs s ls has.1 (subst (λ j. AreSpots j xs) (sym q.1) ok) (omega (arith, q.1)) start vs m t' w (target z r.of.home f) fit.leads q.2 (omega (arith, q.3))
-              (then_step z code start r.of pc r.room ((vs ++ s) ++ (ls ++ r.below)) r.callers t' w (Enter f) has.0 q.0))
+          (found_goes (pc + 1) xs s ls has.1 (subst (λ j. AreSpots j xs) (sym q.1) ok) (omega (arith, q.1)) start vs m t' w (target z r.of.home f) fit.leads q.2 (omega (arith, q.3))
+          (then_step z code start r.of pc r.room ((vs ++ s) ++ (ls ++ r.below)) r.callers t' w (Enter f) has.0 q.0))
 
       abbrev calls : Callee → List Slot → ℕ → World → Reply
       calls = enter z body (length r.callers) r.of.home
@@ -211,30 +212,30 @@ module _ (z : Setting) (code : Texts) (r : Running) where
             let i' = Store (length s + i) in
             let len : pc + length ce + 1 ≡ pc + length (ce ++ i' ∷ []) = omega (arith, length-append ce (i' ∷ [])) in
             eval_ends _ _ _ s (length ls) t _ len
-              (assign_goes _ (pc + length ce) i (length s + i) s (length ls) t (eval z r.of.home calls e ls t w) (has_back (code.text r.of) pc ce _ has).0 ok.0 refl
-                (eval_runs e pc s ls t w (has_front (code.text r.of) pc ce _ has) ok.1 low le))
+            (assign_goes _ (pc + length ce) i (length s + i) s (length ls) t (eval z r.of.home calls e ls t w) (has_back (code.text r.of) pc ce _ has).0 ok.0 refl
+            (eval_runs e pc s ls t w (has_front (code.text r.of) pc ce _ has) ok.1 low le))
         eval_runs (Change' i by p e) pc s ls t w has ok low le =
             let ce = expr_code (length s) e in
             let i' = Change by (length s + i) in
             let len : pc + length ce + 1 ≡ pc + length (ce ++ i' ∷ []) = omega (arith, length-append ce (i' ∷ [])) in
             eval_ends _ _ _ s (length ls) t _ len
-              (alter_goes _ (pc + length ce) i (length s + i) by s (length ls) t (eval z r.of.home calls e ls t w) (has_back (code.text r.of) pc ce _ has).0 ok.0 refl
-                (eval_runs e pc s ls t w (has_front (code.text r.of) pc ce _ has) ok.1 low le))
+            (alter_goes _ (pc + length ce) i (length s + i) by s (length ls) t (eval z r.of.home calls e ls t w) (has_back (code.text r.of) pc ce _ has).0 ok.0 refl
+            (eval_runs e pc s ls t w (has_front (code.text r.of) pc ce _ has) ok.1 low le))
         eval_runs (Apply' o shape args) pc s ls t w has ok low le =
             let ca = args_code (length s) args in
             let i = Do o in
             let len : pc + length ca + 1 ≡ pc + length (ca ++ i ∷ []) = omega (arith, length-append ca (i ∷ [])) in
             eval_ends _ _ _ s (length ls) t _ len
-              (apply_goes _ (pc + length ca) o s (length ls) (row_count args + 0) t (eval_args z r.of.home calls args [] ls t w) (has_back (code.text r.of) pc ca _ has).0 (omega (arith, ok.0)) low.0
-                (args_runs args pc [] s ls t w (has_front (code.text r.of) pc ca _ has) ok.1 low.1 le))
+            (apply_goes _ (pc + length ca) o s (length ls) (row_count args + 0) t (eval_args z r.of.home calls args [] ls t w) (has_back (code.text r.of) pc ca _ has).0 (omega (arith, ok.0)) low.0
+            (args_runs args pc [] s ls t w (has_front (code.text r.of) pc ca _ has) ok.1 low.1 le))
         eval_runs (Call' f shape args outs) pc s ls t w has ok low le =
             let ca = args_code (length s) args in
             let co = outs_code (length s) outs.items in
             let len : pc + length ca + 1 + length co ≡ pc + length (ca ++ Enter f ∷ co) = omega (arith, length-append ca (Enter f ∷ co)) in
             let same : row_count args ≡ row_count args + 0 = omega arith in
             eval_ends _ _ _ s (length ls) t _ len
-              (call_goes _ (pc + length ca) f outs.items s (length ls) (row_count args + 0) t (eval_args z r.of.home calls args [] ls t w) (has_back (code.text r.of) pc ca _ has) (subst (λ j. Fits z r.of.home f j (length outs.items)) same ok.0) ok.1 low.0 le
-                (args_runs args pc [] s ls t w (has_front (code.text r.of) pc ca _ has) ok.2 low.1 le))
+            (call_goes _ (pc + length ca) f outs.items s (length ls) (row_count args + 0) t (eval_args z r.of.home calls args [] ls t w) (has_back (code.text r.of) pc ca _ has) (subst (λ j. Fits z r.of.home f j (length outs.items)) same ok.0) ok.1 low.0 le
+            (args_runs args pc [] s ls t w (has_front (code.text r.of) pc ca _ has) ok.2 low.1 le))
         eval_runs (Choose' p1 a p2 c p3 d) pc s ls t w has ok low le =
             let ca = expr_code (length s) a in let cc = expr_code (length s) c in let cd = expr_code (length s) d in
             let h1 = has_back (code.text r.of) pc ca _ has in
@@ -242,13 +243,13 @@ module _ (z : Setting) (code : Texts) (r : Running) where
             let len : pc + length ca + 1 + length cc + 1 + length cd ≡ pc + length (if_code ca cc cd) = omega (arith, length-append ca (SkipIfFalse (length cc + 1) ∷ (cc ++ GoOn (length cd) ∷ cd)), length-append cc (GoOn (length cd) ∷ cd)) in
             let e : pc + length ca + 1 + length cc + 1 ≡ pc + length ca + 1 + (length cc + 1) = omega arith in
             choose_goes _ (pc + length ca) _ (length cc + 1) s (length ls) t (eval z r.of.home calls a ls t w) (eval z r.of.home calls c) (eval z r.of.home calls d) h1.0
-              (eval_runs a pc s ls t w (has_front (code.text r.of) pc ca _ has) ok.0 low.0 le)
-              (λ ls' t' w' n_is lt. eval_ends _ _ _ s (length ls') t' _ len
-                 (jump_goes _ (pc + length ca + 1 + length cc) (length cd) s (length ls') t' (eval z r.of.home calls c ls' t' w') h2.0
-                   (eval_runs c (pc + length ca + 1) s ls' t' w' (has_front (code.text r.of) _ cc _ h1.1) (subst (λ n. Sound z r.of.home n c) (sym n_is) ok.1) (subst (λ n. Below h (length s + n) c) (sym n_is) low.1) (omega arith))))
-              (λ ls' t' w' n_is lt. eval_ends _ _ _ s (length ls') t' _ len
-                 (subst (λ q. EvalGoes z code r (at r q (s ++ (ls' ++ r.below)) t' w') (pc + length ca + 1 + length cc + 1 + length cd) s (length ls') t' (eval z r.of.home calls d ls' t' w')) e
-                   (eval_runs d (pc + length ca + 1 + length cc + 1) s ls' t' w' h2.1 (subst (λ n. Sound z r.of.home n d) (sym n_is) ok.2) (subst (λ n. Below h (length s + n) d) (sym n_is) low.2) (omega arith))))
+            (eval_runs a pc s ls t w (has_front (code.text r.of) pc ca _ has) ok.0 low.0 le)
+            (λ ls' t' w' n_is lt. eval_ends _ _ _ s (length ls') t' _ len
+            (jump_goes _ (pc + length ca + 1 + length cc) (length cd) s (length ls') t' (eval z r.of.home calls c ls' t' w') h2.0
+            (eval_runs c (pc + length ca + 1) s ls' t' w' (has_front (code.text r.of) _ cc _ h1.1) (subst (λ n. Sound z r.of.home n c) (sym n_is) ok.1) (subst (λ n. Below h (length s + n) c) (sym n_is) low.1) (omega arith))))
+            (λ ls' t' w' n_is lt. eval_ends _ _ _ s (length ls') t' _ len
+            (subst (λ q. EvalGoes z code r (at r q (s ++ (ls' ++ r.below)) t' w') (pc + length ca + 1 + length cc + 1 + length cd) s (length ls') t' (eval z r.of.home calls d ls' t' w')) e
+            (eval_runs d (pc + length ca + 1 + length cc + 1) s ls' t' w' h2.1 (subst (λ n. Sound z r.of.home n d) (sym n_is) ok.2) (subst (λ n. Below h (length s + n) d) (sym n_is) low.2) (omega arith))))
 
         pub args_runs : {k : _} → (args : Row_of-Expression k) (pc : ℕ) (vs s ls : List Slot) (t : ℕ) (w : World) → HasAt (code.text r.of) pc (args_code (length (vs ++ s)) args) → SoundArgs z r.of.home (length ls) args → BelowArgs h (length (vs ++ s) + length ls) args → t ≤ fuel → ArgsGo z code r (at r pc ((vs ++ s) ++ (ls ++ r.below)) t w) (pc + length (args_code (length (vs ++ s)) args)) s (length ls) (row_count args + length vs) t (eval_args z r.of.home (enter z body (length r.callers) r.of.home) args vs ls t w)
         args_runs end_of-Expression pc vs s ls t w has ok low le =
@@ -259,9 +260,9 @@ module _ (z : Setting) (code : Texts) (r : Running) where
             let len : pc + length ce + length cr ≡ pc + length (ce ++ cr) = omega (arith, length-append ce cr) in
             let m_is : row_count rest + suc (length vs) ≡ suc (row_count rest) + length vs = omega arith in
             then_args _ (pc + length ce) _ vs s (length ls) _ t (eval z r.of.home calls e ls t w) (λ v ls' t' w'. eval_args z r.of.home calls rest (v ∷ vs) ls' t' w')
-              (eval_runs e pc (vs ++ s) ls t w (has_front (code.text r.of) pc ce cr has) ok.0 low.0 le)
-              (λ v ls' t' w' n_is lt.
-                 let deeper : suc (length (vs ++ s) + length ls) ≡ suc (length (vs ++ s)) + length ls' = omega (arith, n_is) in
-                 subst (λ p. ArgsGo z code r (at r (pc + length ce) (v ∷ ((vs ++ s) ++ (ls' ++ r.below))) t' w') p s (length ls') (suc (row_count rest) + length vs) t' (eval_args z r.of.home calls rest (v ∷ vs) ls' t' w')) len
-                 (subst (λ m. ArgsGo z code r (at r (pc + length ce) (v ∷ ((vs ++ s) ++ (ls' ++ r.below))) t' w') (pc + length ce + length cr) s (length ls') m t' (eval_args z r.of.home calls rest (v ∷ vs) ls' t' w')) m_is
-                   (args_runs rest (pc + length ce) (v ∷ vs) s ls' t' w' (has_back (code.text r.of) pc ce cr has) (subst (λ n. SoundArgs z r.of.home n rest) (sym n_is) ok.1) (subst (λ d. BelowArgs h d rest) deeper low.1) (omega arith))))
+            (eval_runs e pc (vs ++ s) ls t w (has_front (code.text r.of) pc ce cr has) ok.0 low.0 le)
+            (λ v ls' t' w' n_is lt.
+            let deeper : suc (length (vs ++ s) + length ls) ≡ suc (length (vs ++ s)) + length ls' = omega (arith, n_is) in
+            subst (λ p. ArgsGo z code r (at r (pc + length ce) (v ∷ ((vs ++ s) ++ (ls' ++ r.below))) t' w') p s (length ls') (suc (row_count rest) + length vs) t' (eval_args z r.of.home calls rest (v ∷ vs) ls' t' w')) len
+            (subst (λ m. ArgsGo z code r (at r (pc + length ce) (v ∷ ((vs ++ s) ++ (ls' ++ r.below))) t' w') (pc + length ce + length cr) s (length ls') m t' (eval_args z r.of.home calls rest (v ∷ vs) ls' t' w')) m_is
+            (args_runs rest (pc + length ce) (v ∷ vs) s ls' t' w' (has_back (code.text r.of) pc ce cr has) (subst (λ n. SoundArgs z r.of.home n rest) (sym n_is) ok.1) (subst (λ d. BelowArgs h d rest) deeper low.1) (omega arith))))

@@ -4,3 +4,4 @@ pub mod Outs
 pub mod Exprs
 pub mod Stmts
 pub mod Bodies
+pub mod Writing

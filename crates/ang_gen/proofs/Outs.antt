@@ -32,7 +32,7 @@ SettledGoes z code r start pc' pre s n k t q = Comes z code start (at r pc' (pre
 module _ (z : Setting) (code : Texts) (r : Running) where
   -- one value that lies below pre changes places with its target
   swap_by : (to : Option Primitive) (sp : Spot) (start : Config) (pc u base n k t : ℕ) (o : Slot) (pre s : List Slot) (q : Settled) → slice_get (code.text r.of) pc ≡ Some (swap_at to u base sp) → IsSpot n sp → u ≡ length pre → base ≡ length pre + 1 + k + length s → SettledGoes z code r start pc (pre ++ (o ∷ [])) s n k t q →
-    SettledGoes z code r start (pc + 1) pre s n (suc k) t (record { olds = (trade r.of.home sp (brought to o) q.locals q.world).old ∷ q.olds; locals = (trade r.of.home sp (brought to o) q.locals q.world).locals; world = (trade r.of.home sp (brought to o) q.locals q.world).world })
+      SettledGoes z code r start (pc + 1) pre s n (suc k) t (record { olds = (trade r.of.home sp (brought to o) q.locals q.world).old ∷ q.olds; locals = (trade r.of.home sp (brought to o) q.locals q.world).locals; world = (trade r.of.home sp (brought to o) q.locals q.world).world })
   swap_by to (spot.Local i) start pc u base n k t o pre s q has ok eu eb p =
       let d = base + i in
       let ls = q.locals in
@@ -53,16 +53,18 @@ module _ (z : Setting) (code : Texts) (r : Running) where
       let at_d : local_at stack d ≡ old = ap (λ l. local_at l d) (flat pre o q.olds s (ls ++ r.below)) ∙ local_under (pre ++ (o ∷ (q.olds ++ s))) ls r.below i d inside (far o) in
       let set_u : local_set stack u old ≡ pre ++ (old ∷ rest) = ap (λ j. local_set stack j old) eu ∙ set_seam pre o rest old in
       let set_d : local_set (pre ++ (old ∷ rest)) d v ≡ pre ++ (old ∷ (q.olds ++ (s ++ (local_set ls i v ++ r.below)))) =
-            ap (λ l. local_set l d v) (flat pre old q.olds s (ls ++ r.below)) ∙ set_under (pre ++ (old ∷ (q.olds ++ s))) ls r.below i d v inside (far old)
-            ∙ sym (flat pre old q.olds s (local_set ls i v ++ r.below)) in
+      ap (λ l. local_set l d v) (flat pre old q.olds s (ls ++ r.below)) ∙ set_under (pre ++ (old ∷ (q.olds ++ s))) ls r.below i d v inside (far old)
+      ∙ sym (flat pre old q.olds s (local_set ls i v ++ r.below)) in
       let go = λ (x y : Slot). At r.of (pc + 1) r.room (local_set (local_set stack u x) d (brought to y)) r.callers t q.world in
-      let step1 = then_step z code start r.of pc r.room stack r.callers t q.world (Swap to u d) has p0 in
-      (comes_to z code start _ _ step1
-         (within_on u stack (within d stack (go (local_at stack d) (local_at stack u))) under_in ∙ within_on d stack (go (local_at stack d) (local_at stack u)) deep
-          ∙ ap (λ x. go x (local_at stack u)) at_d ∙ ap (λ y. go old y) at_u
-          ∙ ap (λ l. At r.of (pc + 1) r.room (local_set l d v) r.callers t q.world) set_u
-          ∙ ap (λ l. At r.of (pc + 1) r.room l r.callers t q.world) set_d),
-       length_set ls i v ∙ p.1, ap suc p.2)
+      let step1 = then_step z code start r.of pc r.room stack r.callers t q.world (Swap to u d) has p0 in (
+        comes_to z code start _ _ step1
+            (within_on u stack (within d stack (go (local_at stack d) (local_at stack u))) under_in ∙ within_on d stack (go (local_at stack d) (local_at stack u)) deep
+            ∙ ap (λ x. go x (local_at stack u)) at_d ∙ ap (λ y. go old y) at_u
+            ∙ ap (λ l. At r.of (pc + 1) r.room (local_set l d v) r.callers t q.world) set_u
+            ∙ ap (λ l. At r.of (pc + 1) r.room l r.callers t q.world) set_d),
+        length_set ls i v ∙ p.1,
+        ap suc p.2,
+      )
   swap_by to (spot.Global g) start pc u base n k t o pre s q has ok eu eb p =
       let ls = q.locals in
       let m = r.of.home in
@@ -75,15 +77,17 @@ module _ (z : Setting) (code : Texts) (r : Running) where
       let old = global_or m g v q.world in
       let set_u : local_set stack u old ≡ pre ++ (old ∷ rest) = ap (λ j. local_set stack j old) eu ∙ set_seam pre o rest old in
       let go = λ (y : Slot). At r.of (pc + 1) r.room (local_set stack u (global_or m g (brought to y) q.world)) r.callers t (global_put m g (brought to y) q.world) in
-      let step1 = then_step z code start r.of pc r.room stack r.callers t q.world (SwapGlobal to u g) has p0 in
-      (comes_to z code start _ _ step1
-         (within_on u stack (go (local_at stack u)) under_in ∙ ap (λ y. go y) at_u
-          ∙ ap (λ l. At r.of (pc + 1) r.room l r.callers t (global_put m g v q.world)) set_u),
-       p.1, ap suc p.2)
+      let step1 = then_step z code start r.of pc r.room stack r.callers t q.world (SwapGlobal to u g) has p0 in (
+        comes_to z code start _ _ step1
+            (within_on u stack (go (local_at stack u)) under_in ∙ ap (λ y. go y) at_u
+            ∙ ap (λ l. At r.of (pc + 1) r.room l r.callers t (global_put m g v q.world)) set_u),
+        p.1,
+        ap suc p.2,
+      )
 
   -- all of them, the deepest first
   swaps_go : (xs : List Target) (start : Config) (pc u base t : ℕ) (pre outs s ls : List Slot) (w : World) → HasAt (code.text r.of) pc (swaps_code u base xs) → AreSpots (length ls) xs → length outs ≡ length xs → u ≡ length pre → base ≡ length pre + length xs + length s → Comes z code start (at r pc (pre ++ (outs ++ (s ++ (ls ++ r.below)))) t w) →
-    SettledGoes z code r start (pc + length (swaps_code u base xs)) pre s (length ls) (length xs) t (settled r.of.home xs outs ls w)
+      SettledGoes z code r start (pc + length (swaps_code u base xs)) pre s (length ls) (length xs) t (settled r.of.home xs outs ls w)
   swaps_go [] start pc u base t pre [] s ls w has ok e eu eb p = (comes_to z code start _ _ p (let same : pc ≡ pc + 0 = omega arith in ap (λ j. at r j (pre ++ (s ++ (ls ++ r.below))) t w) same), refl, refl)
   swaps_go [] start pc u base t pre (o ∷ outs) s ls w has ok e eu eb p = absurd (omega arith)
   swaps_go (x ∷ xs) start pc u base t pre [] s ls w has ok e eu eb p = absurd (omega arith)
@@ -103,22 +107,26 @@ module _ (z : Setting) (code : Texts) (r : Running) where
       let stack = q.olds ++ rest in
       let k_is : k ≡ length q.olds = sym p.2 in
       let there : k ≤ length stack = omega (arith, length-append q.olds rest) in
-      let step1 = then_step z code start r.of pc r.room (v ∷ stack) r.callers t q.world (DropUnder k) has p.0 in
-      (comes_to z code start _ _ step1
-         (enough_on k stack _ there
-          ∙ ap (λ j. At r.of (pc + 1) r.room (v ∷ drop_some j stack) r.callers t (give_back (take_some j stack) q.world)) k_is
-          ∙ ap (λ l. At r.of (pc + 1) r.room (v ∷ l) r.callers t (give_back (take_some (length q.olds) stack) q.world)) (drop_front q.olds rest)
-          ∙ ap (λ l. At r.of (pc + 1) r.room (v ∷ rest) r.callers t (give_back l q.world)) (take_front q.olds rest)),
-       p.1, omega arith)
+      let step1 = then_step z code start r.of pc r.room (v ∷ stack) r.callers t q.world (DropUnder k) has p.0 in (
+        comes_to z code start _ _ step1
+            (enough_on k stack _ there
+            ∙ ap (λ j. At r.of (pc + 1) r.room (v ∷ drop_some j stack) r.callers t (give_back (take_some j stack) q.world)) k_is
+            ∙ ap (λ l. At r.of (pc + 1) r.room (v ∷ l) r.callers t (give_back (take_some (length q.olds) stack) q.world)) (drop_front q.olds rest)
+            ∙ ap (λ l. At r.of (pc + 1) r.room (v ∷ rest) r.callers t (give_back l q.world)) (take_front q.olds rest)),
+        p.1,
+        omega arith,
+      )
 
   pub outs_go : (xs : List Target) (start : Config) (pc t : ℕ) (v : Slot) (outs s ls : List Slot) (w : World) → HasAt (code.text r.of) pc (outs_code (length s) xs) → AreSpots (length ls) xs → length outs ≡ length xs → Comes z code start (at r pc (v ∷ (outs ++ (s ++ (ls ++ r.below)))) t w) →
-    EvalGoes z code r start (pc + length (outs_code (length s) xs)) s (length ls) t (with_outs v (settled r.of.home xs outs ls w) t)
+      EvalGoes z code r start (pc + length (outs_code (length s) xs)) s (length ls) t (with_outs v (settled r.of.home xs outs ls w) t)
   outs_go [] start pc t v outs s ls w has ok e p =
-      let none = none_long outs e in
-      (comes_to z code start _ _ p
-         (ap (λ l. at r pc (v ∷ (l ++ (s ++ (ls ++ r.below)))) t w) none
-          ∙ (let same : pc ≡ pc + 0 = omega arith in ap (λ j. at r j (v ∷ (s ++ (ls ++ r.below))) t w) same)),
-       refl, omega arith)
+      let none = none_long outs e in (
+        comes_to z code start _ _ p
+            (ap (λ l. at r pc (v ∷ (l ++ (s ++ (ls ++ r.below)))) t w) none
+            ∙ (let same : pc ≡ pc + 0 = omega arith in ap (λ j. at r j (v ∷ (s ++ (ls ++ r.below))) t w) same)),
+        refl,
+        omega arith,
+      )
   outs_go (x ∷ xs) start pc t v outs s ls w has ok e p =
       let k = length (x ∷ xs) in
       let swaps = swaps_code 1 (1 + k + length s) (x ∷ xs) in

@@ -49,7 +49,7 @@ pub record Exits : Type 0 where
 abbrev pub returning : Running → List Passing → Slot → List Slot → ℕ → World → Config
 returning r ps v ls t w =
     back r.callers v (outs_of ps (drop_some (length ls - length ps) ls)) r.below t
-      (give_others ps (drop_some (length ls - length ps) ls) (give_some (length ls - length ps) ls w))
+    (give_others ps (drop_some (length ls - length ps) ls) (give_some (length ls - length ps) ls w))
 
 -- a statement's code in a body with the parameters ps, where n0 locals were alive before it, and n are after it
 abbrev pub RunGoes : Setting → Texts → Running → List Passing → Config → ℕ → Exits → ℕ → ℕ → ℕ → Ran → Type 0

@@ -78,18 +78,20 @@ module _ (z : Setting) (code : Texts) (r : Running) (ps : List Passing) where
         let n = suc k in
         let there : n ≤ length (ls ++ r.below) = omega (arith, length-append ls r.below) in
         comes_to z code start _ _ (then_step z code start r.of pc r.room (ls ++ r.below) r.callers t w (Leave n) has.0 p)
-          (enough_on n (ls ++ r.below) _ there
-           ∙ ap (λ s. at r (pc + 1) s t (give_some n (ls ++ r.below) w)) (drop_within n ls r.below h)
-           ∙ ap (λ y. at r (pc + 1) (drop_some n ls ++ r.below) t y) (give_within n ls r.below w h))
+        (enough_on n (ls ++ r.below) _ there
+        ∙ ap (λ s. at r (pc + 1) s t (give_some n (ls ++ r.below) w)) (drop_within n ls r.below h)
+        ∙ ap (λ y. at r (pc + 1) (drop_some n ls ++ r.below) t y) (give_within n ls r.below w h))
 
     -- a block's end
     pub leave_goes : (start : Config) (pc k n t : ℕ) (o : Ran) → length ps ≤ n → x.alive ≤ n → HasAt (code.text r.of) pc (leave_code k) → RunGoes z code r ps start pc x n (k + n) t o → RunGoes z code r ps start (pc + length (leave_code k)) x n n t (leave n o)
     leave_goes start pc k n t (Went ls t' w) pa al has q =
         let i = length ls - n in
         let k_is : k ≡ i = omega (arith, q.1) in
-        let p = left_goes start pc k t' ls w has (omega (arith, q.1)) q.0 in
-        (comes_to z code start _ _ p (ap (λ j. at r (pc + length (leave_code k)) (drop_some j ls ++ r.below) t' (give_some j ls w)) k_is),
-         length_drop i ls (let le : i ≤ length ls = omega arith in le) ∙ omega (arith, q.1), q.2)
+        let p = left_goes start pc k t' ls w has (omega (arith, q.1)) q.0 in (
+          comes_to z code start _ _ p (ap (λ j. at r (pc + length (leave_code k)) (drop_some j ls ++ r.below) t' (give_some j ls w)) k_is),
+          length_drop i ls (let le : i ≤ length ls = omega arith in le) ∙ omega (arith, q.1),
+          q.2,
+        )
     leave_goes start pc k n t (Returned v ls t' w) pa al has q =
         let len = length_drop (length ls - n) ls (let le : length ls - n ≤ length ls = omega arith in le) in
         (comes_to z code start _ _ q.0 (home_more n t' v ls w q.2 pa), q.1, omega (arith, len, q.2))
@@ -189,9 +191,9 @@ module _ (z : Setting) (code : Texts) (r : Running) (ps : List Passing) where
       let go = λ (qs : List Passing) (j : ℕ). enough (j + length qs) stack (back r.callers v (outs_of qs (drop_some j stack)) (drop_some (length qs) (drop_some j stack)) t (give_others qs (drop_some j stack) (give_some j stack w))) in
       let end = λ (l m : List Slot) (u : World). back r.callers v l m t u in
       comes_to z code start _ _ (then_step z code start r.of pc r.room (v ∷ stack) r.callers t w (Return k) has p)
-        (ap (λ j. go (params_of z r.of) j) e ∙ ap (λ qs. go qs i) ps_is ∙ enough_on (i + length ps) stack _ there
-         ∙ ap (λ l. back r.callers v (outs_of ps l) (drop_some (length ps) l) t (give_others ps l (give_some i stack w))) dropped_is
-         ∙ ap (λ l. end l (drop_some (length ps) (own ++ r.below)) (give_others ps (own ++ r.below) (give_some i stack w))) (outs_front ps own r.below own_is)
-         ∙ ap (λ l. end (outs_of ps own) l (give_others ps (own ++ r.below) (give_some i stack w))) behind
-         ∙ ap (λ u. end (outs_of ps own) r.below u) (others_front ps own r.below (give_some i stack w) own_is)
-         ∙ ap (λ u. end (outs_of ps own) r.below (give_others ps own u)) given_is)
+      (ap (λ j. go (params_of z r.of) j) e ∙ ap (λ qs. go qs i) ps_is ∙ enough_on (i + length ps) stack _ there
+      ∙ ap (λ l. back r.callers v (outs_of ps l) (drop_some (length ps) l) t (give_others ps l (give_some i stack w))) dropped_is
+      ∙ ap (λ l. end l (drop_some (length ps) (own ++ r.below)) (give_others ps (own ++ r.below) (give_some i stack w))) (outs_front ps own r.below own_is)
+      ∙ ap (λ l. end (outs_of ps own) l (give_others ps (own ++ r.below) (give_some i stack w))) behind
+      ∙ ap (λ u. end (outs_of ps own) r.below u) (others_front ps own r.below (give_some i stack w) own_is)
+      ∙ ap (λ u. end (outs_of ps own) r.below (give_others ps own u)) given_is)

@@ -73,18 +73,18 @@ abbrev mutual
   stmt_code q n m kb kc (If' e x a y b) =
       let cb = block_code (stmt_code q n m (kb + length (leave_code (declared b))) (kc + length (leave_code (declared b))) b) (declared b) in
       if_code (expr_code 0 e)
-        (block_code (stmt_code q n m (kb + length cb + 1 + length (leave_code (declared a))) (kc + length cb + 1 + length (leave_code (declared a))) a) (declared a))
-        cb
+      (block_code (stmt_code q n m (kb + length cb + 1 + length (leave_code (declared a))) (kc + length cb + 1 + length (leave_code (declared a))) a) (declared a))
+      cb
   stmt_code q n m kb kc (While' e x s y step) =
       let cs = block_code (stmt_code q n 0 0 0 step) (declared step) in
       while_code (expr_code 0 e)
-        (block_code (stmt_code q n n (length (leave_code (declared s)) + length cs + 1) (length (leave_code (declared s))) s) (declared s))
-        cs
+      (block_code (stmt_code q n n (length (leave_code (declared s)) + length cs + 1) (length (leave_code (declared s))) s) (declared s))
+      cs
   stmt_code q n m kb kc (DoWhile' e x s) =
       GoOn (length (expr_code 0 e) + 2)
       ∷ while_code (expr_code 0 e)
-          (block_code (stmt_code q n n (length (leave_code (declared s)) + 0 + 1) (length (leave_code (declared s))) s) (declared s))
-          []
+      (block_code (stmt_code q n n (length (leave_code (declared s)) + 0 + 1) (length (leave_code (declared s))) s) (declared s))
+      []
   stmt_code q n m kb kc (ReturnOf e) = expr_code 0 e ++ Return (n - q) ∷ []
   stmt_code q n m kb kc Break = leave_code (n - m) ++ GoOn kb ∷ []
   stmt_code q n m kb kc Continue = leave_code (n - m) ++ GoOn kc ∷ []
@@ -100,8 +100,8 @@ abbrev pub loop_code : ℕ → ℕ → Expression → Statement → Statement �
 loop_code q n e s step =
     let cs = block_code (stmt_code q n 0 0 0 step) (declared step) in
     while_code (expr_code 0 e)
-      (block_code (stmt_code q n n (length (leave_code (declared s)) + length cs + 1) (length (leave_code (declared s))) s) (declared s))
-      cs
+    (block_code (stmt_code q n n (length (leave_code (declared s)) + length cs + 1) (length (leave_code (declared s))) s) (declared s))
+    cs
 
 -- a whole body with q parameters; one that ends without `return` gives 0
 abbrev pub body_code : ℕ → Statement → List Instruction

@@ -110,7 +110,7 @@ replied_by d result (Asking Full) w = Fails Tally w
 abbrev pub asked_from : Setting → ℕ → EntityNo → Option ℕ → List Value → HostType → List Input → World → Done
 asked_from z m e object args result (Said reply ∷ rest) w =
     replied_by (z.host e.0).driver result reply
-      (record w { inputs = rest; events = w.events ++ Called (z.name m) e (z.host e.0).driver object args reply ∷ [] })
+    (record w { inputs = rest; events = w.events ++ Called (z.name m) e (z.host e.0).driver object args reply ∷ [] })
 asked_from z m e object args result _ w = Fails Memory w
 
 abbrev pub asked_told : Setting → ℕ → EntityNo → Option ℕ → List Value → HostType → Tried → Done

@@ -243,8 +243,8 @@ abbrev pub entered : Setting → Calls → ℕ → Routine → List Slot → ℕ
 entered z body d g vs t w =
     if has_objects (params_of z g) vs
     then (if may_nest z d
-          then (ticked t (Raises Budget (give_all vs w)) (λ t'. or_else (memory_step w) (λ w'. Raises Memory (give_all vs w')) (λ w'. body g vs t' w')))
-          else (Raises Depth (give_all vs w)))
+    then (ticked t (Raises Budget (give_all vs w)) (λ t'. or_else (memory_step w) (λ w'. Raises Memory (give_all vs w')) (λ w'. body g vs t' w')))
+    else (Raises Depth (give_all vs w)))
     else (Raises Null (give_all vs w))
 
 abbrev pub found_entered : Setting → Calls → ℕ → Found → List Slot → ℕ → World → Reply
