@@ -100,3 +100,13 @@ called_with z bodies budget g vs w = ticked budget (Raises Budget (give_all vs w
 -- An initializer's run, with so many ticks left: its entry takes none.
 abbrev pub initialized : Setting → Bodies → ℕ → Routine → World → Reply
 initialized z bodies t g w = begun z bodies g [] t w
+
+-- what follows an initializer
+abbrev pub then_initialized : Reply → (ℕ → World → Reply) → Reply
+then_initialized (Yields v outs t w) go = go t (give v w)
+then_initialized (Raises f w) go = Raises f w
+
+-- A build's initializers in order of declaration, on one budget: each stores into its global, and a fault ends them.
+abbrev pub initialized_all : Setting → Bodies → List Routine → ℕ → World → Reply
+initialized_all z bodies [] t w = Yields (Bits 0) [] t w
+initialized_all z bodies (g ∷ gs) t w = then_initialized (initialized z bodies t g w) (λ t' w'. initialized_all z bodies gs t' w')

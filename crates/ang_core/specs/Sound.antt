@@ -2,12 +2,13 @@
 use Rattle.std.specs.Prelude.{◌≡◌, ℕ, zero, suc, ◌+◌, ◌<◌, ◌≤◌, Bool, true, false, IsTrue, List, [], ◌∷◌, length, Option, Some, None}
 use Rattle.ang_meaning.specs.declared.routine.Routine.{Routine}
 use Rattle.ang_meaning.specs.declared.routine.Callee.{Callee}
+use Rattle.ang_meaning.specs.declared.routine.Callee.TheVariants.{Own, Import}
 use Rattle.ang_meaning.specs.declared.routine.Passing.{Passing}
 use Rattle.ang_meaning.specs.declared.routine.Passing.TheVariants.{In, Out, Object}
 use Rattle.ang_meaning.specs.declared.routine.Spot.{Spot}
 use Rattle.ang_meaning.specs.declared.routine.Spot.TheVariants as spot
 use Rattle.ang_meaning.specs.declared.routine.Target.{Target}
-use Rattle.ang_meaning.specs.Setting.{Setting, Found, Enters, Misses, target}
+use Rattle.ang_meaning.specs.Setting.{Setting, is_fit}
 use Rattle.ang_meaning.specs.Perform.{operands}
 use Rattle.ang_core.specs.declared.tree.Expression.{Expression, Row_of-Expression, end_of-Expression, more_of-Expression}
 use Rattle.ang_core.specs.declared.tree.Expression.TheVariants.{Number, Null as Nothing, NoKey, Local, Assign', Change', Apply', Call', Choose'}
@@ -34,9 +35,14 @@ pub record Takes (z : Setting) (g : Routine) (args outs : ℕ) : Type 0 where
   pub count : length params ≡ args
   pub given : out_count params ≡ outs
 
--- where a callee leads somewhere, the function takes so many arguments
-pub record Fits (z : Setting) (m : ℕ) (f : Callee) (args outs : ℕ) : Type 0 where
-  pub leads : (g : Routine) → target z m f ≡ Enters g → Takes z g args outs
+-- a call gives so many arguments and takes so many `&out` values, as the function or the import is declared
+abbrev pub Fits : Setting → ℕ → Callee → ℕ → ℕ → Type 0
+Fits z m (Own g) args outs = Takes z (record { home = m; number = g }) args outs
+Fits z m (Import i) args outs = (params : List Passing) × (z.imported m i ≡ Some params) × (length params ≡ args) × (out_count params ≡ outs)
+
+-- an import leads to a function with the parameters that it declares
+pub record LinksFit (z : Setting) : Type 0 where
+  pub same : (m i : ℕ) (g : Routine) → z.linked m i ≡ Some g → z.params g ≡ z.imported m i
 
 -- targets that are locals are among the n that are alive
 abbrev pub IsSpot : ℕ → Spot → Type 0
@@ -56,7 +62,7 @@ abbrev mutual
   Sound z m n (Local i) = i < n
   Sound z m n (Assign' i p e) = (i < n) × Sound z m n e
   Sound z m n (Change' i by p e) = (i < n) × Sound z m n e
-  Sound z m n (Apply' o shape args) = (row_count args ≡ operands z o) × SoundArgs z m n args
+  Sound z m n (Apply' o shape args) = (row_count args ≡ operands z o) × (is_fit z o ≡ true) × SoundArgs z m n args
   Sound z m n (Call' f shape args outs) = Fits z m f (row_count args) (length outs.items) × AreSpots n outs.items × SoundArgs z m n args
   Sound z m n (Choose' p a q b s c) = Sound z m n a × Sound z m n b × Sound z m n c
 
@@ -99,6 +105,7 @@ abbrev mutual
   SoundRow z m loop n end_of-Statement = Unit {0}
   SoundRow z m loop n (more_of-Statement s rest) = SoundStatement z m loop n s × SoundRow z m loop (declared s + n) rest
 
--- each function that there is has a sound body
+-- each function that there is has a sound body, and imports lead where they may
 pub record AreSound (z : Setting) (bodies : Bodies) : Type 0 where
   pub each : (g : Routine) (ps : List Passing) → z.params g ≡ Some ps → SoundStatement z g.home false (length ps) (bodies g)
+  pub links : LinksFit z

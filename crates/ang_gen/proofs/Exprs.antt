@@ -13,24 +13,25 @@ use Rattle.ang_meaning.specs.declared.routine.Passing.{Passing}
 use Rattle.ang_meaning.specs.declared.routine.Target.{Target}
 use Rattle.ang_meaning.specs.Numbers.{Changed, Into, Never}
 use Rattle.ang_meaning.specs.World.{World, Tried, Yes, No, hold, give, give_all, memory_step}
-use Rattle.ang_meaning.specs.Setting.{Setting, Found, Enters, Misses, target, has_objects, params_in, params_of}
+use Rattle.ang_meaning.specs.Setting.{Setting, Found, Enters, Misses, target, has_objects, params_in, params_of, is_fit}
 use Rattle.ang_meaning.specs.Hosts.{Done, Fine, Fails}
 use Rattle.ang_meaning.specs.Perform.{perform, operands, change_of}
 use Rattle.ang_meaning.specs.Results.{Evaluated, Gave, Failed, Gathered, Ready, Broke, Reply, Yields, Raises, Calls, local_at, local_set, drop_some, at_zero, on_test, ticked, or_else, loaded, performed, applied, assigned, altered_by, altered, chosen, then_rest, settled, with_outs, replied, called, may_nest, entered, found_entered, enter}
 use Rattle.ang_core.specs.declared.tree.Expression.{Expression, Row_of-Expression, end_of-Expression, more_of-Expression}
 use Rattle.ang_core.specs.declared.tree.Expression.TheVariants.{Number, Null as Nothing, NoKey, Local, Assign', Change', Apply', Call', Choose'}
 use Rattle.ang_core.specs.Meaning.{eval, eval_args}
-use Rattle.ang_core.specs.Sound.{row_count, out_count, Takes, Fits, AreSpots, Sound, SoundArgs}
+use Rattle.ang_core.specs.Sound.{row_count, out_count, Takes, Fits, LinksFit, AreSpots, Sound, SoundArgs}
 use Rattle.ang_code.specs.declared.instruction.Frame.{Frame}
 use Rattle.ang_code.specs.declared.instruction.Instruction.{Instruction}
 use Rattle.ang_code.specs.declared.instruction.Instruction.TheVariants.{PushBits, PushNull, PushNoKey, Load, Store, Change, Do, SkipIfFalse, GoOn, Enter}
 use Rattle.ang_code.specs.Machine.{Texts, Config, At, Over, Faulted, fault, roomy, within, enough, did, changed_into, back, begins, enters, found_enters, act, take_some}
-use Rattle.ang_code.proofs.Steps.{HasAt, has_front, has_back, Comes, here, comes_on, comes_to, one_step, then_step, roomy_on, within_on, enough_on}
+use Rattle.ang_code.proofs.Steps.{HasAt, has_front, has_back, Comes, here, comes_on, comes_to, one_step, then_step, roomy_on, within_on, enough_on, fitting_on}
 use Rattle.ang_gen.specs.Code.{if_code, outs_code, expr_code, args_code}
 use Rattle.ang_gen.specs.Heights.{Below, BelowArgs}
 use Rattle.ang_gen.proofs.Stacks.{give_append, give_two, take_front, drop_front, local_under, set_under, length_set, objects_front}
 use Rattle.ang_gen.proofs.Relate.{Running, at, EvalGoes, ArgsGo, ReplyGoes}
 use Rattle.ang_gen.proofs.Outs.{outs_go}
+use Rattle.ang_gen.proofs.Leads.{target_front, leads}
 
 module _ (z : Setting) (code : Texts) (r : Running) where
   -- the place at the end, under another name
@@ -119,9 +120,9 @@ module _ (z : Setting) (code : Texts) (r : Running) where
     fits : (s ls : List Slot) → length s + length ls < h → length (s ++ (ls ++ r.below)) < r.room
     fits s ls lt = omega (arith, room_is, length-append s (ls ++ r.below), length-append ls r.below)
 
-    apply_goes : (start : Config) (pc : ℕ) (o : Operation) (s : List Slot) (n m t : ℕ) (a : Gathered) → slice_get (code.text r.of) pc ≡ Some (Do o) → m ≡ operands z o → length s + n < h → ArgsGo z code r start pc s n m t a → EvalGoes z code r start (pc + 1) s n t (applied (perform z r.of.home o) a)
-    apply_goes start pc o s n m t (Broke x ls w) has e lt q = q
-    apply_goes start pc o s n m t (Ready vs ls t' w) has e lt q =
+    apply_goes : (start : Config) (pc : ℕ) (o : Operation) (s : List Slot) (n m t : ℕ) (a : Gathered) → slice_get (code.text r.of) pc ≡ Some (Do o) → m ≡ operands z o → is_fit z o ≡ true → length s + n < h → ArgsGo z code r start pc s n m t a → EvalGoes z code r start (pc + 1) s n t (applied (perform z r.of.home o) a)
+    apply_goes start pc o s n m t (Broke x ls w) has e fit lt q = q
+    apply_goes start pc o s n m t (Ready vs ls t' w) has e fit lt q =
         let k = operands z o in
         let rest = s ++ (ls ++ r.below) in
         let top = (vs ++ s) ++ (ls ++ r.below) in
@@ -134,7 +135,8 @@ module _ (z : Setting) (code : Texts) (r : Running) where
         let roomy_dropped : length (drop_some k top) < r.room = omega (arith, ap length dropped) in
         let p = then_step z code start r.of pc r.room top r.callers t' w (Do o) has q.0 in
         let p' = comes_to z code start _ (did (perform z r.of.home o vs w) top (λ v w'. at r (pc + 1) (v ∷ rest) t' w')) p
-        (enough_on k top _ there ∙ roomy_on r.room (drop_some k top) _ roomy_dropped
+        (fitting_on z o _ fit
+          ∙ enough_on k top _ there ∙ roomy_on r.room (drop_some k top) _ roomy_dropped
         ∙ ap (λ l. did (perform z r.of.home o l w) top (λ v w'. at r (pc + 1) (v ∷ drop_some k top) t' w')) taken
         ∙ ap (λ l. did (perform z r.of.home o vs w) top (λ v w'. at r (pc + 1) (v ∷ l) t' w')) dropped) in
         after_eval start start (pc + 1) s n (length ls) t t' _ (here z code start) q.1 q.3 (did_goes start pc vs s ls t' (perform z r.of.home o vs w) p')
@@ -149,7 +151,7 @@ module _ (z : Setting) (code : Texts) (r : Running) where
         after_eval start start (pc + length (outs_code (length s) xs)) s (length ls) (length ls) t t' (with_outs v (settled r.of.home xs outs ls w) t') (here z code start) refl q.1 (outs_go z code r xs start pc t' v outs s ls w has ok same p)
     reply_goes start pc xs s ls t k (Raises x w) has ok e lt q = q
 
-    module _ (body : Calls) (fuel : ℕ)
+    module _ (links : LinksFit z) (body : Calls) (fuel : ℕ)
         (bodies_go : (g : Routine) (ps : List Passing) (vs s : List Slot) (fr2 : List Frame) (t : ℕ) (w : World) → length fr2 ≡ suc (length r.callers) → z.params g ≡ Some ps → length ps ≡ length vs → t < fuel → ReplyGoes z code (At g 0 (length (vs ++ s) + code.height g) (vs ++ s) fr2 t w) fr2 s (out_count ps) t (body g vs t w)) where
       module _ (pc : ℕ) (xs : List Target) (s ls : List Slot) (has : HasAt (code.text r.of) pc (outs_code (length s) xs)) (ok : AreSpots (length ls) xs) (lt : length xs + (length s + length ls) < h) where
         begin_goes : (start : Config) (g : Routine) (ps : List Passing) (vs : List Slot) (t : ℕ) (o : Tried) → z.params g ≡ Some ps → length ps ≡ length vs → out_count ps ≡ length xs → t < fuel → Comes z code start (or_else o (λ w'. fault Memory ((vs ++ s) ++ (ls ++ r.below)) w') (λ w'. At g 0 (length ((vs ++ s) ++ (ls ++ r.below)) + code.height g) ((vs ++ s) ++ (ls ++ r.below)) (record { of = r.of; at = pc; room = r.room } ∷ r.callers) t w')) → EvalGoes z code r start (pc + length (outs_code (length s) xs)) s (length ls) t (replied r.of.home xs (or_else o (λ w'. Raises Memory (give_all vs w')) (λ w'. body g vs t w')) ls)
@@ -188,9 +190,14 @@ module _ (z : Setting) (code : Texts) (r : Running) where
       call_goes : (start : Config) (pc : ℕ) (f : Callee) (xs : List Target) (s : List Slot) (n m t : ℕ) (a : Gathered) → HasAt (code.text r.of) pc (Enter f ∷ outs_code (length s) xs) → Fits z r.of.home f m (length xs) → AreSpots n xs → length xs + (length s + n) < h → t ≤ fuel → ArgsGo z code r start pc s n m t a → EvalGoes z code r start (pc + 1 + length (outs_code (length s) xs)) s n t (called r.of.home (enter z body (length r.callers) r.of.home f) xs a)
       call_goes start pc f xs s n m t (Broke x ls w) has fit ok lt le q = q
       call_goes start pc f xs s n m t (Ready vs ls t' w) has fit ok lt le q =
-          after_eval start start (pc + 1 + length (outs_code (length s) xs)) s n (length ls) t t' (replied r.of.home xs (found_entered z body (length r.callers) (target z r.of.home f) vs t' w) ls) (here z code start) q.1 q.3
-          (found_goes (pc + 1) xs s ls has.1 (subst (λ j. AreSpots j xs) (sym q.1) ok) (omega (arith, q.1)) start vs m t' w (target z r.of.home f) fit.leads q.2 (omega (arith, q.3))
-          (then_step z code start r.of pc r.room ((vs ++ s) ++ (ls ++ r.below)) r.callers t' w (Enter f) has.0 q.0))
+          let top = (vs ++ s) ++ (ls ++ r.below) in
+          let frame : Frame = record { of = r.of; at = pc + 1; room = r.room } in
+          let to_here : target z r.of.home f top w ≡ target z r.of.home f vs w =
+                ap (λ l. target z r.of.home f l w) (append_assoc vs s (ls ++ r.below)) ∙ target_front z r.of.home f vs (s ++ (ls ++ r.below)) w in
+          let p = comes_to z code start _ (found_enters z code (target z r.of.home f vs w) top r.callers frame t' w)
+                    (then_step z code start r.of pc r.room top r.callers t' w (Enter f) has.0 q.0) (ap (λ o. found_enters z code o top r.callers frame t' w) to_here) in
+          after_eval start start (pc + 1 + length (outs_code (length s) xs)) s n (length ls) t t' (replied r.of.home xs (found_entered z body (length r.callers) (target z r.of.home f vs w) vs t' w) ls) (here z code start) q.1 q.3
+            (found_goes (pc + 1) xs s ls has.1 (subst (λ j. AreSpots j xs) (sym q.1) ok) (omega (arith, q.1)) start vs m t' w (target z r.of.home f vs w) (λ g e. leads z r.of.home f m (length xs) links fit g vs w e) q.2 (omega (arith, q.3)) p)
 
       abbrev calls : Callee → List Slot → ℕ → World → Reply
       calls = enter z body (length r.callers) r.of.home
@@ -226,8 +233,8 @@ module _ (z : Setting) (code : Texts) (r : Running) where
             let i = Do o in
             let len : pc + length ca + 1 ≡ pc + length (ca ++ i ∷ []) = omega (arith, length-append ca (i ∷ [])) in
             eval_ends _ _ _ s (length ls) t _ len
-            (apply_goes _ (pc + length ca) o s (length ls) (row_count args + 0) t (eval_args z r.of.home calls args [] ls t w) (has_back (code.text r.of) pc ca _ has).0 (omega (arith, ok.0)) low.0
-            (args_runs args pc [] s ls t w (has_front (code.text r.of) pc ca _ has) ok.1 low.1 le))
+            (apply_goes _ (pc + length ca) o s (length ls) (row_count args + 0) t (eval_args z r.of.home calls args [] ls t w) (has_back (code.text r.of) pc ca _ has).0 (omega (arith, ok.0)) ok.1 low.0
+            (args_runs args pc [] s ls t w (has_front (code.text r.of) pc ca _ has) ok.2 low.1 le))
         eval_runs (Call' f shape args outs) pc s ls t w has ok low le =
             let ca = args_code (length s) args in
             let co = outs_code (length s) outs.items in

@@ -19,7 +19,7 @@ use Rattle.ang_meaning.specs.declared.host.HostType.TheVariants.{Nothing, Plain,
 use Rattle.ang_meaning.specs.declared.host.HostUse.{HostUse}
 use Rattle.ang_meaning.specs.Numbers.{is_signed, width_of, number, bits_of, least}
 use Rattle.ang_meaning.specs.World.{World, Input, Said, Tried, Yes, No, memory_step, one_more, hold, give_all}
-use Rattle.ang_meaning.specs.Setting.{Setting}
+use Rattle.ang_meaning.specs.Setting.{Setting, use_at}
 
 -- a strict operation: a value and what is left, or a fault
 pub data Done : Type 0 where
@@ -109,8 +109,8 @@ replied_by d result (Asking Full) w = Fails Tally w
 -- one asking: the event is listed, whatever the reply
 abbrev pub asked_from : Setting → ℕ → EntityNo → Option ℕ → List Value → HostType → List Input → World → Done
 asked_from z m e object args result (Said reply ∷ rest) w =
-    replied_by (z.host e.0).driver result reply
-    (record w { inputs = rest; events = w.events ++ Called (z.name m) e (z.host e.0).driver object args reply ∷ [] })
+    replied_by (use_at z e).driver result reply
+    (record w { inputs = rest; events = w.events ++ Called (z.name m) e (use_at z e).driver object args reply ∷ [] })
 asked_from z m e object args result _ w = Fails Memory w
 
 abbrev pub asked_told : Setting → ℕ → EntityNo → Option ℕ → List Value → HostType → Tried → Done

@@ -253,4 +253,4 @@ found_entered z body d (Misses f) vs t w = Raises f (give_all vs w)
 
 -- a call from module m, where d counts the callers of its caller
 abbrev pub enter : Setting → Calls → ℕ → ℕ → Callee → List Slot → ℕ → World → Reply
-enter z body d m c vs t w = found_entered z body d (target z m c) vs t w
+enter z body d m c vs t w = found_entered z body d (target z m c vs w) vs t w

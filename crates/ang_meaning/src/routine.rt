@@ -7,7 +7,8 @@ use ang_kinds::Prim;
 pub struct Routine {
     /// The module's number.
     pub home: u32,
-    /// The number of the body in its module.
+    /// The number of the body in its module: the functions first, and then the initializers, each in
+    /// the order of declaration. An initializer's body stores its value into its global itself.
     pub number: u32,
 }
 
