@@ -2,6 +2,7 @@ pub mod Stacks
 pub mod Relate
 pub mod Outs
 pub mod Leads
+pub mod Lists
 pub mod Exprs
 pub mod Stmts
 pub mod Bodies
