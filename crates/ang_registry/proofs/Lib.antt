@@ -4,3 +4,4 @@ pub mod Roles
 pub mod FirstRow
 pub mod Declared
 pub mod Tables
+pub mod ViewTypes

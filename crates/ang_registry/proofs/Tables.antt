@@ -13,13 +13,13 @@ use Rattle.ang_registry.proofs.FirstRow.{first_row-two}
 
 -- the list and the default mask of a registry
 pub record AreHeld (list : RegistrationList) (mask : Mask) (r : Registrations) : Type 0 where
-  pub entries : list ≡ r.entries
-  pub mask : mask ≡ r.default_mask
+  pub same_entries : list ≡ r.entries
+  pub same_mask : mask ≡ r.default_mask
 
 -- the first two rows don't apply
 pub record HasRoom (list : RegistrationList) (mask : Mask) (declared : Option Signature) : Type 0 where
-  pub limit : is_over_limit list declared ≡ false
-  pub mask : (mask.0 == 0) ≡ false
+  pub within_limit : is_over_limit list declared ≡ false
+  pub has_mask : (mask.0 == 0) ≡ false
 
 -- ---- what belongs to a driver
 
@@ -28,14 +28,14 @@ pub refusal_of_own-early : (kind : EntryKind) (r : Registrations) (driver : ℕ)
     → refusal_of_own kind r driver declared ≡ Some why
 unfolding refusal_of_own
 refusal_of_own-early kind r driver declared why list mask h f =
-    first_row-two (is_over_limit r.entries declared) (r.default_mask.0 == 0) Limit EmptyMask _ why (rw (h.entries, h.mask) at f)
+    first_row-two (is_over_limit r.entries declared) (r.default_mask.0 == 0) Limit EmptyMask _ why (rw (h.same_entries, h.same_mask) at f)
 
 pub refusal_of_own-bad : (kind : EntryKind) (r : Registrations) (driver : ℕ) (declared : Option Signature) (list : RegistrationList) (mask : Mask)
     → AreHeld list mask r → HasRoom list mask declared → declared ≡ None → refusal_of_own kind r driver declared ≡ Some BadDeclaration
 unfolding refusal_of_own
 refusal_of_own-bad kind r driver declared list mask h f d =
-    let limit : is_over_limit r.entries declared ≡ false = rw h.entries at f.limit in
-    let empty : (r.default_mask.0 == 0) ≡ false = rw h.mask at f.mask in
+    let limit : is_over_limit r.entries declared ≡ false = rw h.same_entries at f.within_limit in
+    let empty : (r.default_mask.0 == 0) ≡ false = rw h.same_mask at f.has_mask in
     rw (limit, empty, d)
 
 pub refusal_of_own-entry : (kind : EntryKind) (r : Registrations) (driver : ℕ) (declared : Option Signature) (s : Signature) (list : RegistrationList) (mask : Mask)
@@ -43,8 +43,8 @@ pub refusal_of_own-entry : (kind : EntryKind) (r : Registrations) (driver : ℕ)
     → refusal_of_own kind r driver declared ≡ refusal_of_entry r.entries kind None driver s
 unfolding refusal_of_own
 refusal_of_own-entry kind r driver declared s list mask h f d =
-    let limit : is_over_limit r.entries declared ≡ false = rw h.entries at f.limit in
-    let empty : (r.default_mask.0 == 0) ≡ false = rw h.mask at f.mask in
+    let limit : is_over_limit r.entries declared ≡ false = rw h.same_entries at f.within_limit in
+    let empty : (r.default_mask.0 == 0) ≡ false = rw h.same_mask at f.has_mask in
     rw (limit, empty, d)
 
 -- ---- what belongs to a type
@@ -54,14 +54,14 @@ pub refusal_of_member-early : (kind : EntryKind) (r : Registrations) (name : Lis
     → refusal_of_member kind r name declared ≡ Some why
 unfolding refusal_of_member
 refusal_of_member-early kind r name declared why list mask h f =
-    first_row-two (is_over_limit r.entries declared) (r.default_mask.0 == 0) Limit EmptyMask _ why (rw (h.entries, h.mask) at f)
+    first_row-two (is_over_limit r.entries declared) (r.default_mask.0 == 0) Limit EmptyMask _ why (rw (h.same_entries, h.same_mask) at f)
 
 pub refusal_of_member-undeclared : (kind : EntryKind) (r : Registrations) (name : List ℕ) (declared : Option Signature) (list : RegistrationList) (mask : Mask)
     → AreHeld list mask r → HasRoom list mask declared → declared ≡ None → refusal_of_member kind r name declared ≡ Some BadDeclaration
 unfolding refusal_of_member
 refusal_of_member-undeclared kind r name declared list mask h f d =
-    let limit : is_over_limit r.entries declared ≡ false = rw h.entries at f.limit in
-    let empty : (r.default_mask.0 == 0) ≡ false = rw h.mask at f.mask in
+    let limit : is_over_limit r.entries declared ≡ false = rw h.same_entries at f.within_limit in
+    let empty : (r.default_mask.0 == 0) ≡ false = rw h.same_mask at f.has_mask in
     rw (limit, empty, d)
 
 pub refusal_of_member-other : (kind : EntryKind) (r : Registrations) (name : List ℕ) (declared : Option Signature) (s : Signature) (list : RegistrationList) (mask : Mask)
@@ -69,8 +69,8 @@ pub refusal_of_member-other : (kind : EntryKind) (r : Registrations) (name : Lis
     → refusal_of_member kind r name declared ≡ Some BadDeclaration
 unfolding refusal_of_member
 refusal_of_member-other kind r name declared s list mask h f d o =
-    let limit : is_over_limit r.entries declared ≡ false = rw h.entries at f.limit in
-    let empty : (r.default_mask.0 == 0) ≡ false = rw h.mask at f.mask in
+    let limit : is_over_limit r.entries declared ≡ false = rw h.same_entries at f.within_limit in
+    let empty : (r.default_mask.0 == 0) ≡ false = rw h.same_mask at f.has_mask in
     rw (limit, empty, d, o)
 
 pub refusal_of_member-unknown : (kind : EntryKind) (r : Registrations) (name : List ℕ) (declared : Option Signature) (s : Signature) (list : RegistrationList) (mask : Mask)
@@ -78,9 +78,9 @@ pub refusal_of_member-unknown : (kind : EntryKind) (r : Registrations) (name : L
     → refusal_of_member kind r name declared ≡ Some UnknownType
 unfolding refusal_of_member
 refusal_of_member-unknown kind r name declared s list mask h f d o t =
-    let limit : is_over_limit r.entries declared ≡ false = rw h.entries at f.limit in
-    let empty : (r.default_mask.0 == 0) ≡ false = rw h.mask at f.mask in
-    let place : type_named r.entries name ≡ None = rw h.entries at t in
+    let limit : is_over_limit r.entries declared ≡ false = rw h.same_entries at f.within_limit in
+    let empty : (r.default_mask.0 == 0) ≡ false = rw h.same_mask at f.has_mask in
+    let place : type_named r.entries name ≡ None = rw h.same_entries at t in
     rw (limit, empty, d, o, place)
 
 pub refusal_of_member-entry : (kind : EntryKind) (r : Registrations) (name : List ℕ) (declared : Option Signature) (s : Signature) (number : EntityNo) (driver : ℕ) (list : RegistrationList) (mask : Mask)
@@ -89,8 +89,8 @@ pub refusal_of_member-entry : (kind : EntryKind) (r : Registrations) (name : Lis
     → refusal_of_member kind r name declared ≡ refusal_of_entry r.entries kind (Some number) driver s
 unfolding refusal_of_member
 refusal_of_member-entry kind r name declared s number driver list mask h f d o t v =
-    let limit : is_over_limit r.entries declared ≡ false = rw h.entries at f.limit in
-    let empty : (r.default_mask.0 == 0) ≡ false = rw h.mask at f.mask in
-    let place : type_named r.entries name ≡ Some number.0 = rw h.entries at t in
-    let by : driver ≡ driver_at r.entries (Some number.0) = rw h.entries at v in
+    let limit : is_over_limit r.entries declared ≡ false = rw h.same_entries at f.within_limit in
+    let empty : (r.default_mask.0 == 0) ≡ false = rw h.same_mask at f.has_mask in
+    let place : type_named r.entries name ≡ Some number.0 = rw h.same_entries at t in
+    let by : driver ≡ driver_at r.entries (Some number.0) = rw h.same_entries at v in
     rw (limit, empty, d, o, place, by)

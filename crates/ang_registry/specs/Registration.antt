@@ -1,6 +1,6 @@
 -- What a registry holds, and what a module of a mask sees of it (docs/EMBEDDING.md, "Registration" and "Masks";
 -- the AngelScript manual, "Access masks and exposing different interfaces").
-use Rattle.std.specs.Prelude.{ℕ, ◌≡◌, Bool, true, false, ◌==◌, ◌&&◌, ◌||◌, if◌then◌else◌, List, map, filter, length, Option, Some, None, slice_index_or}
+use Rattle.std.specs.Prelude.{ℕ, ◌≡◌, Bool, true, false, ◌==◌, not, ◌&&◌, ◌||◌, if◌then◌else◌, List, map, filter, length, Option, Some, None, slice_index_or}
 use Rattle.std.specs.List.{list_any, list_all, range_with_len, position}
 use Rattle.std.specs.Str.{bytes_eq}
 use Rattle.ang_kinds.specs.Masks.{meets}
@@ -50,10 +50,10 @@ abbrev pub is_number : ℕ → Option EntityNo → Bool
 is_number n None = false
 is_number n (Some e) = e.0 == n
 
--- whether the declaration of x names entry n: a type that its signature names, or its own type
+-- whether the declaration of x names entry n: a type that its signature names, or its own type; a type names nothing
 abbrev pub is_named_by : Entry → ℕ → Option Entry → Bool
 is_named_by x n None = false
-is_named_by x n (Some t) = is_type t.kind && (is_number n x.owner || mentions x.signature t.signature.name)
+is_named_by x n (Some t) = not (is_type x.kind) && is_type t.kind && (is_number n x.owner || mentions x.signature t.signature.name)
 
 -- The numbers of the types that the declaration of x names; a factory, method or object property names its own type
 -- too, and a type names none.

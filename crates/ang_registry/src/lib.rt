@@ -5,6 +5,7 @@ mod copy;
 mod declaration;
 mod entry;
 mod error;
+pub mod laws;
 mod lookup;
 mod overload;
 mod refusal;

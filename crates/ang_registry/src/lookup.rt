@@ -1,5 +1,5 @@
 //! The types of a registration list, by name and by driver.
-ghost use Rattle.std.specs.Prelude.{◌≡◌, ◌<◌, ◌≤◌, length, Some, None, IfSome, IfNone};
+ghost use Rattle.std.specs.Prelude.{◌≡◌, ◌<◌, ◌≤◌, length, Some, None, IfSome, IfNone, option_map};
 ghost use Rattle.std.specs.List.{list_all, list_any};
 ghost use Rattle.ang_registry.specs.Types as spec;
 
@@ -58,6 +58,14 @@ pub fn find_type(entries: &[Option<Entry>], name: &[u8]) -> Option<FoundType>
         number: EntityNo(place as u32),
         driver: driver_of(&entries[place]),
     })
+}
+
+/// The number of the type of this name.
+pub fn number_of_type(entries: &[Option<Entry>], name: &[u8]) -> Option<EntityNo>
+    requires few { length entries.now ≤ 1024 }
+    ensures exact { option_map (λ number. number.0) result ≡ spec.type_named entries.now name.now }
+{
+    Some(find_type(entries, name)?.number)
 }
 
 fn is_known(entries: &[Option<Entry>], ty: &TypeRef) -> bool

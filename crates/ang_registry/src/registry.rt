@@ -2,13 +2,14 @@
 ghost use Rattle.std.specs.Prelude.{◌≡◌, ◌≢◌, ◌≤◌, ◌<◌, [], length, None, Some, IfOk, IfErr, OnOk, OnErr, option_map, IfSome};
 ghost use Rattle.std.specs.Option.{option_copied};
 ghost use Rattle.ang_registry.specs.Registration.{entry_at, seen, function_named, SeesFunction};
+ghost use Rattle.ang_registry.specs.Types.{type_named};
 ghost use Rattle.ang_registry.specs.Declarations as spec;
 ghost use Rattle.ang_registry.specs.Refusals.{refusal_of_type, with_type, refusal_of_factory, with_factory, refusal_of_method, with_method, refusal_of_property, with_property, refusal_of_function, with_function, refusal_of_global, with_global, refusal_of_blank, with_blank, refusal_of_own, with_own, refusal_of_member, with_member, refusal_of_entry, with_entry, with_last};
 
 use crate::declaration::{
     declared_factory, declared_function, declared_method, declared_property, declared_type,
 };
-use crate::lookup::{find_type, is_wrong_driver, names_unknown};
+use crate::lookup::{find_type, is_wrong_driver, names_unknown, number_of_type};
 use crate::overload::is_duplicate;
 use crate::refusal::{MOST_ENTRIES, check_room, gives_own};
 use crate::view::{View, function_index, view_of};
@@ -341,6 +342,14 @@ impl Registry {
         ensures exact { option_copied result ≡ entry_at self.now.entries number.0 }
     {
         self.entries.get(number.0 as usize)?.as_ref()
+    }
+
+    /// The number of the type of this name, whatever its mask. It takes no memory.
+    pub fn find_type(&self, name: &[u8]) -> Option<EntityNo>
+        ensures exact { option_map (λ number. number.0) result
+            ≡ type_named self.now.entries name.now }
+    {
+        number_of_type(&self.entries, name)
     }
 
     /// The number of the first function of the name that a module of the mask sees.

@@ -1,10 +1,12 @@
 //! What a module of a mask sees of a registration list.
-ghost use Rattle.std.specs.Prelude.{◌≡◌, ◌<◌, ◌≤◌, length, IfOk, IfSome};
+ghost use Rattle.std.specs.Prelude.{◌≡◌, ◌<◌, ◌≤◌, length, IfOk, IfSome, option_map};
 ghost use Rattle.std.specs.Option.{option_copied};
 ghost use Rattle.std.specs.List.{list_all, position};
+ghost use Rattle.ang_registry.specs.Types.{type_named};
 ghost use Rattle.ang_registry.specs.Registration.{entry_at, is_type, is_function, is_spelled_with, mentions, is_number, is_named_by, named, has_mask_for, is_seen, seen_entry, seen, is_function_named, function_named};
 
 use crate::copy::copy_entry;
+use crate::lookup::number_of_type;
 use crate::{Entry, EntryKind};
 use ang_kinds::{EntityNo, Mask, Signature, TypeRef};
 use std::alloc::{AllocError, Global};
@@ -42,6 +44,14 @@ impl View {
         ensures exact { option_copied result ≡ entry_at self.now number.0 }
     {
         self.entries.get(number.0 as usize)?.as_ref()
+    }
+
+    /// The number of the type of this name, or none where it is not seen. What a seen entry names is seen,
+    /// and has the number here that it has in the whole list (`laws::types_are_seen`). It takes no memory.
+    pub fn find_type(&self, name: &[u8]) -> Option<EntityNo>
+        ensures exact { option_map (λ number. number.0) result ≡ type_named self.now name.now }
+    {
+        number_of_type(&self.entries, name)
     }
 }
 
@@ -145,7 +155,8 @@ fn names(entry: &Entry, number: usize, other: &Option<Entry>) -> bool
     match other {
         None => false,
         Some(other) => {
-            matches!(other.kind, EntryKind::HostType)
+            !matches!(entry.kind, EntryKind::HostType)
+                && matches!(other.kind, EntryKind::HostType)
                 && (belongs_to(entry.owner, number)
                     || mentions_type(&entry.signature, other.signature.name.as_slice()))
         }
