@@ -18,9 +18,9 @@ pub struct HostEntity {
 #[derive(Clone, Copy, PartialEq, Eq, Debug)]
 pub enum Variable {
     /// A parameter or local of the function, by its number.
-    Local(u32),
+    Local(usize),
     /// A global variable of the module, by its number.
-    Global(u32),
+    Global(usize),
     /// A global property of the host: reading and writing each ask the driver.
     Property(HostEntity),
 }
@@ -177,7 +177,7 @@ pub enum Expression {
     },
     /// A call of a function of the module. There is an argument for each parameter.
     Call {
-        function: u32,
+        function: usize,
         result: ArgType,
         arguments: Vec<Argument>,
     },

@@ -1,0 +1,32 @@
+//! The typing of expressions: what each use of a name means, what type each expression has, and its
+//! resolved tree; or the first refusal in reading order.
+//!
+//! A *use* is a name, what is asked of it, and the types of the operands that it is asked with. What a use
+//! means over a view and the declarations of the scripts, `resolve_name` and `resolve_call` say, and nothing
+//! else does.
+#![tactic(auto)]
+
+mod assignments;
+mod two_operands;
+mod conditionals;
+mod fitting;
+mod forms;
+mod operand;
+mod refusal;
+mod scope;
+mod setting;
+mod trees;
+mod one_operand;
+mod uses;
+
+pub use assignments::assignment;
+pub use two_operands::binary;
+pub use conditionals::{Branches, conditional};
+pub use fitting::{fit, integer, target, truth};
+pub use forms::{Form, binary_form, compound_form};
+pub use operand::{NamedVariable, Operand};
+pub use refusal::{Asks, Refusal, Stop, fault, refused, use_refused};
+pub use scope::{Pair, Text, find_pair};
+pub use setting::Setting;
+pub use one_operand::{convert, literal, postfix, prefix};
+pub use uses::{Callable, Callee, Meant};
