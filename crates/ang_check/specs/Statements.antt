@@ -18,13 +18,8 @@ use Rattle.ang_typing.specs.declared.scope.Pair.{Pair}
 use Rattle.ang_typing.specs.Scope.{Setting, last_named}
 use Rattle.ang_typing.specs.Refusals.{Judged, ◌>>=◌, fault_at, refused_at, use_refused}
 use Rattle.ang_typing.specs.Operands.{Operand, fit, truth}
+use Rattle.ang_check.specs.declared.frame.Frame.{Frame}
 use Rattle.ang_typing.specs.Typing.{typing_of, typing_of_args, typing_of_all}
-
--- What is the same for all statements of a function: the setting, the type of its result, and how many parameters it has.
-pub record Frame : Type 0 where
-  pub setting : Setting
-  pub result : ArgType
-  pub parameters : ℕ
 
 -- the most locals that can be alive at once in one function
 abbrev pub most_locals : ℕ
@@ -62,18 +57,18 @@ steps_typing s ps es = do
 
 -- ---- local variables
 
-abbrev pub local_type_by : Token → List ℕ → Meaning → Judged ArgType
-local_type_by x text (Err kind.UnknownType) = Err (use_refused kind.UnknownType x.place text asks.Type)
-local_type_by x text (Err why) = Err (refused_at why x.place text)
-local_type_by x text (Ok (type.Plain p)) = Ok (type.Plain p)
-local_type_by x text (Ok type.Void) = Err (refused_at kind.BadType x.place text)
-local_type_by x text (Ok type.Null) = Err (fault_at kind.NotYet x.place)
-local_type_by x text (Ok (type.Object n c)) = Err (fault_at kind.NotYet x.place)
-local_type_by x text (Ok (type.Handle n c)) = Err (fault_at kind.NotYet x.place)
+abbrev pub local_type_by : Token → Meaning → Judged ArgType
+local_type_by x (Err kind.UnknownType) = Err (use_refused kind.UnknownType x asks.Type)
+local_type_by x (Err why) = Err (refused_at why x)
+local_type_by x (Ok (type.Plain p)) = Ok (type.Plain p)
+local_type_by x (Ok type.Void) = Err (refused_at kind.BadType x)
+local_type_by x (Ok type.Null) = Err (fault_at kind.NotYet x.place)
+local_type_by x (Ok (type.Object n c)) = Err (fault_at kind.NotYet x.place)
+local_type_by x (Ok (type.Handle n c)) = Err (fault_at kind.NotYet x.place)
 
 -- The type of locals, refused at its name. Object types and handles are not built yet.
 unfoldable pub local_type : Setting → TypeName → Judged ArgType
-local_type s y = local_type_by y.name (text_of s.text y.name) (value_type_of s.view s.text y)
+local_type s y = local_type_by y.name (value_type_of s.view s.text y)
 
 -- The name of a variable is that of another one of its block, which begins at pair `start`, or it is one local too many.
 abbrev pub name_refusal : Frame → ℕ → List Pair → List ℕ → Option ErrorKind
@@ -81,12 +76,12 @@ name_refusal f start ps name =
     if is_some (last_named name 0 (drop start ps)) then Some kind.Duplicate
     else (if nat_lt (length ps - f.parameters) most_locals then None else Some kind.Limit)
 
-abbrev pub name_judged : Option ErrorKind → Place → List ℕ → Judged (List ℕ)
-name_judged None place name = Ok name
-name_judged (Some why) place name = Err (refused_at why place name)
+abbrev pub name_judged : Option ErrorKind → Token → List ℕ → Judged (List ℕ)
+name_judged None x name = Ok name
+name_judged (Some why) x name = Err (refused_at why x)
 
 unfoldable pub local_name : Frame → ℕ → List Pair → Token → Judged (List ℕ)
-local_name f start ps x = let name = text_of f.setting.text x in name_judged (name_refusal f start ps name) x.place name
+local_name f start ps x = let name = text_of f.setting.text x in name_judged (name_refusal f start ps name) x name
 
 -- What a variable of a primitive type begins with. No constructor is there to take arguments.
 abbrev pub initializer_typing : Setting → List Pair → TypeName → ArgType → Init → Judged (Option t.Expr)
@@ -97,7 +92,7 @@ initializer_typing s ps y ty (value equals e) = do
   Ok (Some x)
 initializer_typing s ps y ty (constructor es) = do
   operands ← typing_of_args s ps es
-  Err (refused_at kind.NoMatch y.name.place (text_of s.text y.name))
+  Err (refused_at kind.NoMatch y.name)
 
 abbrev pub pair_of : List ℕ → ArgType → TypeName → Pair
 pair_of name ty y = record { name = name; ty = ty; read_only = is_read_only y }
@@ -150,7 +145,7 @@ return_typing f ps word (Some e) = do
 
 abbrev pub jump : {A : Type 0} → Frame → Bool → Token → A → Judged A
 jump f true word x = Ok x
-jump f false word x = Err (refused_at kind.Jump word.place (text_of f.setting.text word))
+jump f false word x = Err (refused_at kind.Jump word)
 
 -- ---- `for`
 

@@ -26,22 +26,22 @@ use Rattle.ang_typing.specs.Operands.{Operand, operand, fit}
 
 -- ---- a bare name
 
-abbrev pub variable_at : Place → List ℕ → Variable → ArgType → Bool → Operand
-variable_at place name x ty read_only = record {
-  place = place;
+abbrev pub variable_at : Token → Variable → ArgType → Bool → Operand
+variable_at name x ty read_only = record {
+  place = name.place;
   ty = ty;
   tree = t.variable x ty;
-  named = Some (record { variable = x; read_only = read_only; place = place; name = name; bare = true });
+  named = Some (record { variable = x; read_only = read_only; name = name; bare = true });
 }
 
-abbrev pub named_by : Place → List ℕ → Meant → Judged Operand
-named_by place name (meant.Variable x ty read_only) = Ok (variable_at place name x ty read_only)
-named_by place name (meant.Call c) = Err (use_refused kind.UnknownName place name asks.Value)
-named_by place name (meant.Type n) = Err (use_refused kind.UnknownName place name asks.Value)
-named_by place name (meant.Refused why) = Err (use_refused why place name asks.Value)
+abbrev pub named_by : Token → Meant → Judged Operand
+named_by name (meant.Variable x ty read_only) = Ok (variable_at name x ty read_only)
+named_by name (meant.Call c) = Err (use_refused kind.UnknownName name asks.Value)
+named_by name (meant.Type n) = Err (use_refused kind.UnknownName name asks.Value)
+named_by name (meant.Refused why) = Err (use_refused why name asks.Value)
 
 unfoldable pub name_typing : Setting → List Pair → Token → Judged Operand
-name_typing s ps x = named_by x.place (text_of s.text x) (resolve s ps (text_of s.text x) asks.Value)
+name_typing s ps x = named_by x (resolve s ps (text_of s.text x) asks.Value)
 
 -- In parentheses a name is still a target, but no bare name.
 abbrev pub inside : Option NamedVariable → Option NamedVariable
@@ -109,14 +109,14 @@ called s place c operands = do
 abbrev pub types_of : List Operand → List ArgType
 types_of operands = map (λ a. a.ty) operands
 
-abbrev pub called_by : Setting → Place → List ℕ → List Operand → Meant → Judged Operand
-called_by s place name operands (meant.Call c) = called s place c operands
-called_by s place name operands (meant.Variable x ty read_only) = Err (use_refused kind.UnknownName place name (asks.Call (types_of operands)))
-called_by s place name operands (meant.Type n) = Err (use_refused kind.UnknownName place name (asks.Call (types_of operands)))
-called_by s place name operands (meant.Refused why) = Err (use_refused why place name (asks.Call (types_of operands)))
+abbrev pub called_by : Setting → Token → List Operand → Meant → Judged Operand
+called_by s name operands (meant.Call c) = called s name.place c operands
+called_by s name operands (meant.Variable x ty read_only) = Err (use_refused kind.UnknownName name (asks.Call (types_of operands)))
+called_by s name operands (meant.Type n) = Err (use_refused kind.UnknownName name (asks.Call (types_of operands)))
+called_by s name operands (meant.Refused why) = Err (use_refused why name (asks.Call (types_of operands)))
 
 -- A name with typed arguments: the use is resolved first, then each argument is put to its parameter. Parameters and locals of that
 -- name play no part.
 unfoldable pub call_typing : Setting → Token → List Operand → Judged Operand
 call_typing s x operands =
-    called_by s x.place (text_of s.text x) operands (resolve s [] (text_of s.text x) (asks.Call (types_of operands)))
+    called_by s x operands (resolve s [] (text_of s.text x) (asks.Call (types_of operands)))

@@ -27,13 +27,9 @@ pub record Operand : Type 0 where
 abbrev pub operand : Place → ArgType → t.Expr → Operand
 operand place ty e = record { place = place; ty = ty; tree = e; named = None }
 
--- an expression that begins earlier
-abbrev pub placed : Place → Operand → Operand
-placed place a = record a { place = place }
-
 -- ---- conversions
 
--- A conversion that costs nothing or changes no bits is not written out.
+-- Between two primitive types a conversion is written out; of objects and handles nothing changes.
 abbrev pub conversion : ArgType → ArgType → t.Expr → t.Expr
 conversion (type.Plain p) (type.Plain q) e = t.convert p q e
 conversion from to e = e
@@ -69,7 +65,7 @@ truth a = truth_in a a.ty
 
 abbrev pub target_by : Place → Option NamedVariable → Judged Variable
 target_by place None = Err (fault_at kind.BadConversion place)
-target_by place (Some x) = if x.read_only then Err (refused_at kind.Const x.place x.name) else Ok x.variable
+target_by place (Some x) = if x.read_only then Err (refused_at kind.Const x.name) else Ok x.variable
 
 -- The variable that an assignment, `++` or `--` changes: `Const` at the name of one that can't be, and `BadConversion` at any
 -- other expression.

@@ -21,11 +21,13 @@ use Rattle.ang_typed.specs.declared.expression.Variable.{Variable}
 use Rattle.ang_typed.specs.Typed as t
 use Rattle.ang_typing.specs.declared.forms.Form.{Form}
 use Rattle.ang_typing.specs.declared.forms.Form.TheVariants as form
+use Rattle.ang_typing.specs.declared.forms.Work.{Work}
+use Rattle.ang_typing.specs.declared.forms.Work.TheVariants as work
 use Rattle.ang_names.specs.Sources.{text_of}
 use Rattle.ang_typing.specs.Scope.{Setting}
 use Rattle.ang_typing.specs.Refusals.{Judged, ◌>>=◌, fault_at}
 use Rattle.ang_typing.specs.Operands.{Operand, operand, fit, integer, truth, target}
-use Rattle.ang_typing.specs.Forms.{binary_form, compound_form}
+use Rattle.ang_typing.specs.Forms.{binary_form, compound_work}
 
 -- What is not built yet is refused where it stands.
 abbrev pub not_yet : {A : Type 0} → Place → Judged A
@@ -34,16 +36,20 @@ not_yet place = Err (fault_at kind.NotYet place)
 -- ---- literals
 
 abbrev pub literal_by : Setting → Token → TokenKind → Judged Operand
-literal_by s t k.Number = let n = number_of (text_of s.text t) in Ok (operand t.place (type.Plain n.ty) (t.number n.ty n.value))
-literal_by s t k.True = Ok (operand t.place (type.Plain p.Bool) (t.truth true))
-literal_by s t k.False = Ok (operand t.place (type.Plain p.Bool) (t.truth false))
-literal_by s t _ = not_yet t.place
+literal_by s x k.Number = let n = number_of (text_of s.text x) in Ok (operand x.place (type.Plain n.ty) (t.number n.ty n.value))
+literal_by s x k.True = Ok (operand x.place (type.Plain p.Bool) (t.truth true))
+literal_by s x k.False = Ok (operand x.place (type.Plain p.Bool) (t.truth false))
+literal_by s x _ = not_yet x.place
 
 -- a number, `true` or `false`
 unfoldable pub literal_typing : Setting → Token → Judged Operand
 literal_typing s x = literal_by s x x.kind
 
 -- ---- two operands
+
+-- An integer type raised to at least 32 bits: the common type with itself.
+abbrev pub raised_type : Primitive → Primitive
+raised_type q = common_type q q
 
 -- Both operands and the result have the type in which the operator works.
 abbrev pub worked_in : Setting → Primitive → Operator → Operand → Operand → Judged Operand
@@ -64,7 +70,7 @@ unfoldable pub shift : Setting → Operator → Operand → Operand → Judged O
 shift s op a b = do
   q ← integer a
   r ← integer b
-  worked_in s (common_type q q) op a b
+  worked_in s (raised_type q) op a b
 
 -- Both operands are compared in one type.
 abbrev pub compared_in : Setting → Primitive → Comparison → Operand → Operand → Judged Operand
@@ -88,35 +94,36 @@ equality_by s c a b _ = order s c a b
 unfoldable pub equality : Setting → Comparison → Operand → Operand → Judged Operand
 equality s c a b = equality_by s c a b a.ty
 
--- `&&` and `||`
-unfoldable pub both : Operand → Operand → Judged Operand
-both a b = do
+-- `&&`
+unfoldable pub conjunction : Operand → Operand → Judged Operand
+conjunction a b = do
   x ← truth a
   y ← truth b
   Ok (operand a.place (type.Plain p.Bool) (t.and x y))
 
-unfoldable pub either : Operand → Operand → Judged Operand
-either a b = do
+-- `||`
+unfoldable pub disjunction : Operand → Operand → Judged Operand
+disjunction a b = do
   x ← truth a
   y ← truth b
   Ok (operand a.place (type.Plain p.Bool) (t.or x y))
 
 -- `xor`: one of two truth values and not the other
-unfoldable pub differ : Operand → Operand → Judged Operand
-differ a b = do
+unfoldable pub exclusion : Operand → Operand → Judged Operand
+exclusion a b = do
   x ← truth a
   y ← truth b
   Ok (operand a.place (type.Plain p.Bool) (t.compare cmp.NotEqual p.Bool x y))
 
 abbrev pub formed : Setting → Option Form → Operand → Operand → Judged Operand
 formed s None a b = not_yet a.place
-formed s (Some (form.Arithmetic op)) a b = arithmetic s op a b
-formed s (Some (form.Shift op)) a b = shift s op a b
+formed s (Some (form.Works (work.Arithmetic op))) a b = arithmetic s op a b
+formed s (Some (form.Works (work.Shift op))) a b = shift s op a b
 formed s (Some (form.Order c)) a b = order s c a b
 formed s (Some (form.Equality c)) a b = equality s c a b
-formed s (Some form.Both) a b = both a b
-formed s (Some form.Either) a b = either a b
-formed s (Some form.Differ) a b = differ a b
+formed s (Some form.And) a b = conjunction a b
+formed s (Some form.Or) a b = disjunction a b
+formed s (Some form.Xor) a b = exclusion a b
 
 -- Two operands with a binary operator between them.
 unfoldable pub binary_typing : Setting → Operand → TokenKind → Operand → Judged Operand
@@ -128,14 +135,14 @@ binary_typing s a op b = formed s (binary_form op) a b
 unfoldable pub negated : Setting → Place → Operand → Judged Operand
 negated s place a = do
   q ← integer a
-  let r = common_type q q in do
+  let r = raised_type q in do
     x ← fit s (type.Plain r) a
     Ok (operand place (type.Plain r) (t.negate r x))
 
 unfoldable pub complemented : Setting → Place → Operand → Judged Operand
 complemented s place a = do
   q ← integer a
-  let r = common_type q q in do
+  let r = raised_type q in do
     x ← fit s (type.Plain r) a
     Ok (operand place (type.Plain r) (t.complement r x))
 
@@ -143,7 +150,7 @@ complemented s place a = do
 unfoldable pub raised_operand : Setting → Place → Operand → Judged Operand
 raised_operand s place a = do
   q ← integer a
-  let r = common_type q q in do
+  let r = raised_type q in do
     x ← fit s (type.Plain r) a
     Ok (operand place (type.Plain r) x)
 
@@ -254,18 +261,13 @@ compound_shift s op a b = do
   x ← target a
   q ← integer a
   r ← integer b
-  compound_in s op x q (common_type q q) a b
+  compound_in s op x q (raised_type q) a b
 
-abbrev pub assignment_by : Setting → Option Form → Operand → Operand → Judged Operand
+abbrev pub assignment_by : Setting → Option Work → Operand → Operand → Judged Operand
 assignment_by s None a b = assigned s a b
-assignment_by s (Some (form.Arithmetic op)) a b = compound_arithmetic s op a b
-assignment_by s (Some (form.Shift op)) a b = compound_shift s op a b
-assignment_by s (Some (form.Order c)) a b = assigned s a b
-assignment_by s (Some (form.Equality c)) a b = assigned s a b
-assignment_by s (Some form.Both) a b = assigned s a b
-assignment_by s (Some form.Either) a b = assigned s a b
-assignment_by s (Some form.Differ) a b = assigned s a b
+assignment_by s (Some (work.Arithmetic op)) a b = compound_arithmetic s op a b
+assignment_by s (Some (work.Shift op)) a b = compound_shift s op a b
 
 -- A target and its value, with `=` or a compound assignment between them.
 unfoldable pub assignment_typing : Setting → Operand → TokenKind → Operand → Judged Operand
-assignment_typing s a op b = assignment_by s (compound_form op) a b
+assignment_typing s a op b = assignment_by s (compound_work op) a b

@@ -1,10 +1,9 @@
 -- Refusals, and results that may be one (docs/LANGUAGE.md, "Places").
-use Rattle.std.specs.Prelude.{◌≡◌, List, [], ◌∷◌, ℕ, Option, Some, None, Result, Ok, Err}
+use Rattle.std.specs.Prelude.{◌≡◌, Option, Some, None, Result, Ok, Err}
 use Rattle.ang_kinds.specs.declared.error.ErrorKind.{ErrorKind}
 use Rattle.ang_kinds.specs.declared.error.ErrorKind.TheVariants as kind
 use Rattle.ang_kinds.specs.declared.place.Place.{Place}
 use Rattle.ang_lex.specs.declared.token.Token.{Token}
-use Rattle.ang_names.specs.Sources.{text_of}
 use Rattle.ang_typing.specs.declared.refusal.Refusal.{Refusal}
 use Rattle.ang_typing.specs.declared.refusal.Asks.{Asks}
 use Rattle.ang_typing.specs.declared.refusal.Stop.{Stop}
@@ -28,15 +27,15 @@ both_typed x y = do
 
 -- a refusal without a name
 abbrev pub fault_at : ErrorKind → Place → Refusal
-fault_at k place = record { kind = k; place = place; name = []; asks = None }
+fault_at k place = record { kind = k; place = place; name = None; asks = None }
 
 -- a refusal at a name
-abbrev pub refused_at : ErrorKind → Place → List ℕ → Refusal
-refused_at k place name = record { kind = k; place = place; name = name; asks = None }
+abbrev pub refused_at : ErrorKind → Token → Refusal
+refused_at k x = record { kind = k; place = x.place; name = Some x; asks = None }
 
 -- the refusal of a use
-abbrev pub use_refused : ErrorKind → Place → List ℕ → Asks → Refusal
-use_refused k place name asks = record { kind = k; place = place; name = name; asks = Some asks }
+abbrev pub use_refused : ErrorKind → Token → Asks → Refusal
+use_refused k x asks = record { kind = k; place = x.place; name = Some x; asks = Some asks }
 
 -- ---- what code gives of it
 

@@ -6,7 +6,7 @@ ghost use Rattle.ang_typing.specs.View.{view_operand};
 
 use crate::two_operands::plain_operand;
 use crate::fitting::{fit, integer, target};
-use crate::forms::{Form, compound_form};
+use crate::forms::{Work, compound_work};
 use crate::operand::Operand;
 use crate::refusal::{Stop, fault};
 use crate::setting::Setting;
@@ -17,13 +17,13 @@ use ang_typed::{Operator, Variable};
 use ang_types::{ArgType, common};
 use std::alloc::Global;
 
-fn assign_in<'a>(
+fn assign_in(
     alloc: Global,
-    setting: &Setting<'a>,
+    setting: &Setting<'_>,
     variable: Variable,
-    written: Operand<'a>,
-    value: Operand<'a>,
-) -> Result<Operand<'a>, Stop<'a>>
+    written: Operand,
+    value: Operand,
+) -> Result<Operand, Stop>
     ensures exact { Gives view_operand result (spec.assign_in setting.now variable (view_operand written) (view_operand value) written.ty) }
 {
     match written.ty {
@@ -37,28 +37,28 @@ fn assign_in<'a>(
 }
 
 #[tactic(auto, unfolding(crate::specs::Operations::assigned))]
-fn assigned<'a>(
+fn assigned(
     alloc: Global,
-    setting: &Setting<'a>,
-    written: Operand<'a>,
-    value: Operand<'a>,
-) -> Result<Operand<'a>, Stop<'a>>
+    setting: &Setting<'_>,
+    written: Operand,
+    value: Operand,
+) -> Result<Operand, Stop>
     ensures exact { Gives view_operand result (spec.assigned setting.now (view_operand written) (view_operand value)) }
 {
     let variable = target(&written)?;
     assign_in(alloc, setting, variable, written, value)
 }
 
-fn compound_in<'a>(
+fn compound_in(
     alloc: Global,
-    setting: &Setting<'a>,
+    setting: &Setting<'_>,
     operator: Operator,
     variable: Variable,
     ty: Prim,
     operating: Prim,
-    written: Operand<'a>,
-    value: Operand<'a>,
-) -> Result<Operand<'a>, Stop<'a>>
+    written: Operand,
+    value: Operand,
+) -> Result<Operand, Stop>
     ensures exact { Gives view_operand result (spec.compound_in setting.now operator variable ty operating (view_operand written) (view_operand value)) }
 {
     let value = fit(alloc, setting, ArgType::Plain(operating), value)?;
@@ -67,13 +67,13 @@ fn compound_in<'a>(
 }
 
 #[tactic(auto, unfolding(crate::specs::Operations::compound_arithmetic))]
-fn compound_arithmetic<'a>(
+fn compound_arithmetic(
     alloc: Global,
-    setting: &Setting<'a>,
+    setting: &Setting<'_>,
     operator: Operator,
-    written: Operand<'a>,
-    value: Operand<'a>,
-) -> Result<Operand<'a>, Stop<'a>>
+    written: Operand,
+    value: Operand,
+) -> Result<Operand, Stop>
     ensures exact { Gives view_operand result (spec.compound_arithmetic setting.now operator (view_operand written) (view_operand value)) }
 {
     let variable = target(&written)?;
@@ -92,13 +92,13 @@ fn compound_arithmetic<'a>(
 }
 
 #[tactic(auto, unfolding(crate::specs::Operations::compound_shift))]
-fn compound_shift<'a>(
+fn compound_shift(
     alloc: Global,
-    setting: &Setting<'a>,
+    setting: &Setting<'_>,
     operator: Operator,
-    written: Operand<'a>,
-    value: Operand<'a>,
-) -> Result<Operand<'a>, Stop<'a>>
+    written: Operand,
+    value: Operand,
+) -> Result<Operand, Stop>
     ensures exact { Gives view_operand result (spec.compound_shift setting.now operator (view_operand written) (view_operand value)) }
 {
     let variable = target(&written)?;
@@ -116,24 +116,21 @@ fn compound_shift<'a>(
     )
 }
 
-fn assignment_by<'a>(
+fn assignment_by(
     alloc: Global,
-    setting: &Setting<'a>,
-    form: Option<Form>,
-    written: Operand<'a>,
-    value: Operand<'a>,
-) -> Result<Operand<'a>, Stop<'a>>
-    ensures exact { Gives view_operand result (spec.assignment_by setting.now form (view_operand written) (view_operand value)) }
+    setting: &Setting<'_>,
+    work: Option<Work>,
+    written: Operand,
+    value: Operand,
+) -> Result<Operand, Stop>
+    ensures exact { Gives view_operand result (spec.assignment_by setting.now work (view_operand written) (view_operand value)) }
 {
-    match form {
-        Some(Form::Arithmetic(operator)) => {
+    match work {
+        None => assigned(alloc, setting, written, value),
+        Some(Work::Arithmetic(operator)) => {
             compound_arithmetic(alloc, setting, operator, written, value)
         }
-        Some(Form::Shift(operator)) => compound_shift(alloc, setting, operator, written, value),
-        None
-        | Some(Form::Order(_) | Form::Equality(_) | Form::Both | Form::Either | Form::Differ) => {
-            assigned(alloc, setting, written, value)
-        }
+        Some(Work::Shift(operator)) => compound_shift(alloc, setting, operator, written, value),
     }
 }
 
@@ -142,14 +139,14 @@ fn assignment_by<'a>(
 /// `BadConversion` at the first token of a target that is no variable's name, `Const` at the name of one that
 /// can't be written; then `BadConversion` at the first token of the first operand that can't stand there.
 #[tactic(auto, unfolding(crate::specs::Operations::assignment_typing))]
-pub fn assignment<'a>(
+pub fn assignment(
     alloc: Global,
-    setting: &Setting<'a>,
-    written: Operand<'a>,
+    setting: &Setting<'_>,
+    written: Operand,
     operator: TokenKind,
-    value: Operand<'a>,
-) -> Result<Operand<'a>, Stop<'a>>
+    value: Operand,
+) -> Result<Operand, Stop>
     ensures exact { Gives view_operand result (spec.assignment_typing setting.now (view_operand written) operator (view_operand value)) }
 {
-    assignment_by(alloc, setting, compound_form(operator), written, value)
+    assignment_by(alloc, setting, compound_work(operator), written, value)
 }

@@ -18,20 +18,20 @@ use std::alloc::Global;
 
 /// The two values of a `?:`.
 #[derive(Drop)]
-pub struct Branches<'a> {
-    pub then: Operand<'a>,
-    pub otherwise: Operand<'a>,
+pub struct Branches {
+    pub then: Operand,
+    pub otherwise: Operand,
 }
 
 /// Both values made values of one type.
-fn chosen_in<'a>(
+fn chosen_in(
     alloc: Global,
-    setting: &Setting<'a>,
+    setting: &Setting<'_>,
     ty: Prim,
     place: Place,
     condition: Expression,
-    branches: Branches<'a>,
-) -> Result<Operand<'a>, Stop<'a>>
+    branches: Branches,
+) -> Result<Operand, Stop>
     ensures exact { Gives view_operand result (spec.chosen_in setting.now ty place (view_expr condition)
         (view_operand branches.«then») (view_operand branches.otherwise)) }
 {
@@ -42,13 +42,13 @@ fn chosen_in<'a>(
     Ok(plain_operand(place, ArgType::Plain(ty), tree))
 }
 
-fn choice_of_integers<'a>(
+fn choice_of_integers(
     alloc: Global,
-    setting: &Setting<'a>,
+    setting: &Setting<'_>,
     place: Place,
     condition: Expression,
-    branches: Branches<'a>,
-) -> Result<Operand<'a>, Stop<'a>>
+    branches: Branches,
+) -> Result<Operand, Stop>
     ensures exact { Gives view_operand result (spec.choice_of_integers setting.now place (view_expr condition)
         (view_operand branches.«then») (view_operand branches.otherwise)) }
 {
@@ -65,13 +65,13 @@ fn choice_of_integers<'a>(
 }
 
 #[tactic(auto, unfolding(crate::specs::Operations::choice))]
-fn choice<'a>(
+fn choice(
     alloc: Global,
-    setting: &Setting<'a>,
+    setting: &Setting<'_>,
     place: Place,
     condition: Expression,
-    branches: Branches<'a>,
-) -> Result<Operand<'a>, Stop<'a>>
+    branches: Branches,
+) -> Result<Operand, Stop>
     ensures exact { Gives view_operand result (spec.choice setting.now place (view_expr condition)
         (view_operand branches.«then») (view_operand branches.otherwise)) }
 {
@@ -92,12 +92,12 @@ fn choice<'a>(
 /// `NotBool` at the condition's first token; then `BadConversion` at the first token of the value that can't
 /// stand there. `NotYet` at objects and handles.
 #[tactic(auto, unfolding(crate::specs::Operations::conditional_typing))]
-pub fn conditional<'a>(
+pub fn conditional(
     alloc: Global,
-    setting: &Setting<'a>,
-    condition: Operand<'a>,
-    branches: Branches<'a>,
-) -> Result<Operand<'a>, Stop<'a>>
+    setting: &Setting<'_>,
+    condition: Operand,
+    branches: Branches,
+) -> Result<Operand, Stop>
     ensures exact { Gives view_operand result (spec.conditional_typing setting.now (view_operand condition)
         (view_operand branches.«then») (view_operand branches.otherwise)) }
 {

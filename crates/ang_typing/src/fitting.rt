@@ -1,9 +1,10 @@
 //! What a typed expression is fit for.
 ghost use Rattle.std.specs.Prelude.{◌≡◌, IfOk};
 ghost use Rattle.ang_kinds.specs.declared.primitive.Primitive.TheVariants.{Bool};
+ghost use Rattle.ang_types.specs.Integers.{IsInteger};
 ghost use Rattle.ang_typed.specs.View.{view_expr};
 ghost use Rattle.ang_typing.specs.Operands as spec;
-ghost use Rattle.ang_typing.specs.Refusals.{Gives, Judged, ◌>>=◌};
+ghost use Rattle.ang_typing.specs.Refusals.{Gives};
 ghost use Rattle.ang_typing.specs.View.{view_operand};
 
 use crate::operand::{NamedVariable, Operand};
@@ -36,12 +37,12 @@ fn conversion(
 ///
 /// `BadConversion` at its first token where it does not convert by itself.
 #[tactic(auto, unfolding(crate::specs::Operands::fit))]
-pub fn fit<'a>(
+pub fn fit(
     alloc: Global,
-    setting: &Setting<'a>,
+    setting: &Setting<'_>,
     ty: ArgType,
-    operand: Operand<'a>,
-) -> Result<Expression, Stop<'a>>
+    operand: Operand,
+) -> Result<Expression, Stop>
     ensures exact { Gives view_expr result (spec.fit setting.now ty (view_operand operand)) }
 {
     match rank(setting.lineage(), operand.ty, ty) {
@@ -55,8 +56,9 @@ pub fn fit<'a>(
 ///
 /// `BadConversion` at its first token where it has none. It takes no memory.
 #[tactic(auto, unfolding(crate::specs::Operands::integer))]
-pub fn integer<'a>(operand: &Operand<'a>) -> Result<Prim, Stop<'a>>
+pub fn integer(operand: &Operand) -> Result<Prim, Stop>
     ensures exact { Gives (λ p. p) result (spec.integer (view_operand operand.now)) }
+    ensures kind { IfOk result (λ p. IsInteger p) }
 {
     match operand.ty {
         ArgType::Plain(Prim::Bool)
@@ -72,7 +74,7 @@ pub fn integer<'a>(operand: &Operand<'a>) -> Result<Prim, Stop<'a>>
 ///
 /// `NotBool` at its first token where it is none. It takes no memory.
 #[tactic(auto, unfolding(crate::specs::Operands::truth))]
-pub fn truth<'a>(operand: Operand<'a>) -> Result<Expression, Stop<'a>>
+pub fn truth(operand: Operand) -> Result<Expression, Stop>
     ensures exact { Gives view_expr result (spec.truth (view_operand operand)) }
 {
     match operand.ty {
@@ -81,15 +83,15 @@ pub fn truth<'a>(operand: Operand<'a>) -> Result<Expression, Stop<'a>>
     }
 }
 
-fn target_by<'a>(
+fn target_by(
     place: Place,
-    named: &Option<NamedVariable<'a>>,
-) -> Result<Variable, Stop<'a>>
-    ensures exact { Gives (λ x. x) result (spec.target_by place named.now) }
+    named: Option<NamedVariable>,
+) -> Result<Variable, Stop>
+    ensures exact { Gives (λ x. x) result (spec.target_by place named) }
 {
     match named {
         None => Err(fault(ErrorKind::BadConversion, place)),
-        Some(named) if named.read_only => Err(refused(ErrorKind::Const, named.place, named.name.again())),
+        Some(named) if named.read_only => Err(refused(ErrorKind::Const, &named.name)),
         Some(named) => Ok(named.variable),
     }
 }
@@ -98,8 +100,8 @@ fn target_by<'a>(
 ///
 /// `Const` at the name of one that can't be, and `BadConversion` at any other expression. It takes no memory.
 #[tactic(auto, unfolding(crate::specs::Operands::target))]
-pub fn target<'a>(operand: &Operand<'a>) -> Result<Variable, Stop<'a>>
+pub fn target(operand: &Operand) -> Result<Variable, Stop>
     ensures exact { Gives (λ x. x) result (spec.target (view_operand operand.now)) }
 {
-    target_by(operand.place, &operand.named)
+    target_by(operand.place, operand.named)
 }

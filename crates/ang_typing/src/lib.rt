@@ -7,6 +7,7 @@
 #![tactic(auto)]
 
 mod assignments;
+mod calls;
 mod two_operands;
 mod conditionals;
 mod fitting;
@@ -21,9 +22,10 @@ mod uses;
 
 pub use assignments::assignment;
 pub use two_operands::binary;
+pub use calls::{called_by, group, named_by, types_of};
 pub use conditionals::{Branches, conditional};
 pub use fitting::{fit, integer, target, truth};
-pub use forms::{Form, binary_form, compound_form};
+pub use forms::{Form, Work, binary_form, compound_work};
 pub use operand::{NamedVariable, Operand};
 pub use refusal::{Asks, Refusal, Stop, fault, refused, use_refused};
 pub use scope::{Pair, Text, find_pair};

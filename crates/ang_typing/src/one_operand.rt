@@ -20,7 +20,7 @@ use std::alloc::Global;
 
 /// A number, `true` or `false`. It takes no memory.
 #[tactic(auto, unfolding(crate::specs::Operations::literal_typing))]
-pub fn literal<'a>(setting: &Setting<'a>, token: &Token) -> Result<Operand<'a>, Stop<'a>>
+pub fn literal(setting: &Setting<'_>, token: &Token) -> Result<Operand, Stop>
     ensures exact { Gives view_operand result (spec.literal_typing setting.now token.now) }
 {
     match token.kind {
@@ -38,7 +38,7 @@ pub fn literal<'a>(setting: &Setting<'a>, token: &Token) -> Result<Operand<'a>, 
     }
 }
 
-fn truth_literal<'a>(place: Place, value: bool) -> Operand<'a>
+fn truth_literal(place: Place, value: bool) -> Operand
     ensures exact { view_operand result ≡ operands.operand place (ArgType.Plain Prim.Bool) (tree.truth value) }
 {
     plain_operand(
@@ -49,12 +49,12 @@ fn truth_literal<'a>(place: Place, value: bool) -> Operand<'a>
 }
 
 #[tactic(auto, unfolding(crate::specs::Operations::negated))]
-fn negated<'a>(
+fn negated(
     alloc: Global,
-    setting: &Setting<'a>,
+    setting: &Setting<'_>,
     place: Place,
-    operand: Operand<'a>,
-) -> Result<Operand<'a>, Stop<'a>>
+    operand: Operand,
+) -> Result<Operand, Stop>
     ensures exact { Gives view_operand result (spec.negated setting.now place (view_operand operand)) }
 {
     let own = integer(&operand)?;
@@ -65,12 +65,12 @@ fn negated<'a>(
 }
 
 #[tactic(auto, unfolding(crate::specs::Operations::complemented))]
-fn complemented<'a>(
+fn complemented(
     alloc: Global,
-    setting: &Setting<'a>,
+    setting: &Setting<'_>,
     place: Place,
-    operand: Operand<'a>,
-) -> Result<Operand<'a>, Stop<'a>>
+    operand: Operand,
+) -> Result<Operand, Stop>
     ensures exact { Gives view_operand result (spec.complemented setting.now place (view_operand operand)) }
 {
     let own = integer(&operand)?;
@@ -81,12 +81,12 @@ fn complemented<'a>(
 }
 
 #[tactic(auto, unfolding(crate::specs::Operations::raised_operand))]
-fn raised_operand<'a>(
+fn raised_operand(
     alloc: Global,
-    setting: &Setting<'a>,
+    setting: &Setting<'_>,
     place: Place,
-    operand: Operand<'a>,
-) -> Result<Operand<'a>, Stop<'a>>
+    operand: Operand,
+) -> Result<Operand, Stop>
     ensures exact { Gives view_operand result (spec.raised_operand setting.now place (view_operand operand)) }
 {
     let own = integer(&operand)?;
@@ -96,11 +96,11 @@ fn raised_operand<'a>(
 }
 
 #[tactic(auto, unfolding(crate::specs::Operations::denied))]
-fn denied<'a>(
+fn denied(
     alloc: Global,
     place: Place,
-    operand: Operand<'a>,
-) -> Result<Operand<'a>, Stop<'a>>
+    operand: Operand,
+) -> Result<Operand, Stop>
     ensures exact { Gives view_operand result (spec.denied place (view_operand operand)) }
 {
     let value = truth(operand)?;
@@ -109,11 +109,11 @@ fn denied<'a>(
 }
 
 #[tactic(auto, unfolding(crate::specs::Operations::stepped))]
-fn stepped<'a>(
+fn stepped(
     step: StepKind,
     place: Place,
-    operand: Operand<'a>,
-) -> Result<Operand<'a>, Stop<'a>>
+    operand: Operand,
+) -> Result<Operand, Stop>
     ensures exact { Gives view_operand result (spec.stepped step place (view_operand operand)) }
 {
     let variable = target(&operand)?;
@@ -127,12 +127,12 @@ fn stepped<'a>(
 /// `NotBool` or `BadConversion` at the first token of an operand that can't stand there, for `++` and `--`
 /// also where it is no variable's name; `Const` at the name of a variable that can't be changed. `NotYet` at `@`.
 #[tactic(auto, unfolding(crate::specs::Operations::prefix_typing))]
-pub fn prefix<'a>(
+pub fn prefix(
     alloc: Global,
-    setting: &Setting<'a>,
+    setting: &Setting<'_>,
     operator: &Token,
-    operand: Operand<'a>,
-) -> Result<Operand<'a>, Stop<'a>>
+    operand: Operand,
+) -> Result<Operand, Stop>
     ensures exact { Gives view_operand result (spec.prefix_typing setting.now operator.now (view_operand operand)) }
 {
     match operator.kind {
@@ -149,10 +149,10 @@ pub fn prefix<'a>(
 /// An operand with `++` or `--` behind it, which have the refusals that they have in front of one.
 /// It takes no memory.
 #[tactic(auto, unfolding(crate::specs::Operations::postfix_typing))]
-pub fn postfix<'a>(
-    operand: Operand<'a>,
+pub fn postfix(
+    operand: Operand,
     operator: TokenKind,
-) -> Result<Operand<'a>, Stop<'a>>
+) -> Result<Operand, Stop>
     ensures exact { Gives view_operand result (spec.postfix_typing (view_operand operand) operator) }
 {
     let place = operand.place;
@@ -167,12 +167,12 @@ pub fn postfix<'a>(
 ///
 /// `BadConversion` at the operand's first token where it does not convert.
 #[tactic(auto, unfolding(crate::specs::Operations::convert_typing))]
-pub fn convert<'a>(
+pub fn convert(
     alloc: Global,
-    setting: &Setting<'a>,
+    setting: &Setting<'_>,
     word: &Token,
-    operand: Operand<'a>,
-) -> Result<Operand<'a>, Stop<'a>>
+    operand: Operand,
+) -> Result<Operand, Stop>
     ensures exact { Gives view_operand result (spec.convert_typing setting.now word.now (view_operand operand)) }
 {
     match word.kind {

@@ -1,27 +1,25 @@
 //! Expressions that were typed.
-use crate::scope::Text;
 use ang_kinds::Place;
+use ang_lex::Token;
 use ang_typed::{Expression, Variable};
 use ang_types::ArgType;
 
 /// The variable whose name an expression is.
-#[derive(Drop)]
-pub struct NamedVariable<'a> {
+#[derive(Clone, Copy, Drop)]
+pub struct NamedVariable {
     /// The variable.
     pub variable: Variable,
     /// Whether it can't be assigned.
     pub read_only: bool,
-    /// The place of the name.
-    pub place: Place,
     /// The name.
-    pub name: Text<'a>,
+    pub name: Token,
     /// Whether the name stands alone, without parentheses.
     pub bare: bool,
 }
 
 /// An expression that was typed.
 #[derive(Drop)]
-pub struct Operand<'a> {
+pub struct Operand {
     /// The place of its first token.
     pub place: Place,
     /// Its type.
@@ -29,5 +27,5 @@ pub struct Operand<'a> {
     /// Its resolved tree.
     pub tree: Expression,
     /// The variable whose name it is, in parentheses or not.
-    pub named: Option<NamedVariable<'a>>,
+    pub named: Option<NamedVariable>,
 }

@@ -3,8 +3,8 @@ ghost use Rattle.std.specs.Prelude.{◌≡◌};
 ghost use Rattle.ang_typing.specs.Refusals as spec;
 ghost use Rattle.ang_typing.specs.declared.refusal.Stop.TheVariants.{Memory};
 
-use crate::scope::Text;
 use ang_kinds::{ErrorKind, List, Place};
+use ang_lex::Token;
 use ang_types::ArgType;
 use std::alloc::{AllocError, AllocFailed};
 
@@ -21,27 +21,27 @@ pub enum Asks {
 
 /// The first refusal of an expression in reading order.
 #[derive(Drop)]
-pub struct Refusal<'a> {
+pub struct Refusal {
     /// What is wrong.
     pub kind: ErrorKind,
     /// Where.
     pub place: Place,
-    /// The name that it is about, or empty.
-    pub name: Text<'a>,
+    /// The name that it is about, where it is about one.
+    pub name: Option<Token>,
     /// What was asked of that name, where it is the use of the name that is refused.
     pub asks: Option<Asks>,
 }
 
 /// Why nothing is given.
 #[derive(Drop)]
-pub enum Stop<'a> {
+pub enum Stop {
     /// The expression is refused.
-    Refused(Refusal<'a>),
+    Refused(Refusal),
     /// A growth of memory was refused.
     Memory,
 }
 
-impl From<AllocError> for Stop<'_> {
+impl From<AllocError> for Stop {
     ghost from_gives = { λ _ e. e ≡ Memory };
 
     fn from(_e: AllocError) -> Self {
@@ -49,7 +49,7 @@ impl From<AllocError> for Stop<'_> {
     }
 }
 
-impl<T: Drop> From<AllocFailed<T>> for Stop<'_> {
+impl<T: Drop> From<AllocFailed<T>> for Stop {
     ghost from_gives = { λ _ e. e ≡ Memory };
 
     fn from(_e: AllocFailed<T>) -> Self {
@@ -58,37 +58,37 @@ impl<T: Drop> From<AllocFailed<T>> for Stop<'_> {
 }
 
 /// A refusal without a name.
-pub fn fault<'a>(kind: ErrorKind, place: Place) -> Stop<'a>
+pub fn fault(kind: ErrorKind, place: Place) -> Stop
     ensures exact { result ≡ Stop.Refused (spec.fault_at kind place) }
 {
     Stop::Refused(Refusal {
         kind,
         place,
-        name: Text::new(&[]),
+        name: None,
         asks: None,
     })
 }
 
 /// A refusal at a name.
-pub fn refused<'a>(kind: ErrorKind, place: Place, name: Text<'a>) -> Stop<'a>
-    ensures exact { result ≡ Stop.Refused (spec.refused_at kind place name) }
+pub fn refused(kind: ErrorKind, name: &Token) -> Stop
+    ensures exact { result ≡ Stop.Refused (spec.refused_at kind name.now) }
 {
     Stop::Refused(Refusal {
         kind,
-        place,
-        name,
+        place: name.place,
+        name: Some(*name),
         asks: None,
     })
 }
 
 /// The refusal of a use.
-pub fn use_refused<'a>(kind: ErrorKind, place: Place, name: Text<'a>, asks: Asks) -> Stop<'a>
-    ensures exact { result ≡ Stop.Refused (spec.use_refused kind place name asks) }
+pub fn use_refused(kind: ErrorKind, name: &Token, asks: Asks) -> Stop
+    ensures exact { result ≡ Stop.Refused (spec.use_refused kind name.now asks) }
 {
     Stop::Refused(Refusal {
         kind,
-        place,
-        name,
+        place: name.place,
+        name: Some(*name),
         asks: Some(asks),
     })
 }

@@ -59,8 +59,8 @@ pub fn find_pair(pairs: &[Pair<'_>], name: &[u8]) -> Option<usize>
     ensures within { IfSome result (λ number. number < length pairs.now) }
 {
     let mut found = None;
-    for (number, pair) in pairs.iter().enumerate() {
-        if pair.name.bytes() == name {
+    for number in 0..pairs.len() {
+        if pairs[number].name.bytes() == name {
             found = Some(number);
         }
     }

@@ -7,7 +7,7 @@ ghost use Rattle.ang_typing.specs.Refusals.{Gives};
 ghost use Rattle.ang_typing.specs.View.{view_operand};
 
 use crate::fitting::{fit, integer, truth};
-use crate::forms::{Form, binary_form};
+use crate::forms::{Form, Work, binary_form};
 use crate::operand::Operand;
 use crate::refusal::{Stop, fault};
 use crate::setting::Setting;
@@ -19,7 +19,7 @@ use ang_types::{ArgType, common};
 use std::alloc::Global;
 
 /// An expression that is no variable's name.
-pub fn plain_operand<'a>(place: Place, ty: ArgType, tree: Expression) -> Operand<'a>
+pub fn plain_operand(place: Place, ty: ArgType, tree: Expression) -> Operand
     ensures exact { view_operand result ≡ operands.operand place ty (view_expr tree) }
 {
     Operand {
@@ -31,14 +31,14 @@ pub fn plain_operand<'a>(place: Place, ty: ArgType, tree: Expression) -> Operand
 }
 
 /// Both operands made values of the type in which the operator works.
-fn worked_in<'a>(
+fn worked_in(
     alloc: Global,
-    setting: &Setting<'a>,
+    setting: &Setting<'_>,
     ty: Prim,
     operator: Operator,
-    left: Operand<'a>,
-    right: Operand<'a>,
-) -> Result<Operand<'a>, Stop<'a>>
+    left: Operand,
+    right: Operand,
+) -> Result<Operand, Stop>
     ensures exact { Gives view_operand result (spec.worked_in setting.now ty operator (view_operand left) (view_operand right)) }
 {
     let place = left.place;
@@ -49,13 +49,13 @@ fn worked_in<'a>(
 }
 
 #[tactic(auto, unfolding(crate::specs::Operations::arithmetic))]
-fn arithmetic<'a>(
+fn arithmetic(
     alloc: Global,
-    setting: &Setting<'a>,
+    setting: &Setting<'_>,
     operator: Operator,
-    left: Operand<'a>,
-    right: Operand<'a>,
-) -> Result<Operand<'a>, Stop<'a>>
+    left: Operand,
+    right: Operand,
+) -> Result<Operand, Stop>
     ensures exact { Gives view_operand result (spec.arithmetic setting.now operator (view_operand left) (view_operand right)) }
 {
     let own = integer(&left)?;
@@ -64,13 +64,13 @@ fn arithmetic<'a>(
 }
 
 #[tactic(auto, unfolding(crate::specs::Operations::shift))]
-fn shift<'a>(
+fn shift(
     alloc: Global,
-    setting: &Setting<'a>,
+    setting: &Setting<'_>,
     operator: Operator,
-    left: Operand<'a>,
-    right: Operand<'a>,
-) -> Result<Operand<'a>, Stop<'a>>
+    left: Operand,
+    right: Operand,
+) -> Result<Operand, Stop>
     ensures exact { Gives view_operand result (spec.shift setting.now operator (view_operand left) (view_operand right)) }
 {
     let own = integer(&left)?;
@@ -79,14 +79,14 @@ fn shift<'a>(
 }
 
 /// Both operands made values of the type in which they are compared.
-fn compared_in<'a>(
+fn compared_in(
     alloc: Global,
-    setting: &Setting<'a>,
+    setting: &Setting<'_>,
     ty: Prim,
     comparison: Comparison,
-    left: Operand<'a>,
-    right: Operand<'a>,
-) -> Result<Operand<'a>, Stop<'a>>
+    left: Operand,
+    right: Operand,
+) -> Result<Operand, Stop>
     ensures exact { Gives view_operand result (spec.compared_in setting.now ty comparison (view_operand left) (view_operand right)) }
 {
     let place = left.place;
@@ -97,13 +97,13 @@ fn compared_in<'a>(
 }
 
 #[tactic(auto, unfolding(crate::specs::Operations::order))]
-fn order<'a>(
+fn order(
     alloc: Global,
-    setting: &Setting<'a>,
+    setting: &Setting<'_>,
     comparison: Comparison,
-    left: Operand<'a>,
-    right: Operand<'a>,
-) -> Result<Operand<'a>, Stop<'a>>
+    left: Operand,
+    right: Operand,
+) -> Result<Operand, Stop>
     ensures exact { Gives view_operand result (spec.order setting.now comparison (view_operand left) (view_operand right)) }
 {
     let own = integer(&left)?;
@@ -112,13 +112,13 @@ fn order<'a>(
 }
 
 #[tactic(auto, unfolding(crate::specs::Operations::equality))]
-fn equality<'a>(
+fn equality(
     alloc: Global,
-    setting: &Setting<'a>,
+    setting: &Setting<'_>,
     comparison: Comparison,
-    left: Operand<'a>,
-    right: Operand<'a>,
-) -> Result<Operand<'a>, Stop<'a>>
+    left: Operand,
+    right: Operand,
+) -> Result<Operand, Stop>
     ensures exact { Gives view_operand result (spec.equality setting.now comparison (view_operand left) (view_operand right)) }
 {
     match left.ty {
@@ -129,13 +129,13 @@ fn equality<'a>(
     }
 }
 
-#[tactic(auto, unfolding(crate::specs::Operations::both))]
-fn both<'a>(
+#[tactic(auto, unfolding(crate::specs::Operations::conjunction))]
+fn conjunction(
     alloc: Global,
-    left: Operand<'a>,
-    right: Operand<'a>,
-) -> Result<Operand<'a>, Stop<'a>>
-    ensures exact { Gives view_operand result (spec.both (view_operand left) (view_operand right)) }
+    left: Operand,
+    right: Operand,
+) -> Result<Operand, Stop>
+    ensures exact { Gives view_operand result (spec.conjunction (view_operand left) (view_operand right)) }
 {
     let place = left.place;
     let left = truth(left)?;
@@ -144,13 +144,13 @@ fn both<'a>(
     Ok(plain_operand(place, ArgType::Plain(Prim::Bool), tree))
 }
 
-#[tactic(auto, unfolding(crate::specs::Operations::either))]
-fn either<'a>(
+#[tactic(auto, unfolding(crate::specs::Operations::disjunction))]
+fn disjunction(
     alloc: Global,
-    left: Operand<'a>,
-    right: Operand<'a>,
-) -> Result<Operand<'a>, Stop<'a>>
-    ensures exact { Gives view_operand result (spec.either (view_operand left) (view_operand right)) }
+    left: Operand,
+    right: Operand,
+) -> Result<Operand, Stop>
+    ensures exact { Gives view_operand result (spec.disjunction (view_operand left) (view_operand right)) }
 {
     let place = left.place;
     let left = truth(left)?;
@@ -159,13 +159,13 @@ fn either<'a>(
     Ok(plain_operand(place, ArgType::Plain(Prim::Bool), tree))
 }
 
-#[tactic(auto, unfolding(crate::specs::Operations::differ))]
-fn differ<'a>(
+#[tactic(auto, unfolding(crate::specs::Operations::exclusion))]
+fn exclusion(
     alloc: Global,
-    left: Operand<'a>,
-    right: Operand<'a>,
-) -> Result<Operand<'a>, Stop<'a>>
-    ensures exact { Gives view_operand result (spec.differ (view_operand left) (view_operand right)) }
+    left: Operand,
+    right: Operand,
+) -> Result<Operand, Stop>
+    ensures exact { Gives view_operand result (spec.exclusion (view_operand left) (view_operand right)) }
 {
     let place = left.place;
     let left = truth(left)?;
@@ -174,24 +174,24 @@ fn differ<'a>(
     Ok(plain_operand(place, ArgType::Plain(Prim::Bool), tree))
 }
 
-fn formed<'a>(
+fn formed(
     alloc: Global,
-    setting: &Setting<'a>,
+    setting: &Setting<'_>,
     form: Option<Form>,
-    left: Operand<'a>,
-    right: Operand<'a>,
-) -> Result<Operand<'a>, Stop<'a>>
+    left: Operand,
+    right: Operand,
+) -> Result<Operand, Stop>
     ensures exact { Gives view_operand result (spec.formed setting.now form (view_operand left) (view_operand right)) }
 {
     match form {
         None => Err(fault(ErrorKind::NotYet, left.place)),
-        Some(Form::Arithmetic(operator)) => arithmetic(alloc, setting, operator, left, right),
-        Some(Form::Shift(operator)) => shift(alloc, setting, operator, left, right),
+        Some(Form::Works(Work::Arithmetic(operator))) => arithmetic(alloc, setting, operator, left, right),
+        Some(Form::Works(Work::Shift(operator))) => shift(alloc, setting, operator, left, right),
         Some(Form::Order(comparison)) => order(alloc, setting, comparison, left, right),
         Some(Form::Equality(comparison)) => equality(alloc, setting, comparison, left, right),
-        Some(Form::Both) => both(alloc, left, right),
-        Some(Form::Either) => either(alloc, left, right),
-        Some(Form::Differ) => differ(alloc, left, right),
+        Some(Form::And) => conjunction(alloc, left, right),
+        Some(Form::Or) => disjunction(alloc, left, right),
+        Some(Form::Xor) => exclusion(alloc, left, right),
     }
 }
 
@@ -200,13 +200,13 @@ fn formed<'a>(
 /// `BadConversion` or, for `&&`, `||` and `xor`, `NotBool` at the first token of the first operand that can't
 /// stand there. `NotYet` at `is` and `!is`.
 #[tactic(auto, unfolding(crate::specs::Operations::binary_typing))]
-pub fn binary<'a>(
+pub fn binary(
     alloc: Global,
-    setting: &Setting<'a>,
-    left: Operand<'a>,
+    setting: &Setting<'_>,
+    left: Operand,
     operator: TokenKind,
-    right: Operand<'a>,
-) -> Result<Operand<'a>, Stop<'a>>
+    right: Operand,
+) -> Result<Operand, Stop>
     ensures exact { Gives view_operand result (spec.binary_typing setting.now (view_operand left) operator (view_operand right)) }
 {
     formed(alloc, setting, binary_form(operator), left, right)

@@ -3,10 +3,12 @@ ghost use Rattle.std.specs.Prelude.{◌≡◌, ◌++◌, ◌∷◌, [], IfOk, On
 ghost use Rattle.ang_typing.specs.Uses as spec;
 ghost use Rattle.ang_typing.specs.declared.refusal.Asks.TheVariants as asks;
 
-use ang_kinds::ErrorKind;
-use ang_names::{HostGlobal, Names};
+use crate::setting::Setting;
+use ang_kinds::{ErrorKind, List};
+use ang_names::{HostFunction, HostGlobal, Names};
 use ang_typed::{HostEntity, Variable};
-use ang_types::{ArgType, Candidate};
+use ang_types::{ArgType, Candidate, Pick, resolve};
+use std::alloc::{AllocError, Global};
 
 /// A function that a call can mean.
 #[derive(Clone, Copy, PartialEq, Eq, Debug)]
@@ -69,34 +71,106 @@ fn global_by(names: &Names, number: Option<usize>, host: Option<HostGlobal>) -> 
     }
 }
 
-/* TEMP
-/// What a name means as a global variable of the script or a global property of the host.
-#[tactic(auto, unfolding(crate::specs::Uses::global_of_name))]
-fn resolve_global(setting: &Setting<'_>, name: &[u8]) -> Meant
-    ensures exact { result ≡ spec.global_of_name setting.now name.now }
+fn with_callable(
+    found: Vec<Callable>,
+    callable: Option<Callable>,
+) -> Result<Vec<Callable>, AllocError>
+    ensures exact { IfOk result (λ v. v.items ≡ found.items ++ option_to_list callable) }
 {
-    let number = global_named(setting.names(), name);
-    global_by(
-        setting.names(),
-        number,
-        view_global_named(setting.view(), name),
-    )
+    let mut found = found;
+    if let Some(callable) = callable {
+        found.push(callable)?;
+    }
+    Ok(found)
 }
 
-/// What a bare name means: the innermost parameter or local of the name, else the global variable of the
-/// script, else the global property of the host that the module sees.
-///
-/// `UnknownName` where there is none. It takes no memory.
-#[tactic(auto, unfolding(crate::specs::Uses::meaning_of_name))]
-pub fn resolve_name(setting: &Setting<'_>, pairs: &[Pair<'_>], name: &[u8]) -> Meant
-    ensures exact { result ≡ spec.resolve setting.now pairs.now name.now asks.Value }
+fn host_callable(function: HostFunction) -> Callable
+    ensures exact { result ≡ spec.host_callable function }
 {
-    match find_pair(pairs, name) {
-        None => resolve_global(setting, name),
-        Some(number) => {
-            let pair = pairs[number];
-            Meant::Variable(Variable::Local(number), pair.ty, pair.read_only)
-        }
+    let HostFunction {
+        entity,
+        driver,
+        f,
+        result,
+        params,
+    } = function;
+    Callable {
+        callee: Callee::Host(HostEntity { entity, driver, f }),
+        result,
+        candidate: Candidate { params },
     }
 }
-*/
+
+/// The list with the functions of the host at its end.
+fn with_host_callables(
+    found: Vec<Callable>,
+    hosts: Vec<HostFunction>,
+) -> Result<Vec<Callable>, AllocError>
+    ensures exact { IfOk result (λ v. v.items ≡ found.items ++ list_map spec.host_callable hosts.items) }
+{
+    let mut found = found;
+    for host in hosts {
+        found.push(host_callable(host))?;
+    }
+    Ok(found)
+}
+
+fn copy_candidate(alloc: Global, callable: &Callable) -> Result<Candidate, AllocError>
+    ensures exact { IfOk result (λ c. c ≡ callable.now.candidate) }
+{
+    let params = Vec::from_slice(alloc, callable.candidate.params.as_slice())?;
+    Ok(Candidate {
+        params: List::from_vec(params),
+    })
+}
+
+fn candidates_of(alloc: Global, callables: &[Callable]) -> Result<Vec<Candidate>, AllocError>
+    ensures exact { IfOk result (λ v. v.items ≡ list_map (λ c. c.candidate) callables.now) }
+{
+    let mut found = Vec::new(alloc);
+    for callable in callables {
+        let candidate = copy_candidate(alloc, callable)?;
+        found.push(candidate)?;
+    }
+    Ok(found)
+}
+
+fn callable_at(callables: Vec<Callable>, place: usize) -> Option<Callable>
+    ensures exact { result ≡ slice_get callables.items place }
+{
+    if place >= callables.len() {
+        return None;
+    }
+    let mut callables = callables;
+    Some(callables.remove(place))
+}
+
+fn picked(callables: Vec<Callable>, pick: Pick) -> Meant
+    ensures exact { result ≡ spec.picked callables.items pick }
+{
+    match pick {
+        Pick::NoViable => Meant::Refused(ErrorKind::NoMatch),
+        Pick::Ambiguous => Meant::Refused(ErrorKind::Ambiguous),
+        Pick::One(place) => match callable_at(callables, place) {
+            None => Meant::Refused(ErrorKind::UnknownName),
+            Some(callable) => Meant::Call(callable),
+        },
+    }
+}
+
+/// The best of some functions for arguments of these types.
+fn best_callable(
+    alloc: Global,
+    setting: &Setting<'_>,
+    callables: Vec<Callable>,
+    args: &[ArgType],
+) -> Result<Meant, AllocError>
+    ensures exact { IfOk result (λ m. m ≡ spec.best_callable setting.now callables.items args.now) }
+{
+    if callables.is_empty() {
+        return Ok(Meant::Refused(ErrorKind::UnknownName));
+    }
+    let candidates = candidates_of(alloc, callables.as_slice())?;
+    let pick = resolve(setting.lineage(), candidates.as_slice(), args);
+    Ok(picked(callables, pick))
+}
