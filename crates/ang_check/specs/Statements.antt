@@ -158,6 +158,15 @@ start_typing f ps (with_expression e semicolon) = do
   x ← optional_typing f.setting ps e
   Ok ((ps, t.expression x))
 
+-- What stands in the parentheses of a `for`, in the order of the text: the pairs alive behind its start, the start, the condition and
+-- the steps.
+abbrev pub head_typing : Frame → List Pair → Start → Option Tree → Trees → Judged (List Pair × t.Stmt × Option t.Expr × List t.Expr)
+head_typing f ps b c steps = do
+  first ← start_typing f ps b
+  x ← optional_condition f.setting first.0 c
+  es ← steps_typing f.setting first.0 steps
+  Ok ((first.0, first.1, x, es))
+
 -- ---- statements
 
 -- In a function:
@@ -197,11 +206,9 @@ module _ (f : Frame) where
       x ← condition_typing f.setting ps c
       Ok ((ps, t.do_while ss x))
     stmt_typing loop start ps (for word left b c semicolon steps right s) = do
-      first ← start_typing f ps b
-      x ← optional_condition f.setting first.0 c
-      es ← steps_typing f.setting first.0 steps
-      ss ← branch_typing true first.0 s
-      Ok ((ps, t.for (t.then first.1 t.end) x es ss))
+      h ← head_typing f ps b c steps
+      ss ← branch_typing true h.0 s
+      Ok ((ps, t.for (t.then h.1 t.end) h.2 h.3 ss))
 
     -- a statement in a block of its own
     pub branch_typing : Bool → List Pair → Stmt → Judged t.Stmts
@@ -218,3 +225,14 @@ module _ (f : Frame) where
       x ← stmt_typing loop start ps s
       xs ← stmts_typing loop start x.0 ss
       Ok (t.then x.1 xs)
+
+  -- the other branch of an `if`, where it has one
+  abbrev pub other_typing : Bool → List Pair → Option (Token × Stmt) → Judged t.Stmts
+  other_typing loop ps None = Ok t.end
+  other_typing loop ps (Some u) = branch_typing loop ps u.1
+
+  -- the body of a `for` with this start, condition and steps
+  abbrev pub loop_typing : List Pair → t.Stmt × Option t.Expr × List t.Expr → Stmt → Judged t.Stmt
+  loop_typing ps h s = do
+    ss ← branch_typing true ps s
+    Ok (t.for (t.then h.0 t.end) h.1 h.2 ss)

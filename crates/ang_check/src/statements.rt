@@ -1,9 +1,9 @@
 //! The typing of statements.
-ghost use Rattle.std.specs.Prelude.{◌≡◌, ◌≤◌, length, take, map as list_map, OnOk, Bool, ℕ};
+ghost use Rattle.std.specs.Prelude.{◌≡◌, ◌≤◌, length, take, map as list_map, option_map, IfOk, OnOk};
 ghost use Rattle.ang_tree.specs.View as trees;
 ghost use Rattle.ang_typed.specs.Typed as tree;
 ghost use Rattle.ang_typed.specs.View.{view_block, view_expr, view_option, view_stmt, view_stmts};
-ghost use Rattle.ang_typing.specs.Refusals.{Gives};
+ghost use Rattle.ang_typing.specs.Refusals.{Gives, both_typed};
 ghost use Rattle.ang_typing.specs.View.{view_operand};
 ghost use Rattle.ang_check.specs.Statements as spec;
 
@@ -327,6 +327,9 @@ fn for_loop<'a>(
     head: Head,
     body: &written::Statement,
 ) -> Result<Statement, Stop>
+    requires parameters { frame.now.parameters ≤ length pairs.old.items }
+    ensures exact { Gives view_stmt result (spec.loop_typing frame.now pairs.old.items (view_stmt head.start, view_option head.condition, list_map view_expr head.steps.items) (trees.view_stmt body.now)) }
+    ensures same { OnOk result (pairs.new.items ≡ pairs.old.items) }
 {
     let body = branch(alloc, frame, true, pairs, body)?;
     let Head {

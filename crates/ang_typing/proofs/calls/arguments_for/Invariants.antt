@@ -1,5 +1,5 @@
 use Rattle.std.proofs.Common.{◌≡◌, drop, map as list_map}
-use Rattle.std_alloc.specs.Vec.Iter.{into_iter_items}
+use Rattle.std.specs.Vec.Iter.{into_iter_items}
 use Rattle.ang_typed.specs.View.{view_arg}
 use Rattle.ang_typing.specs.Calls.{arguments_for}
 use Rattle.ang_typing.specs.View.{view_operands}
