@@ -9,5 +9,3 @@ mod paths;
 mod statements;
 
 pub use check::check;
-pub use frame::Frame;
-pub use paths::body_ends;

@@ -11,7 +11,8 @@ use crate::fitting::fit;
 use crate::operand::{NamedVariable, Operand};
 use crate::refusal::{Asks, Stop, fault, use_refused};
 use crate::setting::Setting;
-use crate::uses::{Callable, Callee, Meant};
+use crate::scope::Pair;
+use crate::uses::{Callable, Callee, Meant, resolve_call, resolve_name};
 use ang_kinds::{ErrorKind, List, Pass, Place};
 use ang_lex::Token;
 use ang_typed::{Argument, Expression, Variable};
@@ -34,7 +35,7 @@ fn variable_at(name: &Token, variable: Variable, ty: ArgType, read_only: bool) -
     }
 }
 
-pub fn named_by(name: &Token, meant: Meant) -> Result<Operand, Stop>
+fn named_by(name: &Token, meant: Meant) -> Result<Operand, Stop>
     ensures exact { Gives view_operand result (spec.named_by name.now meant) }
 {
     match meant {
@@ -46,6 +47,22 @@ pub fn named_by(name: &Token, meant: Meant) -> Result<Operand, Stop>
         }
         Meant::Refused(kind) => Err(use_refused(kind, name, Asks::Value)),
     }
+}
+
+/// A bare name that is not called.
+///
+/// `UnknownName` at the name where it is no variable's. It takes no memory.
+#[tactic(auto, unfolding(crate::specs::Calls::name_typing))]
+pub fn named(
+    setting: &Setting<'_>,
+    pairs: &[Pair<'_>],
+    token: &Token,
+) -> Result<Operand, Stop>
+    ensures exact { Gives view_operand result (spec.name_typing setting.now pairs.now token.now) }
+{
+    let name = setting.text_at(token);
+    let meant = resolve_name(setting, pairs, name.bytes());
+    named_by(token, meant)
 }
 
 fn inside(named: Option<NamedVariable>) -> Option<NamedVariable>
@@ -187,7 +204,7 @@ fn called(
     Ok(plain_operand(place, callable.result, tree))
 }
 
-pub fn types_of(alloc: Global, operands: &[Operand]) -> Result<Vec<ArgType>, AllocError>
+fn types_of(alloc: Global, operands: &[Operand]) -> Result<Vec<ArgType>, AllocError>
     ensures exact { IfOk result (λ v. v.items ≡ spec.types_of (view_operands operands.now)) }
 {
     let mut types = Vec::new(alloc);
@@ -197,7 +214,7 @@ pub fn types_of(alloc: Global, operands: &[Operand]) -> Result<Vec<ArgType>, All
     Ok(types)
 }
 
-pub fn called_by(
+fn called_by(
     alloc: Global,
     setting: &Setting<'_>,
     name: &Token,
@@ -217,4 +234,30 @@ pub fn called_by(
         )),
         Meant::Refused(kind) => Err(use_refused(kind, name, Asks::Call(types))),
     }
+}
+
+/// A call of a bare name with these arguments.
+///
+/// `UnknownName` at the name where there is nothing to call, `NoMatch` where nothing takes the arguments,
+/// `Ambiguous` where no candidate is the best; then `BadOut` and `BadConversion` at an argument's first token.
+#[tactic(auto, unfolding(crate::specs::Calls::call_typing))]
+pub fn call(
+    alloc: Global,
+    setting: &Setting<'_>,
+    token: &Token,
+    operands: Vec<Operand>,
+) -> Result<Operand, Stop>
+    ensures exact { Gives view_operand result (spec.call_typing setting.now token.now (view_operands operands.items)) }
+{
+    let name = setting.text_at(token);
+    let types = types_of(alloc, operands.as_slice())?;
+    let meant = resolve_call(alloc, setting, name.bytes(), types.as_slice())?;
+    called_by(
+        alloc,
+        setting,
+        token,
+        operands,
+        List::from_vec(types),
+        meant,
+    )
 }
