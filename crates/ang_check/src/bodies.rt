@@ -15,14 +15,11 @@ use ang_names::{ScriptFunction, ScriptGlobal, ScriptParameter};
 use ang_tree as written;
 use ang_tree::{Initializer, TypeName};
 use ang_typed::{Block, Function, Global as TypedGlobal, Parameter};
-use ang_typing::{Pair, Setting, Stop, Text, refused};
 use ang_types::ArgType;
+use ang_typing::{Pair, Setting, Stop, Text, refused};
 use std::alloc::{AllocError, Global};
 
-fn pairs_of<'a>(
-    alloc: Global,
-    params: &'a [ScriptParameter],
-) -> Result<Vec<Pair<'a>>, AllocError>
+fn pairs_of<'a>(alloc: Global, params: &'a [ScriptParameter]) -> Result<Vec<Pair<'a>>, AllocError>
     ensures exact { IfOk result (λ v. v.items ≡ list_map spec.pair_of params.now) }
 {
     let mut pairs = Vec::new(alloc);
@@ -36,10 +33,7 @@ fn pairs_of<'a>(
     Ok(pairs)
 }
 
-fn parameters_of(
-    alloc: Global,
-    params: &[ScriptParameter],
-) -> Result<Vec<Parameter>, AllocError>
+fn parameters_of(alloc: Global, params: &[ScriptParameter]) -> Result<Vec<Parameter>, AllocError>
     ensures exact { IfOk result (λ v. v.items ≡ list_map spec.parameter_of params.now) }
 {
     let mut parameters = Vec::new(alloc);

@@ -12,8 +12,8 @@ use ang_registry::View;
 use ang_tree as written;
 use ang_tree::{Declaration, Script, Variables};
 use ang_typed::{Function, Global as TypedGlobal, Typed};
-use ang_typing::{Refusal, Setting, Stop};
 use ang_types::Lineage;
+use ang_typing::{Refusal, Setting, Stop};
 use std::alloc::{AllocError, Global};
 
 /// What the bodies and initializers up to some place gave.

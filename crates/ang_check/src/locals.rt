@@ -11,20 +11,17 @@ use ang_lex::Token;
 use ang_names::{is_read_only, value_type_of};
 use ang_tree::{Initializer, TypeName, Variable, Variables};
 use ang_typed::{Expression, Local};
+use ang_types::ArgType;
 use ang_typing::{
     Asks, Pair, Setting, Stop, Text, fault, find_pair, fit, refused, typing, typing_of_all,
     use_refused,
 };
-use ang_types::ArgType;
 use std::alloc::Global;
 
 /// The most locals that can be alive at once in one function.
 pub const MOST_LOCALS: usize = 1024;
 
-fn local_type_by(
-    token: &Token,
-    meaning: Result<ArgType, ErrorKind>,
-) -> Result<ArgType, Stop>
+fn local_type_by(token: &Token, meaning: Result<ArgType, ErrorKind>) -> Result<ArgType, Stop>
     ensures exact { Gives (λ ty. ty) result (spec.local_type_by token.now meaning) }
 {
     match meaning {
@@ -33,11 +30,7 @@ fn local_type_by(
         Ok(ArgType::Null | ArgType::Object { .. } | ArgType::Handle { .. }) => {
             Err(fault(ErrorKind::NotYet, token.place))
         }
-        Err(ErrorKind::UnknownType) => Err(use_refused(
-            ErrorKind::UnknownType,
-            token,
-            Asks::Type,
-        )),
+        Err(ErrorKind::UnknownType) => Err(use_refused(ErrorKind::UnknownType, token, Asks::Type)),
         Err(kind) => Err(refused(kind, token)),
     }
 }
@@ -46,10 +39,7 @@ fn local_type_by(
 ///
 /// `UnknownType` and `BadType` at the type's name. It takes no memory.
 #[tactic(auto, unfolding(crate::specs::Statements::local_type))]
-fn local_type(
-    setting: &Setting<'_>,
-    declared: &TypeName,
-) -> Result<ArgType, Stop>
+fn local_type(setting: &Setting<'_>, declared: &TypeName) -> Result<ArgType, Stop>
     ensures exact { Gives (λ ty. ty) result (spec.local_type setting.now declared.now) }
 {
     let meaning = value_type_of(setting.view(), setting.text(), declared);

@@ -55,7 +55,9 @@ fn breaks(statement: &Statement) -> bool
         Statement::Block(block) => some_break(block.statements.as_slice()),
         Statement::Break { .. } => true,
         Statement::If {
-            then, otherwise, ..
+            then,
+            otherwise,
+            ..
         } => match otherwise {
             None => breaks(then),
             Some(otherwise) => breaks(then) || breaks(&otherwise.branch),
@@ -91,13 +93,17 @@ fn ends(statement: &Statement) -> bool
         Statement::Block(block) => some_ends(block.statements.as_slice()),
         Statement::Return { .. } => true,
         Statement::If {
-            then, otherwise, ..
+            then,
+            otherwise,
+            ..
         } => match otherwise {
             None => false,
             Some(otherwise) => ends(then) && ends(&otherwise.branch),
         },
         Statement::While {
-            condition, body, ..
+            condition,
+            body,
+            ..
         } => is_true_word(condition) && !breaks(body),
         Statement::Variables(_)
         | Statement::Expression { .. }

@@ -14,8 +14,8 @@ use ang_lex::Token;
 use ang_tree as written;
 use ang_tree::{Argument, ForStart};
 use ang_typed::{Block, Expression, Statement};
-use ang_typing::{Operand, Pair, Setting, Stop, fault, fit, refused, truth, typing, typing_of_all};
 use ang_types::ArgType;
+use ang_typing::{Operand, Pair, Setting, Stop, fault, fit, refused, truth, typing, typing_of_all};
 use std::alloc::{AllocError, Global};
 
 fn optional(
@@ -89,25 +89,20 @@ fn value_returned(
 {
     match ty {
         ArgType::Void => Err(fault(ErrorKind::BadConversion, operand.place)),
-        ArgType::Null
-        | ArgType::Plain(_)
-        | ArgType::Object { .. }
-        | ArgType::Handle { .. } => fit(alloc, setting, ty, operand),
+        ArgType::Null | ArgType::Plain(_) | ArgType::Object { .. } | ArgType::Handle { .. } => fit(
+            alloc, setting, ty, operand,
+        ),
     }
 }
 
-fn nothing_returned(
-    ty: ArgType,
-    word: &Token,
-) -> Result<Option<Expression>, Stop>
+fn nothing_returned(ty: ArgType, word: &Token) -> Result<Option<Expression>, Stop>
     ensures exact { Gives view_option result (spec.nothing_returned ty word.now) }
 {
     match ty {
         ArgType::Void => Ok(None),
-        ArgType::Null
-        | ArgType::Plain(_)
-        | ArgType::Object { .. }
-        | ArgType::Handle { .. } => Err(fault(ErrorKind::BadConversion, word.place)),
+        ArgType::Null | ArgType::Plain(_) | ArgType::Object { .. } | ArgType::Handle { .. } => Err(
+            fault(ErrorKind::BadConversion, word.place),
+        ),
     }
 }
 

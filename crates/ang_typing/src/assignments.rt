@@ -4,13 +4,13 @@ ghost use Rattle.ang_typing.specs.Operations as spec;
 ghost use Rattle.ang_typing.specs.Refusals.{Gives};
 ghost use Rattle.ang_typing.specs.View.{view_operand};
 
-use crate::two_operands::plain_operand;
 use crate::fitting::{fit, integer, target};
 use crate::forms::{Work, compound_work};
 use crate::operand::Operand;
 use crate::refusal::{Stop, fault};
 use crate::setting::Setting;
 use crate::trees;
+use crate::two_operands::plain_operand;
 use ang_kinds::{ErrorKind, Prim};
 use ang_lex::TokenKind;
 use ang_typed::{Operator, Variable};

@@ -6,12 +6,12 @@ ghost use Rattle.ang_typing.specs.Calls as spec;
 ghost use Rattle.ang_typing.specs.Refusals.{Gives};
 ghost use Rattle.ang_typing.specs.View.{view_operand, view_operands};
 
-use crate::two_operands::plain_operand;
 use crate::fitting::fit;
 use crate::operand::{NamedVariable, Operand};
 use crate::refusal::{Asks, Stop, fault, use_refused};
-use crate::setting::Setting;
 use crate::scope::Pair;
+use crate::setting::Setting;
+use crate::two_operands::plain_operand;
 use crate::uses::{Callable, Callee, Meant, resolve_call, resolve_name};
 use ang_kinds::{ErrorKind, List, Pass, Place};
 use ang_lex::Token;
@@ -53,11 +53,7 @@ fn named_by(name: &Token, meant: Meant) -> Result<Operand, Stop>
 ///
 /// `UnknownName` at the name where it is no variable's. It takes no memory.
 #[tactic(auto, unfolding(crate::specs::Calls::name_typing))]
-pub fn named(
-    setting: &Setting<'_>,
-    pairs: &[Pair<'_>],
-    token: &Token,
-) -> Result<Operand, Stop>
+pub fn named(setting: &Setting<'_>, pairs: &[Pair<'_>], token: &Token) -> Result<Operand, Stop>
     ensures exact { Gives view_operand result (spec.name_typing setting.now pairs.now token.now) }
 {
     let name = setting.text_at(token);
@@ -98,10 +94,7 @@ fn is_out(named: NamedVariable) -> bool
     named.bare && !named.read_only && !is_property(named.variable)
 }
 
-fn out_by(
-    place: Place,
-    named: Option<NamedVariable>,
-) -> Result<Variable, Stop>
+fn out_by(place: Place, named: Option<NamedVariable>) -> Result<Variable, Stop>
     ensures exact { Gives (λ x. x) result (spec.out_by place named) }
 {
     match named {
@@ -199,7 +192,12 @@ fn called(
 ) -> Result<Operand, Stop>
     ensures exact { Gives view_operand result (spec.called setting.now place callable (view_operands operands.items)) }
 {
-    let arguments = arguments_for(alloc, setting, callable.candidate.params.as_slice(), operands)?;
+    let arguments = arguments_for(
+        alloc,
+        setting,
+        callable.candidate.params.as_slice(),
+        operands,
+    )?;
     let tree = call_of(callable.callee, callable.result, arguments);
     Ok(plain_operand(place, callable.result, tree))
 }

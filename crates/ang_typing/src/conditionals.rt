@@ -5,12 +5,12 @@ ghost use Rattle.ang_typing.specs.Operations as spec;
 ghost use Rattle.ang_typing.specs.Refusals.{Gives};
 ghost use Rattle.ang_typing.specs.View.{view_operand};
 
-use crate::two_operands::plain_operand;
 use crate::fitting::{fit, integer, truth};
 use crate::operand::Operand;
 use crate::refusal::{Stop, fault};
 use crate::setting::Setting;
 use crate::trees::choose;
+use crate::two_operands::plain_operand;
 use ang_kinds::{ErrorKind, Place, Prim};
 use ang_typed::Expression;
 use ang_types::{ArgType, common};

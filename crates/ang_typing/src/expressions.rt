@@ -6,23 +6,20 @@ ghost use Rattle.ang_typing.specs.Typing as spec;
 ghost use Rattle.ang_typing.specs.View.{view_operand, view_operands};
 
 use crate::assignments::assignment;
-use crate::two_operands::binary;
 use crate::calls::{call, group, named};
 use crate::conditionals::{Branches, conditional};
+use crate::one_operand::{convert, literal, postfix, prefix};
 use crate::operand::Operand;
 use crate::refusal::{Stop, fault};
 use crate::scope::Pair;
 use crate::setting::Setting;
-use crate::one_operand::{convert, literal, postfix, prefix};
+use crate::two_operands::binary;
 use ang_kinds::ErrorKind;
 use ang_tree::{Argument, Expression};
 use std::alloc::{AllocError, Global};
 
 /// The list with one more operand at its end.
-fn with_operand(
-    first: Vec<Operand>,
-    operand: Operand,
-) -> Result<Vec<Operand>, AllocError>
+fn with_operand(first: Vec<Operand>, operand: Operand) -> Result<Vec<Operand>, AllocError>
     ensures { IfOk result (λ v. view_operands v.items ≡ view_operands first.items ++ (view_operand operand ∷ [])) }
 {
     let mut found = first;
@@ -87,7 +84,9 @@ pub fn typing(
         Expression::ScopedCall { class, .. } => Err(fault(ErrorKind::NotYet, class.place)),
         Expression::Cast { word, .. } => Err(fault(ErrorKind::NotYet, word.place)),
         Expression::Convert {
-            primitive, operand, ..
+            primitive,
+            operand,
+            ..
         } => {
             let operand = typing(alloc, setting, pairs, operand)?;
             convert(alloc, setting, primitive, operand)

@@ -83,10 +83,7 @@ pub fn truth(operand: Operand) -> Result<Expression, Stop>
     }
 }
 
-fn target_by(
-    place: Place,
-    named: Option<NamedVariable>,
-) -> Result<Variable, Stop>
+fn target_by(place: Place, named: Option<NamedVariable>) -> Result<Variable, Stop>
     ensures exact { Gives (λ x. x) result (spec.target_by place named) }
 {
     match named {

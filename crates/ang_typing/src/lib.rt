@@ -8,17 +8,17 @@
 
 mod assignments;
 mod calls;
-mod two_operands;
 mod conditionals;
 mod expressions;
 mod fitting;
 mod forms;
+mod one_operand;
 mod operand;
 mod refusal;
 mod scope;
 mod setting;
 mod trees;
-mod one_operand;
+mod two_operands;
 mod uses;
 
 pub use expressions::{typing, typing_of_all};

@@ -6,12 +6,12 @@ ghost use Rattle.ang_typing.specs.Operations as spec;
 ghost use Rattle.ang_typing.specs.Refusals.{Gives};
 ghost use Rattle.ang_typing.specs.View.{view_operand};
 
-use crate::two_operands::plain_operand;
 use crate::fitting::{fit, integer, target, truth};
 use crate::operand::Operand;
 use crate::refusal::{Stop, fault};
 use crate::setting::Setting;
 use crate::trees::{complement, negate, not};
+use crate::two_operands::plain_operand;
 use ang_kinds::{ErrorKind, Place, Prim};
 use ang_lex::{Token, TokenKind, number};
 use ang_typed::{Expression, StepKind};
@@ -41,11 +41,7 @@ pub fn literal(setting: &Setting<'_>, token: &Token) -> Result<Operand, Stop>
 fn truth_literal(place: Place, value: bool) -> Operand
     ensures exact { view_operand result ≡ operands.operand place (ArgType.Plain Prim.Bool) (tree.truth value) }
 {
-    plain_operand(
-        place,
-        ArgType::Plain(Prim::Bool),
-        Expression::Truth(value),
-    )
+    plain_operand(place, ArgType::Plain(Prim::Bool), Expression::Truth(value))
 }
 
 #[tactic(auto, unfolding(crate::specs::Operations::negated))]
@@ -96,11 +92,7 @@ fn raised_operand(
 }
 
 #[tactic(auto, unfolding(crate::specs::Operations::denied))]
-fn denied(
-    alloc: Global,
-    place: Place,
-    operand: Operand,
-) -> Result<Operand, Stop>
+fn denied(alloc: Global, place: Place, operand: Operand) -> Result<Operand, Stop>
     ensures exact { Gives view_operand result (spec.denied place (view_operand operand)) }
 {
     let value = truth(operand)?;
@@ -109,11 +101,7 @@ fn denied(
 }
 
 #[tactic(auto, unfolding(crate::specs::Operations::stepped))]
-fn stepped(
-    step: StepKind,
-    place: Place,
-    operand: Operand,
-) -> Result<Operand, Stop>
+fn stepped(step: StepKind, place: Place, operand: Operand) -> Result<Operand, Stop>
     ensures exact { Gives view_operand result (spec.stepped step place (view_operand operand)) }
 {
     let variable = target(&operand)?;
@@ -149,10 +137,7 @@ pub fn prefix(
 /// An operand with `++` or `--` behind it, which have the refusals that they have in front of one.
 /// It takes no memory.
 #[tactic(auto, unfolding(crate::specs::Operations::postfix_typing))]
-pub fn postfix(
-    operand: Operand,
-    operator: TokenKind,
-) -> Result<Operand, Stop>
+pub fn postfix(operand: Operand, operator: TokenKind) -> Result<Operand, Stop>
     ensures exact { Gives view_operand result (spec.postfix_typing (view_operand operand) operator) }
 {
     let place = operand.place;

@@ -130,11 +130,7 @@ fn equality(
 }
 
 #[tactic(auto, unfolding(crate::specs::Operations::conjunction))]
-fn conjunction(
-    alloc: Global,
-    left: Operand,
-    right: Operand,
-) -> Result<Operand, Stop>
+fn conjunction(alloc: Global, left: Operand, right: Operand) -> Result<Operand, Stop>
     ensures exact { Gives view_operand result (spec.conjunction (view_operand left) (view_operand right)) }
 {
     let place = left.place;
@@ -145,11 +141,7 @@ fn conjunction(
 }
 
 #[tactic(auto, unfolding(crate::specs::Operations::disjunction))]
-fn disjunction(
-    alloc: Global,
-    left: Operand,
-    right: Operand,
-) -> Result<Operand, Stop>
+fn disjunction(alloc: Global, left: Operand, right: Operand) -> Result<Operand, Stop>
     ensures exact { Gives view_operand result (spec.disjunction (view_operand left) (view_operand right)) }
 {
     let place = left.place;
@@ -160,11 +152,7 @@ fn disjunction(
 }
 
 #[tactic(auto, unfolding(crate::specs::Operations::exclusion))]
-fn exclusion(
-    alloc: Global,
-    left: Operand,
-    right: Operand,
-) -> Result<Operand, Stop>
+fn exclusion(alloc: Global, left: Operand, right: Operand) -> Result<Operand, Stop>
     ensures exact { Gives view_operand result (spec.exclusion (view_operand left) (view_operand right)) }
 {
     let place = left.place;
@@ -185,7 +173,9 @@ fn formed(
 {
     match form {
         None => Err(fault(ErrorKind::NotYet, left.place)),
-        Some(Form::Works(Work::Arithmetic(operator))) => arithmetic(alloc, setting, operator, left, right),
+        Some(Form::Works(Work::Arithmetic(operator))) => arithmetic(
+            alloc, setting, operator, left, right,
+        ),
         Some(Form::Works(Work::Shift(operator))) => shift(alloc, setting, operator, left, right),
         Some(Form::Order(comparison)) => order(alloc, setting, comparison, left, right),
         Some(Form::Equality(comparison)) => equality(alloc, setting, comparison, left, right),

@@ -142,11 +142,7 @@ fn with_callable(
 
 /// The functions of the script that a name can call.
 #[tactic(auto, unfolding(crate::specs::Uses::script_callables))]
-fn script_callables(
-    alloc: Global,
-    names: &Names,
-    name: &[u8],
-) -> Result<Vec<Callable>, AllocError>
+fn script_callables(alloc: Global, names: &Names, name: &[u8]) -> Result<Vec<Callable>, AllocError>
     ensures exact { IfOk result (λ v. v.items ≡ spec.script_callables names.now.functions name.now) }
 {
     let numbers = functions_named(alloc, names, name)?;
@@ -191,11 +187,7 @@ fn with_host_callables(
 
 /// All that a name can call.
 #[tactic(auto, unfolding(crate::specs::Uses::callables))]
-fn callables(
-    alloc: Global,
-    setting: &Setting<'_>,
-    name: &[u8],
-) -> Result<Vec<Callable>, AllocError>
+fn callables(alloc: Global, setting: &Setting<'_>, name: &[u8]) -> Result<Vec<Callable>, AllocError>
     ensures exact { IfOk result (λ v. v.items ≡ spec.callables setting.now name.now) }
 {
     let found = script_callables(alloc, setting.names(), name)?;
