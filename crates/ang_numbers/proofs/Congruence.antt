@@ -1,11 +1,11 @@
 -- Numbers that differ by a multiple of 2 ^ 64 have the same bits in each type.
-use Rattle.std.proofs.Common.{◌≡◌, ℕ, zero, suc, ◌+◌, ◌-◌, ◌*◌, ◌/◌, ◌%◌, ◌^◌, ◌<◌, ◌≤◌, Bool, true, false, ℤ, pos, negsuc, ◌+ℤ◌, ◌-ℤ◌, ◌*ℤ◌, neg_ℤ, unsigned_abs, int_div, int_rem, refl, sym, ap, ◌∙◌, ⊎_elim, arith, mul-le-mul_left, mod-lt, div-add-mod', w8, w16, w32, w64}
+use Rattle.std.proofs.Common.{◌≡◌, ℕ, zero, suc, ◌+◌, ◌-◌, ◌*◌, ◌/◌, ◌%◌, ◌^◌, ◌<◌, ◌≤◌, Bool, true, false, ℤ, pos, negsuc, ◌+ℤ◌, ◌-ℤ◌, ◌*ℤ◌, neg_ℤ, unsigned_abs, int_div, int_rem, refl, sym, ap, ◌∙◌, arith, mul-le-mul_left, mod-lt, div-add-mod', w8, w16, w32, w64}
 use Rattle.std.specs.Int.{Width, cast_signed, cast_unsigned, int_rem_euclid, int_wrap}
-use mir.Val.{bits}
+use mir.Val.{bits, SFits}
+use mir.ValLaws.{to_z-Fits}
 use borrow.Author.Differences.{up, down, same_in, same_out, sum_is_lem, neg_is, product_is}
 use lib.IntN.{*ℤ_comm, +ℤ_idl}
-use Rattle.std.proofs.lemmas.Int.{ints, int_rem_euclid_is}
-use Rattle.std.proofs.lemmas.Bool.{cases_lt}
+use Rattle.std.proofs.lemmas.Int.{ints, int_rem_euclid_is, of_z-to_z}
 use Rattle.ang_kinds.specs.declared.primitive.Primitive.{Primitive}
 use Rattle.ang_kinds.specs.declared.primitive.Primitive.TheVariants.{I8, I16, I32, I64, U8, U16, U32, U64, Bool as Truth}
 use Rattle.ang_meaning.specs.Numbers.{is_signed, number, number_of, bits_of}
@@ -86,13 +86,14 @@ same_product m a b c d s t =
 pub same_left : (n : ℕ) → Same (2 ^ 64) (pos (n % 2 ^ 64)) (pos n)
 same_left n = record { more = n / 2 ^ 64; less = 0; meet = ap pos (omega (arith, div-add-mod' n (2 ^ 64))) }
 
+read_from : (z : ℤ) (x : ℕ) → SFits w64 z → cast_unsigned w64 z ≡ x → Same (2 ^ 64) z (pos x)
+read_from (pos n) x f e = record { more = 0; less = 0; meet = omega (arith, ints) }
+read_from (negsuc n) x f e = let small = f.sfits in record { more = 1; less = 0; meet = omega (arith, ints) }
+
 -- the number that some bits stand for
 pub same_read : (signed : Bool) (x : ℕ) → x < 2 ^ 64 → Same (2 ^ 64) (number signed x) (pos x)
 same_read false x h = record { more = 0; less = 0; meet = refl }
-same_read true x h = ⊎_elim
-    (λ (low : x < 2 ^ 63). record { more = 0; less = 0; meet = omega (arith, ints) })
-    (λ (high : 2 ^ 63 ≤ x). record { more = 1; less = 0; meet = omega (arith, ints) })
-    (cases_lt x (2 ^ 63))
+same_read true x h = read_from (cast_signed w64 x) x (to_z-Fits w64 x (record { fits = h })) (of_z-to_z w64 x h)
 
 -- and the bits of a number that is not too large
 pub same_written : (z : ℤ) → unsigned_abs z ≤ 2 ^ 64 → Same (2 ^ 64) (pos (cast_unsigned w64 z)) z
@@ -107,19 +108,23 @@ module _ (p : Primitive) (x y : ℕ) (hx : x < 2 ^ 64) (hy : y < 2 ^ 64) where
   difference_bits =
       let less : Same (2 ^ 64) (pos (x + (2 ^ 64 - y))) (pos x -ℤ pos y) = record { more = 0; less = 1; meet = omega (arith, ints) } in
       bits_same p _ _ (same_on (2 ^ 64) (pos ((x + (2 ^ 64 - y)) % 2 ^ 64)) (pos x -ℤ pos y) (number_of p x -ℤ number_of p y)
-        (same_on (2 ^ 64) _ _ _ (same_left (x + (2 ^ 64 - y))) less)
-        (same_back (2 ^ 64) _ _ (same_difference (2 ^ 64) (number_of p x) (pos x) (number_of p y) (pos y) (same_read (is_signed p) x hx) (same_read (is_signed p) y hy))))
+      (same_on (2 ^ 64) _ _ _ (same_left (x + (2 ^ 64 - y))) less)
+      (same_back (2 ^ 64) _ _ (same_difference (2 ^ 64) (number_of p x) (pos x) (number_of p y) (pos y) (same_read (is_signed p) x hx) (same_read (is_signed p) y hy))))
 
   pub product_bits : bits_of p (pos ((x * y) % 2 ^ 64)) ≡ bits_of p (number_of p x *ℤ number_of p y)
   product_bits = bits_same p _ _ (same_on (2 ^ 64) (pos ((x * y) % 2 ^ 64)) (pos x *ℤ pos y) (number_of p x *ℤ number_of p y) (same_left (x * y)) (same_back (2 ^ 64) _ _ (same_product (2 ^ 64) (number_of p x) (pos x) (number_of p y) (pos y) (same_read (is_signed p) x hx) (same_read (is_signed p) y hy))))
 
+none_is : (signed : Bool) → number signed 0 ≡ pos 0
+none_is true = refl
+none_is false = refl
+
 module _ (p : Primitive) (x : ℕ) (hx : x < 2 ^ 64) where
   pub negated_bits : bits_of p (pos ((0 + (2 ^ 64 - x)) % 2 ^ 64)) ≡ bits_of p (neg_ℤ (number_of p x))
-  negated_bits = difference_bits p 0 x (omega arith) hx ∙ ap (bits_of p) (omega (arith, ints))
+  negated_bits = difference_bits p 0 x (omega arith) hx ∙ ap (λ z. bits_of p (z -ℤ number_of p x)) (none_is (is_signed p)) ∙ ap (bits_of p) (+ℤ_idl (neg_ℤ (number_of p x)))
 
   pub complemented_bits : bits_of p (pos (2 ^ 64 - 1 - x)) ≡ bits_of p (negsuc 0 -ℤ number_of p x)
   complemented_bits =
       let turned : Same (2 ^ 64) (pos (2 ^ 64 - 1 - x)) (negsuc 0 -ℤ pos x) = record { more = 0; less = 1; meet = omega (arith, ints) } in
       let one : Same (2 ^ 64) (negsuc 0) (negsuc 0) = record { more = 0; less = 0; meet = refl } in
       bits_same p _ _ (same_on (2 ^ 64) (pos (2 ^ 64 - 1 - x)) (negsuc 0 -ℤ pos x) (negsuc 0 -ℤ number_of p x) turned
-        (same_back (2 ^ 64) _ _ (same_difference (2 ^ 64) (negsuc 0) (negsuc 0) (number_of p x) (pos x) one (same_read (is_signed p) x hx))))
+      (same_back (2 ^ 64) _ _ (same_difference (2 ^ 64) (negsuc 0) (negsuc 0) (number_of p x) (pos x) one (same_read (is_signed p) x hx))))

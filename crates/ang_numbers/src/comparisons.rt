@@ -7,13 +7,21 @@ use ang_meaning::Comparison;
 fn less(signed: bool, x: u64, y: u64) -> bool
     ensures exact { result ≡ int_lt (number signed x) (number signed y) }
 {
-    if signed { x.cast_signed() < y.cast_signed() } else { x < y }
+    if signed {
+        x.cast_signed() < y.cast_signed()
+    } else {
+        x < y
+    }
 }
 
 fn at_most(signed: bool, x: u64, y: u64) -> bool
     ensures exact { result ≡ int_le (number signed x) (number signed y) }
 {
-    if signed { x.cast_signed() <= y.cast_signed() } else { x <= y }
+    if signed {
+        x.cast_signed() <= y.cast_signed()
+    } else {
+        x <= y
+    }
 }
 
 fn holds(what: Comparison, signed: bool, x: u64, y: u64) -> bool

@@ -1,7 +1,6 @@
 //! Numbers brought into a type.
-ghost use Rattle.std.specs.Prelude.{◌≡◌, ◌≢◌, ◌%◌, ◌^◌, pos};
-ghost use Rattle.std.specs.Int.{w64, cast_signed};
-ghost use Rattle.ang_meaning.specs.Numbers.{converted, negated, complemented, is_signed, width_of, least, number_of};
+ghost use Rattle.std.specs.Prelude.{◌≡◌, ◌≢◌, ◌<◌};
+ghost use Rattle.ang_meaning.specs.Numbers.{converted, negated, complemented, is_signed, width_of, least};
 
 use ang_kinds::Prim;
 

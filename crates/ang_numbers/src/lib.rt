@@ -8,8 +8,10 @@ mod changes;
 mod comparisons;
 mod conversions;
 mod division;
-mod shifts;
 mod operators;
+mod shifts;
+#[cfg(test)]
+mod tests;
 
 pub use changes::{Altered, change};
 pub use comparisons::{compare, deny};
