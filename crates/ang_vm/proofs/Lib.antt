@@ -1,0 +1,4 @@
+pub mod Values
+pub mod Tests
+pub mod Parts
+pub mod Operators
