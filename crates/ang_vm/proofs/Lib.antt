@@ -2,3 +2,4 @@ pub mod Values
 pub mod Tests
 pub mod Parts
 pub mod Operators
+pub mod Many
