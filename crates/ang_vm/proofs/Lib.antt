@@ -3,3 +3,4 @@ pub mod Tests
 pub mod Parts
 pub mod Operators
 pub mod Many
+pub mod Doing

@@ -145,7 +145,12 @@ pub fn change_local(
 
 /// `Drop`: the top value is given up.
 #[inline(always)]
-pub fn drop_top<S: Store>(stack: &[Slot], store: &mut S, top: usize, room: usize) -> Result<usize, Stop>
+pub fn drop_top<S: Store>(
+    stack: &[Slot],
+    store: &mut S,
+    top: usize,
+    room: usize,
+) -> Result<usize, Stop>
     requires in_room { top ≤ room }
     requires within { room ≤ length stack.now }
     ensures acts { (z : Setting) (code : Texts) → Acts z code Drop room top stack.now (S.world store.old) result

@@ -11,7 +11,9 @@ ghost use Rattle.ang_code.specs.Machine.{Texts, At, did};
 ghost use Rattle.ang_vm.specs.Stacks.{values};
 ghost use Rattle.ang_vm.specs.Arms.{Acts, done, went};
 
-use crate::operations::{compare_slots, complement_slot, convert_slot, deny_slot, negate_slot, work_slots};
+use crate::operations::{
+    compare_slots, complement_slot, convert_slot, deny_slot, negate_slot, work_slots,
+};
 use crate::stack::{peek, push};
 use crate::stop::Stop;
 use ang_kinds::{Fault, Prim};
@@ -45,7 +47,13 @@ pub fn put_answer(
 
 /// A binary operator on the two top values.
 #[inline(always)]
-pub fn do_work(stack: &mut [Slot], top: usize, room: usize, what: Arithmetic, at: Prim) -> Result<usize, Stop>
+pub fn do_work(
+    stack: &mut [Slot],
+    top: usize,
+    room: usize,
+    what: Arithmetic,
+    at: Prim,
+) -> Result<usize, Stop>
     requires in_room { top ≤ room }
     requires within { room ≤ length stack.old }
     ensures acts { (z : Setting) (code : Texts) (w : World) → Acts z code (Do (Work what at)) room top stack.old w result stack.new w }
@@ -62,7 +70,13 @@ pub fn do_work(stack: &mut [Slot], top: usize, room: usize, what: Arithmetic, at
 
 /// A comparison of the two top values.
 #[inline(always)]
-pub fn do_compare(stack: &mut [Slot], top: usize, room: usize, what: Comparison, signed: bool) -> Result<usize, Stop>
+pub fn do_compare(
+    stack: &mut [Slot],
+    top: usize,
+    room: usize,
+    what: Comparison,
+    signed: bool,
+) -> Result<usize, Stop>
     requires in_room { top ≤ room }
     requires within { room ≤ length stack.old }
     ensures acts { (z : Setting) (code : Texts) (w : World) → Acts z code (Do (Compare what signed)) room top stack.old w result stack.new w }

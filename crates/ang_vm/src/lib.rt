@@ -6,6 +6,7 @@
 #![tactic(auto)]
 
 pub mod arms;
+pub mod doing;
 pub mod many;
 pub mod operations;
 pub mod stack;

@@ -34,6 +34,12 @@ pub trait Store {
     ///
     /// # Errors
     /// The fault that the operation ends with.
-    fn perform(&mut self, table: &Table, home: u32, operation: Operation, operands: &[Slot]) -> Result<Slot, Fault>
+    fn perform(
+        &mut self,
+        table: &Table,
+        home: u32,
+        operation: Operation,
+        operands: &[Slot],
+    ) -> Result<Slot, Fault>
         ensures told { (nesting : ℕ) → Told (λ is. perform (setting_of table.now nesting) home operation (reverse operands.now) (with_inputs is (world self.old))) (λ is. done result (with_inputs is (world self.new))) };
 }

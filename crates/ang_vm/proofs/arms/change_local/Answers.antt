@@ -14,9 +14,11 @@ returns-in-Ok c =
     let deep : c.args.top ≤ length c.args.stack.now = omega (arith, c.requires.in_room, c.requires.within) in
     let near : c.args.place < c.args.top - 1 = omega (arith, c.saturating_sub.ensures) in
     let a = c.in-Ok.altered in
-    record { acts = λ z code w. change_done z code c.args.room c.args.top c.args.stack.now _ w w deep c.args.place near c.peek-operand.result c.peek-operand.ensures.exact c.args.by c.peek-old.result c.peek-old.ensures.exact c.change_slot.result c.change_slot.ensures.exact a c.in-Ok.is
-               (c.poke-2.ensures.exact ∙ ap (λ s. local_set s 0 (Bits a.given)) c.poke.ensures.exact);
-             in_room = c.requires.in_room }
+    record {
+      acts = λ z code w. change_done z code c.args.room c.args.top c.args.stack.now _ w w deep c.args.place near c.peek-operand.result c.peek-operand.ensures.exact c.args.by c.peek-old.result c.peek-old.ensures.exact c.change_slot.result c.change_slot.ensures.exact a c.in-Ok.is
+          (c.poke-2.ensures.exact ∙ ap (λ s. local_set s 0 (Bits a.given)) c.poke.ensures.exact);
+      in_room = c.requires.in_room;
+    }
 
 pub returns-in-Err : goal.returns-in-Err
 returns-in-Err c =

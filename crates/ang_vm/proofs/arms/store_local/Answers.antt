@@ -24,5 +24,7 @@ returns g c =
     let w = g.S.Store.world c.args.store.now in
     let u = g.S.Store.world c.hold.new.self in
     let near : c.args.place < c.args.top - 1 = omega (arith, c.saturating_sub.ensures) in
-    record { acts = λ z code. store_held z code c.args.room c.args.top c.args.stack.now _ w u deep c.args.place near c.peek-value.result c.peek-value.ensures.exact c.hold.result c.hold.ensures.told c.peek-old.result (g.S.Store.world c.give.new.self) c.if-not-hold.false c.peek-old.ensures.exact c.poke.ensures.exact c.give.ensures.told;
-             in_room = c.requires.in_room }
+    record {
+      acts = λ z code. store_held z code c.args.room c.args.top c.args.stack.now _ w u deep c.args.place near c.peek-value.result c.peek-value.ensures.exact c.hold.result c.hold.ensures.told c.peek-old.result (g.S.Store.world c.give.new.self) c.if-not-hold.false c.peek-old.ensures.exact c.poke.ensures.exact c.give.ensures.told;
+      in_room = c.requires.in_room;
+    }

@@ -16,8 +16,8 @@ loop-given-init g c =
 pub loop-given-preserved : goal.loop-given-preserved
 loop-given-preserved g c =
     told_then c.loop-given.invariant
-      (give_turn c.args.stack.now c.args.top c.args.count c.loop-given.given (g.S.Store.world c.loop-given.store) (g.S.Store.world c.give.new.self) c.peek-value.result
-        (omega arith) c.requires.in_use c.requires.within c.peek-value.ensures.exact c.give.ensures.told)
+    (give_turn c.args.stack.now c.args.top c.args.count c.loop-given.given (g.S.Store.world c.loop-given.store) (g.S.Store.world c.give.new.self) c.peek-value.result
+    (omega arith) c.requires.in_use c.requires.within c.peek-value.ensures.exact c.give.ensures.told)
 
 pub returns : goal.returns
 returns g c =
