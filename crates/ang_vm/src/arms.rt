@@ -9,7 +9,7 @@ ghost use Rattle.ang_meaning.specs.Setting.{Setting};
 ghost use Rattle.ang_meaning.specs.Perform.{change_of};
 ghost use Rattle.ang_meaning.specs.Results.{brought};
 ghost use Rattle.ang_code.specs.declared.instruction.Frame.{Frame};
-ghost use Rattle.ang_code.specs.declared.instruction.Instruction.TheVariants.{Load, Store, Change, Drop, Swap, SwapGlobal};
+ghost use Rattle.ang_code.specs.declared.instruction.Instruction.TheVariants.{Load, Store, Change as Changing, Drop, Swap};
 ghost use Rattle.ang_code.specs.Machine.{Texts, At, roomy};
 ghost use Rattle.ang_numbers.specs.Answers.{altered_of};
 ghost use Rattle.ang_vm.specs.Stacks.{values};
@@ -125,7 +125,7 @@ pub fn change_local(
     requires in_room { top ≤ room }
     requires within { room ≤ length stack.old }
     ensures acts { (z : Setting) (code : Texts) (w : World)
-        → Acts z code (Change by place) room top stack.old w result stack.new w }
+        → Acts z code (Changing by place) room top stack.old w result stack.new w }
     ensures in_room { IfOk result (λ n. n ≤ room) }
 {
     if place >= top.saturating_sub(1) {
