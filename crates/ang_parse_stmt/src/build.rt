@@ -10,18 +10,6 @@ use ang_lex::Token;
 use ang_tree::{Else, ForStart, Statement, Variable};
 use std::alloc::{AllocError, Global};
 
-/// The list with one more variable at its end.
-pub(crate) fn with_variable(
-    first: Vec<Variable>,
-    next: Variable,
-) -> Result<Vec<Variable>, AllocError>
-    ensures { IfOk result (λ v. map view_var v.items ≡ map view_var first.items ++ view_var next ∷ []) }
-{
-    let mut found = first;
-    found.push(next)?;
-    Ok(found)
-}
-
 /// The list with one more statement at its end.
 pub(crate) fn with_statement(
     first: Vec<Statement>,

@@ -1,4 +1,4 @@
-//! Reading variables and statements from the tokens of a script.
+//! Reading statements from the tokens of a script.
 //!
 //! Each reader is a function over slices that gives what the functional parser of `specs/` reads;
 //! `proofs/` shows that parser to be exact against the grammar of `ang_tree`.
@@ -7,9 +7,7 @@
 mod build;
 mod parts;
 mod stmt;
-mod variables;
 mod whole;
 
 pub use stmt::{block, statement, statements};
-pub use variables::{initializer, variable_named, variables_behind, variables_named};
 pub use whole::{one_tree, parse_statement};

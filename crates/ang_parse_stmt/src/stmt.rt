@@ -11,9 +11,9 @@ ghost use Rattle.ang_parse_stmt.specs.ReadStmt as read;
 
 use crate::build;
 use crate::parts::{Condition, Ending, Guarded, Head};
-use crate::variables::{ended, start};
 use ang_lex::{Token, TokenKind};
 use ang_parse_expr::{expression, expressions};
+use ang_parse_variables::{ended, start};
 use ang_read::{ReadError, a_left_paren, a_right_brace, a_right_paren, a_semicolon, a_while};
 use ang_tree::{Argument, Block, Else, Statement};
 use std::alloc::Global;

@@ -17,7 +17,7 @@ use Rattle.ang_parse_expr.specs.ReadType.{handle_of, type_of, type_named}
 use Rattle.ang_parse_expr.specs.ReadExpr.{expr, args}
 use Rattle.ang_parse_expr.proofs.SoundType.{Type_read, type_named_reads}
 use Rattle.ang_parse_expr.proofs.Sound.{IsExpr, IsArgs, expr_reads, args_at_reads}
-use Rattle.ang_parse_stmt.specs.ReadVars as r
+use Rattle.ang_parse_variables.specs.ReadVars as r
 
 -- ---- lists of items
 

@@ -21,8 +21,8 @@ use Rattle.ang_parse_expr.proofs.Stops.{is_comma, EndsList}
 use Rattle.ang_parse_expr.proofs.CompleteType.{is_at, EndsType, type_named_read}
 use Rattle.ang_parse_expr.proofs.Complete.{expr_complete, args_read}
 use Rattle.ang_parse_expr.proofs.Exactly.{size-length, listed-size}
-use Rattle.ang_parse_stmt.specs.ReadVars as r
-use Rattle.ang_parse_stmt.proofs.Lengths.{init-length}
+use Rattle.ang_parse_variables.specs.ReadVars as r
+use Rattle.ang_parse_variables.proofs.Lengths.{init-length}
 
 -- ---- expressions, by the number of the tokens
 

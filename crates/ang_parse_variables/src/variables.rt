@@ -2,18 +2,26 @@
 //!
 //! `limit` bounds the nested calls of expressions and the turns of each loop. One more than the number
 //! of tokens is always enough.
-ghost use Rattle.std.specs.Prelude.{◌≡◌, [], ◌∷◌, map};
+ghost use Rattle.std.specs.Prelude.{◌≡◌, ◌++◌, [], ◌∷◌, map, IfOk};
 ghost use Rattle.ang_read.specs.Gives.{Gives};
 ghost use Rattle.ang_read.specs.Read.{repeat};
 ghost use Rattle.ang_tree.specs.View.{view_init, view_var, view_vars, view_start, view_option};
-ghost use Rattle.ang_parse_stmt.specs.ReadVars as read;
+ghost use Rattle.ang_parse_variables.specs.ReadVars as read;
 
-use crate::build::with_variable;
 use ang_lex::{Token, TokenKind};
 use ang_parse_expr::{arguments, expression, is_type_name, type_named};
 use ang_read::{ReadError, a_name, a_semicolon, perhaps_const};
 use ang_tree::{Expression, ForStart, Handle, Initializer, TypeName, Variable, Variables};
-use std::alloc::Global;
+use std::alloc::{AllocError, Global};
+
+/// The list with one more variable at its end.
+fn with_variable(first: Vec<Variable>, next: Variable) -> Result<Vec<Variable>, AllocError>
+    ensures { IfOk result (λ v. map view_var v.items ≡ map view_var first.items ++ view_var next ∷ []) }
+{
+    let mut found = first;
+    found.push(next)?;
+    Ok(found)
+}
 
 /// Reads `[ "=" assign | args ]`: what a variable begins with.
 #[tactic(auto, unfolding(crate::specs::ReadVars::init, crate::specs::ReadVars::valued, crate::specs::ReadVars::constructed))]
@@ -174,7 +182,7 @@ fn some_ended(
 
 /// Reads `[ assign ] ";"`.
 #[tactic(auto, unfolding(crate::specs::ReadVars::ended))]
-pub(crate) fn ended(
+pub fn ended(
     alloc: Global,
     tokens: &[Token],
     limit: usize,
@@ -334,7 +342,7 @@ fn primitive<'a>(
 
 /// Reads `vars | [ assign ] ";"`.
 #[tactic(auto, unfolding(crate::specs::ReadVars::start))]
-pub(crate) fn start(
+pub fn start(
     alloc: Global,
     tokens: &[Token],
     limit: usize,

@@ -1,6 +1,6 @@
 use Rattle.std.proofs.lemmas.Result.{err_from_is_err_and}
 use Rattle.ang_read.proofs.Turns.{fails, ends_at, goes_on_at, runs_out}
-use Rattle.ang_parse_stmt.proofs.variables.other_variables.Goals as goal
+use Rattle.ang_parse_variables.proofs.variables.other_variables.Goals as goal
 
 pub returns-in_err-longer : goal.returns-in_err-longer
 returns-in_err-longer c =
