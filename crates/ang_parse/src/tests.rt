@@ -1,6 +1,8 @@
 //! Worked examples of the grammar and its errors, and the parser against a recognizer of its own.
 
+mod readers;
 mod recognizer;
+mod trees;
 
 use crate::{ParseError, parse};
 use ang_lex::lex;
@@ -44,7 +46,7 @@ fn answered(alloc: Global, text: &[u8]) -> Result<Answer, Fail> {
 
 #[test]
 fn faults_have_their_places(rt: HostRuntime) -> Result<(), Fail> {
-    let rows: [(&[u8], u32, u32, &[u8]); 8] = [
+    let rows: [(&[u8], u32, u32, &[u8]); 14] = [
         (b"void m() { return }", 1, 19, b"}"),
         (b"int f(", 1, 7, b""),
         (b"int", 1, 4, b""),
@@ -53,6 +55,15 @@ fn faults_have_their_places(rt: HostRuntime) -> Result<(), Fail> {
         (b"void m() {} else", 1, 13, b"else"),
         (b"class A { int x = 1; }", 1, 17, b"="),
         (b"import void f() \"m\";", 1, 17, b"\"m\""),
+        (b"int a = 1 + );", 1, 13, b")"),
+        (b"void f(int a b) {}", 1, 14, b"b"),
+        (b"void f(int a,) {}", 1, 14, b")"),
+        // a variable, since no parameters have a sign
+        (b"A x(B + C) {", 1, 12, b"{"),
+        // a function, since no arguments begin so
+        (b"A x(int b);", 1, 11, b";"),
+        // no parameters go on at the number, and no arguments at `)`
+        (b"A x(B, 1 + ) {", 1, 12, b")"),
     ];
     for (text, line, column, name) in rows {
         let name = Vec::from_slice(rt.alloc(), name)?;

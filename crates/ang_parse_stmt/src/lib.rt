@@ -5,6 +5,7 @@
 #![tactic(auto)]
 
 mod build;
+mod nested;
 mod parts;
 mod stmt;
 mod whole;

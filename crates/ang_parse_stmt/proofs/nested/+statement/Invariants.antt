@@ -3,7 +3,7 @@ use Rattle.ang_read.specs.Read.{repeat}
 use Rattle.ang_tree.specs.View.{view_stmts}
 use Rattle.ang_tree.specs.Stmt.{end}
 use Rattle.ang_parse_stmt.specs.ReadStmt as read
-use Rattle.ang_parse_stmt.proofs.stmt.+statement.Given as goal
+use Rattle.ang_parse_stmt.proofs.nested.+statement.Given as goal
 
 abbrev pub decreases-statement : goal.decreases-statement
 decreases-statement l = 8 * l.depth
