@@ -1,4 +1,4 @@
-use crate::{List, Mask};
+use ang_kinds::{List, Mask};
 use std::alloc::AllocError;
 
 #[test]

@@ -1,6 +1,8 @@
 //! Worked declarations: those of a profile that has every kind of entity, and refused ones.
 
-use crate::{DeclError, parse_factory, parse_function, parse_method, parse_property, parse_type};
+use ang_decl::{
+    DeclError, parse_factory, parse_function, parse_method, parse_property, parse_type,
+};
 use ang_kinds::{Param, Pass, Prim, Shape, Signature, TypeRef};
 use std::alloc::Global;
 use std::test::Fail;

@@ -1,5 +1,5 @@
-use Rattle.ang_drivers.proofs.Living.{live_added, live_released}
-use Rattle.ang_drivers.proofs.tests.objects.ends.Goals as goal
+use Rattle.api_tests.proofs.Living.{live_added, live_released}
+use Rattle.api_tests.proofs.drivers.objects.ends.Goals as goal
 
 pub release-requires : goal.release-requires
 release-requires g c = record { key_live = live_added _ _ _ c.if-not-add_ref.ensures.law }

@@ -1,6 +1,7 @@
 //! What the tokens of a text are, on worked examples.
 
-use crate::TokenKind::{
+use ang_kinds::{Place, Prim};
+use ang_lex::TokenKind::{
     Ampersand, AmpersandAssign, And, Assign, At, Break, Caret, CaretAssign, Cast, Class, Colon,
     Comma, Const, Continue, Decrement, Do, Dot, Else, Equal, False, Final, For, From, Greater,
     GreaterEqual, If, Import, In, InOut, Increment, Interface, Is, LeftBrace, LeftParen, Less,
@@ -11,8 +12,7 @@ use crate::TokenKind::{
     ShiftRightAssign, Slash, SlashAssign, Star, StarAssign, Super, Text, This, Tilde, True, Void,
     While, Xor,
 };
-use crate::{LexError, Span, Token, TokenKind, is_name, lex, number};
-use ang_kinds::{Place, Prim};
+use ang_lex::{LexError, Span, Token, TokenKind, is_name, lex, number};
 use std::alloc::Global;
 use std::process::Abort;
 use std::test::Fail;
@@ -305,7 +305,7 @@ fn numbers_have_types_and_values(rt: HostRuntime) {
         (b"x", Prim::I32, 0),
     ];
     for (text, ty, value) in numbers {
-        assert_eq!(rt; number(text), crate::Number { ty, value }, "{text:?}");
+        assert_eq!(rt; number(text), ang_lex::Number { ty, value }, "{text:?}");
     }
 }
 

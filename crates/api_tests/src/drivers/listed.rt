@@ -1,7 +1,7 @@
 ghost use Rattle.std.specs.Prelude.{◌≡◌, ◌∷◌, [], IfOk};
 ghost use Rattle.ang_kinds.specs.declared.value.Value.TheVariants.{Int};
 
-use crate::Console;
+use ang_drivers::Console;
 use ang_host::{
     Answer, Driver, Drivers, HostEvent, HostReply, Made, call_listed, make_listed, read_listed,
     write_listed,

@@ -1,5 +1,5 @@
-use Rattle.ang_drivers.proofs.Living.{live_made, live_added, live_released}
-use Rattle.ang_drivers.proofs.tests.objects.lives_twice.Goals as goal
+use Rattle.api_tests.proofs.Living.{live_made, live_added, live_released}
+use Rattle.api_tests.proofs.drivers.objects.lives_twice.Goals as goal
 
 pub add_ref-requires-clause-key_live : goal.add_ref-requires-clause-key_live
 add_ref-requires-clause-key_live g c = live_made _ _ _ _ _ c.in-Key.ensures.moved.moved

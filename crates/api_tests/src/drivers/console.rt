@@ -1,4 +1,4 @@
-use crate::Console;
+use ang_drivers::Console;
 use ang_host::{Answer, Driver, Made};
 use ang_kinds::Value;
 use std::alloc::AllocError;

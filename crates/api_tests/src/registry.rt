@@ -1,7 +1,7 @@
 //! Outside examples: a whole profile, the refusals that the documents name, limits, views, and each call once.
 
-use crate::{EntryKind, RegError, Registry};
 use ang_kinds::{EntityNo, Mask};
+use ang_registry::{EntryKind, RegError, Registry};
 use std::alloc::Global;
 use std::test::Fail;
 

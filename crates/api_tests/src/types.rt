@@ -1,5 +1,5 @@
-use crate::{ArgType, Candidate, Lineage, Pick, common, rank, resolve};
 use ang_kinds::{List, Pass, Prim};
+use ang_types::{ArgType, Candidate, Lineage, Pick, common, rank, resolve};
 use std::alloc::{AllocError, Global};
 
 // interfaces and classes by number: `class Base : Shape {}`, `class Derived : Base {}`, and one apart

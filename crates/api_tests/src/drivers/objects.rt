@@ -2,7 +2,7 @@ ghost use Rattle.std.specs.Prelude.{◌≡◌, ◌<◌, length};
 ghost use Rattle.ang_host.specs.Boxes.{members};
 ghost use Rattle.ang_host.specs.Laws.{IsLive, AreLive};
 
-use crate::{Cell, Console, Counter};
+use ang_drivers::{Cell, Console, Counter};
 use ang_host::{Answer, Driver, Drivers, DriversError, Made};
 use ang_kinds::Value;
 use std::alloc::AllocError;
