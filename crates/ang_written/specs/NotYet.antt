@@ -1,7 +1,7 @@
 -- Declarations beyond what is built so far (docs/LANGUAGE.md, "What is built so far"; what comes when is this profile's own):
 -- classes, interfaces and imports, and declarations that use object types, host functions that take or give objects, handles,
 -- `this`, `null`, `cast`, `is`, `!is` or a member.
-use Rattle.std.specs.Prelude.{ℕ, Bool, true, false, ◌&&◌, ◌||◌, bytes_eq, is_some, List, [], ◌∷◌, Option, Some, None}
+use Rattle.std.specs.Prelude.{◌≡◌, ℕ, Bool, true, false, ◌&&◌, ◌||◌, bytes_eq, is_some, List, [], ◌∷◌, Option, Some, None}
 use Rattle.std.specs.List.{list_any, flat_map}
 use Rattle.ang_kinds.specs.declared.error.Error.{Error}
 use Rattle.ang_kinds.specs.declared.error.ErrorKind.TheVariants as kind
@@ -45,6 +45,23 @@ token_or (Some t) next = t
 
 abbrev pub first_of_type : TypeName → Token
 first_of_type y = token_or y.constant y.name
+
+-- the first token of a declaration
+abbrev pub first_token : Decl → Token
+first_token (class final word x bases left members right) = token_or final word
+first_token (interface word x bases left methods right) = word
+first_token (import word y x ps from module_name semicolon) = word
+first_token (function y x ps b) = first_of_type y
+first_token (globals vs) = first_of_type vs.declared_type
+first_token (empty semicolon) = semicolon
+
+-- the tokens begin with this one
+abbrev pub BeginsWith : Token → List Token → Type 0
+BeginsWith t ts = (rest : List Token) × (ts ≡ t ∷ rest)
+
+-- the error of a declaration that is not built yet
+abbrev pub beyond : Decl → Error
+beyond d = fault_at kind.NotYet (first_token d).place
 
 -- ---- host functions that take or give objects
 

@@ -7,6 +7,7 @@
 
 mod borrowed;
 mod host;
+pub mod laws;
 mod not_yet;
 mod sources;
 mod spelling;

@@ -408,7 +408,11 @@ fn refuse_section(
 
 /// The errors of all declarations that are beyond what is built, each at its first token, in order.
 #[tactic(auto, unfolding(crate::specs::NotYet::not_yet))]
-pub fn not_yet_errors(alloc: Global, view: &View, scripts: &[Script]) -> Result<Vec<Error>, AllocError>
+pub fn not_yet_errors(
+    alloc: Global,
+    view: &View,
+    scripts: &[Script],
+) -> Result<Vec<Error>, AllocError>
     ensures exact { IfOk result (λ errors. errors.items ≡ spec.not_yet view.now (list_map source_of scripts.now)) }
 {
     let mut errors = Vec::new(alloc);

@@ -2,9 +2,9 @@
 ghost use Rattle.std.specs.Prelude.{◌≡◌};
 ghost use Rattle.ang_written.specs.Spellings as spec;
 
+use crate::borrowed::Text;
 use crate::sources::text_at;
 use crate::types::pass_of;
-use crate::borrowed::Text;
 use ang_kinds::{Param, Pass, Prim, Shape, TypeRef};
 use ang_lex::TokenKind;
 use ang_tree::{Handle, Parameter, TypeName};

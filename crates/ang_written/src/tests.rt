@@ -69,7 +69,10 @@ fn tokens_have_texts(rt: HostRuntime) -> Result<(), Fail> {
     let nope = token(TokenKind::Name, 5, 9);
     assert_eq!(rt; text_at(text, &nope), b"Nope".as_slice());
     assert_eq!(rt; copy_at(alloc, text, &nope)?.as_slice(), b"Nope".as_slice());
-    assert_eq!(rt; name_at(alloc, text, &Some(nope))?.as_slice(), b"Nope".as_slice());
+    assert_eq!(rt;
+        name_at(alloc, text, &Some(nope))?.as_slice(),
+        b"Nope".as_slice()
+    );
     assert_eq!(rt; name_at(alloc, text, &None)?.as_slice(), b"".as_slice());
     let error = error_at(alloc, text, ErrorKind::UnknownType, &nope)?;
     assert!(rt; is_error(&error, ErrorKind::UnknownType, 6, b"Nope"));
