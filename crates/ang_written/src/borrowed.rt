@@ -2,7 +2,7 @@
 use ang_tree::Parameter;
 use std::marker::Model;
 
-/// Bytes of a section.
+/// Bytes of a section, which contracts see as the list of them.
 #[derive(Drop)]
 pub struct Text<'a> {
     bytes: &'a [u8],
@@ -19,12 +19,14 @@ impl<'a> Model for Text<'a> {
 impl<'a> Text<'a> {
     ghost use Rattle.std.specs.Prelude.{◌≡◌};
 
+    /// These bytes.
     pub fn new(bytes: &'a [u8]) -> Text<'a>
         ensures { result ≡ bytes.now }
     {
         Text { bytes }
     }
 
+    /// The bytes.
     pub fn bytes(&self) -> &'a [u8]
         ensures { result.now ≡ self.now }
     {
@@ -32,7 +34,7 @@ impl<'a> Text<'a> {
     }
 }
 
-/// The parameters of a function.
+/// The parameters of a function, which contracts see as the list of them.
 #[derive(Drop)]
 pub struct WrittenParameters<'a> {
     items: &'a [Parameter],
@@ -50,12 +52,14 @@ impl<'a> Model for WrittenParameters<'a> {
 impl<'a> WrittenParameters<'a> {
     ghost use Rattle.std.specs.Prelude.{◌≡◌};
 
+    /// These parameters.
     pub fn new(items: &'a [Parameter]) -> WrittenParameters<'a>
         ensures { result ≡ items.now }
     {
         WrittenParameters { items }
     }
 
+    /// The parameters, in order.
     pub fn items(&self) -> &'a [Parameter]
         ensures { result.now ≡ self.now }
     {

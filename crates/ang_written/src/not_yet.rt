@@ -406,7 +406,10 @@ fn refuse_section(
     Ok(())
 }
 
-/// The errors of all declarations that are beyond what is built, each at its first token, in order.
+/// The errors of all declarations that are beyond what is built, in order: `NotYet`, without a name, at the
+/// declaration's first token, and once for each name of a declaration of globals (docs/LANGUAGE.md, "Names of a build").
+///
+/// The only error is want of memory.
 #[tactic(auto, unfolding(crate::specs::NotYet::not_yet))]
 pub fn not_yet_errors(
     alloc: Global,

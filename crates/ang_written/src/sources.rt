@@ -6,7 +6,7 @@ use ang_kinds::{Error, ErrorKind, List, Place};
 use ang_lex::Token;
 use std::alloc::{AllocError, Global};
 
-/// The text of a token in its section's bytes.
+/// The text of a token in its section's bytes: those of its span, as far as there are any.
 pub fn text_at<'a>(text: &'a [u8], token: &Token) -> &'a [u8]
     ensures exact { result.now ≡ spec.text_of text.now token.now }
 {
@@ -15,7 +15,9 @@ pub fn text_at<'a>(text: &'a [u8], token: &Token) -> &'a [u8]
     &text[start..end]
 }
 
-/// A copy of a token's text, or nothing where no token is written.
+/// A copy of a token's text, or an empty one where no token is written.
+///
+/// The only error is want of memory.
 pub fn name_at(alloc: Global, text: &[u8], token: &Option<Token>) -> Result<List<u8>, AllocError>
     ensures exact { IfOk result (λ name. name ≡ spec.name_of text.now token.now) }
 {
@@ -26,6 +28,8 @@ pub fn name_at(alloc: Global, text: &[u8], token: &Option<Token>) -> Result<List
 }
 
 /// A copy of a token's text.
+///
+/// The only error is want of memory.
 pub fn copy_at(alloc: Global, text: &[u8], token: &Token) -> Result<List<u8>, AllocError>
     ensures exact { IfOk result (λ name. name ≡ spec.text_of text.now token.now) }
 {
@@ -33,7 +37,7 @@ pub fn copy_at(alloc: Global, text: &[u8], token: &Token) -> Result<List<u8>, Al
     Ok(List::from_vec(copy))
 }
 
-/// An error at a token, with the token's text as its name.
+/// An error of this kind at a token, with the token's text as its name.
 ///
 /// The only error is want of memory.
 pub fn error_at(

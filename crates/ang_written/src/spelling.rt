@@ -166,7 +166,10 @@ fn is_same_as_host_parameter(text: &[u8], one: &Parameter, other: &Param) -> boo
     is_same(&spelling_of(text, one), &host_spelling_of(other))
 }
 
-/// Whether functions with these parameters can't overload one name.
+/// Whether functions with these parameters can't overload one name (docs/LANGUAGE.md, "Names of a build"): they are as
+/// many, and each is spelled as the other is, in its type, in `const` and in its passing. Names don't count.
+///
+/// `text` and `other_text` are the sections in which they stand. It takes no memory.
 pub fn have_same_types(
     text: &[u8],
     params: &[Parameter],
@@ -181,7 +184,10 @@ pub fn have_same_types(
         ))
 }
 
-/// Whether a function with these parameters can't overload a host function with those.
+/// Whether a function with these parameters can't overload a host function with those, by the same rule as
+/// `have_same_types`.
+///
+/// `text` is the section in which they stand. It takes no memory.
 pub fn have_same_types_as_host(text: &[u8], params: &[Parameter], others: &[Param]) -> bool
     ensures exact { result ≡ spec.same_as_host text.now params.now others.now }
 {

@@ -96,7 +96,8 @@ fn pass_in(direction: &Option<Token>) -> Pass
     }
 }
 
-/// How an argument is passed. `&` alone is `&inout`.
+/// How an argument is passed, by what stands behind the parameter's type: `&` alone is `&inout` (the AngelScript
+/// manual, "Parameter references").
 pub fn pass_of(reference: &Option<Reference>) -> Pass
     ensures exact { result ≡ spec.pass_of reference.now }
 {
@@ -129,7 +130,7 @@ fn passed(pass: Pass, meaning: Result<ArgType, ErrorKind>) -> Result<ArgType, Er
 }
 
 /// The type of a parameter, with its passing: as `value_type_of`, but that `&inout` of a primitive type or
-/// of a handle is `BadType`.
+/// of a handle is `BadType`. It takes no memory.
 #[tactic(auto, unfolding(crate::specs::Types::parameter_type_of))]
 pub fn parameter_type_of(
     view: &View,
