@@ -19,8 +19,8 @@ use Rattle.ang_names.specs.declared.host.HostFunction.{HostFunction}
 use Rattle.ang_names.specs.declared.host.HostGlobal.{HostGlobal}
 use Rattle.ang_names.specs.Lookup.{functions_named, function_at, global_named, global_at, candidate_of}
 use Rattle.ang_names.specs.HostNames.{view_functions_named, view_global_named}
-use Rattle.ang_typing.specs.declared.refusal.Asks.{Asks}
-use Rattle.ang_typing.specs.declared.refusal.Asks.TheVariants as asks
+use Rattle.ang_operators.specs.declared.refusal.Asks.{Asks}
+use Rattle.ang_operators.specs.declared.refusal.Asks.TheVariants as asks
 use Rattle.ang_typing.specs.declared.scope.Pair.{Pair}
 use Rattle.ang_typing.specs.declared.uses.Callee.{Callee}
 use Rattle.ang_typing.specs.declared.uses.Callee.TheVariants as callee

@@ -2,7 +2,7 @@
 ghost use Rattle.std.specs.Prelude.{◌≡◌, ◌++◌, ◌∷◌, [], IfOk, OnOk, slice_get, map as list_map, option_map, option_to_list};
 ghost use Rattle.ang_names.specs.Lookup.{function_at};
 ghost use Rattle.ang_typing.specs.Uses as spec;
-ghost use Rattle.ang_typing.specs.declared.refusal.Asks.TheVariants as asks;
+ghost use Rattle.ang_operators.specs.declared.refusal.Asks.TheVariants as asks;
 
 use crate::scope::{Pair, find_pair};
 use crate::setting::Setting;

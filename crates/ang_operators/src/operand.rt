@@ -1,4 +1,9 @@
 //! Expressions that were typed.
+ghost use Rattle.std.specs.Prelude.{◌≡◌};
+ghost use Rattle.ang_typed.specs.View.{view_expr};
+ghost use Rattle.ang_operators.specs.Operands as spec;
+ghost use Rattle.ang_operators.specs.View.{view_operand};
+
 use ang_kinds::Place;
 use ang_lex::Token;
 use ang_typed::{Expression, Variable};
@@ -28,4 +33,16 @@ pub struct Operand {
     pub tree: Expression,
     /// The variable whose name it is, in parentheses or not.
     pub named: Option<NamedVariable>,
+}
+
+/// An expression that is no variable's name.
+pub fn plain_operand(place: Place, ty: ArgType, tree: Expression) -> Operand
+    ensures exact { view_operand result ≡ spec.operand place ty (view_expr tree) }
+{
+    Operand {
+        place,
+        ty,
+        tree,
+        named: None,
+    }
 }

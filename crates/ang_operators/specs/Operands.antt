@@ -8,12 +8,11 @@ use Rattle.ang_kinds.specs.declared.primitive.Primitive.TheVariants as p
 use Rattle.ang_types.specs.declared.arg_type.ArgType.{ArgType}
 use Rattle.ang_types.specs.declared.arg_type.ArgType.TheVariants as type
 use Rattle.ang_types.specs.Integers.{is_integer}
-use Rattle.ang_types.specs.Ranks.{rank_of}
+use Rattle.ang_types.specs.Ranks.{Lines, rank_of}
 use Rattle.ang_typed.specs.declared.expression.Variable.{Variable}
 use Rattle.ang_typed.specs.Typed as t
-use Rattle.ang_typing.specs.declared.operand.NamedVariable.{NamedVariable}
-use Rattle.ang_typing.specs.Scope.{Setting}
-use Rattle.ang_typing.specs.Refusals.{Judged, ◌>>=◌, fault_at, refused_at}
+use Rattle.ang_operators.specs.declared.operand.NamedVariable.{NamedVariable}
+use Rattle.ang_operators.specs.Refusals.{Judged, ◌>>=◌, fault_at, refused_at}
 
 -- An expression that was typed: the place of its first token, its type, its resolved tree, and the variable whose name it is, in
 -- parentheses or not.
@@ -40,8 +39,8 @@ fit_by (Some zero) ty a = Ok a.tree
 fit_by (Some (suc n)) ty a = Ok (conversion a.ty ty a.tree)
 
 -- The operand as a value of this type; `BadConversion` where it does not convert by itself.
-unfoldable pub fit : Setting → ArgType → Operand → Judged t.Expr
-fit s ty a = fit_by (rank_of s.lines a.ty ty) ty a
+unfoldable pub fit : Lines → ArgType → Operand → Judged t.Expr
+fit lines ty a = fit_by (rank_of lines a.ty ty) ty a
 
 -- ---- what an operator wants
 

@@ -1,7 +1,7 @@
 //! Why an expression has no meaning.
 ghost use Rattle.std.specs.Prelude.{◌≡◌};
-ghost use Rattle.ang_typing.specs.Refusals as spec;
-ghost use Rattle.ang_typing.specs.declared.refusal.Stop.TheVariants.{Memory};
+ghost use Rattle.ang_operators.specs.Refusals as spec;
+ghost use Rattle.ang_operators.specs.declared.refusal.Stop.TheVariants.{Memory};
 
 use ang_kinds::{ErrorKind, List, Place};
 use ang_lex::Token;

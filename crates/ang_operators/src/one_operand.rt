@@ -1,31 +1,31 @@
 //! One operand: literals, operators in front of it and behind it, and conversions.
 ghost use Rattle.std.specs.Prelude.{◌≡◌};
 ghost use Rattle.ang_typed.specs.Typed as tree;
-ghost use Rattle.ang_typing.specs.Operands as operands;
-ghost use Rattle.ang_typing.specs.Operations as spec;
-ghost use Rattle.ang_typing.specs.Refusals.{Gives};
-ghost use Rattle.ang_typing.specs.View.{view_operand};
+ghost use Rattle.ang_operators.specs.Operands as operands;
+ghost use Rattle.ang_operators.specs.Operations as spec;
+ghost use Rattle.ang_operators.specs.Refusals.{Gives};
+ghost use Rattle.ang_operators.specs.View.{view_operand};
 
 use crate::fitting::{fit, integer, target, truth};
-use crate::operand::Operand;
+use crate::operand::{NamedVariable, Operand, plain_operand};
 use crate::refusal::{Stop, fault};
-use crate::setting::Setting;
 use crate::trees::{complement, negate, not};
-use crate::two_operands::plain_operand;
 use ang_kinds::{ErrorKind, Place, Prim};
 use ang_lex::{Token, TokenKind, number};
 use ang_typed::{Expression, StepKind};
-use ang_types::{ArgType, common};
+use ang_types::{ArgType, Lineage, common};
 use std::alloc::Global;
 
-/// A number, `true` or `false`. It takes no memory.
+/// A number, `true` or `false`, of which `text` are the bytes. It takes no memory.
+///
+/// `NotYet` at any other token.
 #[tactic(auto, unfolding(crate::specs::Operations::literal_typing))]
-pub fn literal(setting: &Setting<'_>, token: &Token) -> Result<Operand, Stop>
-    ensures exact { Gives view_operand result (spec.literal_typing setting.now token.now) }
+pub fn literal(token: &Token, text: &[u8]) -> Result<Operand, Stop>
+    ensures exact { Gives view_operand result (spec.literal_typing token.now text.now) }
 {
     match token.kind {
         TokenKind::Number => {
-            let written = number(setting.text_at(token).bytes());
+            let written = number(text);
             let tree = Expression::Number {
                 ty: written.ty,
                 value: written.value,
@@ -47,15 +47,15 @@ fn truth_literal(place: Place, value: bool) -> Operand
 #[tactic(auto, unfolding(crate::specs::Operations::negated))]
 fn negated(
     alloc: Global,
-    setting: &Setting<'_>,
+    lineage: &Lineage,
     place: Place,
     operand: Operand,
 ) -> Result<Operand, Stop>
-    ensures exact { Gives view_operand result (spec.negated setting.now place (view_operand operand)) }
+    ensures exact { Gives view_operand result (spec.negated lineage.now place (view_operand operand)) }
 {
     let own = integer(&operand)?;
     let ty = common(own, own);
-    let value = fit(alloc, setting, ArgType::Plain(ty), operand)?;
+    let value = fit(alloc, lineage, ArgType::Plain(ty), operand)?;
     let tree = negate(alloc, ty, value)?;
     Ok(plain_operand(place, ArgType::Plain(ty), tree))
 }
@@ -63,15 +63,15 @@ fn negated(
 #[tactic(auto, unfolding(crate::specs::Operations::complemented))]
 fn complemented(
     alloc: Global,
-    setting: &Setting<'_>,
+    lineage: &Lineage,
     place: Place,
     operand: Operand,
 ) -> Result<Operand, Stop>
-    ensures exact { Gives view_operand result (spec.complemented setting.now place (view_operand operand)) }
+    ensures exact { Gives view_operand result (spec.complemented lineage.now place (view_operand operand)) }
 {
     let own = integer(&operand)?;
     let ty = common(own, own);
-    let value = fit(alloc, setting, ArgType::Plain(ty), operand)?;
+    let value = fit(alloc, lineage, ArgType::Plain(ty), operand)?;
     let tree = complement(alloc, ty, value)?;
     Ok(plain_operand(place, ArgType::Plain(ty), tree))
 }
@@ -79,15 +79,15 @@ fn complemented(
 #[tactic(auto, unfolding(crate::specs::Operations::raised_operand))]
 fn raised_operand(
     alloc: Global,
-    setting: &Setting<'_>,
+    lineage: &Lineage,
     place: Place,
     operand: Operand,
 ) -> Result<Operand, Stop>
-    ensures exact { Gives view_operand result (spec.raised_operand setting.now place (view_operand operand)) }
+    ensures exact { Gives view_operand result (spec.raised_operand lineage.now place (view_operand operand)) }
 {
     let own = integer(&operand)?;
     let ty = common(own, own);
-    let tree = fit(alloc, setting, ArgType::Plain(ty), operand)?;
+    let tree = fit(alloc, lineage, ArgType::Plain(ty), operand)?;
     Ok(plain_operand(place, ArgType::Plain(ty), tree))
 }
 
@@ -117,17 +117,17 @@ fn stepped(step: StepKind, place: Place, operand: Operand) -> Result<Operand, St
 #[tactic(auto, unfolding(crate::specs::Operations::prefix_typing))]
 pub fn prefix(
     alloc: Global,
-    setting: &Setting<'_>,
+    lineage: &Lineage,
     operator: &Token,
     operand: Operand,
 ) -> Result<Operand, Stop>
-    ensures exact { Gives view_operand result (spec.prefix_typing setting.now operator.now (view_operand operand)) }
+    ensures exact { Gives view_operand result (spec.prefix_typing lineage.now operator.now (view_operand operand)) }
 {
     match operator.kind {
         TokenKind::Not => denied(alloc, operator.place, operand),
-        TokenKind::Minus => negated(alloc, setting, operator.place, operand),
-        TokenKind::Plus => raised_operand(alloc, setting, operator.place, operand),
-        TokenKind::Tilde => complemented(alloc, setting, operator.place, operand),
+        TokenKind::Minus => negated(alloc, lineage, operator.place, operand),
+        TokenKind::Plus => raised_operand(alloc, lineage, operator.place, operand),
+        TokenKind::Tilde => complemented(alloc, lineage, operator.place, operand),
         TokenKind::Increment => stepped(StepKind::IncrementBefore, operator.place, operand),
         TokenKind::Decrement => stepped(StepKind::DecrementBefore, operator.place, operand),
         _ => Err(fault(ErrorKind::NotYet, operator.place)),
@@ -154,17 +154,38 @@ pub fn postfix(operand: Operand, operator: TokenKind) -> Result<Operand, Stop>
 #[tactic(auto, unfolding(crate::specs::Operations::convert_typing))]
 pub fn convert(
     alloc: Global,
-    setting: &Setting<'_>,
+    lineage: &Lineage,
     word: &Token,
     operand: Operand,
 ) -> Result<Operand, Stop>
-    ensures exact { Gives view_operand result (spec.convert_typing setting.now word.now (view_operand operand)) }
+    ensures exact { Gives view_operand result (spec.convert_typing lineage.now word.now (view_operand operand)) }
 {
     match word.kind {
         TokenKind::Primitive(ty) => {
-            let tree = fit(alloc, setting, ArgType::Plain(ty), operand)?;
+            let tree = fit(alloc, lineage, ArgType::Plain(ty), operand)?;
             Ok(plain_operand(word.place, ArgType::Plain(ty), tree))
         }
         _ => Err(fault(ErrorKind::NotYet, word.place)),
+    }
+}
+
+fn inside(named: Option<NamedVariable>) -> Option<NamedVariable>
+    ensures exact { result ≡ spec.inside named }
+{
+    let mut named = named?;
+    named.bare = false;
+    Some(named)
+}
+
+/// An expression in parentheses that begin at this place. A name in them is still a target, but no bare name.
+/// It takes no memory.
+pub fn group(place: Place, operand: Operand) -> Operand
+    ensures exact { view_operand result ≡ spec.group_typing place (view_operand operand) }
+{
+    Operand {
+        place,
+        ty: operand.ty,
+        tree: operand.tree,
+        named: inside(operand.named),
     }
 }

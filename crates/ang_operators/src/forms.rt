@@ -1,6 +1,6 @@
 //! What the operators of the grammar do.
 ghost use Rattle.std.specs.Prelude.{◌≡◌};
-ghost use Rattle.ang_typing.specs.Forms as spec;
+ghost use Rattle.ang_operators.specs.Forms as spec;
 
 use ang_lex::TokenKind;
 use ang_typed::{Comparison, Operator};

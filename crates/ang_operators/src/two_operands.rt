@@ -1,49 +1,34 @@
 //! Two operands with a binary operator between them.
 ghost use Rattle.std.specs.Prelude.{◌≡◌};
-ghost use Rattle.ang_typed.specs.View.{view_expr};
-ghost use Rattle.ang_typing.specs.Operands as operands;
-ghost use Rattle.ang_typing.specs.Operations as spec;
-ghost use Rattle.ang_typing.specs.Refusals.{Gives};
-ghost use Rattle.ang_typing.specs.View.{view_operand};
+ghost use Rattle.ang_operators.specs.Operations as spec;
+ghost use Rattle.ang_operators.specs.Refusals.{Gives};
+ghost use Rattle.ang_operators.specs.View.{view_operand};
 
 use crate::fitting::{fit, integer, truth};
 use crate::forms::{Form, Work, binary_form};
-use crate::operand::Operand;
+use crate::operand::{Operand, plain_operand};
 use crate::refusal::{Stop, fault};
-use crate::setting::Setting;
 use crate::trees::{and, compare, operate, or};
-use ang_kinds::{ErrorKind, Place, Prim};
+use ang_kinds::{ErrorKind, Prim};
 use ang_lex::TokenKind;
-use ang_typed::{Comparison, Expression, Operator};
-use ang_types::{ArgType, common};
+use ang_typed::{Comparison, Operator};
+use ang_types::{ArgType, Lineage, common};
 use std::alloc::Global;
-
-/// An expression that is no variable's name.
-pub fn plain_operand(place: Place, ty: ArgType, tree: Expression) -> Operand
-    ensures exact { view_operand result ≡ operands.operand place ty (view_expr tree) }
-{
-    Operand {
-        place,
-        ty,
-        tree,
-        named: None,
-    }
-}
 
 /// Both operands made values of the type in which the operator works.
 fn worked_in(
     alloc: Global,
-    setting: &Setting<'_>,
+    lineage: &Lineage,
     ty: Prim,
     operator: Operator,
     left: Operand,
     right: Operand,
 ) -> Result<Operand, Stop>
-    ensures exact { Gives view_operand result (spec.worked_in setting.now ty operator (view_operand left) (view_operand right)) }
+    ensures exact { Gives view_operand result (spec.worked_in lineage.now ty operator (view_operand left) (view_operand right)) }
 {
     let place = left.place;
-    let left = fit(alloc, setting, ArgType::Plain(ty), left)?;
-    let right = fit(alloc, setting, ArgType::Plain(ty), right)?;
+    let left = fit(alloc, lineage, ArgType::Plain(ty), left)?;
+    let right = fit(alloc, lineage, ArgType::Plain(ty), right)?;
     let tree = operate(alloc, operator, ty, left, right)?;
     Ok(plain_operand(place, ArgType::Plain(ty), tree))
 }
@@ -51,47 +36,47 @@ fn worked_in(
 #[tactic(auto, unfolding(crate::specs::Operations::arithmetic))]
 fn arithmetic(
     alloc: Global,
-    setting: &Setting<'_>,
+    lineage: &Lineage,
     operator: Operator,
     left: Operand,
     right: Operand,
 ) -> Result<Operand, Stop>
-    ensures exact { Gives view_operand result (spec.arithmetic setting.now operator (view_operand left) (view_operand right)) }
+    ensures exact { Gives view_operand result (spec.arithmetic lineage.now operator (view_operand left) (view_operand right)) }
 {
     let own = integer(&left)?;
     let other = integer(&right)?;
-    worked_in(alloc, setting, common(own, other), operator, left, right)
+    worked_in(alloc, lineage, common(own, other), operator, left, right)
 }
 
 #[tactic(auto, unfolding(crate::specs::Operations::shift))]
 fn shift(
     alloc: Global,
-    setting: &Setting<'_>,
+    lineage: &Lineage,
     operator: Operator,
     left: Operand,
     right: Operand,
 ) -> Result<Operand, Stop>
-    ensures exact { Gives view_operand result (spec.shift setting.now operator (view_operand left) (view_operand right)) }
+    ensures exact { Gives view_operand result (spec.shift lineage.now operator (view_operand left) (view_operand right)) }
 {
     let own = integer(&left)?;
     let _ = integer(&right)?;
-    worked_in(alloc, setting, common(own, own), operator, left, right)
+    worked_in(alloc, lineage, common(own, own), operator, left, right)
 }
 
 /// Both operands made values of the type in which they are compared.
 fn compared_in(
     alloc: Global,
-    setting: &Setting<'_>,
+    lineage: &Lineage,
     ty: Prim,
     comparison: Comparison,
     left: Operand,
     right: Operand,
 ) -> Result<Operand, Stop>
-    ensures exact { Gives view_operand result (spec.compared_in setting.now ty comparison (view_operand left) (view_operand right)) }
+    ensures exact { Gives view_operand result (spec.compared_in lineage.now ty comparison (view_operand left) (view_operand right)) }
 {
     let place = left.place;
-    let left = fit(alloc, setting, ArgType::Plain(ty), left)?;
-    let right = fit(alloc, setting, ArgType::Plain(ty), right)?;
+    let left = fit(alloc, lineage, ArgType::Plain(ty), left)?;
+    let right = fit(alloc, lineage, ArgType::Plain(ty), right)?;
     let tree = compare(alloc, comparison, ty, left, right)?;
     Ok(plain_operand(place, ArgType::Plain(Prim::Bool), tree))
 }
@@ -99,33 +84,33 @@ fn compared_in(
 #[tactic(auto, unfolding(crate::specs::Operations::order))]
 fn order(
     alloc: Global,
-    setting: &Setting<'_>,
+    lineage: &Lineage,
     comparison: Comparison,
     left: Operand,
     right: Operand,
 ) -> Result<Operand, Stop>
-    ensures exact { Gives view_operand result (spec.order setting.now comparison (view_operand left) (view_operand right)) }
+    ensures exact { Gives view_operand result (spec.order lineage.now comparison (view_operand left) (view_operand right)) }
 {
     let own = integer(&left)?;
     let other = integer(&right)?;
-    compared_in(alloc, setting, common(own, other), comparison, left, right)
+    compared_in(alloc, lineage, common(own, other), comparison, left, right)
 }
 
 #[tactic(auto, unfolding(crate::specs::Operations::equality))]
 fn equality(
     alloc: Global,
-    setting: &Setting<'_>,
+    lineage: &Lineage,
     comparison: Comparison,
     left: Operand,
     right: Operand,
 ) -> Result<Operand, Stop>
-    ensures exact { Gives view_operand result (spec.equality setting.now comparison (view_operand left) (view_operand right)) }
+    ensures exact { Gives view_operand result (spec.equality lineage.now comparison (view_operand left) (view_operand right)) }
 {
     match left.ty {
         ArgType::Plain(Prim::Bool) => {
-            compared_in(alloc, setting, Prim::Bool, comparison, left, right)
+            compared_in(alloc, lineage, Prim::Bool, comparison, left, right)
         }
-        _ => order(alloc, setting, comparison, left, right),
+        _ => order(alloc, lineage, comparison, left, right),
     }
 }
 
@@ -164,21 +149,21 @@ fn exclusion(alloc: Global, left: Operand, right: Operand) -> Result<Operand, St
 
 fn formed(
     alloc: Global,
-    setting: &Setting<'_>,
+    lineage: &Lineage,
     form: Option<Form>,
     left: Operand,
     right: Operand,
 ) -> Result<Operand, Stop>
-    ensures exact { Gives view_operand result (spec.formed setting.now form (view_operand left) (view_operand right)) }
+    ensures exact { Gives view_operand result (spec.formed lineage.now form (view_operand left) (view_operand right)) }
 {
     match form {
         None => Err(fault(ErrorKind::NotYet, left.place)),
         Some(Form::Works(Work::Arithmetic(operator))) => arithmetic(
-            alloc, setting, operator, left, right,
+            alloc, lineage, operator, left, right,
         ),
-        Some(Form::Works(Work::Shift(operator))) => shift(alloc, setting, operator, left, right),
-        Some(Form::Order(comparison)) => order(alloc, setting, comparison, left, right),
-        Some(Form::Equality(comparison)) => equality(alloc, setting, comparison, left, right),
+        Some(Form::Works(Work::Shift(operator))) => shift(alloc, lineage, operator, left, right),
+        Some(Form::Order(comparison)) => order(alloc, lineage, comparison, left, right),
+        Some(Form::Equality(comparison)) => equality(alloc, lineage, comparison, left, right),
         Some(Form::And) => conjunction(alloc, left, right),
         Some(Form::Or) => disjunction(alloc, left, right),
         Some(Form::Xor) => exclusion(alloc, left, right),
@@ -192,12 +177,12 @@ fn formed(
 #[tactic(auto, unfolding(crate::specs::Operations::binary_typing))]
 pub fn binary(
     alloc: Global,
-    setting: &Setting<'_>,
+    lineage: &Lineage,
     left: Operand,
     operator: TokenKind,
     right: Operand,
 ) -> Result<Operand, Stop>
-    ensures exact { Gives view_operand result (spec.binary_typing setting.now (view_operand left) operator (view_operand right)) }
+    ensures exact { Gives view_operand result (spec.binary_typing lineage.now (view_operand left) operator (view_operand right)) }
 {
-    formed(alloc, setting, binary_form(operator), left, right)
+    formed(alloc, lineage, binary_form(operator), left, right)
 }

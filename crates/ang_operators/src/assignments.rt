@@ -1,34 +1,32 @@
 //! Assignments.
 ghost use Rattle.std.specs.Prelude.{◌≡◌};
-ghost use Rattle.ang_typing.specs.Operations as spec;
-ghost use Rattle.ang_typing.specs.Refusals.{Gives};
-ghost use Rattle.ang_typing.specs.View.{view_operand};
+ghost use Rattle.ang_operators.specs.Operations as spec;
+ghost use Rattle.ang_operators.specs.Refusals.{Gives};
+ghost use Rattle.ang_operators.specs.View.{view_operand};
 
 use crate::fitting::{fit, integer, target};
 use crate::forms::{Work, compound_work};
-use crate::operand::Operand;
+use crate::operand::{Operand, plain_operand};
 use crate::refusal::{Stop, fault};
-use crate::setting::Setting;
 use crate::trees;
-use crate::two_operands::plain_operand;
 use ang_kinds::{ErrorKind, Prim};
 use ang_lex::TokenKind;
 use ang_typed::{Operator, Variable};
-use ang_types::{ArgType, common};
+use ang_types::{ArgType, Lineage, common};
 use std::alloc::Global;
 
 fn assign_in(
     alloc: Global,
-    setting: &Setting<'_>,
+    lineage: &Lineage,
     variable: Variable,
     written: Operand,
     value: Operand,
 ) -> Result<Operand, Stop>
-    ensures exact { Gives view_operand result (spec.assign_in setting.now variable (view_operand written) (view_operand value) written.ty) }
+    ensures exact { Gives view_operand result (spec.assign_in lineage.now variable (view_operand written) (view_operand value) written.ty) }
 {
     match written.ty {
         ArgType::Plain(ty) => {
-            let value = fit(alloc, setting, ArgType::Plain(ty), value)?;
+            let value = fit(alloc, lineage, ArgType::Plain(ty), value)?;
             let tree = trees::assign(alloc, variable, ArgType::Plain(ty), value)?;
             Ok(plain_operand(written.place, ArgType::Plain(ty), tree))
         }
@@ -39,19 +37,19 @@ fn assign_in(
 #[tactic(auto, unfolding(crate::specs::Operations::assigned))]
 fn assigned(
     alloc: Global,
-    setting: &Setting<'_>,
+    lineage: &Lineage,
     written: Operand,
     value: Operand,
 ) -> Result<Operand, Stop>
-    ensures exact { Gives view_operand result (spec.assigned setting.now (view_operand written) (view_operand value)) }
+    ensures exact { Gives view_operand result (spec.assigned lineage.now (view_operand written) (view_operand value)) }
 {
     let variable = target(&written)?;
-    assign_in(alloc, setting, variable, written, value)
+    assign_in(alloc, lineage, variable, written, value)
 }
 
 fn compound_in(
     alloc: Global,
-    setting: &Setting<'_>,
+    lineage: &Lineage,
     operator: Operator,
     variable: Variable,
     ty: Prim,
@@ -59,9 +57,9 @@ fn compound_in(
     written: Operand,
     value: Operand,
 ) -> Result<Operand, Stop>
-    ensures exact { Gives view_operand result (spec.compound_in setting.now operator variable ty operating (view_operand written) (view_operand value)) }
+    ensures exact { Gives view_operand result (spec.compound_in lineage.now operator variable ty operating (view_operand written) (view_operand value)) }
 {
-    let value = fit(alloc, setting, ArgType::Plain(operating), value)?;
+    let value = fit(alloc, lineage, ArgType::Plain(operating), value)?;
     let tree = trees::compound(alloc, variable, ty, operator, operating, value)?;
     Ok(plain_operand(written.place, written.ty, tree))
 }
@@ -69,19 +67,19 @@ fn compound_in(
 #[tactic(auto, unfolding(crate::specs::Operations::compound_arithmetic))]
 fn compound_arithmetic(
     alloc: Global,
-    setting: &Setting<'_>,
+    lineage: &Lineage,
     operator: Operator,
     written: Operand,
     value: Operand,
 ) -> Result<Operand, Stop>
-    ensures exact { Gives view_operand result (spec.compound_arithmetic setting.now operator (view_operand written) (view_operand value)) }
+    ensures exact { Gives view_operand result (spec.compound_arithmetic lineage.now operator (view_operand written) (view_operand value)) }
 {
     let variable = target(&written)?;
     let own = integer(&written)?;
     let other = integer(&value)?;
     compound_in(
         alloc,
-        setting,
+        lineage,
         operator,
         variable,
         own,
@@ -94,19 +92,19 @@ fn compound_arithmetic(
 #[tactic(auto, unfolding(crate::specs::Operations::compound_shift))]
 fn compound_shift(
     alloc: Global,
-    setting: &Setting<'_>,
+    lineage: &Lineage,
     operator: Operator,
     written: Operand,
     value: Operand,
 ) -> Result<Operand, Stop>
-    ensures exact { Gives view_operand result (spec.compound_shift setting.now operator (view_operand written) (view_operand value)) }
+    ensures exact { Gives view_operand result (spec.compound_shift lineage.now operator (view_operand written) (view_operand value)) }
 {
     let variable = target(&written)?;
     let own = integer(&written)?;
     let _ = integer(&value)?;
     compound_in(
         alloc,
-        setting,
+        lineage,
         operator,
         variable,
         own,
@@ -118,19 +116,19 @@ fn compound_shift(
 
 fn assignment_by(
     alloc: Global,
-    setting: &Setting<'_>,
+    lineage: &Lineage,
     work: Option<Work>,
     written: Operand,
     value: Operand,
 ) -> Result<Operand, Stop>
-    ensures exact { Gives view_operand result (spec.assignment_by setting.now work (view_operand written) (view_operand value)) }
+    ensures exact { Gives view_operand result (spec.assignment_by lineage.now work (view_operand written) (view_operand value)) }
 {
     match work {
-        None => assigned(alloc, setting, written, value),
+        None => assigned(alloc, lineage, written, value),
         Some(Work::Arithmetic(operator)) => {
-            compound_arithmetic(alloc, setting, operator, written, value)
+            compound_arithmetic(alloc, lineage, operator, written, value)
         }
-        Some(Work::Shift(operator)) => compound_shift(alloc, setting, operator, written, value),
+        Some(Work::Shift(operator)) => compound_shift(alloc, lineage, operator, written, value),
     }
 }
 
@@ -141,12 +139,12 @@ fn assignment_by(
 #[tactic(auto, unfolding(crate::specs::Operations::assignment_typing))]
 pub fn assignment(
     alloc: Global,
-    setting: &Setting<'_>,
+    lineage: &Lineage,
     written: Operand,
     operator: TokenKind,
     value: Operand,
 ) -> Result<Operand, Stop>
-    ensures exact { Gives view_operand result (spec.assignment_typing setting.now (view_operand written) operator (view_operand value)) }
+    ensures exact { Gives view_operand result (spec.assignment_typing lineage.now (view_operand written) operator (view_operand value)) }
 {
-    assignment_by(alloc, setting, compound_work(operator), written, value)
+    assignment_by(alloc, lineage, compound_work(operator), written, value)
 }

@@ -3,16 +3,15 @@ ghost use Rattle.std.specs.Prelude.{◌≡◌, IfOk};
 ghost use Rattle.ang_kinds.specs.declared.primitive.Primitive.TheVariants.{Bool};
 ghost use Rattle.ang_types.specs.Integers.{IsInteger};
 ghost use Rattle.ang_typed.specs.View.{view_expr};
-ghost use Rattle.ang_typing.specs.Operands as spec;
-ghost use Rattle.ang_typing.specs.Refusals.{Gives};
-ghost use Rattle.ang_typing.specs.View.{view_operand};
+ghost use Rattle.ang_operators.specs.Operands as spec;
+ghost use Rattle.ang_operators.specs.Refusals.{Gives};
+ghost use Rattle.ang_operators.specs.View.{view_operand};
 
 use crate::operand::{NamedVariable, Operand};
 use crate::refusal::{Stop, fault, refused};
-use crate::setting::Setting;
 use ang_kinds::{ErrorKind, Place, Prim};
 use ang_typed::{Expression, Variable};
-use ang_types::{ArgType, rank};
+use ang_types::{ArgType, Lineage, rank};
 use std::alloc::{AllocError, Global};
 
 /// The expression as one of the other type.
@@ -39,13 +38,13 @@ fn conversion(
 #[tactic(auto, unfolding(crate::specs::Operands::fit))]
 pub fn fit(
     alloc: Global,
-    setting: &Setting<'_>,
+    lineage: &Lineage,
     ty: ArgType,
     operand: Operand,
 ) -> Result<Expression, Stop>
-    ensures exact { Gives view_expr result (spec.fit setting.now ty (view_operand operand)) }
+    ensures exact { Gives view_expr result (spec.fit lineage.now ty (view_operand operand)) }
 {
-    match rank(setting.lineage(), operand.ty, ty) {
+    match rank(lineage, operand.ty, ty) {
         None => Err(fault(ErrorKind::BadConversion, operand.place)),
         Some(0) => Ok(operand.tree),
         Some(_) => Ok(conversion(alloc, operand.ty, ty, operand.tree)?),

@@ -4,10 +4,10 @@ use Rattle.ang_kinds.specs.declared.error.ErrorKind.{ErrorKind}
 use Rattle.ang_kinds.specs.declared.error.ErrorKind.TheVariants as kind
 use Rattle.ang_kinds.specs.declared.place.Place.{Place}
 use Rattle.ang_lex.specs.declared.token.Token.{Token}
-use Rattle.ang_typing.specs.declared.refusal.Refusal.{Refusal}
-use Rattle.ang_typing.specs.declared.refusal.Asks.{Asks}
-use Rattle.ang_typing.specs.declared.refusal.Stop.{Stop}
-use Rattle.ang_typing.specs.declared.refusal.Stop.TheVariants as stop
+use Rattle.ang_operators.specs.declared.refusal.Refusal.{Refusal}
+use Rattle.ang_operators.specs.declared.refusal.Asks.{Asks}
+use Rattle.ang_operators.specs.declared.refusal.Stop.{Stop}
+use Rattle.ang_operators.specs.declared.refusal.Stop.TheVariants as stop
 
 -- what something means, or the first refusal in it in reading order
 abbrev pub Judged : Type 0 → Type 0

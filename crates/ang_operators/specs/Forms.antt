@@ -4,10 +4,10 @@ use Rattle.ang_lex.specs.declared.token.TokenKind.{TokenKind}
 use Rattle.ang_lex.specs.declared.token.TokenKind.TheVariants as k
 use Rattle.ang_typed.specs.declared.expression.Operator.TheVariants as op
 use Rattle.ang_typed.specs.declared.expression.Comparison.TheVariants as cmp
-use Rattle.ang_typing.specs.declared.forms.Form.{Form}
-use Rattle.ang_typing.specs.declared.forms.Form.TheVariants.{Works, Order, Equality, And, Or, Xor}
-use Rattle.ang_typing.specs.declared.forms.Work.{Work}
-use Rattle.ang_typing.specs.declared.forms.Work.TheVariants.{Arithmetic, Shift}
+use Rattle.ang_operators.specs.declared.forms.Form.{Form}
+use Rattle.ang_operators.specs.declared.forms.Form.TheVariants.{Works, Order, Equality, And, Or, Xor}
+use Rattle.ang_operators.specs.declared.forms.Work.{Work}
+use Rattle.ang_operators.specs.declared.forms.Work.TheVariants.{Arithmetic, Shift}
 
 -- the binary operators, but for `is` and `!is`
 abbrev pub binary_form : TokenKind → Option Form
