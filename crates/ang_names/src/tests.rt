@@ -1,14 +1,11 @@
 //! Outside examples on small trees made by hand, and each call once.
 
-use crate::{
-    HostGlobal, candidate_of, declare, error_at, functions_named, global_named, is_read_only,
-    text_at, type_of, value_type_of, view_functions_named, view_global_named,
-};
-use ang_kinds::{EntityNo, Error, ErrorKind, Mask, Place, Prim, Unbuilt};
+use crate::{candidate_of, declare, functions_named, global_named};
+use ang_kinds::{Error, ErrorKind, Mask, Pass, Place, Prim, Unbuilt};
 use ang_lex::{Span, Token, TokenKind};
 use ang_registry::{RegError, Registry, View};
 use ang_tree::{
-    Block, Declaration, Function, Handle, Initializer, Parameters, Script, TypeName, Variable,
+    Block, Declaration, Function, Initializer, Parameter, Parameters, Script, TypeName, Variable,
     Variables,
 };
 use ang_types::ArgType;
@@ -54,12 +51,17 @@ fn global(alloc: Global, word: Token, name: Token) -> Result<Declaration, AllocE
     }))
 }
 
-/// `TYPE NAME ( ) { }`
-fn function(alloc: Global, word: Token, name: Token) -> Declaration {
+/// `TYPE NAME ( PARAMETER ) { }`
+fn function(
+    alloc: Global,
+    word: Token,
+    name: Token,
+    parameter: Parameter,
+) -> Result<Declaration, AllocError> {
     let parameters = Parameters {
         open: name,
         void_word: None,
-        items: Vec::new(alloc),
+        items: vec![in alloc; parameter]?,
         close: name,
     };
     let body = Block {
@@ -67,12 +69,12 @@ fn function(alloc: Global, word: Token, name: Token) -> Declaration {
         statements: Vec::new(alloc),
         close: name,
     };
-    Declaration::Function(Function {
+    Ok(Declaration::Function(Function {
         result: plain(word),
         name,
         parameters,
         body,
-    })
+    }))
 }
 
 fn script(
@@ -104,13 +106,16 @@ fn is_error(error: &Error, kind: ErrorKind, column: u32, name: &[u8]) -> bool {
 #[test]
 fn a_function_and_a_global_are_named(rt: HostRuntime) -> Result<(), Fail> {
     let alloc = rt.alloc();
-    let one = function(
-        alloc,
-        token(TokenKind::Void, 0, 4),
-        token(TokenKind::Name, 5, 6),
-    );
-    let other = global(alloc, token(INT, 10, 13), token(TokenKind::Name, 14, 15))?;
-    let scripts = script(alloc, b"void f(){}int g;", one, other)?;
+    let parameter = Parameter {
+        comma: None,
+        declared_type: plain(token(INT, 7, 10)),
+        reference: None,
+        name: None,
+    };
+    let word = token(TokenKind::Void, 0, 4);
+    let one = function(alloc, word, token(TokenKind::Name, 5, 6), parameter)?;
+    let other = global(alloc, token(INT, 13, 16), token(TokenKind::Name, 17, 18))?;
+    let scripts = script(alloc, b"void f(int){}int g;", one, other)?;
     let names = declare(alloc, &view(alloc)?, &scripts)?;
     assert_eq!(rt;
         functions_named(alloc, &names, b"f")?.as_slice(),
@@ -122,7 +127,10 @@ fn a_function_and_a_global_are_named(rt: HostRuntime) -> Result<(), Fail> {
     );
     assert_eq!(rt; global_named(&names, b"g"), Some(0));
     for function in names.functions.as_slice() {
-        assert!(rt; candidate_of(alloc, function)?.as_slice().is_empty());
+        assert_eq!(rt;
+            candidate_of(alloc, function)?.as_slice(),
+            [(ArgType::Plain(Prim::I32), Pass::Value)].as_slice()
+        );
     }
     Ok(())
 }
@@ -140,51 +148,5 @@ fn a_name_is_taken_once(rt: HostRuntime) -> Result<(), Fail> {
         },
         _ => assert!(rt; false, "refused"),
     }
-    Ok(())
-}
-
-#[test]
-fn types_mean_what_is_written(rt: HostRuntime) -> Result<(), Fail> {
-    let alloc = rt.alloc();
-    let view = view(alloc)?;
-    let text = b"Cell Nope void";
-    let cell = plain(token(TokenKind::Name, 0, 4));
-    let nope = plain(token(TokenKind::Name, 5, 9));
-    let none = plain(token(TokenKind::Void, 10, 14));
-    let object = ArgType::Object {
-        number: 0,
-        read_only: false,
-    };
-    assert_eq!(rt; type_of(&view, text, &cell), Ok(object));
-    assert_eq!(rt; type_of(&view, text, &nope), Err(ErrorKind::UnknownType));
-    assert_eq!(rt; type_of(&view, text, &none), Ok(ArgType::Void));
-    assert_eq!(rt; value_type_of(&view, text, &none), Err(ErrorKind::BadType));
-    assert!(rt; !is_read_only(&cell));
-    assert_eq!(rt; text_at(text, &nope.name), b"Nope".as_slice());
-    assert!(rt;
-        is_error(
-            &error_at(alloc, text, ErrorKind::UnknownType, &nope.name)?,
-            ErrorKind::UnknownType,
-            6,
-            b"Nope"
-        )
-    );
-    Ok(())
-}
-
-#[test]
-fn the_host_is_seen_by_name(rt: HostRuntime) -> Result<(), Fail> {
-    let alloc = rt.alloc();
-    let view = view(alloc)?;
-    let limit = HostGlobal {
-        entity: EntityNo(2),
-        driver: 0,
-        f: 5,
-        ty: ArgType::Plain(Prim::I64),
-        read_only: true,
-    };
-    assert_eq!(rt; view_global_named(&view, b"limit"), Some(limit));
-    assert_eq!(rt; view_functions_named(alloc, &view, b"print")?.len(), 1);
-    assert_eq!(rt; view_functions_named(alloc, &view, b"limit")?.len(), 0);
     Ok(())
 }

@@ -11,7 +11,7 @@ use Rattle.ang_types.specs.Ranks.{Lines}
 use Rattle.ang_typed.specs.declared.expression.Variable.{Variable}
 use Rattle.ang_typed.specs.declared.expression.Variable.TheVariants as variable
 use Rattle.ang_typed.specs.Typed as t
-use Rattle.ang_names.specs.Sources.{text_of}
+use Rattle.ang_written.specs.Sources.{text_of}
 use Rattle.ang_operators.specs.declared.operand.NamedVariable.{NamedVariable}
 use Rattle.ang_operators.specs.declared.refusal.Asks.TheVariants as asks
 use Rattle.ang_typing.specs.declared.scope.Pair.{Pair}

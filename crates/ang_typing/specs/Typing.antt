@@ -3,7 +3,7 @@
 use Rattle.std.specs.Prelude.{List, [], ◌∷◌, Result, Ok, Err}
 use Rattle.ang_lex.specs.declared.token.Token.{Token}
 use Rattle.ang_tree.specs.Tree.{Tree, Args, Trees, literal, name, call, scoped_call, cast, convert, group, postfix, member, method_call, prefix, binary, conditional, assignment, arguments, none, more}
-use Rattle.ang_names.specs.Sources.{text_of}
+use Rattle.ang_written.specs.Sources.{text_of}
 use Rattle.ang_typing.specs.declared.scope.Pair.{Pair}
 use Rattle.ang_typing.specs.Scope.{Setting}
 use Rattle.ang_operators.specs.Refusals.{Judged, ◌>>=◌}

@@ -15,10 +15,10 @@ use Rattle.ang_typed.specs.declared.expression.Variable.{Variable}
 use Rattle.ang_typed.specs.declared.expression.Variable.TheVariants as variable
 use Rattle.ang_names.specs.declared.names.ScriptFunction.{ScriptFunction}
 use Rattle.ang_names.specs.declared.names.ScriptGlobal.{ScriptGlobal}
-use Rattle.ang_names.specs.declared.host.HostFunction.{HostFunction}
-use Rattle.ang_names.specs.declared.host.HostGlobal.{HostGlobal}
+use Rattle.ang_written.specs.declared.host.HostFunction.{HostFunction}
+use Rattle.ang_written.specs.declared.host.HostGlobal.{HostGlobal}
 use Rattle.ang_names.specs.Lookup.{functions_named, function_at, global_named, global_at, candidate_of}
-use Rattle.ang_names.specs.HostNames.{view_functions_named, view_global_named}
+use Rattle.ang_written.specs.HostNames.{view_functions_named, view_global_named}
 use Rattle.ang_operators.specs.declared.refusal.Asks.{Asks}
 use Rattle.ang_operators.specs.declared.refusal.Asks.TheVariants as asks
 use Rattle.ang_typing.specs.declared.scope.Pair.{Pair}

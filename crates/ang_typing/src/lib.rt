@@ -13,6 +13,6 @@ mod setting;
 mod uses;
 
 pub use expressions::{typing, typing_of_all};
-pub use scope::{Pair, Text, find_pair};
+pub use scope::{Pair, find_pair};
 pub use setting::Setting;
 pub use uses::{Callable, Callee, Meant, resolve_call, resolve_name};

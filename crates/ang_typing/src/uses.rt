@@ -7,12 +7,10 @@ ghost use Rattle.ang_operators.specs.declared.refusal.Asks.TheVariants as asks;
 use crate::scope::{Pair, find_pair};
 use crate::setting::Setting;
 use ang_kinds::{ErrorKind, List};
-use ang_names::{
-    HostFunction, HostGlobal, Names, candidate_of, functions_named, global_named,
-    view_functions_named, view_global_named,
-};
+use ang_names::{Names, candidate_of, functions_named, global_named};
 use ang_typed::{HostEntity, Variable};
 use ang_types::{ArgType, Candidate, Pick, resolve};
+use ang_written::{HostFunction, HostGlobal, view_functions_named, view_global_named};
 use std::alloc::{AllocError, Global};
 
 /// A function that a call can mean.
