@@ -10,6 +10,8 @@ mod calls;
 mod expressions;
 mod scope;
 mod setting;
+#[cfg(test)]
+mod tests;
 mod uses;
 
 pub use expressions::{typing, typing_of_all};
