@@ -1,4 +1,4 @@
--- What the operators of the grammar do (docs/LANGUAGE.md, "Operators"; the AngelScript manual, "Expressions").
+-- What the operators of the grammar do (docs/LANGUAGE.md, "Expressions"; the AngelScript manual, "Expressions").
 use Rattle.std.specs.Prelude.{Option, Some, None}
 use Rattle.ang_lex.specs.declared.token.TokenKind.{TokenKind}
 use Rattle.ang_lex.specs.declared.token.TokenKind.TheVariants as k

@@ -1,4 +1,5 @@
--- Operands, and what they are fit for (docs/LANGUAGE.md, "Conversions" and "Targets").
+-- Operands, and what they are fit for (docs/LANGUAGE.md, "Expressions": conversions and targets; the AngelScript
+-- manual, "Conversions" and "Assignments").
 use Rattle.std.specs.Prelude.{ℕ, zero, suc, Bool, true, false, if◌then◌else◌, List, Option, Some, None, Result, Ok, Err}
 use Rattle.ang_kinds.specs.declared.error.ErrorKind.{ErrorKind}
 use Rattle.ang_kinds.specs.declared.error.ErrorKind.TheVariants as kind

@@ -1,4 +1,4 @@
--- What operators make of typed operands (docs/LANGUAGE.md, "Operators", "Conversions" and "Targets"; the AngelScript manual,
+-- What operators make of typed operands (docs/LANGUAGE.md, "Expressions": types of operations; the AngelScript manual,
 -- "Math operators", "Bitwise operators", "Comparison operators", "Logic operators", "Conditional expression" and "Assignments").
 use Rattle.std.specs.Prelude.{ℕ, Bool, true, false, if◌then◌else◌, List, Option, Some, None, Result, Ok, Err}
 use Rattle.ang_kinds.specs.declared.error.ErrorKind.TheVariants as kind
@@ -154,8 +154,9 @@ raised_operand lines place a = do
     x ← fit lines (type.Plain r) a
     Ok (operand place (type.Plain r) x)
 
-unfoldable pub denied : Place → Operand → Judged Operand
-denied place a = do
+-- one of two truth values for the other
+unfoldable pub opposite : Place → Operand → Judged Operand
+opposite place a = do
   x ← truth a
   Ok (operand place (type.Plain p.Bool) (t.not x))
 
@@ -167,7 +168,7 @@ stepped kind place a = do
   Ok (operand place a.ty (t.step x q kind))
 
 abbrev pub prefix_by : Lines → Token → TokenKind → Operand → Judged Operand
-prefix_by lines op k.Not a = denied op.place a
+prefix_by lines op k.Not a = opposite op.place a
 prefix_by lines op k.Minus a = negated lines op.place a
 prefix_by lines op k.Plus a = raised_operand lines op.place a
 prefix_by lines op k.Tilde a = complemented lines op.place a

@@ -1,4 +1,4 @@
--- Refusals, and results that may be one (docs/LANGUAGE.md, "Places").
+-- Refusals, and results that may be one (docs/LANGUAGE.md, "Expressions": errors; kinds and places are this profile's own).
 use Rattle.std.specs.Prelude.{◌≡◌, Option, Some, None, Result, Ok, Err}
 use Rattle.ang_kinds.specs.declared.error.ErrorKind.{ErrorKind}
 use Rattle.ang_kinds.specs.declared.error.ErrorKind.TheVariants as kind

@@ -3,7 +3,7 @@
 //!
 //! An `Operand` is an expression that was typed. Each function here takes the operands of one operation, as
 //! they come from left to right, and answers the whole as an operand again, or the first refusal in the order
-//! of the text (docs/LANGUAGE.md, "Types of expressions"). No name is looked up here.
+//! of the text (docs/LANGUAGE.md, "Expressions"). No name is looked up here.
 #![tactic(auto)]
 
 mod assignments;

@@ -91,9 +91,9 @@ fn raised_operand(
     Ok(plain_operand(place, ArgType::Plain(ty), tree))
 }
 
-#[tactic(auto, unfolding(crate::specs::Operations::denied))]
-fn denied(alloc: Global, place: Place, operand: Operand) -> Result<Operand, Stop>
-    ensures exact { Gives view_operand result (spec.denied place (view_operand operand)) }
+#[tactic(auto, unfolding(crate::specs::Operations::opposite))]
+fn opposite(alloc: Global, place: Place, operand: Operand) -> Result<Operand, Stop>
+    ensures exact { Gives view_operand result (spec.opposite place (view_operand operand)) }
 {
     let value = truth(operand)?;
     let tree = not(alloc, value)?;
@@ -124,7 +124,7 @@ pub fn prefix(
     ensures exact { Gives view_operand result (spec.prefix_typing lineage.now operator.now (view_operand operand)) }
 {
     match operator.kind {
-        TokenKind::Not => denied(alloc, operator.place, operand),
+        TokenKind::Not => opposite(alloc, operator.place, operand),
         TokenKind::Minus => negated(alloc, lineage, operator.place, operand),
         TokenKind::Plus => raised_operand(alloc, lineage, operator.place, operand),
         TokenKind::Tilde => complemented(alloc, lineage, operator.place, operand),

@@ -1,5 +1,5 @@
 //! Why an expression has no meaning.
-ghost use Rattle.std.specs.Prelude.{◌≡◌};
+ghost use Rattle.std.specs.Prelude.{◌≡◌, Some};
 ghost use Rattle.ang_operators.specs.Refusals as spec;
 ghost use Rattle.ang_operators.specs.declared.refusal.Stop.TheVariants.{Memory};
 
@@ -69,26 +69,27 @@ pub fn fault(kind: ErrorKind, place: Place) -> Stop
     })
 }
 
-/// A refusal at a name.
-pub fn refused(kind: ErrorKind, name: &Token) -> Stop
-    ensures exact { result ≡ Stop.Refused (spec.refused_at kind name.now) }
+fn refusal_at(kind: ErrorKind, name: &Token, asks: Option<Asks>) -> Stop
+    ensures exact { result ≡ Stop.Refused (record { kind = kind; place = name.now.place; name = Some name.now; asks = asks }) }
 {
     Stop::Refused(Refusal {
         kind,
         place: name.place,
         name: Some(*name),
-        asks: None,
+        asks,
     })
+}
+
+/// A refusal at a name.
+pub fn refused(kind: ErrorKind, name: &Token) -> Stop
+    ensures exact { result ≡ Stop.Refused (spec.refused_at kind name.now) }
+{
+    refusal_at(kind, name, None)
 }
 
 /// The refusal of a use.
 pub fn use_refused(kind: ErrorKind, name: &Token, asks: Asks) -> Stop
     ensures exact { result ≡ Stop.Refused (spec.use_refused kind name.now asks) }
 {
-    Stop::Refused(Refusal {
-        kind,
-        place: name.place,
-        name: Some(*name),
-        asks: Some(asks),
-    })
+    refusal_at(kind, name, Some(asks))
 }

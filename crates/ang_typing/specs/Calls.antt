@@ -1,4 +1,4 @@
--- Names and calls (docs/LANGUAGE.md, "Names" and "Calls"; the AngelScript manual, "Function calls" and "Parameter references").
+-- Names and calls (docs/LANGUAGE.md, "Expressions"; the AngelScript manual, "Function calls" and "Parameter references").
 use Rattle.std.specs.Prelude.{ℕ, Bool, true, false, not, ◌&&◌, if◌then◌else◌, List, [], ◌∷◌, map, Option, Some, None, Result, Ok, Err}
 use Rattle.ang_kinds.specs.declared.error.ErrorKind.{ErrorKind}
 use Rattle.ang_kinds.specs.declared.error.ErrorKind.TheVariants as kind

@@ -1,4 +1,4 @@
--- The typing of expressions (docs/LANGUAGE.md, "Types and resolution"): by cases on the tree, the type and the resolved tree, or the
+-- The typing of expressions (docs/LANGUAGE.md, "Expressions"): by cases on the tree, the type and the resolved tree, or the
 -- first refusal in reading order. Operands are typed first, from left to right, then the operation.
 use Rattle.std.specs.Prelude.{List, [], ◌∷◌, Result, Ok, Err}
 use Rattle.ang_lex.specs.declared.token.Token.{Token}

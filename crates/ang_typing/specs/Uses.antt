@@ -1,4 +1,4 @@
--- What a use of a name means (docs/LANGUAGE.md, "Names"; the AngelScript manual, "Function overloading" and "Access masks"). A use
+-- What a use of a name means (docs/LANGUAGE.md, "Expressions": names and calls; the AngelScript manual, "Function overloading" and "Access masks"). A use
 -- is a name, what is asked of it, and the types of the operands.
 use Rattle.std.specs.Prelude.{ℕ, Bool, ◌==◌, if◌then◌else◌, is_some, length, List, [], ◌∷◌, ◌++◌, map, slice_get, option_to_list, Option, Some, None}
 use Rattle.std.specs.List.{flat_map}
