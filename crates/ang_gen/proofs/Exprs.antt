@@ -136,7 +136,7 @@ module _ (z : Setting) (code : Texts) (r : Running) where
         let p = then_step z code start r.of pc r.room top r.callers t' w (Do o) has q.0 in
         let p' = comes_to z code start _ (did (perform z r.of.home o vs w) top (λ v w'. at r (pc + 1) (v ∷ rest) t' w')) p
         (fitting_on z o _ fit
-          ∙ enough_on k top _ there ∙ roomy_on r.room (drop_some k top) _ roomy_dropped
+        ∙ enough_on k top _ there ∙ roomy_on r.room (drop_some k top) _ roomy_dropped
         ∙ ap (λ l. did (perform z r.of.home o l w) top (λ v w'. at r (pc + 1) (v ∷ drop_some k top) t' w')) taken
         ∙ ap (λ l. did (perform z r.of.home o vs w) top (λ v w'. at r (pc + 1) (v ∷ l) t' w')) dropped) in
         after_eval start start (pc + 1) s n (length ls) t t' _ (here z code start) q.1 q.3 (did_goes start pc vs s ls t' (perform z r.of.home o vs w) p')
@@ -193,11 +193,11 @@ module _ (z : Setting) (code : Texts) (r : Running) where
           let top = (vs ++ s) ++ (ls ++ r.below) in
           let frame : Frame = record { of = r.of; at = pc + 1; room = r.room } in
           let to_here : target z r.of.home f top w ≡ target z r.of.home f vs w =
-                ap (λ l. target z r.of.home f l w) (append_assoc vs s (ls ++ r.below)) ∙ target_front z r.of.home f vs (s ++ (ls ++ r.below)) w in
+          ap (λ l. target z r.of.home f l w) (append_assoc vs s (ls ++ r.below)) ∙ target_front z r.of.home f vs (s ++ (ls ++ r.below)) w in
           let p = comes_to z code start _ (found_enters z code (target z r.of.home f vs w) top r.callers frame t' w)
-                    (then_step z code start r.of pc r.room top r.callers t' w (Enter f) has.0 q.0) (ap (λ o. found_enters z code o top r.callers frame t' w) to_here) in
+          (then_step z code start r.of pc r.room top r.callers t' w (Enter f) has.0 q.0) (ap (λ o. found_enters z code o top r.callers frame t' w) to_here) in
           after_eval start start (pc + 1 + length (outs_code (length s) xs)) s n (length ls) t t' (replied r.of.home xs (found_entered z body (length r.callers) (target z r.of.home f vs w) vs t' w) ls) (here z code start) q.1 q.3
-            (found_goes (pc + 1) xs s ls has.1 (subst (λ j. AreSpots j xs) (sym q.1) ok) (omega (arith, q.1)) start vs m t' w (target z r.of.home f vs w) (λ g e. leads z r.of.home f m (length xs) links fit g vs w e) q.2 (omega (arith, q.3)) p)
+          (found_goes (pc + 1) xs s ls has.1 (subst (λ j. AreSpots j xs) (sym q.1) ok) (omega (arith, q.1)) start vs m t' w (target z r.of.home f vs w) (λ g e. leads z r.of.home f m (length xs) links fit g vs w e) q.2 (omega (arith, q.3)) p)
 
       abbrev calls : Callee → List Slot → ℕ → World → Reply
       calls = enter z body (length r.callers) r.of.home

@@ -5,8 +5,8 @@
 #![tactic(auto)]
 
 pub mod laws;
-mod text;
 #[cfg(test)]
 mod tests;
+mod text;
 
 pub use text::Text;
