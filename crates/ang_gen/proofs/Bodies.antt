@@ -1,27 +1,26 @@
 -- The code of statements, loops and bodies does what they do.
-use Rattle.std.proofs.Common.{◌≡◌, ℕ, zero, suc, ◌+◌, ◌-◌, ◌<◌, ◌≤◌, List, [], ◌∷◌, ◌++◌, length, Option, Some, None, refl, sym, ap, ◌∙◌, subst, arith, append_assoc, append-nil, length-append}
-use Rattle.std.specs.Prelude.{slice_get, Bool, true, false, IsTrue}
-use Rattle.ang_kinds.specs.declared.fault.Fault.{Fault}
-use Rattle.ang_kinds.specs.declared.fault.Fault.TheVariants.{Null as NullFault, Budget, Depth, Memory, Tally}
+use Rattle.std.proofs.Common.{◌≡◌, ℕ, zero, suc, ◌+◌, ◌-◌, ◌<◌, ◌≤◌, List, [], ◌∷◌, ◌++◌, length, Some, refl, sym, ap, ◌∙◌, subst, arith, append-nil, length-append}
+use Rattle.std.specs.Prelude.{true, false}
+use Rattle.ang_kinds.specs.declared.fault.Fault.TheVariants.{Null as NullFault, Budget, Memory}
 use Rattle.ang_meaning.specs.declared.slot.Slot.{Slot}
-use Rattle.ang_meaning.specs.declared.slot.Slot.TheVariants.{Bits, Script, Host}
+use Rattle.ang_meaning.specs.declared.slot.Slot.TheVariants.{Bits}
 use Rattle.ang_meaning.specs.declared.routine.Routine.{Routine}
 use Rattle.ang_meaning.specs.declared.routine.Callee.{Callee}
 use Rattle.ang_meaning.specs.declared.routine.Passing.{Passing}
 use Rattle.ang_meaning.specs.World.{World, Tried, Yes, No, give, give_all, memory_step}
 use Rattle.ang_meaning.specs.Setting.{Setting, params_in, params_of}
-use Rattle.ang_meaning.specs.Results.{Evaluated, Ran, Went, Returned, Halted, Broken, Continued, Reply, Yields, Raises, Calls, drop_some, give_some, outs_of, give_others, at_zero, on_test, ticked, or_else, leave, with_value, then_run, caught, yielded, finished, enter}
+use Rattle.ang_meaning.specs.Results.{Ran, Went, Returned, Halted, Broken, Continued, Reply, Yields, Raises, Calls, drop_some, on_test, ticked, or_else, leave, then_run, yielded, finished, enter}
 use Rattle.ang_core.specs.declared.tree.Expression.{Expression}
 use Rattle.ang_core.specs.declared.tree.Statement.{Statement, Row_of-Statement, end_of-Statement, more_of-Statement}
 use Rattle.ang_core.specs.declared.tree.Statement.TheVariants.{Skip, Evaluate, Declare, Block', If', While', DoWhile', Return as ReturnOf, Break, Continue}
-use Rattle.ang_core.specs.Meaning.{Bodies, Passes, eval, turned, run, run_row, pass, body_at, pass_at, begun, called_with, initialized}
+use Rattle.ang_core.specs.Meaning.{Bodies, Passes, eval, turned, run, run_row, pass, body_at, pass_at, called_with}
 use Rattle.ang_core.specs.Sound.{out_count, declared, row_declared, Sound, SoundStatement, SoundRow, LinksFit, AreSound}
 use Rattle.ang_code.specs.declared.instruction.Frame.{Frame}
 use Rattle.ang_code.specs.declared.instruction.Instruction.{Instruction}
-use Rattle.ang_code.specs.declared.instruction.Instruction.TheVariants.{PushBits, Drop, Leave, SkipIfFalse, GoOn, Tick, Back, Return}
-use Rattle.ang_code.specs.Machine.{Texts, Config, At, Over, Outcome, Finished, Faulted, fault, back, begins, act, roomy, steps, call_begins, initializer_begins}
-use Rattle.ang_code.proofs.Steps.{HasAt, has_front, has_back, has_all, Comes, here, comes_on, comes_to, one_step, then_step, roomy_on, enough_on}
-use Rattle.ang_gen.specs.Code.{if_code, while_code, expr_code, leave_code, block_code, stmt_code, row_code, loop_code, body_code}
+use Rattle.ang_code.specs.declared.instruction.Instruction.TheVariants.{PushBits, Drop, SkipIfFalse, GoOn, Tick, Back, Return}
+use Rattle.ang_code.specs.Machine.{Texts, Config, At, Over, Finished, Faulted, fault, call_begins}
+use Rattle.ang_code.proofs.Steps.{HasAt, has_front, has_back, has_all, Comes, here, comes_to, one_step, then_step, roomy_on}
+use Rattle.ang_gen.specs.Code.{if_code, expr_code, leave_code, block_code, stmt_code, row_code, loop_code, body_code}
 use Rattle.ang_gen.specs.Heights.{Below, BelowStatement, BelowRow, BelowBody}
 use Rattle.ang_gen.specs.Behaves.{outcome_of, IsCode, Behaves}
 use Rattle.ang_gen.proofs.Stacks.{give_append, length_drop, length_outs}

@@ -1,7 +1,6 @@
 -- The code of an expression does what the expression does.
-use Rattle.std.proofs.Common.{◌≡◌, ℕ, zero, suc, ◌+◌, ◌-◌, ◌<◌, ◌≤◌, List, [], ◌∷◌, ◌++◌, length, Option, Some, None, refl, sym, ap, ◌∙◌, subst, arith, append_assoc, length-append}
+use Rattle.std.proofs.Common.{◌≡◌, ℕ, zero, suc, ◌+◌, ◌<◌, ◌≤◌, List, [], ◌∷◌, ◌++◌, length, Some, refl, sym, ap, ◌∙◌, subst, arith, append_assoc, length-append}
 use Rattle.std.specs.Prelude.{Bool, true, false, cond, slice_get}
-use Rattle.ang_kinds.specs.declared.fault.Fault.{Fault}
 use Rattle.ang_kinds.specs.declared.fault.Fault.TheVariants.{Null as NullFault, Budget, Depth, Memory, Tally}
 use Rattle.ang_meaning.specs.declared.slot.Slot.{Slot}
 use Rattle.ang_meaning.specs.declared.slot.Slot.TheVariants.{Bits, Script, Host}
@@ -16,19 +15,18 @@ use Rattle.ang_meaning.specs.World.{World, Tried, Yes, No, hold, give, give_all,
 use Rattle.ang_meaning.specs.Setting.{Setting, Found, Enters, Misses, target, has_objects, params_in, params_of, is_fit}
 use Rattle.ang_meaning.specs.Hosts.{Done, Fine, Fails}
 use Rattle.ang_meaning.specs.Perform.{perform, operands, change_of}
-use Rattle.ang_meaning.specs.Results.{Evaluated, Gave, Failed, Gathered, Ready, Broke, Reply, Yields, Raises, Calls, local_at, local_set, drop_some, at_zero, on_test, ticked, or_else, loaded, performed, applied, assigned, altered_by, altered, chosen, then_rest, settled, with_outs, replied, called, may_nest, entered, found_entered, enter}
+use Rattle.ang_meaning.specs.Results.{Evaluated, Gave, Failed, Gathered, Ready, Broke, Reply, Yields, Raises, Calls, local_at, local_set, drop_some, at_zero, on_test, ticked, or_else, performed, applied, assigned, altered_by, altered, chosen, then_rest, settled, with_outs, replied, called, may_nest, found_entered, enter}
 use Rattle.ang_core.specs.declared.tree.Expression.{Expression, Row_of-Expression, end_of-Expression, more_of-Expression}
 use Rattle.ang_core.specs.declared.tree.Expression.TheVariants.{Number, Null as Nothing, NoKey, Local, Assign', Change', Apply', Call', Choose'}
 use Rattle.ang_core.specs.Meaning.{eval, eval_args}
 use Rattle.ang_core.specs.Sound.{row_count, out_count, Takes, Fits, LinksFit, AreSpots, Sound, SoundArgs}
 use Rattle.ang_code.specs.declared.instruction.Frame.{Frame}
-use Rattle.ang_code.specs.declared.instruction.Instruction.{Instruction}
 use Rattle.ang_code.specs.declared.instruction.Instruction.TheVariants.{PushBits, PushNull, PushNoKey, Load, Store, Change, Do, SkipIfFalse, GoOn, Enter}
-use Rattle.ang_code.specs.Machine.{Texts, Config, At, Over, Faulted, fault, roomy, within, enough, did, changed_into, back, begins, enters, found_enters, act, take_some}
+use Rattle.ang_code.specs.Machine.{Texts, Config, At, Over, Faulted, fault, roomy, did, changed_into, begins, found_enters, take_some}
 use Rattle.ang_code.proofs.Steps.{HasAt, has_front, has_back, Comes, here, comes_on, comes_to, one_step, then_step, roomy_on, within_on, enough_on, fitting_on}
 use Rattle.ang_gen.specs.Code.{if_code, outs_code, expr_code, args_code}
 use Rattle.ang_gen.specs.Heights.{Below, BelowArgs}
-use Rattle.ang_gen.proofs.Stacks.{give_append, give_two, take_front, drop_front, local_under, set_under, length_set, objects_front}
+use Rattle.ang_gen.proofs.Stacks.{give_two, take_front, drop_front, local_under, set_under, length_set, objects_front}
 use Rattle.ang_gen.proofs.Relate.{Running, at, EvalGoes, ArgsGo, ReplyGoes}
 use Rattle.ang_gen.proofs.Outs.{outs_go}
 use Rattle.ang_gen.proofs.Leads.{target_front, leads}

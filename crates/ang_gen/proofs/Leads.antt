@@ -1,12 +1,12 @@
 -- Where a sound call leads.
-use Rattle.std.proofs.Common.{◌≡◌, ℕ, List, ◌++◌, length, Option, Some, None, refl, sym, ap, ◌∙◌, subst}
+use Rattle.std.proofs.Common.{◌≡◌, ℕ, List, ◌++◌, length, Option, Some, None, refl, ap, ◌∙◌, subst}
 use Rattle.ang_meaning.specs.declared.slot.Slot.{Slot}
 use Rattle.ang_meaning.specs.declared.routine.Routine.{Routine}
 use Rattle.ang_meaning.specs.declared.routine.Callee.{Callee}
 use Rattle.ang_meaning.specs.declared.routine.Callee.TheVariants.{Own, Import}
 use Rattle.ang_meaning.specs.declared.routine.Passing.{Passing}
 use Rattle.ang_meaning.specs.World.{World}
-use Rattle.ang_meaning.specs.Setting.{Setting, Found, Enters, Misses, bound, target}
+use Rattle.ang_meaning.specs.Setting.{Setting, Enters, bound, target}
 use Rattle.ang_core.specs.Sound.{out_count, Takes, Fits, LinksFit}
 
 -- what lies below the arguments makes no difference

@@ -1,20 +1,19 @@
 -- The values of `&out` parameters move into their targets.
-use Rattle.std.proofs.Common.{◌≡◌, ℕ, zero, suc, ◌+◌, ◌-◌, ◌<◌, ◌≤◌, List, [], ◌∷◌, ◌++◌, length, Option, Some, None, refl, sym, ap, ◌∙◌, subst, arith, append_assoc, length-append}
+use Rattle.std.proofs.Common.{◌≡◌, ℕ, suc, ◌+◌, ◌<◌, ◌≤◌, List, [], ◌∷◌, ◌++◌, length, Option, Some, refl, sym, ap, ◌∙◌, subst, arith, append_assoc, length-append}
 use Rattle.std.specs.Prelude.{slice_get}
 use Rattle.ang_kinds.specs.declared.primitive.Primitive.{Primitive}
 use Rattle.ang_meaning.specs.declared.slot.Slot.{Slot}
 use Rattle.ang_meaning.specs.declared.routine.Spot.{Spot}
 use Rattle.ang_meaning.specs.declared.routine.Spot.TheVariants as spot
 use Rattle.ang_meaning.specs.declared.routine.Target.{Target}
-use Rattle.ang_meaning.specs.World.{World, give_all}
+use Rattle.ang_meaning.specs.World.{World}
 use Rattle.ang_meaning.specs.Setting.{Setting}
 use Rattle.ang_meaning.specs.Perform.{global_or, global_put}
-use Rattle.ang_meaning.specs.Results.{local_at, local_set, drop_some, give_back, brought, trade, Settled, settled_next, settled, with_outs}
+use Rattle.ang_meaning.specs.Results.{local_at, local_set, drop_some, give_back, brought, trade, Settled, settled, with_outs}
 use Rattle.ang_core.specs.Sound.{IsSpot, AreSpots}
-use Rattle.ang_code.specs.declared.instruction.Instruction.{Instruction}
 use Rattle.ang_code.specs.declared.instruction.Instruction.TheVariants.{Swap, SwapGlobal, DropUnder}
-use Rattle.ang_code.specs.Machine.{Texts, Config, At, Over, act, take_some, within, enough}
-use Rattle.ang_code.proofs.Steps.{HasAt, has_front, has_back, Comes, comes_on, comes_to, then_step, within_on, enough_on}
+use Rattle.ang_code.specs.Machine.{Texts, Config, At, take_some, within}
+use Rattle.ang_code.proofs.Steps.{HasAt, has_front, has_back, Comes, comes_to, then_step, within_on, enough_on}
 use Rattle.ang_gen.specs.Code.{swap_at, swaps_code, outs_code}
 use Rattle.ang_gen.proofs.Stacks.{local_seam, set_seam, local_under, set_under, length_set, take_front, drop_front, none_long}
 use Rattle.ang_gen.proofs.Relate.{Running, at, EvalGoes}

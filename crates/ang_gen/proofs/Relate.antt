@@ -1,15 +1,14 @@
 -- What it means that code does what a tree does.
-use Rattle.std.proofs.Common.{◌≡◌, ℕ, zero, suc, ◌+◌, ◌-◌, ◌<◌, ◌≤◌, List, [], ◌∷◌, ◌++◌, length, Option, Some, None}
+use Rattle.std.proofs.Common.{◌≡◌, ℕ, ◌-◌, ◌≤◌, List, ◌∷◌, ◌++◌, length}
 use Rattle.std.specs.Prelude.{Bool, IsTrue}
-use Rattle.ang_kinds.specs.declared.fault.Fault.{Fault}
 use Rattle.ang_meaning.specs.declared.slot.Slot.{Slot}
 use Rattle.ang_meaning.specs.declared.routine.Routine.{Routine}
 use Rattle.ang_meaning.specs.declared.routine.Passing.{Passing}
-use Rattle.ang_meaning.specs.World.{World, give_all}
+use Rattle.ang_meaning.specs.World.{World}
 use Rattle.ang_meaning.specs.Setting.{Setting}
 use Rattle.ang_meaning.specs.Results.{Evaluated, Gave, Failed, Gathered, Ready, Broke, Ran, Went, Returned, Halted, Broken, Continued, Reply, Yields, Raises, drop_some, give_some, outs_of, give_others}
 use Rattle.ang_code.specs.declared.instruction.Frame.{Frame}
-use Rattle.ang_code.specs.Machine.{Texts, Config, At, Over, fault, back}
+use Rattle.ang_code.specs.Machine.{Texts, Config, At, fault, back}
 use Rattle.ang_code.proofs.Steps.{Comes}
 
 -- a body's running: its routine, the callers, how high the stack may stand, and the stack below its frame

@@ -1,8 +1,7 @@
 -- Lists of values: what is taken from a stack that has these values on top.
-use Rattle.std.proofs.Common.{◌≡◌, ℕ, zero, suc, ◌+◌, ◌-◌, ◌<◌, ◌≤◌, List, [], ◌∷◌, ◌++◌, length, refl, sym, ap, ◌∙◌, subst, arith, append_assoc, length-append}
-use Rattle.std.specs.Prelude.{Bool, true, false, not, ◌&&◌}
+use Rattle.std.proofs.Common.{◌≡◌, ℕ, zero, suc, ◌+◌, ◌-◌, ◌<◌, ◌≤◌, List, [], ◌∷◌, ◌++◌, length, refl, ap, ◌∙◌, arith, append_assoc}
+use Rattle.std.specs.Prelude.{not, ◌&&◌}
 use Rattle.ang_meaning.specs.declared.slot.Slot.{Slot}
-use Rattle.ang_meaning.specs.declared.slot.Slot.TheVariants.{Bits, Script, Host}
 use Rattle.ang_meaning.specs.declared.routine.Passing.{Passing}
 use Rattle.ang_meaning.specs.declared.routine.Passing.TheVariants.{In, Out, Object}
 use Rattle.ang_meaning.specs.World.{World, give, give_all}

@@ -1,30 +1,20 @@
 -- The code of a statement does what the statement does.
-use Rattle.std.proofs.Common.{◌≡◌, ℕ, zero, suc, ◌+◌, ◌-◌, ◌<◌, ◌≤◌, List, [], ◌∷◌, ◌++◌, length, Option, Some, None, refl, sym, ap, ◌∙◌, subst, arith, append_assoc, append-nil, length-append}
+use Rattle.std.proofs.Common.{◌≡◌, ℕ, zero, suc, ◌+◌, ◌-◌, ◌≤◌, List, [], ◌∷◌, ◌++◌, length, Some, refl, sym, ap, ◌∙◌, subst, arith, length-append}
 use Rattle.std.specs.Prelude.{slice_get, Bool, true, false, IsTrue}
-use Rattle.ang_kinds.specs.declared.fault.Fault.{Fault}
-use Rattle.ang_kinds.specs.declared.fault.Fault.TheVariants.{Null as NullFault, Budget, Depth, Memory, Tally}
+use Rattle.ang_kinds.specs.declared.fault.Fault.TheVariants.{Null as NullFault, Budget}
 use Rattle.ang_meaning.specs.declared.slot.Slot.{Slot}
 use Rattle.ang_meaning.specs.declared.slot.Slot.TheVariants.{Bits, Script, Host}
-use Rattle.ang_meaning.specs.declared.routine.Routine.{Routine}
 use Rattle.ang_meaning.specs.declared.routine.Passing.{Passing}
-use Rattle.ang_meaning.specs.World.{World, Tried, Yes, No, give, give_all, memory_step}
+use Rattle.ang_meaning.specs.World.{World, give}
 use Rattle.ang_meaning.specs.Setting.{Setting, params_of}
-use Rattle.ang_meaning.specs.Results.{Evaluated, Gave, Failed, Ran, Went, Returned, Halted, Broken, Continued, Reply, Yields, Raises, Calls, drop_some, give_some, outs_of, give_others, at_zero, on_test, ticked, or_else, leave, with_value, then_run, caught, yielded, finished, enter}
-use Rattle.ang_core.specs.declared.tree.Expression.{Expression}
-use Rattle.ang_core.specs.declared.tree.Statement.{Statement, Row_of-Statement, end_of-Statement, more_of-Statement}
-use Rattle.ang_core.specs.declared.tree.Statement.TheVariants.{Skip, Evaluate, Declare, Block', If', While', DoWhile', Return as ReturnOf, Break, Continue}
-use Rattle.ang_core.specs.Meaning.{Passes, eval, turned, run, run_row, pass}
-use Rattle.ang_core.specs.Sound.{out_count, declared, row_declared, Sound, SoundStatement, SoundRow}
-use Rattle.ang_code.specs.declared.instruction.Frame.{Frame}
+use Rattle.ang_meaning.specs.Results.{Evaluated, Gave, Failed, Ran, Went, Returned, Halted, Broken, Continued, drop_some, give_some, outs_of, give_others, at_zero, on_test, ticked, leave, with_value, then_run, caught}
 use Rattle.ang_code.specs.declared.instruction.Instruction.{Instruction}
-use Rattle.ang_code.specs.declared.instruction.Instruction.TheVariants.{PushBits, Drop, Leave, SkipIfFalse, GoOn, Tick, Back, Return}
-use Rattle.ang_code.specs.Machine.{Texts, Config, At, Over, Faulted, fault, back, act, roomy, enough}
-use Rattle.ang_code.proofs.Steps.{HasAt, has_front, has_back, Comes, here, comes_on, comes_to, one_step, then_step, roomy_on, enough_on}
-use Rattle.ang_gen.specs.Code.{if_code, while_code, expr_code, leave_code, block_code, stmt_code, row_code, loop_code}
-use Rattle.ang_gen.specs.Heights.{Below, BelowStatement, BelowRow}
-use Rattle.ang_gen.proofs.Stacks.{give_append, drop_front, give_front, drop_within, give_within, length_drop, give_drop, drop_more, give_more, outs_front, others_front, length_outs}
-use Rattle.ang_gen.proofs.Relate.{Running, at, Exits, EvalGoes, ReplyGoes, returning, RunGoes}
-use Rattle.ang_gen.proofs.Exprs.{eval_runs}
+use Rattle.ang_code.specs.declared.instruction.Instruction.TheVariants.{Leave, GoOn, Return}
+use Rattle.ang_code.specs.Machine.{Texts, Config, Over, Faulted, fault, back, enough}
+use Rattle.ang_code.proofs.Steps.{HasAt, has_front, has_back, Comes, here, comes_on, comes_to, then_step, enough_on}
+use Rattle.ang_gen.specs.Code.{leave_code, block_code}
+use Rattle.ang_gen.proofs.Stacks.{drop_front, drop_within, give_within, length_drop, give_drop, drop_more, give_more, outs_front, others_front}
+use Rattle.ang_gen.proofs.Relate.{Running, at, Exits, EvalGoes, returning, RunGoes}
 
 pub no_true : (l : Bool) → l ≡ false → IsTrue l → ⊥
 no_true false e h = cc

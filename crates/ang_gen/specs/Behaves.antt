@@ -1,5 +1,5 @@
 -- The code does what the bodies do.
-use Rattle.std.specs.Prelude.{◌≡◌, ℕ, zero, suc, ◌+◌, List, [], ◌∷◌, length, Option, Some, None}
+use Rattle.std.specs.Prelude.{◌≡◌, ℕ, ◌+◌, List, [], length, Some}
 use Rattle.ang_meaning.specs.declared.slot.Slot.{Slot}
 use Rattle.ang_meaning.specs.declared.routine.Routine.{Routine}
 use Rattle.ang_meaning.specs.declared.routine.Passing.{Passing}
@@ -7,8 +7,7 @@ use Rattle.ang_meaning.specs.World.{World, give_all}
 use Rattle.ang_meaning.specs.Setting.{Setting}
 use Rattle.ang_meaning.specs.Results.{Reply, Yields, Raises}
 use Rattle.ang_core.specs.Meaning.{Bodies, called_with, initialized}
-use Rattle.ang_core.specs.Sound.{AreSound}
-use Rattle.ang_code.specs.Machine.{Texts, Config, Over, Outcome, Finished, Faulted, steps, call_begins, initializer_begins}
+use Rattle.ang_code.specs.Machine.{Texts, Over, Outcome, Finished, Faulted, steps, call_begins, initializer_begins}
 use Rattle.ang_gen.specs.Code.{body_code}
 use Rattle.ang_gen.specs.Heights.{BelowBody}
 

@@ -1,10 +1,10 @@
 -- How many values a body has on the stack at once.
-use Rattle.std.specs.Prelude.{ℕ, zero, suc, ◌+◌, ◌<◌, length}
+use Rattle.std.specs.Prelude.{ℕ, suc, ◌+◌, ◌<◌, length}
 use Rattle.ang_core.specs.declared.tree.Expression.{Expression, Row_of-Expression, end_of-Expression, more_of-Expression}
 use Rattle.ang_core.specs.declared.tree.Expression.TheVariants.{Number, Null as Nothing, NoKey, Local, Assign', Change', Apply', Call', Choose'}
 use Rattle.ang_core.specs.declared.tree.Statement.{Statement, Row_of-Statement, end_of-Statement, more_of-Statement}
 use Rattle.ang_core.specs.declared.tree.Statement.TheVariants.{Skip, Evaluate, Declare, Block', If', While', DoWhile', Return, Break, Continue}
-use Rattle.ang_core.specs.Sound.{declared, row_declared}
+use Rattle.ang_core.specs.Sound.{declared}
 
 -- Where d values stand below it in its frame, an expression never makes it more than h; a call's value stands above those of its `&out` parameters.
 abbrev mutual

@@ -1,5 +1,5 @@
 -- Pieces of a run, one after the other.
-use Rattle.std.proofs.Common.{◌≡◌, List, [], ◌∷◌, ◌++◌, refl, ap, ◌∙◌, append_assoc}
+use Rattle.std.proofs.Common.{◌≡◌, List, [], ◌++◌, ap, ◌∙◌, append_assoc}
 use Rattle.ang_meaning.specs.World.{Input}
 use Rattle.ang_meaning.specs.Told.{Told}
 

@@ -2,11 +2,10 @@
 use Rattle.std.proofs.Common.{◌≡◌, ℕ, ◌-◌, ◌^◌, refl}
 use Rattle.std.specs.Prelude.{true, false, Some, None}
 use Rattle.std.specs.Int.{int_wrap}
-use Rattle.ang_kinds.specs.declared.primitive.Primitive.TheVariants.{I8, I16, I32, I64, U8, U16, U32, U64}
+use Rattle.ang_kinds.specs.declared.primitive.Primitive.TheVariants.{I8, I32, I64, U8, U32, U64}
 use Rattle.ang_kinds.specs.declared.fault.Fault.TheVariants.{DivideByZero, DivideOverflow}
-use Rattle.ang_meaning.specs.declared.operation.Arithmetic.TheVariants.{Add, Subtract, Multiply, Divide, Remainder, And, Or, Xor, ShiftLeft, ShiftRight, ShiftSigned}
-use Rattle.ang_meaning.specs.declared.operation.Comparison.TheVariants.{Equal, Less}
-use Rattle.ang_meaning.specs.declared.operation.Change.{Change}
+use Rattle.ang_meaning.specs.declared.operation.Arithmetic.TheVariants.{Add, Divide, Remainder, And, ShiftLeft, ShiftRight, ShiftSigned}
+use Rattle.ang_meaning.specs.declared.operation.Comparison.TheVariants.{Less}
 use Rattle.ang_meaning.specs.declared.slot.Slot.TheVariants.{Script, Host}
 use Rattle.ang_meaning.specs.Setting.{is_null}
 use Rattle.ang_meaning.specs.Perform.{is_same}

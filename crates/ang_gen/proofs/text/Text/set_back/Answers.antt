@@ -1,6 +1,5 @@
-use Rattle.std.proofs.Common.{rules, ◌≡◌, ◌∷◌, ◌++◌, length, List, ◌∙◌, sym}
+use Rattle.std.proofs.Common.{◌≡◌, ◌∷◌, ◌++◌}
 use Rattle.std.specs.Prelude.{reverse}
-use Rattle.ang_code.specs.declared.instruction.Instruction.{Instruction}
 use Rattle.ang_code.specs.declared.instruction.Instruction.TheVariants.{Back}
 use Rattle.ang_gen.proofs.Writing.{patched}
 use Rattle.ang_gen.proofs.text.Text.set_back.Goals as goal
