@@ -1,8 +1,8 @@
 //! Outside examples on small trees made by hand, and each call once.
 
-use crate::{candidate_of, declare, functions_named, global_named};
 use ang_kinds::{Error, ErrorKind, Mask, Pass, Place, Prim, Unbuilt};
 use ang_lex::{Span, Token, TokenKind};
+use ang_names::{candidate_of, declare, functions_named, global_named};
 use ang_registry::{RegError, Registry, View};
 use ang_tree::{
     Block, Declaration, Function, Initializer, Parameter, Parameters, Script, TypeName, Variable,

@@ -1,11 +1,11 @@
 //! Examples of the language's rules, on operands made by hand.
 
-use crate::{
+use ang_kinds::{ErrorKind, Place, Prim};
+use ang_lex::{Span, Token, TokenKind};
+use ang_operators::{
     Branches, NamedVariable, Operand, Stop, assignment, binary, conditional, convert, group,
     literal, plain_operand, postfix, prefix,
 };
-use ang_kinds::{ErrorKind, Place, Prim};
-use ang_lex::{Span, Token, TokenKind};
 use ang_typed::{Expression, Variable};
 use ang_types::{ArgType, Lineage};
 use std::alloc::Global;

@@ -1,14 +1,14 @@
 //! Outside examples on small trees made by hand, and each call that takes memory once.
 
-use crate::{
-    HostGlobal, copy_at, error_at, is_read_only, name_at, not_yet_errors, text_at, type_of,
-    value_type_of, view_functions_named, view_global_named,
-};
 use ang_kinds::{EntityNo, Error, ErrorKind, Mask, Pass, Place, Prim};
 use ang_lex::{Span, Token, TokenKind};
 use ang_registry::{RegError, Registry, View};
 use ang_tree::{Declaration, Initializer, Script, TypeName, Variable, Variables};
 use ang_types::ArgType;
+use ang_written::{
+    HostGlobal, copy_at, error_at, is_read_only, name_at, not_yet_errors, text_at, type_of,
+    value_type_of, view_functions_named, view_global_named,
+};
 use std::alloc::{AllocError, Global};
 use std::test::Fail;
 
