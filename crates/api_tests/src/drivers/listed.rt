@@ -1,10 +1,11 @@
-ghost use Rattle.std.specs.Prelude.{◌≡◌, ◌∷◌, [], IfOk};
+ghost use Rattle.std.specs.Prelude.{◌≡◌, ◌<◌, ◌+◌, ◌∷◌, [], IfOk, length, vec_len, vec_capacity};
+ghost use Rattle.ang_host.specs.Boxes.{members};
 ghost use Rattle.ang_kinds.specs.declared.value.Value.TheVariants.{Int};
 
-use ang_drivers::Console;
+use ang_drivers::{Console, Counter};
 use ang_host::{
     Answer, Driver, Drivers, HostEvent, HostReply, Made, call_listed, make_listed, read_listed,
-    write_listed,
+    release_listed, write_listed,
 };
 use ang_kinds::{EntityNo, List, Value};
 use std::alloc::{AllocError, Global};
@@ -114,5 +115,46 @@ fn each_asking_is_listed(rt: HostRuntime) -> Result<(), AllocError> {
     for (event, want) in events.iter().zip(replies) {
         assert_eq!(rt; reply_of(event), Some(want));
     }
+    Ok(())
+}
+
+// Makes an object of a driver in the list and releases it: whether it ended then.
+fn ends_when_released(
+    drivers: &mut Drivers,
+    events: &mut Vec<HostEvent>,
+    caller: List<u8>,
+    args: List<Value>,
+) -> bool
+    requires in_list { 0 < length (members drivers.old) }
+    requires room { vec_len events.old + 1 < vec_capacity events.old }
+    ensures { length (members drivers.new) ≡ length (members drivers.old) }
+{
+    let Made::Key(key) = make_listed(drivers, events, caller, EntityNo(7), 0, 1, args) else {
+        return false;
+    };
+    release_listed(drivers, events, 0, key)
+}
+
+#[test]
+fn an_end_is_listed(rt: HostRuntime) -> Result<(), AllocError> {
+    let alloc = rt.alloc();
+    let mut boxes: Vec<Box<dyn Driver>> = Vec::new(alloc);
+    boxes.push(Box::new(alloc, Counter::new(alloc)?)?)?;
+    let mut events = Vec::with_capacity(alloc, 2)?;
+    let five = one_int(alloc, 5)?;
+    let Ok(mut drivers) = Drivers::new(boxes) else {
+        panic!(rt; "an idle driver was refused")
+    };
+    assert!(rt; drivers.len() == 1);
+    let caller = List::from_vec(Vec::new(alloc));
+    let ended = ends_when_released(&mut drivers, &mut events, caller, five);
+    assert_eq!(rt; drivers.into_boxes().len(), 1);
+    assert!(rt; ended);
+    assert_eq!(rt; events.len(), 2);
+    assert_eq!(rt;
+        events.first().and_then(reply_of),
+        Some(HostReply::Making(Made::Key(0)))
+    );
+    assert!(rt; matches!(events.get(1), Some(HostEvent::Ended { driver: 0, key: 0 })));
     Ok(())
 }
