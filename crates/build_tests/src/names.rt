@@ -1,4 +1,5 @@
 //! Outside examples on small trees made by hand, and each call once.
+ghost use Rattle.std.specs.Prelude.{◌<◌};
 
 use ang_kinds::{Error, ErrorKind, Mask, Pass, Place, Prim, Unbuilt};
 use ang_lex::{Span, Token, TokenKind};

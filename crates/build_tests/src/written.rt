@@ -1,4 +1,5 @@
 //! Outside examples on small trees made by hand, and each call that takes memory once.
+ghost use Rattle.std.specs.Prelude.{◌<◌};
 
 use ang_kinds::{EntityNo, Error, ErrorKind, Mask, Pass, Place, Prim};
 use ang_lex::{Span, Token, TokenKind};
