@@ -127,9 +127,10 @@ fn ends_when_released(
 ) -> bool
     requires in_list { 0 < length (members drivers.old) }
     requires room { vec_len events.old + 1 < vec_capacity events.old }
+    requires no_args { args ≡ [] }
     ensures { length (members drivers.new) ≡ length (members drivers.old) }
 {
-    let Made::Key(key) = make_listed(drivers, events, caller, EntityNo(7), 0, 1, args) else {
+    let Made::Key(key) = make_listed(drivers, events, caller, EntityNo(7), 0, 0, args) else {
         return false;
     };
     release_listed(drivers, events, 0, key)
@@ -141,13 +142,13 @@ fn an_end_is_listed(rt: HostRuntime) -> Result<(), AllocError> {
     let mut boxes: Vec<Box<dyn Driver>> = Vec::new(alloc);
     boxes.push(Box::new(alloc, Counter::new(alloc)?)?)?;
     let mut events = Vec::with_capacity(alloc, 2)?;
-    let five = one_int(alloc, 5)?;
     let Ok(mut drivers) = Drivers::new(boxes) else {
         panic!(rt; "an idle driver was refused")
     };
     assert!(rt; drivers.len() == 1);
     let caller = List::from_vec(Vec::new(alloc));
-    let ended = ends_when_released(&mut drivers, &mut events, caller, five);
+    let none = List::from_vec(Vec::new(alloc));
+    let ended = ends_when_released(&mut drivers, &mut events, caller, none);
     assert_eq!(rt; drivers.into_boxes().len(), 1);
     assert!(rt; ended);
     assert_eq!(rt; events.len(), 2);
