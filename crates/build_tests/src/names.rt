@@ -1,9 +1,9 @@
 //! Outside examples on small trees made by hand, and each call once.
 ghost use Rattle.std.specs.Prelude.{◌<◌};
 
-use ang_kinds::{Error, ErrorKind, Mask, Pass, Place, Prim, Unbuilt};
+use ang_kinds::{Error, ErrorKind, List, Mask, Pass, Place, Prim, Unbuilt};
 use ang_lex::{Span, Token, TokenKind};
-use ang_names::{candidate_of, declare, functions_named, global_named};
+use ang_names::{Names, candidate_of, declare, functions_named, global_named};
 use ang_registry::{RegError, Registry, View};
 use ang_tree::{
     Block, Declaration, Function, Initializer, Parameter, Parameters, Script, TypeName, Variable,
@@ -100,8 +100,24 @@ fn view(alloc: Global) -> Result<View, RegError> {
     Ok(registry.seen(alloc, Mask(1))?)
 }
 
-fn is_error(error: &Error, kind: ErrorKind, column: u32, name: &[u8]) -> bool {
-    error.kind == kind && error.place.column == column && error.name.as_slice() == name
+/// The errors for which nothing is declared.
+fn errors_of(declared: Result<Names, Unbuilt>) -> Option<List<Error>> {
+    match declared {
+        Ok(_names) => None,
+        Err(why) => match why {
+            Unbuilt::Errors(errors) => Some(errors),
+            Unbuilt::Memory => None,
+        },
+    }
+}
+
+fn is_only_error(errors: &[Error], kind: ErrorKind, column: u32, name: &[u8]) -> bool {
+    match errors {
+        [error] => {
+            error.kind == kind && error.place.column == column && error.name.as_slice() == name
+        }
+        _ => false,
+    }
 }
 
 #[test]
@@ -142,12 +158,11 @@ fn a_name_is_taken_once(rt: HostRuntime) -> Result<(), Fail> {
     let one = global(alloc, token(INT, 0, 3), token(TokenKind::Name, 4, 9))?;
     let other = global(alloc, token(INT, 10, 13), token(TokenKind::Name, 14, 19))?;
     let scripts = script(alloc, b"int other;int limit;", one, other)?;
-    match declare(alloc, &view(alloc)?, &scripts) {
-        Err(Unbuilt::Errors(errors)) => match errors.as_slice() {
-            [error] => assert!(rt; is_error(error, ErrorKind::Duplicate, 15, b"limit")),
-            _ => assert!(rt; false, "one error"),
-        },
-        _ => assert!(rt; false, "refused"),
-    }
+    let view = view(alloc)?;
+    let is_refused = match errors_of(declare(alloc, &view, &scripts)) {
+        Some(errors) => is_only_error(errors.as_slice(), ErrorKind::Duplicate, 15, b"limit"),
+        None => false,
+    };
+    assert!(rt; is_refused);
     Ok(())
 }
