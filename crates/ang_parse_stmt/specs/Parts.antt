@@ -16,4 +16,4 @@ abbrev pub view_head : heads.Head → Head
 view_head h = record { left = h.open; start = view_start h.start; condition = view_option h.condition; semicolon = h.semicolon; steps = view_items h.steps.items; right = h.close }
 
 abbrev pub view_guarded : guards.Guarded → Guarded
-view_guarded g = record { condition = view_condition g.condition; statement = view_stmt g.statement }
+view_guarded g = record { condition = view_condition g.condition; statement = view_stmt g.statement.value }

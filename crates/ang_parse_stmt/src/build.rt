@@ -8,7 +8,7 @@ ghost use Rattle.ang_parse_stmt.specs.ReadStmt as read;
 use crate::parts::{Ending, Guarded, Head};
 use ang_lex::Token;
 use ang_tree::{Else, ForStart, Statement};
-use std::alloc::{AllocError, Global};
+use std::alloc::AllocError;
 
 /// The list with one more statement at its end.
 pub(crate) fn with_statement(
@@ -33,79 +33,57 @@ pub(crate) fn simple(start: ForStart) -> Statement
 }
 
 /// The other branch of an `if`.
-pub(crate) fn other_branch(
-    alloc: Global,
-    word: Token,
-    branch: Statement,
-) -> Result<Else, AllocError>
-    ensures { IfOk result (λ e. view_else e ≡ (word, view_stmt branch)) }
+pub(crate) fn other_branch(word: Token, branch: Box<Statement>) -> Else
+    ensures { view_else result ≡ (word, view_stmt branch.value) }
 {
-    let branch = Box::new(alloc, branch)?;
-    Ok(Else { word, branch })
+    Else { word, branch }
 }
 
 /// An `if`.
-pub(crate) fn conditional(
-    alloc: Global,
-    word: Token,
-    guarded: Guarded,
-    otherwise: Option<Else>,
-) -> Result<Statement, AllocError>
-    ensures { IfOk result (λ s. view_stmt s ≡ read.branched word (view_guarded guarded) (option_map view_else otherwise)) }
+pub(crate) fn conditional(word: Token, guarded: Guarded, otherwise: Option<Else>) -> Statement
+    ensures { view_stmt result ≡ read.branched word (view_guarded guarded) (option_map view_else otherwise) }
 {
     let Guarded {
         condition,
-        statement,
+        statement: then,
     } = guarded;
-    let then = Box::new(alloc, statement)?;
-    Ok(Statement::If {
+    Statement::If {
         word,
         open: condition.open,
         condition: condition.value,
         close: condition.close,
         then,
         otherwise,
-    })
+    }
 }
 
 /// A `while`.
-pub(crate) fn while_loop(
-    alloc: Global,
-    word: Token,
-    guarded: Guarded,
-) -> Result<Statement, AllocError>
-    ensures { IfOk result (λ s. view_stmt s ≡ read.while_of word (view_guarded guarded)) }
+pub(crate) fn while_loop(word: Token, guarded: Guarded) -> Statement
+    ensures { view_stmt result ≡ read.while_of word (view_guarded guarded) }
 {
     let Guarded {
         condition,
-        statement,
+        statement: body,
     } = guarded;
-    let body = Box::new(alloc, statement)?;
-    Ok(Statement::While {
+    Statement::While {
         word,
         open: condition.open,
         condition: condition.value,
         close: condition.close,
         body,
-    })
+    }
 }
 
 /// A `do`.
-pub(crate) fn do_loop(
-    alloc: Global,
-    word: Token,
-    body: Statement,
-    ending: Ending,
-) -> Result<Statement, AllocError>
-    ensures { IfOk result (λ s. view_stmt s ≡ read.do_while_of word (view_stmt body) (view_ending ending)) }
+pub(crate) fn do_loop(word: Token, body: Box<Statement>, ending: Ending) -> Statement
+    ensures { view_stmt result ≡ read.do_while_of word (view_stmt body.value) (view_ending ending) }
 {
     let Ending {
         word: while_word,
         condition,
         semicolon,
     } = ending;
-    let body = Box::new(alloc, body)?;
-    Ok(Statement::DoWhile {
+    Statement::DoWhile {
         word,
         body,
         while_word,
@@ -113,17 +91,12 @@ pub(crate) fn do_loop(
         condition: condition.value,
         close: condition.close,
         semicolon,
-    })
+    }
 }
 
 /// A `for`.
-pub(crate) fn for_loop(
-    alloc: Global,
-    word: Token,
-    head: Head,
-    body: Statement,
-) -> Result<Statement, AllocError>
-    ensures { IfOk result (λ s. view_stmt s ≡ read.for_of word (view_head head) (view_stmt body)) }
+pub(crate) fn for_loop(word: Token, head: Head, body: Box<Statement>) -> Statement
+    ensures { view_stmt result ≡ read.for_of word (view_head head) (view_stmt body.value) }
 {
     let Head {
         open,
@@ -133,8 +106,7 @@ pub(crate) fn for_loop(
         steps,
         close,
     } = head;
-    let body = Box::new(alloc, body)?;
-    Ok(Statement::For {
+    Statement::For {
         word,
         open,
         start,
@@ -143,5 +115,5 @@ pub(crate) fn for_loop(
         steps,
         close,
         body,
-    })
+    }
 }

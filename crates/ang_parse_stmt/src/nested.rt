@@ -231,6 +231,21 @@ pub(crate) fn block<'a>(
     ))
 }
 
+/// Reads a statement to be a part of another.
+#[cycle(statement)]
+fn inner_statement(
+    alloc: Global,
+    tokens: &[Token],
+    depth: usize,
+    limit: usize,
+) -> Result<(Box<Statement>, &[Token]), ReadError<'_>>
+    ensures { Gives (λ x. (view_stmt x.0.value, x.1.now)) result (read.stmt depth limit tokens.now) }
+{
+    let (found, rest) = statement(alloc, tokens, depth, limit)?;
+    let found = Box::new(alloc, found)?;
+    Ok((found, rest))
+}
+
 /// Reads `"(" assign ")" stmt`.
 #[cycle(statement)]
 #[tactic(auto, unfolding(crate::specs::ReadStmt::guarded))]
@@ -243,7 +258,7 @@ fn guarded(
     ensures { Gives (λ x. (view_guarded x.0, x.1.now)) result (read.guarded (read.stmt depth limit) limit tokens.now) }
 {
     let (condition, rest) = condition(alloc, tokens, limit)?;
-    let (statement, rest) = statement(alloc, rest, depth, limit)?;
+    let (statement, rest) = inner_statement(alloc, rest, depth, limit)?;
     Ok((
         Guarded {
             condition,
@@ -266,9 +281,8 @@ fn otherwise(
 {
     match tokens {
         [word, rest @ ..] if matches!(word.kind, TokenKind::Else) => {
-            let (branch, rest) = statement(alloc, rest, depth, limit)?;
-            let other = build::other_branch(alloc, *word, branch)?;
-            Ok((Some(other), rest))
+            let (branch, rest) = inner_statement(alloc, rest, depth, limit)?;
+            Ok((Some(build::other_branch(*word, branch)), rest))
         }
         _ => Ok((None, tokens)),
     }
@@ -288,8 +302,7 @@ fn conditional<'a>(
 {
     let (guarded, rest) = guarded(alloc, tokens, depth, limit)?;
     let (otherwise, rest) = otherwise(alloc, rest, depth, limit)?;
-    let whole = build::conditional(alloc, word, guarded, otherwise)?;
-    Ok((whole, rest))
+    Ok((build::conditional(word, guarded, otherwise), rest))
 }
 
 /// Reads what stands behind the word `while`.
@@ -305,8 +318,7 @@ fn while_loop<'a>(
     ensures { Gives (λ x. (view_stmt x.0, x.1.now)) result (read.while_loop (read.stmt depth limit) limit word tokens.now) }
 {
     let (guarded, rest) = guarded(alloc, tokens, depth, limit)?;
-    let whole = build::while_loop(alloc, word, guarded)?;
-    Ok((whole, rest))
+    Ok((build::while_loop(word, guarded), rest))
 }
 
 /// Reads what stands behind the word `do`.
@@ -321,10 +333,9 @@ fn do_loop<'a>(
 ) -> Result<(Statement, &'a [Token]), ReadError<'a>>
     ensures { Gives (λ x. (view_stmt x.0, x.1.now)) result (read.do_loop (read.stmt depth limit) limit word tokens.now) }
 {
-    let (body, rest) = statement(alloc, tokens, depth, limit)?;
+    let (body, rest) = inner_statement(alloc, tokens, depth, limit)?;
     let (ending, rest) = ending(alloc, rest, limit)?;
-    let whole = build::do_loop(alloc, word, body, ending)?;
-    Ok((whole, rest))
+    Ok((build::do_loop(word, body, ending), rest))
 }
 
 /// Reads what stands behind the word `for`.
@@ -340,9 +351,8 @@ fn for_loop<'a>(
     ensures { Gives (λ x. (view_stmt x.0, x.1.now)) result (read.for_loop (read.stmt depth limit) limit word tokens.now) }
 {
     let (head, rest) = head(alloc, tokens, limit)?;
-    let (body, rest) = statement(alloc, rest, depth, limit)?;
-    let whole = build::for_loop(alloc, word, head, body)?;
-    Ok((whole, rest))
+    let (body, rest) = inner_statement(alloc, rest, depth, limit)?;
+    Ok((build::for_loop(word, head, body), rest))
 }
 
 #[cycle(statement)]

@@ -34,5 +34,5 @@ pub(crate) struct Head {
 #[derive(Drop)]
 pub(crate) struct Guarded {
     pub(crate) condition: Condition,
-    pub(crate) statement: Statement,
+    pub(crate) statement: Box<Statement>,
 }

@@ -2,7 +2,7 @@
 ghost use Rattle.std.specs.Prelude.{◌≡◌, List, [], IfOk, IfErr, Ok};
 ghost use Rattle.ang_lex.specs.declared.token.Token.{Token};
 ghost use Rattle.ang_read.specs.Gives.{Gives};
-ghost use Rattle.ang_read.specs.Law.{Faulty, all_of};
+ghost use Rattle.ang_read.specs.Law.{Faulty, all_of, finish};
 ghost use Rattle.ang_tree.specs.Stmt.{Stmt, SpellsStmt};
 ghost use Rattle.ang_tree.specs.View.{view_stmt};
 ghost use Rattle.ang_parse_stmt.specs.ReadStmt as read;
@@ -13,16 +13,23 @@ use ang_read::ReadError;
 use ang_tree::Statement;
 use std::alloc::Global;
 
+/// What was read, where no tokens are left behind it.
+fn finished(found: Statement, rest: &[Token]) -> Result<Statement, ReadError<'_>>
+    ensures { Gives (λ x. (view_stmt x, [])) result (finish (view_stmt found) rest.now) }
+{
+    if !rest.is_empty() {
+        return Err(ReadError::Syntax(rest));
+    }
+    Ok(found)
+}
+
 #[tactic(auto, unfolding(ang_read::specs::Law::all_of))]
 fn all(alloc: Global, tokens: &[Token]) -> Result<Statement, ReadError<'_>>
     ensures { Gives (λ x. (view_stmt x, [])) result (all_of (λ n. read.stmt n n) tokens.now) }
 {
     let bound = tokens.len() + 1;
     let (found, rest) = statement(alloc, tokens, bound, bound)?;
-    if !rest.is_empty() {
-        return Err(ReadError::Syntax(rest));
-    }
-    Ok(found)
+    finished(found, rest)
 }
 
 /// The statement that the tokens spell, all of them, by the grammar of docs/LANGUAGE.md.

@@ -23,23 +23,26 @@ decreases-braced l = 8 * l.depth + 4
 abbrev pub decreases-chosen : goal.decreases-chosen
 decreases-chosen l = 8 * l.depth + 5
 
+abbrev pub decreases-inner_statement : goal.decreases-inner_statement
+decreases-inner_statement l = 8 * l.depth + 1
+
 abbrev pub decreases-guarded : goal.decreases-guarded
-decreases-guarded l = 8 * l.depth + 1
+decreases-guarded l = 8 * l.depth + 2
 
 abbrev pub decreases-otherwise : goal.decreases-otherwise
-decreases-otherwise l = 8 * l.depth + 1
+decreases-otherwise l = 8 * l.depth + 2
 
 abbrev pub decreases-conditional : goal.decreases-conditional
-decreases-conditional l = 8 * l.depth + 2
+decreases-conditional l = 8 * l.depth + 3
 
 abbrev pub decreases-while_loop : goal.decreases-while_loop
-decreases-while_loop l = 8 * l.depth + 2
+decreases-while_loop l = 8 * l.depth + 3
 
 abbrev pub decreases-do_loop : goal.decreases-do_loop
-decreases-do_loop l = 8 * l.depth + 1
+decreases-do_loop l = 8 * l.depth + 2
 
 abbrev pub decreases-for_loop : goal.decreases-for_loop
-decreases-for_loop l = 8 * l.depth + 1
+decreases-for_loop l = 8 * l.depth + 2
 
 abbrev pub invariant-statements-loop : goal.invariant-statements-loop
 invariant-statements-loop l = repeat (read.other_statement (read.stmt l.depth l.limit) l.limit) (l.limit - l.counter) (view_stmts l.found.items) l.rest ≡ repeat (read.other_statement (read.stmt l.depth l.limit) l.limit) l.limit end l.tokens
