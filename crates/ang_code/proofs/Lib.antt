@@ -1,2 +1,3 @@
 pub mod Lightening
 pub mod Steps
+pub mod Telling

@@ -6,3 +6,4 @@ pub mod Exprs
 pub mod Stmts
 pub mod Bodies
 pub mod Writing
+pub mod Telling

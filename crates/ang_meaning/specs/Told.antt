@@ -1,6 +1,11 @@
 -- What a piece of a run does, told by the inputs that it takes.
-use Rattle.std.specs.Prelude.{◌≡◌, Bool, true, false, List, [], ◌∷◌, ◌++◌}
-use Rattle.ang_meaning.specs.World.{Input, Room, Said, Counted, Fresh}
+use Rattle.std.specs.Prelude.{◌≡◌, ◌⊎◌, Bool, true, false, List, [], ◌∷◌, ◌++◌, Option, Some, None}
+use Rattle.ang_kinds.specs.declared.fault.Fault.{Fault}
+use Rattle.ang_kinds.specs.declared.fault.Fault.TheVariants.{Memory, Tally}
+use Rattle.ang_host.specs.declared.answer.HostReply.{HostReply}
+use Rattle.ang_host.specs.declared.event.HostEvent.{HostEvent}
+use Rattle.ang_host.specs.declared.event.HostEvent.TheVariants.{Called, Ended}
+use Rattle.ang_meaning.specs.World.{World, Input, Room, Said, Counted, Fresh}
 
 -- The first, told these inputs and any more, gives what the second gives, told the rest. Where the second hands its inputs on untouched, these are
 -- exactly the inputs that the first asks for.
@@ -19,14 +24,47 @@ has_room (Counted false ∷ inputs) = false
 has_room (Said reply ∷ inputs) = has_room inputs
 has_room (Fresh n ∷ inputs) = has_room inputs
 
--- it was refused at the last of them, and never before
-abbrev pub is_stopped : List Input → Bool
-is_stopped [] = false
-is_stopped (Room true ∷ inputs) = is_stopped inputs
-is_stopped (Room false ∷ []) = true
-is_stopped (Room false ∷ i ∷ inputs) = false
-is_stopped (Counted true ∷ inputs) = is_stopped inputs
-is_stopped (Counted false ∷ []) = true
-is_stopped (Counted false ∷ i ∷ inputs) = false
-is_stopped (Said reply ∷ inputs) = is_stopped inputs
-is_stopped (Fresh n ∷ inputs) = is_stopped inputs
+-- it was refused at the last of them, and never before: the fault of that refusal
+abbrev pub stopped_by : List Input → Option Fault
+stopped_by [] = None
+stopped_by (Room true ∷ inputs) = stopped_by inputs
+stopped_by (Room false ∷ []) = Some Memory
+stopped_by (Room false ∷ i ∷ inputs) = None
+stopped_by (Counted true ∷ inputs) = stopped_by inputs
+stopped_by (Counted false ∷ []) = Some Tally
+stopped_by (Counted false ∷ i ∷ inputs) = None
+stopped_by (Said reply ∷ inputs) = stopped_by inputs
+stopped_by (Fresh n ∷ inputs) = stopped_by inputs
+
+-- what drivers answered, as a run was told, and as its events list it
+abbrev pub answers_told : List Input → List HostReply
+answers_told [] = []
+answers_told (Said reply ∷ inputs) = reply ∷ answers_told inputs
+answers_told (Room b ∷ inputs) = answers_told inputs
+answers_told (Counted b ∷ inputs) = answers_told inputs
+answers_told (Fresh n ∷ inputs) = answers_told inputs
+
+abbrev pub answers_listed : List HostEvent → List HostReply
+answers_listed [] = []
+answers_listed (Called caller entity driver object args reply ∷ events) = reply ∷ answers_listed events
+answers_listed (Ended driver key ∷ events) = answers_listed events
+
+-- A piece of a run takes one world to the other: it was told these inputs, the first that there were, and listed events behind those before, in which
+-- the answers are just those that it was told.
+pub record Moves (before : World) (used : List Input) (after : World) : Type 0 where
+  pub more : List HostEvent
+  pub inputs : before.inputs ≡ used ++ after.inputs
+  pub events : after.events ≡ before.events ++ more
+  pub answers : answers_listed more ≡ answers_told used
+
+-- it goes on, or has ended with a value: nothing was refused
+pub record GoesOn (before after : World) : Type 0 where
+  pub used : List Input
+  pub moves : Moves before used after
+  pub room : has_room used ≡ true
+
+-- it has ended with a fault: nothing was refused, or the last input alone, whose fault this is
+pub record Stops (f : Fault) (before after : World) : Type 0 where
+  pub used : List Input
+  pub moves : Moves before used after
+  pub told : (has_room used ≡ true) ⊎ (stopped_by used ≡ Some f)

@@ -2,8 +2,6 @@
 -- "Names of a build"; the AngelScript manual, "Registering a function" and "Registering global properties"). A function of which
 -- some type is not in the view is none that a script can call; the view of a mask has all types that it names.
 use Rattle.std.specs.Prelude.{ℕ, ◌+◌, Bool, true, false, ◌&&◌, List, [], ◌∷◌, ◌++◌, Option, Some, None, bytes_eq, option_to_list, if◌then◌else◌}
-use Rattle.std.specs.List.{position}
-use Rattle.ang_kinds.specs.declared.mask.EntityNo.{EntityNo}
 use Rattle.ang_kinds.specs.declared.types.Param.{Param}
 use Rattle.ang_kinds.specs.declared.types.Pass.{Pass}
 use Rattle.ang_kinds.specs.declared.types.Shape.{Shape}

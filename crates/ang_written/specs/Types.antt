@@ -1,6 +1,6 @@
 -- What written types mean (docs/LANGUAGE.md, "Names of a build"; the AngelScript manual, "Data types", "Object handles" and "Parameter
 -- references"). Object types go by number: a seen host type by its entry's.
-use Rattle.std.specs.Prelude.{ℕ, Bool, true, false, is_some, List, Option, Some, None, Result, Ok, Err}
+use Rattle.std.specs.Prelude.{ℕ, Bool, is_some, List, Option, Some, None, Result, Ok, Err}
 use Rattle.ang_kinds.specs.declared.error.ErrorKind.{ErrorKind}
 use Rattle.ang_kinds.specs.declared.error.ErrorKind.TheVariants.{UnknownType, BadType}
 use Rattle.ang_kinds.specs.declared.types.Pass.{Pass}
