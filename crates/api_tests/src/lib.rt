@@ -3,13 +3,9 @@
 #![tactic(auto)]
 
 #[cfg(test)]
-mod decl;
-#[cfg(test)]
 mod drivers;
 #[cfg(test)]
 mod kinds;
-#[cfg(test)]
-mod lex;
 #[cfg(test)]
 mod registry;
 #[cfg(test)]
