@@ -1,5 +1,5 @@
 -- Looking through a view from its first entry on.
-use Rattle.std.proofs.Common.{◌≡◌, refl, ap, sym, ◌∙◌, ◌<◌, ◌+◌, ℕ, Bool, true, false, ◌||◌, cond, length, take, drop, Option, Some, None}
+use Rattle.std.proofs.Common.{◌≡◌, ap, ◌∙◌, ◌<◌, ◌+◌, ℕ, Bool, true, false, ◌||◌, cond, length, take, drop, Option, Some, None}
 use Rattle.std.specs.Prelude.{position}
 use Rattle.std.specs.List.{list_any, position_from}
 use Rattle.std.proofs.lemmas.List.Folds.{list_any_more}

@@ -12,8 +12,6 @@ mod parse;
 mod read;
 mod signatures;
 mod taken;
-#[cfg(test)]
-mod tests;
 mod tree;
 
 pub use error::DeclError;

@@ -5,4 +5,3 @@ pub mod Moving
 pub mod Counting
 pub mod Celling
 pub mod Cores
-pub mod Living

@@ -6,8 +6,6 @@ mod console;
 mod counter;
 pub mod laws;
 mod objects;
-#[cfg(test)]
-mod tests;
 mod values;
 
 pub use cell::Cell;

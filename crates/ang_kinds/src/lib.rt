@@ -8,8 +8,6 @@ mod list;
 mod mask;
 mod place;
 mod primitive;
-#[cfg(test)]
-mod tests;
 mod types;
 mod value;
 

@@ -16,8 +16,6 @@ mod numeral;
 mod piece;
 mod scan;
 mod shape;
-#[cfg(test)]
-mod tests;
 mod token;
 mod words;
 

@@ -15,8 +15,6 @@ mod origin;
 mod phase;
 mod resolved;
 mod taken;
-#[cfg(test)]
-mod tests;
 
 pub use ang_written::{
     HostFunction, HostGlobal, error_at, is_read_only, text_at, type_of, value_type_of,

@@ -13,8 +13,6 @@ mod forms;
 mod one_operand;
 mod operand;
 mod refusal;
-#[cfg(test)]
-mod tests;
 mod trees;
 mod two_operands;
 

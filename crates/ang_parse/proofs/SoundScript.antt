@@ -10,8 +10,9 @@ use Rattle.ang_read.proofs.Outcomes.{Reads, and_reads, further, ChoiceReads, loo
 use Rattle.ang_read.proofs.Tokens.{Always}
 use Rattle.ang_parse_stmt.proofs.Ahead.{ahead_reads}
 use Rattle.ang_parse_expr.proofs.SoundType.{type-length}
-use Rattle.ang_parse_stmt.proofs.Lengths.{vars-length, body-length}
-use Rattle.ang_parse_stmt.proofs.SoundVars.{each-one_more, Every-one_more}
+use Rattle.ang_parse_variables.proofs.Lengths.{vars-length}
+use Rattle.ang_parse_stmt.proofs.Lengths.{body-length}
+use Rattle.ang_parse_variables.proofs.SoundVars.{each-one_more, Every-one_more}
 use Rattle.ang_parse_params.proofs.SoundParams.{params-length}
 use Rattle.ang_parse_function.specs.ReadFunction.{function_or_globals}
 use Rattle.ang_parse_function.proofs.SoundFunction as function

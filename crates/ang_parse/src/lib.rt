@@ -11,8 +11,6 @@ mod fault;
 pub mod laws;
 mod parser;
 mod script;
-#[cfg(test)]
-mod tests;
 
 pub use error::ParseError;
 pub use parser::parse;

@@ -12,7 +12,7 @@ use Rattle.ang_read.specs.Tokens.{a_token, is_name, is_left_brace, is_right_brac
 use Rattle.ang_read.proofs.Outcomes.{Reads, and_reads, further, ChoiceReads, look_reads, Turns, repeat_reads_to, From-self, From-one, From-length}
 use Rattle.ang_read.proofs.Tokens.{Always, Token_read, a_token_reads, name_is, left_brace_is, right_brace_is}
 use Rattle.ang_parse_stmt.proofs.Ahead.{ahead_reads}
-use Rattle.ang_parse_stmt.proofs.SoundVars.{each-one_more, Every-one_more, Filled-one_more}
+use Rattle.ang_parse_variables.proofs.SoundVars.{each-one_more, Every-one_more, Filled-one_more}
 use Rattle.ang_parse_class.specs.ReadClass as r
 use Rattle.ang_parse_class.proofs.Lengths.{member-length, method-length}
 use Rattle.ang_parse_class.proofs.SoundMembers.{IsMember, IsMethod, member_reads, method_reads}

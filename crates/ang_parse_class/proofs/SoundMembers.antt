@@ -20,7 +20,7 @@ use Rattle.ang_parse_expr.specs.ReadExpr.{expr, args}
 use Rattle.ang_parse_expr.proofs.SoundType.{Type_read, a_type_reads, type_named_reads}
 use Rattle.ang_parse_expr.proofs.Sound.{IsArgs, args_at_reads}
 use Rattle.ang_parse_stmt.specs.ReadStmt.{stmt, statements, a_body}
-use Rattle.ang_parse_stmt.proofs.SoundVars.{each-one_more, Every-one_more, Filled-one_more, Parted-one_more}
+use Rattle.ang_parse_variables.proofs.SoundVars.{each-one_more, Every-one_more, Filled-one_more, Parted-one_more}
 use Rattle.ang_parse_stmt.proofs.SoundStmt.{AreStmts, IsBody}
 use Rattle.ang_parse_params.specs.ReadParams.{params, a_params}
 use Rattle.ang_parse_params.proofs.SoundParams.{IsParams, params_reads, a_params_reads}

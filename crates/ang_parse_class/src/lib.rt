@@ -11,8 +11,6 @@ mod interfaces;
 mod kinds;
 mod members;
 mod parts;
-#[cfg(test)]
-mod tests;
 
 pub use classes::{class, final_class};
 pub use interfaces::interface;

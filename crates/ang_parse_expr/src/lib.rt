@@ -7,8 +7,6 @@
 mod build;
 mod expr;
 mod kinds;
-#[cfg(test)]
-mod tests;
 mod types;
 mod whole;
 

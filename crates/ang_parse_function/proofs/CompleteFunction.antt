@@ -22,9 +22,9 @@ use Rattle.ang_parse_expr.proofs.Grip.{First}
 use Rattle.ang_parse_expr.proofs.CompleteType.{is_at, EndsType, type_read}
 use Rattle.ang_parse_expr.proofs.Complete.{args_read}
 use Rattle.ang_parse_expr.proofs.Exactly.{listed-size}
-use Rattle.ang_parse_stmt.specs.ReadVars.{variable_of, variables_of}
-use Rattle.ang_parse_stmt.proofs.Lengths.{init-length}
-use Rattle.ang_parse_stmt.proofs.CompleteVars.{variables_behind_read, variables_named_read}
+use Rattle.ang_parse_variables.specs.ReadVars.{variable_of, variables_of}
+use Rattle.ang_parse_variables.proofs.Lengths.{init-length}
+use Rattle.ang_parse_variables.proofs.CompleteVars.{variables_behind_read, variables_named_read}
 use Rattle.ang_parse_stmt.proofs.CompleteStmt.{body_read}
 use Rattle.ang_parse_params.proofs.SoundParams.{params-length}
 use Rattle.ang_parse_params.proofs.CompleteParams.{params_complete, a_params_complete}

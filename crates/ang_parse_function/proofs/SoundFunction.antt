@@ -23,10 +23,11 @@ use Rattle.ang_parse_expr.specs.ReadType.{a_type}
 use Rattle.ang_parse_expr.specs.ReadExpr.{expr, args}
 use Rattle.ang_parse_expr.proofs.SoundType.{Type_read, a_type_reads, type-length}
 use Rattle.ang_parse_expr.proofs.Sound.{IsArgs, args_at_reads}
-use Rattle.ang_parse_stmt.specs.ReadVars.{variable_of, variables_behind, variables_named}
+use Rattle.ang_parse_variables.specs.ReadVars.{variable_of, variables_behind, variables_named}
 use Rattle.ang_parse_stmt.specs.ReadStmt.{stmt, statements, a_body}
-use Rattle.ang_parse_stmt.proofs.Lengths.{body-length, vars-length}
-use Rattle.ang_parse_stmt.proofs.SoundVars.{IsVars, variables_behind_reads, variables_named_reads}
+use Rattle.ang_parse_variables.proofs.Lengths.{vars-length}
+use Rattle.ang_parse_stmt.proofs.Lengths.{body-length}
+use Rattle.ang_parse_variables.proofs.SoundVars.{IsVars, variables_behind_reads, variables_named_reads}
 use Rattle.ang_parse_stmt.proofs.SoundStmt.{IsBody, IsStmt, stmt_reads, body_reads, body_at_reads}
 use Rattle.ang_parse_params.specs.ReadParams.{params, a_params}
 use Rattle.ang_parse_params.proofs.SoundParams.{IsParams, params_reads, a_params_reads, params-length}

@@ -18,9 +18,10 @@ use Rattle.ang_read.proofs.TameGroup.{both_tame}
 use Rattle.ang_parse_expr.specs.ReadType.{a_type}
 use Rattle.ang_parse_expr.specs.ReadExpr.{expr, args}
 use Rattle.ang_parse_expr.proofs.TameExpr.{a_type_tame, args_at_tame}
-use Rattle.ang_parse_stmt.specs.ReadVars.{variable_of, variables_behind, variables_named}
+use Rattle.ang_parse_variables.specs.ReadVars.{variable_of, variables_behind, variables_named}
 use Rattle.ang_parse_stmt.specs.ReadStmt.{stmt, a_body}
-use Rattle.ang_parse_stmt.proofs.TameStmt.{variables_behind_tame, variables_named_tame, body_at_tame}
+use Rattle.ang_parse_variables.proofs.TameVars.{variables_behind_tame, variables_named_tame}
+use Rattle.ang_parse_stmt.proofs.TameStmt.{body_at_tame}
 use Rattle.ang_parse_params.specs.ReadParams.{params, a_params}
 use Rattle.ang_parse_params.proofs.TameParams.{params_tame, a_params_tame}
 use Rattle.ang_parse_function.specs.ReadFunction as r

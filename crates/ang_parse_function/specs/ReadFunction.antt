@@ -15,7 +15,7 @@ use Rattle.ang_read.specs.Law.{finish}
 use Rattle.ang_read.specs.Group.{both}
 use Rattle.ang_parse_expr.specs.ReadType.{a_type}
 use Rattle.ang_parse_expr.specs.ReadExpr.{expr, args}
-use Rattle.ang_parse_stmt.specs.ReadVars.{variable_of, variables_behind, variables_named}
+use Rattle.ang_parse_variables.specs.ReadVars.{variable_of, variables_behind, variables_named}
 use Rattle.ang_parse_stmt.specs.ReadStmt.{stmt, a_body}
 use Rattle.ang_parse_params.specs.ReadParams.{params, a_params}
 

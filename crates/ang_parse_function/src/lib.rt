@@ -12,8 +12,6 @@
 mod function;
 mod group;
 mod imports;
-#[cfg(test)]
-mod tests;
 
 pub use function::function_or_globals;
 pub use imports::import;

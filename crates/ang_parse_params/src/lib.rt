@@ -5,8 +5,6 @@
 #![tactic(auto)]
 
 mod params;
-#[cfg(test)]
-mod tests;
 mod whole;
 
 pub use params::{a_parameters, parameter, parameters};

@@ -1,4 +1,3 @@
 pub mod Ahead
-pub mod ReadVars
 pub mod ReadStmt
 pub mod Parts

@@ -1,26 +1,14 @@
 //! Statements made of their parts.
-ghost use Rattle.std.specs.Prelude.{◌≡◌, ◌++◌, [], ◌∷◌, map, option_map, IfOk};
+ghost use Rattle.std.specs.Prelude.{◌≡◌, option_map, IfOk};
 ghost use Rattle.ang_tree.specs.Stmt as tree;
-ghost use Rattle.ang_tree.specs.View.{view_var, view_stmt, view_stmts, view_else, view_start};
+ghost use Rattle.ang_tree.specs.View.{view_stmt, view_stmts, view_else, view_start};
 ghost use Rattle.ang_parse_stmt.specs.Parts.{view_ending, view_head, view_guarded};
 ghost use Rattle.ang_parse_stmt.specs.ReadStmt as read;
 
 use crate::parts::{Ending, Guarded, Head};
 use ang_lex::Token;
-use ang_tree::{Else, ForStart, Statement, Variable};
+use ang_tree::{Else, ForStart, Statement};
 use std::alloc::{AllocError, Global};
-
-/// The list with one more variable at its end.
-pub(crate) fn with_variable(
-    first: Vec<Variable>,
-    next: Variable,
-) -> Result<Vec<Variable>, AllocError>
-    ensures { IfOk result (λ v. map view_var v.items ≡ map view_var first.items ++ view_var next ∷ []) }
-{
-    let mut found = first;
-    found.push(next)?;
-    Ok(found)
-}
 
 /// The list with one more statement at its end.
 pub(crate) fn with_statement(

@@ -1,190 +1,34 @@
-//! Reading statements: a function for each rule of the grammar, over the tokens that are left.
+//! Reading statements, behind which other tokens may stand.
 //!
 //! `limit` bounds the nested calls of expressions and the turns of each loop, `depth` the nested calls
 //! of statements. One more than the number of tokens is always enough for both.
-ghost use Rattle.std.specs.Prelude.{◌≡◌, option_map};
-ghost use Rattle.ang_read.specs.Gives.{Gives, NeedsNoMemory};
-ghost use Rattle.ang_read.specs.Read.{repeat};
-ghost use Rattle.ang_tree.specs.View.{view_stmt, view_stmts, view_body, view_else, view_items};
-ghost use Rattle.ang_parse_stmt.specs.Parts.{view_condition, view_ending, view_head, view_guarded};
+//!
+//! The readers of a statement's parts call one another, and are proved together. Those that other crates
+//! call stand in front of them, so that they are proved apart.
+ghost use Rattle.std.specs.Prelude.{◌≡◌};
+ghost use Rattle.ang_read.specs.Gives.{Gives};
+ghost use Rattle.ang_tree.specs.View.{view_stmt, view_stmts, view_body};
 ghost use Rattle.ang_parse_stmt.specs.ReadStmt as read;
 
-use crate::build;
-use crate::parts::{Condition, Ending, Guarded, Head};
-use crate::variables::{ended, start};
-use ang_lex::{Token, TokenKind};
-use ang_parse_expr::{expression, expressions};
-use ang_read::{ReadError, a_left_paren, a_right_brace, a_right_paren, a_semicolon, a_while};
-use ang_tree::{Argument, Block, Else, Statement};
+use crate::nested;
+use ang_lex::Token;
+use ang_read::ReadError;
+use ang_tree::{Block, Statement};
 use std::alloc::Global;
 
-/// Reads `"(" assign ")"`.
-#[tactic(auto, unfolding(crate::specs::ReadStmt::condition))]
-fn condition(
+/// Reads a statement.
+pub fn statement(
     alloc: Global,
-    tokens: &[Token],
-    limit: usize,
-) -> Result<(Condition, &[Token]), ReadError<'_>>
-    ensures { Gives (λ x. (view_condition x.0, x.1.now)) result (read.condition limit tokens.now) }
-{
-    let (open, rest) = a_left_paren(tokens)?;
-    let (value, rest) = expression(alloc, rest, limit, 0)?;
-    let (close, rest) = a_right_paren(rest)?;
-    Ok((Condition { open, value, close }, rest))
-}
-
-/// Reads the end of a `do`.
-#[tactic(auto, unfolding(crate::specs::ReadStmt::ending))]
-fn ending(
-    alloc: Global,
-    tokens: &[Token],
-    limit: usize,
-) -> Result<(Ending, &[Token]), ReadError<'_>>
-    ensures { Gives (λ x. (view_ending x.0, x.1.now)) result (read.ending limit tokens.now) }
-{
-    let (word, rest) = a_while(tokens)?;
-    let (condition, rest) = condition(alloc, rest, limit)?;
-    let (semicolon, rest) = a_semicolon(rest)?;
-    Ok((
-        Ending {
-            word,
-            condition,
-            semicolon,
-        },
-        rest,
-    ))
-}
-
-#[tactic(auto, unfolding(crate::specs::ReadStmt::some_steps))]
-fn some_steps(
-    alloc: Global,
-    tokens: &[Token],
-    limit: usize,
-) -> Result<((Vec<Argument>, Token), &[Token]), ReadError<'_>>
-    ensures { Gives (λ x. ((view_items x.0.0.items, x.0.1), x.1.now)) result (read.some_steps limit tokens.now) }
-{
-    let (steps, rest) = expressions(alloc, tokens, limit)?;
-    let (close, rest) = a_right_paren(rest)?;
-    Ok(((steps, close), rest))
-}
-
-/// Reads the steps of a `for` and the right parenthesis.
-#[tactic(auto, unfolding(crate::specs::ReadStmt::steps))]
-fn steps(
-    alloc: Global,
-    tokens: &[Token],
-    limit: usize,
-) -> Result<((Vec<Argument>, Token), &[Token]), ReadError<'_>>
-    ensures { Gives (λ x. ((view_items x.0.0.items, x.0.1), x.1.now)) result (read.steps limit tokens.now) }
-{
-    match tokens {
-        [close, rest @ ..] if matches!(close.kind, TokenKind::RightParen) => {
-            Ok(((Vec::new(alloc), *close), rest))
-        }
-        _ => some_steps(alloc, tokens, limit),
-    }
-}
-
-/// Reads the head of a `for`.
-#[tactic(auto, unfolding(crate::specs::ReadStmt::head))]
-fn head(alloc: Global, tokens: &[Token], limit: usize) -> Result<(Head, &[Token]), ReadError<'_>>
-    ensures { Gives (λ x. (view_head x.0, x.1.now)) result (read.head limit tokens.now) }
-{
-    let (open, rest) = a_left_paren(tokens)?;
-    let (start, rest) = start(alloc, rest, limit)?;
-    let ((condition, semicolon), rest) = ended(alloc, rest, limit)?;
-    let ((steps, close), rest) = steps(alloc, rest, limit)?;
-    Ok((
-        Head {
-            open,
-            start,
-            condition,
-            semicolon,
-            steps,
-            close,
-        },
-        rest,
-    ))
-}
-
-#[tactic(auto, unfolding(crate::specs::ReadStmt::simple))]
-fn simple(
-    alloc: Global,
-    tokens: &[Token],
-    limit: usize,
-) -> Result<(Statement, &[Token]), ReadError<'_>>
-    ensures { Gives (λ x. (view_stmt x.0, x.1.now)) result (read.simple limit tokens.now) }
-{
-    let (start, rest) = start(alloc, tokens, limit)?;
-    Ok((build::simple(start), rest))
-}
-
-/// Reads what stands behind the word `break`.
-#[tactic(auto, unfolding(crate::specs::ReadStmt::broken))]
-fn broken(word: Token, tokens: &[Token]) -> Result<(Statement, &[Token]), ReadError<'_>>
-    ensures reads { Gives (λ x. (view_stmt x.0, x.1.now)) result (read.broken word tokens.now) }
-    ensures no_memory { NeedsNoMemory result }
-{
-    let (semicolon, rest) = a_semicolon(tokens)?;
-    Ok((Statement::Break { word, semicolon }, rest))
-}
-
-/// Reads what stands behind the word `continue`.
-#[tactic(auto, unfolding(crate::specs::ReadStmt::continued))]
-fn continued(word: Token, tokens: &[Token]) -> Result<(Statement, &[Token]), ReadError<'_>>
-    ensures reads { Gives (λ x. (view_stmt x.0, x.1.now)) result (read.continued word tokens.now) }
-    ensures no_memory { NeedsNoMemory result }
-{
-    let (semicolon, rest) = a_semicolon(tokens)?;
-    Ok((Statement::Continue { word, semicolon }, rest))
-}
-
-/// Reads what stands behind the word `return`.
-#[tactic(auto, unfolding(crate::specs::ReadStmt::returned))]
-fn returned(
-    alloc: Global,
-    word: Token,
-    tokens: &[Token],
-    limit: usize,
-) -> Result<(Statement, &[Token]), ReadError<'_>>
-    ensures { Gives (λ x. (view_stmt x.0, x.1.now)) result (read.returned limit word tokens.now) }
-{
-    let ((value, semicolon), rest) = ended(alloc, tokens, limit)?;
-    Ok((
-        Statement::Return {
-            word,
-            value,
-            semicolon,
-        },
-        rest,
-    ))
-}
-
-/// Reads one more statement, where no right brace stands.
-#[cycle(statement)]
-#[tactic(auto, unfolding(crate::specs::ReadStmt::other_statement, crate::specs::ReadStmt::next_statement))]
-fn other_statement(
-    alloc: Global,
-    first: Vec<Statement>,
     tokens: &[Token],
     depth: usize,
     limit: usize,
-) -> Result<((Vec<Statement>, bool), &[Token]), ReadError<'_>>
-    ensures { Gives (λ x. ((view_stmts x.0.0.items, x.0.1), x.1.now)) result (read.other_statement (read.stmt depth limit) limit (view_stmts first.items) tokens.now) }
+) -> Result<(Statement, &[Token]), ReadError<'_>>
+    ensures { Gives (λ x. (view_stmt x.0, x.1.now)) result (read.stmt depth limit tokens.now) }
 {
-    if let [token, ..] = tokens
-        && matches!(token.kind, TokenKind::RightBrace)
-    {
-        return Ok(((first, false), tokens));
-    }
-    let (next, rest) = statement(alloc, tokens, depth, limit)?;
-    let longer = build::with_statement(first, next)?;
-    Ok(((longer, true), rest))
+    nested::statement(alloc, tokens, depth, limit)
 }
 
 /// Reads statements, up to a right brace.
-#[cycle(statement)]
-#[tactic(auto, unfolding(crate::specs::ReadStmt::statements))]
 pub fn statements(
     alloc: Global,
     tokens: &[Token],
@@ -193,22 +37,10 @@ pub fn statements(
 ) -> Result<(Vec<Statement>, &[Token]), ReadError<'_>>
     ensures { Gives (λ x. (view_stmts x.0.items, x.1.now)) result (read.statements (read.stmt depth limit) limit tokens.now) }
 {
-    let mut found = Vec::new(alloc);
-    let mut rest = tokens;
-    for _ in 0..limit {
-        let ((longer, goes_on), after) = other_statement(alloc, found, rest, depth, limit)?;
-        if !goes_on {
-            return Ok((longer, after));
-        }
-        found = longer;
-        rest = after;
-    }
-    Err(ReadError::Deep)
+    nested::statements(alloc, tokens, depth, limit)
 }
 
 /// Reads the statements of a block and the right brace, behind the left one `open`.
-#[cycle(statement)]
-#[tactic(auto, unfolding(crate::specs::ReadStmt::a_body))]
 pub fn block<'a>(
     alloc: Global,
     open: Token,
@@ -218,187 +50,5 @@ pub fn block<'a>(
 ) -> Result<(Block, &'a [Token]), ReadError<'a>>
     ensures { Gives (λ x. (view_body x.0, x.1.now)) result (read.a_body (read.stmt depth limit) limit «open» tokens.now) }
 {
-    let (statements, rest) = statements(alloc, tokens, depth, limit)?;
-    let (close, rest) = a_right_brace(rest)?;
-    Ok((
-        Block {
-            open,
-            statements,
-            close,
-        },
-        rest,
-    ))
-}
-
-/// Reads `"(" assign ")" stmt`.
-#[cycle(statement)]
-#[tactic(auto, unfolding(crate::specs::ReadStmt::guarded))]
-fn guarded(
-    alloc: Global,
-    tokens: &[Token],
-    depth: usize,
-    limit: usize,
-) -> Result<(Guarded, &[Token]), ReadError<'_>>
-    ensures { Gives (λ x. (view_guarded x.0, x.1.now)) result (read.guarded (read.stmt depth limit) limit tokens.now) }
-{
-    let (condition, rest) = condition(alloc, tokens, limit)?;
-    let (statement, rest) = statement(alloc, rest, depth, limit)?;
-    Ok((
-        Guarded {
-            condition,
-            statement,
-        },
-        rest,
-    ))
-}
-
-/// Reads `"else" stmt`, where the word stands.
-#[cycle(statement)]
-#[tactic(auto, unfolding(crate::specs::ReadStmt::otherwise, crate::specs::ReadStmt::other_branch))]
-fn otherwise(
-    alloc: Global,
-    tokens: &[Token],
-    depth: usize,
-    limit: usize,
-) -> Result<(Option<Else>, &[Token]), ReadError<'_>>
-    ensures { Gives (λ x. (option_map view_else x.0, x.1.now)) result (read.otherwise (read.stmt depth limit) limit tokens.now) }
-{
-    match tokens {
-        [word, rest @ ..] if matches!(word.kind, TokenKind::Else) => {
-            let (branch, rest) = statement(alloc, rest, depth, limit)?;
-            let other = build::other_branch(alloc, *word, branch)?;
-            Ok((Some(other), rest))
-        }
-        _ => Ok((None, tokens)),
-    }
-}
-
-/// Reads what stands behind the word `if`.
-#[cycle(statement)]
-#[tactic(auto, unfolding(crate::specs::ReadStmt::conditional))]
-fn conditional<'a>(
-    alloc: Global,
-    word: Token,
-    tokens: &'a [Token],
-    depth: usize,
-    limit: usize,
-) -> Result<(Statement, &'a [Token]), ReadError<'a>>
-    ensures { Gives (λ x. (view_stmt x.0, x.1.now)) result (read.conditional (read.stmt depth limit) limit word tokens.now) }
-{
-    let (guarded, rest) = guarded(alloc, tokens, depth, limit)?;
-    let (otherwise, rest) = otherwise(alloc, rest, depth, limit)?;
-    let whole = build::conditional(alloc, word, guarded, otherwise)?;
-    Ok((whole, rest))
-}
-
-/// Reads what stands behind the word `while`.
-#[cycle(statement)]
-#[tactic(auto, unfolding(crate::specs::ReadStmt::while_loop))]
-fn while_loop<'a>(
-    alloc: Global,
-    word: Token,
-    tokens: &'a [Token],
-    depth: usize,
-    limit: usize,
-) -> Result<(Statement, &'a [Token]), ReadError<'a>>
-    ensures { Gives (λ x. (view_stmt x.0, x.1.now)) result (read.while_loop (read.stmt depth limit) limit word tokens.now) }
-{
-    let (guarded, rest) = guarded(alloc, tokens, depth, limit)?;
-    let whole = build::while_loop(alloc, word, guarded)?;
-    Ok((whole, rest))
-}
-
-/// Reads what stands behind the word `do`.
-#[cycle(statement)]
-#[tactic(auto, unfolding(crate::specs::ReadStmt::do_loop))]
-fn do_loop<'a>(
-    alloc: Global,
-    word: Token,
-    tokens: &'a [Token],
-    depth: usize,
-    limit: usize,
-) -> Result<(Statement, &'a [Token]), ReadError<'a>>
-    ensures { Gives (λ x. (view_stmt x.0, x.1.now)) result (read.do_loop (read.stmt depth limit) limit word tokens.now) }
-{
-    let (body, rest) = statement(alloc, tokens, depth, limit)?;
-    let (ending, rest) = ending(alloc, rest, limit)?;
-    let whole = build::do_loop(alloc, word, body, ending)?;
-    Ok((whole, rest))
-}
-
-/// Reads what stands behind the word `for`.
-#[cycle(statement)]
-#[tactic(auto, unfolding(crate::specs::ReadStmt::for_loop))]
-fn for_loop<'a>(
-    alloc: Global,
-    word: Token,
-    tokens: &'a [Token],
-    depth: usize,
-    limit: usize,
-) -> Result<(Statement, &'a [Token]), ReadError<'a>>
-    ensures { Gives (λ x. (view_stmt x.0, x.1.now)) result (read.for_loop (read.stmt depth limit) limit word tokens.now) }
-{
-    let (head, rest) = head(alloc, tokens, limit)?;
-    let (body, rest) = statement(alloc, rest, depth, limit)?;
-    let whole = build::for_loop(alloc, word, head, body)?;
-    Ok((whole, rest))
-}
-
-#[cycle(statement)]
-#[tactic(auto, unfolding(crate::specs::ReadStmt::braced))]
-fn braced<'a>(
-    alloc: Global,
-    open: Token,
-    tokens: &'a [Token],
-    depth: usize,
-    limit: usize,
-) -> Result<(Statement, &'a [Token]), ReadError<'a>>
-    ensures { Gives (λ x. (view_stmt x.0, x.1.now)) result (read.braced (read.stmt depth limit) limit «open» tokens.now) }
-{
-    let (whole, rest) = block(alloc, open, tokens, depth, limit)?;
-    Ok((Statement::Block(whole), rest))
-}
-
-/// Reads a statement, by its first token.
-#[cycle(statement)]
-#[tactic(auto, unfolding(crate::specs::ReadStmt::statement))]
-fn chosen(
-    alloc: Global,
-    tokens: &[Token],
-    depth: usize,
-    limit: usize,
-) -> Result<(Statement, &[Token]), ReadError<'_>>
-    ensures { Gives (λ x. (view_stmt x.0, x.1.now)) result (read.statement (read.stmt depth limit) limit tokens.now) }
-{
-    let [token, rest @ ..] = tokens else {
-        return simple(alloc, tokens, limit);
-    };
-    match token.kind {
-        TokenKind::LeftBrace => braced(alloc, *token, rest, depth, limit),
-        TokenKind::If => conditional(alloc, *token, rest, depth, limit),
-        TokenKind::While => while_loop(alloc, *token, rest, depth, limit),
-        TokenKind::Do => do_loop(alloc, *token, rest, depth, limit),
-        TokenKind::For => for_loop(alloc, *token, rest, depth, limit),
-        TokenKind::Break => broken(*token, rest),
-        TokenKind::Continue => continued(*token, rest),
-        TokenKind::Return => returned(alloc, *token, rest, limit),
-        _ => simple(alloc, tokens, limit),
-    }
-}
-
-/// Reads a statement.
-#[cycle(statement)]
-#[tactic(auto, unfolding(crate::specs::ReadStmt::stmt))]
-pub fn statement(
-    alloc: Global,
-    tokens: &[Token],
-    depth: usize,
-    limit: usize,
-) -> Result<(Statement, &[Token]), ReadError<'_>>
-    ensures { Gives (λ x. (view_stmt x.0, x.1.now)) result (read.stmt depth limit tokens.now) }
-{
-    if depth == 0 {
-        return Err(ReadError::Deep);
-    }
-    chosen(alloc, tokens, depth - 1, limit)
+    nested::block(alloc, open, tokens, depth, limit)
 }

@@ -10,8 +10,6 @@ mod lookup;
 mod overload;
 mod refusal;
 mod registry;
-#[cfg(test)]
-mod tests;
 mod view;
 
 pub use entry::{Entry, EntryKind};

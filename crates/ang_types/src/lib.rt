@@ -12,8 +12,6 @@ pub mod laws;
 mod lineage;
 mod overloads;
 mod ranks;
-#[cfg(test)]
-mod tests;
 
 pub use arg_type::ArgType;
 pub use candidate::{Candidate, Pick};

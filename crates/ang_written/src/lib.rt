@@ -11,8 +11,6 @@ pub mod laws;
 mod not_yet;
 mod sources;
 mod spelling;
-#[cfg(test)]
-mod tests;
 mod types;
 
 pub use borrowed::{Text, WrittenParameters};

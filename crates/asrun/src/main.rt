@@ -2,29 +2,15 @@
 //! (docs/EMBEDDING.md, "The program").
 #![tactic(auto)]
 
-mod action;
 mod command;
-mod ending;
-mod fields;
-mod lines;
 mod options;
-mod profile;
-mod profile_line;
-mod reading;
-mod run;
-mod session;
-mod session_line;
 #[cfg(test)]
 mod tests;
-mod text;
-mod values;
-mod writing;
 
 use crate::command::Options;
-use crate::ending::{IoFault, Status};
-use crate::session::SessionEnd;
 use ang_drivers::{Cell, Console, Counter};
 use ang_host::Driver;
+pub use ang_session::{IoFault, SessionEnd, Status, session};
 use std::alloc::AllocError;
 use std::fs::File;
 use std::process::ExitCode;
@@ -61,7 +47,7 @@ fn run_files(rt: &HostRuntime, options: &Options) -> Result<u8, AllocError> {
     boxes.push(Box::new(alloc, Counter::new(alloc)?)?)?;
     boxes.push(Box::new(alloc, Cell::new(alloc)?)?)?;
     let mut out = io::writer(rt);
-    let SessionEnd { outcome, drivers } = session::session(
+    let SessionEnd { outcome, drivers } = crate::session(
         alloc,
         &mut profile,
         &mut session,

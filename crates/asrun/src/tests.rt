@@ -1,6 +1,5 @@
 //! Whole runs, with readers and writers of their own.
-use crate::ending::{IoFault, Status};
-use crate::session::{SessionEnd, session};
+use crate::{IoFault, SessionEnd, Status, session};
 use ang_drivers::{Cell, Console, Counter};
 use ang_host::Driver;
 use std::alloc::{AllocError, Global};

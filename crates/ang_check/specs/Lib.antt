@@ -1,3 +1,0 @@
-pub mod Paths
-pub mod Statements
-pub mod Bodies

@@ -1,5 +1,0 @@
-use Rattle.ang_drivers.proofs.Living.{live_made}
-use Rattle.ang_drivers.proofs.tests.objects.made.Goals as goal
-
-pub returns : goal.returns
-returns g c = live_made g.D.Driver.meaning.fits _ _ _ c.in-Key.key c.in-Key.ensures.law

@@ -1,0 +1,5 @@
+pub mod Choices
+pub mod Lengths
+pub mod SoundVars
+pub mod CompleteVars
+pub mod TameVars

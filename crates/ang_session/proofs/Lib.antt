@@ -1,0 +1,11 @@
+pub mod Appending
+pub mod Arguments
+pub mod Cuts
+pub mod Doing
+pub mod FirstLines
+pub mod Loading
+pub mod Numerals
+pub mod ReadBytes
+pub mod Telling
+pub mod Texts
+pub mod Turns

@@ -1,0 +1,51 @@
+-- What a run tells at its end.
+use Rattle.std.proofs.Common.{◌≡◌, ℕ, Bool, true, false, cond, List, Option, Some, None, IfSome, Result, Ok, Err, inl, inr}
+use Rattle.std.specs.Result.{IfOk, OnErr}
+use Rattle.std.specs.List.{list_all}
+use Rattle.ang_registry.specs.Registration.{RegistrationList}
+use Rattle.ang_session.specs.Deeds.{Deed, is_ok, status_of}
+use Rattle.ang_session.specs.Whole.{Ends, Stops, Tells, Starts, start_of, outcome_of}
+use Rattle.ang_session.specs.declared.ending.Status.{Status}
+use Rattle.ang_session.specs.declared.ending.Status.TheVariants.{AllOk, SomeRefused, BadInput, Memory}
+use Rattle.ang_session.specs.declared.ending.Stop.{Stop}
+use Rattle.ang_session.specs.declared.ending.Stop.TheVariants as stop
+
+no_status : (b : Bool) → Memory ≡ cond b AllOk SomeRefused → ⊥
+no_status true e = cc
+no_status false e = cc
+
+no_memory : (bad : Option ℕ) (deeds : List Deed) → Memory ≡ status_of bad deeds → ⊥
+no_memory None deeds e = no_status (list_all is_ok deeds) e
+no_memory (Some n) deeds e = cc
+
+never : (R : RegistrationList) (s : List ℕ) (budget : ℕ) (old new : Option (List ℕ)) → Ends (Ok R) s budget old new Memory → ⊥
+never R s budget old new (inl h) = let e : Memory ≡ BadInput = h.3 in cc
+never R s budget old new (inr (inl h)) = let e : Memory ≡ BadInput = h.2 in cc
+never R s budget old new (inr (inr h)) = no_memory _ h.2.deeds h.2.ending
+
+ends : (R : RegistrationList) (s : List ℕ) (budget : ℕ) (old new : Option (List ℕ)) (status : Status)
+    → Ends (Ok R) s budget old new status → Tells (Ok R) s budget old new (Ok status)
+ends R s budget old new AllOk h = h
+ends R s budget old new SomeRefused h = h
+ends R s budget old new BadInput h = h
+ends R s budget old new Memory h = absurd (never R s budget old new h)
+
+-- over a profile that was taken
+tells_taken : (R : RegistrationList) (s : List ℕ) (budget : ℕ) (old new : Option (List ℕ)) (ended : Result Status Stop)
+    → IfOk ended (λ status. Ends (Ok R) s budget old new status) → OnErr ended (Stops (Ok R) s budget old new)
+    → Tells (Ok R) s budget old new (outcome_of ended)
+tells_taken R s budget old new (Ok status) h k = ends R s budget old new status h
+tells_taken R s budget old new (Err stop.Memory) h k = k
+tells_taken R s budget old new (Err (stop.Fault fault)) h k = k
+
+-- the whole run, where the profile was taken
+pub tells : (R : RegistrationList) (P S : Option (List ℕ)) (budget : ℕ) (old mid new : Option (List ℕ)) (ended : Result Status Stop)
+    → IfSome P (λ p. Starts (start_of p) R old mid true)
+    → IfOk ended (λ status. IfSome S (λ s. Ends (Ok R) s budget mid new status))
+    → OnErr ended (IfSome S (λ s. Stops (Ok R) s budget mid new))
+    → IfSome P (λ p. IfSome S (λ s. Tells (start_of p) s budget old new (outcome_of ended)))
+tells R None S budget old mid new ended a h k = tt
+tells R (Some p) None budget old mid new ended a h k = tt
+tells R (Some p) (Some s) budget old mid new ended a h k =
+    let taken : Tells (Ok R) s budget mid new (outcome_of ended) = tells_taken R s budget mid new ended h k in
+    rw (a.0, ← a.1) taken

@@ -1,0 +1,257 @@
+//! A whole run: a profile, a session, and the text of the replies.
+ghost use Rattle.std.specs.Prelude.{◌≡◌, ◌<◌, ◌≤◌, ◌^◌, ◌⊎◌, [], All, length, Ok, IfOk, IfSome, OnOk, OnErr};
+ghost use Rattle.std.specs.Io.KnownBytes.{Appends};
+ghost use Rattle.ang_host.specs.Boxes.{members};
+ghost use Rattle.ang_host.specs.Counts.{IsBalanced};
+ghost use Rattle.ang_host.specs.Members.{states_of, AreFresh};
+ghost use Rattle.ang_engine.specs.Engines.{registrations, modules_in, drivers_in};
+ghost use Rattle.ang_engine.specs.Sound.{IsSound};
+ghost use Rattle.ang_session.specs.Drivers.{kinds_of};
+ghost use Rattle.ang_session.specs.Lines.{lines_of};
+ghost use Rattle.ang_session.specs.Profile.{loaded};
+ghost use Rattle.ang_session.specs.Whole.{profile_fault_text, registered_by, start_of, Starts, Tells, RunsSession, StopsSession, StartStops, EngineRefused, EngineStops, Ends, Stops, outcome_of, fresh};
+ghost use Rattle.ang_session.specs.Writing.{HasFront};
+
+use crate::ending::{IoFault, Status, Stop};
+use crate::profile::{ProfileFault, ProfileStop, load};
+use crate::reading::{Text, read_text};
+use crate::run::run_session;
+use crate::text::push_profile_fault;
+use crate::writing::write_text;
+use ang_engine::{Engine, NewError, NewRefused};
+use ang_host::{Driver, Drivers, DriversError};
+use ang_registry::Registry;
+use std::alloc::Global;
+use std::io::{Read, Write};
+
+/// The most bytes of a profile.
+const MOST_PROFILE: usize = 1_048_576;
+
+/// The most bytes of a session.
+const MOST_SESSION: usize = 16_777_216;
+
+/// How a run ended.
+pub struct SessionEnd {
+    /// Its status, or the fault of a reader or the writer.
+    pub outcome: Result<Status, IoFault>,
+    /// The drivers, in their order.
+    pub drivers: Vec<Box<dyn Driver>>,
+}
+
+/// Prints what ends a run at a line of its profile.
+fn print_profile_fault<W: Write>(
+    alloc: Global,
+    writer: &mut W,
+    fault: ProfileFault,
+) -> Result<(), Stop>
+    ensures whole { OnOk result (Appends (W.contents writer.old) (W.contents writer.new) (profile_fault_text fault)) }
+    ensures front { OnErr result (HasFront (W.contents writer.old) (W.contents writer.new) (profile_fault_text fault)) }
+{
+    let mut text = Vec::new(alloc);
+    push_profile_fault(&mut text, fault)?;
+    write_text(writer, &text)?;
+    Ok(())
+}
+
+/// Registers what the profile says. False where the profile was not taken, which is printed then.
+fn load_text<W: Write>(
+    alloc: Global,
+    writer: &mut W,
+    registry: &mut Registry,
+    text: &[u8],
+) -> Result<bool, Stop>
+    requires few { length text.now < 2 ^ 32 }
+    ensures done { IfOk result (Starts (registered_by (loaded 1 registry.old (lines_of text.now))) registry.new.entries (W.contents writer.old) (W.contents writer.new)) }
+    ensures cut { OnErr result (StartStops (registered_by (loaded 1 registry.old (lines_of text.now))) (W.contents writer.old) (W.contents writer.new)) }
+{
+    match load(registry, text) {
+        Ok(()) => Ok(true),
+        Err(ProfileStop::Memory) => Err(Stop::Memory),
+        Err(ProfileStop::Fault(fault)) => {
+            print_profile_fault(alloc, writer, fault)?;
+            Ok(false)
+        }
+    }
+}
+
+/// Reads the profile whole and registers what it says. False where it was not taken, which is printed then.
+fn load_profile<R: Read, W: Write>(
+    alloc: Global,
+    reader: &mut R,
+    writer: &mut W,
+    registry: &mut Registry,
+) -> Result<bool, Stop>
+    requires new { registry.old ≡ fresh }
+    ensures done { IfOk result (λ ok. IfSome (R.remaining reader.old) (λ text. Starts (start_of text) registry.new.entries (W.contents writer.old) (W.contents writer.new) ok)) }
+    ensures cut { OnErr result (IfSome (R.remaining reader.old) (λ text. StartStops (start_of text) (W.contents writer.old) (W.contents writer.new))) }
+{
+    match read_text(alloc, reader, MOST_PROFILE)? {
+        Text::Whole(text) => load_text(alloc, writer, registry, &text),
+        Text::TooLong => {
+            write_text(writer, b"profile 0 TooLong\n")?;
+            Ok(false)
+        }
+    }
+}
+
+/// Reads the session whole and runs its lines.
+fn run_text<R: Read, W: Write>(
+    alloc: Global,
+    reader: &mut R,
+    writer: &mut W,
+    engine: &mut Engine,
+    budget: u64,
+) -> Result<Status, Stop>
+    requires sound { IsSound (registrations engine.old) (modules_in engine.old)
+        (states_of (λ v. (⟦<dyn Driver as Driver>⟧ v).meaning) (drivers_in engine.old)) }
+    requires new { modules_in engine.old ≡ [] }
+    ensures sound { IsSound (registrations engine.new) (modules_in engine.new)
+        (states_of (λ v. (⟦<dyn Driver as Driver>⟧ v).meaning) (drivers_in engine.new)) }
+    ensures order { kinds_of (drivers_in engine.new) ≡ kinds_of (drivers_in engine.old) }
+    ensures done { IfOk result (λ status. IfSome (R.remaining reader.old) (λ text. RunsSession (registrations engine.old) text budget (W.contents writer.old) (W.contents writer.new) status)) }
+    ensures cut { OnErr result (IfSome (R.remaining reader.old) (λ text. StopsSession (registrations engine.old) text budget (W.contents writer.old) (W.contents writer.new))) }
+{
+    match read_text(alloc, reader, MOST_SESSION)? {
+        Text::Whole(text) => run_session(alloc, engine, writer, &text, budget),
+        Text::TooLong => {
+            write_text(writer, b"line 0 TooLong\n")?;
+            Ok(Status::BadInput)
+        }
+    }
+}
+
+fn print_drivers_error<W: Write>(writer: &mut W, why: DriversError) -> Result<Status, Stop>
+    ensures done { IfOk result (EngineRefused (W.contents writer.old) (W.contents writer.new)) }
+    ensures cut { OnErr result (EngineStops (W.contents writer.old) (W.contents writer.new)) }
+{
+    match why {
+        DriversError::TooMany => write_text(writer, b"engine TooMany\n")?,
+        DriversError::Busy => write_text(writer, b"engine Busy\n")?,
+    }
+    Ok(Status::BadInput)
+}
+
+fn print_new_error<W: Write>(writer: &mut W, why: NewError) -> Result<Status, Stop>
+    ensures done { IfOk result (EngineRefused (W.contents writer.old) (W.contents writer.new)) }
+    ensures cut { OnErr result (EngineStops (W.contents writer.old) (W.contents writer.new)) }
+{
+    match why {
+        NewError::NoDriver => write_text(writer, b"engine NoDriver\n")?,
+        NewError::Memory => return Err(Stop::Memory),
+    }
+    Ok(Status::BadInput)
+}
+
+/// Makes the engine, runs the session and discards the engine.
+fn run_engine<R: Read, W: Write>(
+    alloc: Global,
+    reader: &mut R,
+    writer: &mut W,
+    registry: Registry,
+    drivers: Drivers,
+    budget: u64,
+) -> (Result<Status, Stop>, Vec<Box<dyn Driver>>)
+    requires idle { AreFresh (states_of (λ v. (⟦<dyn Driver as Driver>⟧ v).meaning) (members drivers)) }
+    ensures done { IfOk result.0 (λ status. IfSome (R.remaining reader.old) (λ text. Ends (Ok registry.entries) text budget (W.contents writer.old) (W.contents writer.new) status)) }
+    ensures cut { OnErr result.0 (IfSome (R.remaining reader.old) (λ text. Stops (Ok registry.entries) text budget (W.contents writer.old) (W.contents writer.new))) }
+    ensures order { kinds_of result.1.items ≡ kinds_of (members drivers) }
+    ensures returned { (result.1.items ≡ members drivers)
+        ⊎ All IsBalanced (states_of (λ v. (⟦<dyn Driver as Driver>⟧ v).meaning) result.1.items) }
+{
+    match Engine::new(alloc, registry, drivers) {
+        Ok(mut engine) => {
+            let ended = run_text(alloc, reader, writer, &mut engine, budget);
+            (ended, engine.discard())
+        }
+        Err(
+            NewRefused {
+                why,
+                registry,
+                drivers,
+            },
+        ) => {
+            drop(registry);
+            (print_new_error(writer, why), drivers.into_boxes())
+        }
+    }
+}
+
+/// Runs the session with these drivers, if they are taken.
+fn run_drivers<R: Read, W: Write>(
+    alloc: Global,
+    reader: &mut R,
+    writer: &mut W,
+    registry: Registry,
+    drivers: Vec<Box<dyn Driver>>,
+    budget: u64,
+) -> (Result<Status, Stop>, Vec<Box<dyn Driver>>)
+    requires few { length drivers.items < 2 ^ 60 }
+    ensures done { IfOk result.0 (λ status. IfSome (R.remaining reader.old) (λ text. Ends (Ok registry.entries) text budget (W.contents writer.old) (W.contents writer.new) status)) }
+    ensures cut { OnErr result.0 (IfSome (R.remaining reader.old) (λ text. Stops (Ok registry.entries) text budget (W.contents writer.old) (W.contents writer.new))) }
+    ensures order { kinds_of result.1.items ≡ kinds_of drivers.items }
+    ensures returned { (result.1.items ≡ drivers.items)
+        ⊎ All IsBalanced (states_of (λ v. (⟦<dyn Driver as Driver>⟧ v).meaning) result.1.items) }
+{
+    match Drivers::new(drivers) {
+        Ok(drivers) => run_engine(alloc, reader, writer, registry, drivers, budget),
+        Err((why, drivers)) => {
+            drop(registry);
+            (print_drivers_error(writer, why), drivers)
+        }
+    }
+}
+
+fn outcome_of(ended: Result<Status, Stop>) -> Result<Status, IoFault>
+    ensures exact { result ≡ outcome_of ended }
+{
+    match ended {
+        Ok(status) => Ok(status),
+        Err(Stop::Memory) => Ok(Status::Memory),
+        Err(Stop::Fault(fault)) => Err(fault),
+    }
+}
+
+/// Runs a session over a profile with these drivers, and writes the text of each reply before the next
+/// command (docs/EMBEDDING.md, "The program").
+///
+/// It reads the profile whole and runs its lines, makes the engine, reads the session whole and runs its
+/// lines. The drivers come back in their order; on every exit the engine, where there was one, has been
+/// discarded.
+pub fn session<P: Read, S: Read, W: Write>(
+    alloc: Global,
+    profile: &mut P,
+    session: &mut S,
+    out: &mut W,
+    drivers: Vec<Box<dyn Driver>>,
+    budget: u64,
+) -> SessionEnd
+    requires few { length drivers.items < 2 ^ 60 }
+    ensures output { IfSome (P.remaining profile.old) (λ p. IfSome (S.remaining session.old) (λ s.
+        Tells (start_of p) s budget (W.contents out.old) (W.contents out.new) result.outcome)) }
+    ensures order { kinds_of result.drivers.items ≡ kinds_of drivers.items }
+    // Where no engine was made they are as they were.
+    ensures returned { (result.drivers.items ≡ drivers.items)
+        ⊎ All IsBalanced (states_of (λ v. (⟦<dyn Driver as Driver>⟧ v).meaning) result.drivers.items) }
+{
+    let mut registry = Registry::new(alloc);
+    match load_profile(alloc, profile, out, &mut registry) {
+        Ok(true) => {}
+        Ok(false) => {
+            return SessionEnd {
+                outcome: Ok(Status::BadInput),
+                drivers,
+            };
+        }
+        Err(stop) => {
+            return SessionEnd {
+                outcome: outcome_of(Err(stop)),
+                drivers,
+            };
+        }
+    }
+    let (ended, drivers) = run_drivers(alloc, session, out, registry, drivers, budget);
+    SessionEnd {
+        outcome: outcome_of(ended),
+        drivers,
+    }
+}

@@ -1,7 +1,0 @@
-use Rattle.asrun.proofs.Telling.{tells}
-use Rattle.asrun.proofs.session.session.Goals as goal
-
-pub returns-clause-output : goal.returns-clause-output
-returns-clause-output g c =
-    rw c.outcome_of-2.ensures.exact (tells _ (g.P.Read.remaining c.args.profile.now) (g.S.Read.remaining c.args.session.now) c.args.budget _ _ _ c.run_drivers-ended.result.0
-    (rw c.in-Ok-true.field-0-test at c.in-Ok-true.ensures.done) c.run_drivers-ended.ensures.done c.run_drivers-ended.ensures.cut)
