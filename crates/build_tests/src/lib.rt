@@ -1,4 +1,5 @@
-//! Tests of what a build is made of, by public calls: what is written, names, operators. They stand in a crate of
+//! Tests of what a build is made of, by public calls: what is written, names, operators, the
+//! typing of expressions. They stand in a crate of
 //! their own, so that the crates below are not proved once more with them.
 #![tactic(auto)]
 
@@ -6,5 +7,7 @@
 mod names;
 #[cfg(test)]
 mod operators;
+#[cfg(test)]
+mod typing;
 #[cfg(test)]
 mod written;

@@ -1,8 +1,5 @@
 //! Examples of the language's rules, on small trees made by hand.
 
-use crate::{
-    Callee, Meant, Pair, Setting, find_pair, resolve_call, resolve_name, typing, typing_of_all,
-};
 use ang_kinds::{EntityNo, ErrorKind, List, Mask, Pass, Place, Prim};
 use ang_lex::{Span, Token, TokenKind};
 use ang_names::{Names, Origin, ScriptFunction, ScriptParameter};
@@ -11,6 +8,7 @@ use ang_registry::{RegError, Registry, View};
 use ang_tree::{Argument, Arguments, Expression};
 use ang_typed::{HostEntity, Variable};
 use ang_types::{ArgType, Lineage};
+use ang_typing::{Callee, Meant, Pair, Setting, find_pair, resolve_call, resolve_name, typing, typing_of_all};
 use ang_written::Text;
 use std::alloc::{AllocError, Global};
 use std::test::Fail;
