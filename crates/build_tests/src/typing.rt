@@ -8,7 +8,9 @@ use ang_registry::{RegError, Registry, View};
 use ang_tree::{Argument, Arguments, Expression};
 use ang_typed::{HostEntity, Variable};
 use ang_types::{ArgType, Lineage};
-use ang_typing::{Callee, Meant, Pair, Setting, find_pair, resolve_call, resolve_name, typing, typing_of_all};
+use ang_typing::{
+    Callee, Meant, Pair, Setting, find_pair, resolve_call, resolve_name, typing, typing_of_all,
+};
 use ang_written::Text;
 use std::alloc::{AllocError, Global};
 use std::test::Fail;
