@@ -1,4 +1,5 @@
 //! Examples of the language's rules, on small trees made by hand.
+ghost use Rattle.std.specs.Prelude.{◌<◌};
 
 use ang_kinds::{EntityNo, ErrorKind, List, Mask, Pass, Place, Prim};
 use ang_lex::{Span, Token, TokenKind};
@@ -131,8 +132,10 @@ fn view(alloc: Global) -> Result<View, RegError> {
 fn judged(typed: Result<Operand, Stop>) -> Result<ArgType, Option<(ErrorKind, u32)>> {
     match typed {
         Ok(operand) => Ok(operand.ty),
-        Err(Stop::Refused(refusal)) => Err(Some((refusal.kind, refusal.place.column))),
-        Err(Stop::Memory) => Err(None),
+        Err(why) => match why {
+            Stop::Refused(refusal) => Err(Some((refusal.kind, refusal.place.column))),
+            Stop::Memory => Err(None),
+        },
     }
 }
 
@@ -142,38 +145,39 @@ fn calls_mean_the_best_candidate(rt: HostRuntime) -> Result<(), Fail> {
     let view = view(alloc)?;
     let names = names(alloc)?;
     let lineage = Lineage::new(Vec::new(alloc));
-    let table: [(&[u8], Expression, Result<ArgType, Option<(ErrorKind, u32)>>); 6] = [
-        (
-            b"f(1,2)",
-            call(alloc, number(2), Some(number(4)))?,
-            Err(Some((ErrorKind::Ambiguous, 1))),
-        ),
-        (
-            b"f(1)",
-            call(alloc, number(2), None)?,
-            Err(Some((ErrorKind::NoMatch, 1))),
-        ),
-        (
-            b"f(q)",
-            call(alloc, name(2), None)?,
-            Err(Some((ErrorKind::UnknownName, 3))),
-        ),
-        (
-            b"g(1)",
-            call(alloc, number(2), None)?,
-            Err(Some((ErrorKind::UnknownName, 1))),
-        ),
-        (
-            b"o(1)",
-            call(alloc, number(2), None)?,
-            Err(Some((ErrorKind::BadOut, 3))),
-        ),
-        (b"p(1)", call(alloc, number(2), None)?, Ok(ArgType::Void)),
-    ];
-    for (text, tree, want) in table {
-        let setting = Setting::new(&view, &names, &lineage, text);
-        assert_eq!(rt; judged(typing(alloc, &setting, &[], &tree)), want);
-    }
+    let two = call(alloc, number(2), Some(number(4)))?;
+    let one = call(alloc, number(2), None)?;
+    let unknown = call(alloc, name(2), None)?;
+    let setting = Setting::new(&view, &names, &lineage, b"f(1,2)");
+    assert_eq!(rt;
+        judged(typing(alloc, &setting, &[], &two)),
+        Err(Some((ErrorKind::Ambiguous, 1)))
+    );
+    let setting = Setting::new(&view, &names, &lineage, b"f(1)");
+    assert_eq!(rt;
+        judged(typing(alloc, &setting, &[], &one)),
+        Err(Some((ErrorKind::NoMatch, 1)))
+    );
+    let setting = Setting::new(&view, &names, &lineage, b"f(q)");
+    assert_eq!(rt;
+        judged(typing(alloc, &setting, &[], &unknown)),
+        Err(Some((ErrorKind::UnknownName, 3)))
+    );
+    let setting = Setting::new(&view, &names, &lineage, b"g(1)");
+    assert_eq!(rt;
+        judged(typing(alloc, &setting, &[], &one)),
+        Err(Some((ErrorKind::UnknownName, 1)))
+    );
+    let setting = Setting::new(&view, &names, &lineage, b"o(1)");
+    assert_eq!(rt;
+        judged(typing(alloc, &setting, &[], &one)),
+        Err(Some((ErrorKind::BadOut, 3)))
+    );
+    let setting = Setting::new(&view, &names, &lineage, b"p(1)");
+    assert_eq!(rt;
+        judged(typing(alloc, &setting, &[], &one)),
+        Ok(ArgType::Void)
+    );
     Ok(())
 }
 
