@@ -1,0 +1,238 @@
+-- The typing of statements (docs/LANGUAGE.md, "Statements" and "Names"; the AngelScript manual, "Statements" and "Variables"): by cases
+-- on the tree, the resolved tree and the pairs that are alive behind it, or the first refusal in reading order.
+use Rattle.std.specs.Prelude.{ℕ, ◌-◌, nat_lt, Bool, true, false, if◌then◌else◌, is_some, length, drop, List, [], ◌∷◌, ◌++◌, Option, Some, None, Result, Ok, Err}
+use Rattle.ang_kinds.specs.declared.error.ErrorKind.{ErrorKind}
+use Rattle.ang_kinds.specs.declared.error.ErrorKind.TheVariants as kind
+use Rattle.ang_kinds.specs.declared.place.Place.{Place}
+use Rattle.ang_lex.specs.declared.token.Token.{Token}
+use Rattle.ang_types.specs.declared.arg_type.ArgType.{ArgType}
+use Rattle.ang_types.specs.declared.arg_type.ArgType.TheVariants as type
+use Rattle.ang_tree.specs.declared.type_name.TypeName.{TypeName}
+use Rattle.ang_tree.specs.Tree.{Tree, Trees}
+use Rattle.ang_tree.specs.Stmt.{Init, absent, value, constructor, Var, Vars, Start, with_variables, with_expression, Stmt, Body, Stmts, block, variables, expression, break, continue, return, when, either, while, do_while, for, body, end, then}
+use Rattle.ang_typed.specs.Typed as t
+use Rattle.ang_names.specs.Sources.{text_of}
+use Rattle.ang_names.specs.Types.{Meaning, value_type_of, is_read_only}
+use Rattle.ang_typing.specs.declared.refusal.Asks.TheVariants as asks
+use Rattle.ang_typing.specs.declared.scope.Pair.{Pair}
+use Rattle.ang_typing.specs.Scope.{Setting, last_named}
+use Rattle.ang_typing.specs.Refusals.{Judged, ◌>>=◌, fault_at, refused_at, use_refused}
+use Rattle.ang_typing.specs.Operands.{Operand, fit, truth}
+use Rattle.ang_check.specs.declared.frame.Frame.{Frame}
+use Rattle.ang_typing.specs.Typing.{typing_of, typing_of_args, typing_of_all}
+
+-- the most locals that can be alive at once in one function
+abbrev pub most_locals : ℕ
+most_locals = 1024
+
+abbrev pub optional_typing : Setting → List Pair → Option Tree → Judged (Option t.Expr)
+optional_typing s ps None = Ok None
+optional_typing s ps (Some e) = do
+  a ← typing_of s ps e
+  Ok (Some a.tree)
+
+-- ---- conditions
+
+abbrev pub condition_typing : Setting → List Pair → Tree → Judged t.Expr
+condition_typing s ps c = do
+  a ← typing_of s ps c
+  truth a
+
+abbrev pub optional_condition : Setting → List Pair → Option Tree → Judged (Option t.Expr)
+optional_condition s ps None = Ok None
+optional_condition s ps (Some c) = do
+  x ← condition_typing s ps c
+  Ok (Some x)
+
+-- ---- the steps of a `for`
+
+abbrev pub trees_of : List Operand → List t.Expr
+trees_of [] = []
+trees_of (a ∷ rest) = a.tree ∷ trees_of rest
+
+abbrev pub steps_typing : Setting → List Pair → Trees → Judged (List t.Expr)
+steps_typing s ps es = do
+  operands ← typing_of_all s ps es
+  Ok (trees_of operands)
+
+-- ---- local variables
+
+abbrev pub local_type_by : Token → Meaning → Judged ArgType
+local_type_by x (Err kind.UnknownType) = Err (use_refused kind.UnknownType x asks.Type)
+local_type_by x (Err why) = Err (refused_at why x)
+local_type_by x (Ok (type.Plain p)) = Ok (type.Plain p)
+local_type_by x (Ok type.Void) = Err (refused_at kind.BadType x)
+local_type_by x (Ok type.Null) = Err (fault_at kind.NotYet x.place)
+local_type_by x (Ok (type.Object n c)) = Err (fault_at kind.NotYet x.place)
+local_type_by x (Ok (type.Handle n c)) = Err (fault_at kind.NotYet x.place)
+
+-- The type of locals, refused at its name. Object types and handles are not built yet.
+unfoldable pub local_type : Setting → TypeName → Judged ArgType
+local_type s y = local_type_by y.name (value_type_of s.view s.text y)
+
+-- The name of a variable is that of another one of its block, which begins at pair `start`, or it is one local too many.
+abbrev pub name_refusal : Frame → ℕ → List Pair → List ℕ → Option ErrorKind
+name_refusal f start ps name =
+    if is_some (last_named name 0 (drop start ps)) then Some kind.Duplicate
+    else (if nat_lt (length ps - f.parameters) most_locals then None else Some kind.Limit)
+
+abbrev pub name_judged : Option ErrorKind → Token → List ℕ → Judged (List ℕ)
+name_judged None x name = Ok name
+name_judged (Some why) x name = Err (refused_at why x)
+
+unfoldable pub local_name : Frame → ℕ → List Pair → Token → Judged (List ℕ)
+local_name f start ps x = let name = text_of f.setting.text x in name_judged (name_refusal f start ps name) x name
+
+-- What a variable of a primitive type begins with. No constructor is there to take arguments.
+abbrev pub initializer_typing : Setting → List Pair → TypeName → ArgType → Init → Judged (Option t.Expr)
+initializer_typing s ps y ty absent = Ok None
+initializer_typing s ps y ty (value equals e) = do
+  a ← typing_of s ps e
+  x ← fit s ty a
+  Ok (Some x)
+initializer_typing s ps y ty (constructor es) = do
+  operands ← typing_of_args s ps es
+  Err (refused_at kind.NoMatch y.name)
+
+abbrev pub pair_of : List ℕ → ArgType → TypeName → Pair
+pair_of name ty y = record { name = name; ty = ty; read_only = is_read_only y }
+
+-- One variable. It is known behind its initializer.
+unfoldable pub local_typing : Frame → ℕ → List Pair → TypeName → ArgType → Var → Judged (List Pair × t.Local)
+local_typing f start ps y ty v = do
+  name ← local_name f start ps v.name
+  x ← initializer_typing f.setting ps y ty v.initializer
+  Ok ((ps ++ (pair_of name ty y ∷ []), record { ty = ty; initializer = x }))
+
+abbrev pub each_local : Frame → ℕ → List Pair → TypeName → ArgType → List Var → Judged (List Pair × List t.Local)
+each_local f start ps y ty [] = Ok ((ps, []))
+each_local f start ps y ty (v ∷ vs) = do
+  l ← local_typing f start ps y ty v
+  ls ← each_local f start l.0 y ty vs
+  Ok ((ls.0, l.1 ∷ ls.1))
+
+-- The variables of a declaration, in the block that begins at pair `start`.
+unfoldable pub locals_typing : Frame → ℕ → List Pair → Vars → Judged (List Pair × List t.Local)
+locals_typing f start ps vs = do
+  ty ← local_type f.setting vs.declared_type
+  each_local f start ps vs.declared_type ty vs.items
+
+-- ---- `return`
+
+abbrev pub value_returned : Setting → ArgType → Operand → Judged t.Expr
+value_returned s type.Void a = Err (fault_at kind.BadConversion a.place)
+value_returned s type.Null a = fit s type.Null a
+value_returned s (type.Plain p) a = fit s (type.Plain p) a
+value_returned s (type.Object n c) a = fit s (type.Object n c) a
+value_returned s (type.Handle n c) a = fit s (type.Handle n c) a
+
+abbrev pub nothing_returned : ArgType → Token → Judged (Option t.Expr)
+nothing_returned type.Void word = Ok None
+nothing_returned type.Null word = Err (fault_at kind.BadConversion word.place)
+nothing_returned (type.Plain p) word = Err (fault_at kind.BadConversion word.place)
+nothing_returned (type.Object n c) word = Err (fault_at kind.BadConversion word.place)
+nothing_returned (type.Handle n c) word = Err (fault_at kind.BadConversion word.place)
+
+-- A function with a result returns a value of that type, and one without returns none.
+abbrev pub return_typing : Frame → List Pair → Token → Option Tree → Judged (Option t.Expr)
+return_typing f ps word None = nothing_returned f.result word
+return_typing f ps word (Some e) = do
+  a ← typing_of f.setting ps e
+  x ← value_returned f.setting f.result a
+  Ok (Some x)
+
+-- ---- `break` and `continue`
+
+abbrev pub jump : {A : Type 0} → Frame → Bool → Token → A → Judged A
+jump f true word x = Ok x
+jump f false word x = Err (refused_at kind.Jump word)
+
+-- ---- `for`
+
+-- What a `for` begins with, in the block that begins there.
+abbrev pub start_typing : Frame → List Pair → Start → Judged (List Pair × t.Stmt)
+start_typing f ps (with_variables vs) = do
+  ls ← locals_typing f (length ps) ps vs
+  Ok ((ls.0, t.locals ls.1))
+start_typing f ps (with_expression e semicolon) = do
+  x ← optional_typing f.setting ps e
+  Ok ((ps, t.expression x))
+
+-- What stands in the parentheses of a `for`, in the order of the text: the pairs alive behind its start, the start, the condition and
+-- the steps.
+abbrev pub head_typing : Frame → List Pair → Start → Option Tree → Trees → Judged (List Pair × t.Stmt × Option t.Expr × List t.Expr)
+head_typing f ps b c steps = do
+  first ← start_typing f ps b
+  x ← optional_condition f.setting first.0 c
+  es ← steps_typing f.setting first.0 steps
+  Ok ((first.0, first.1, x, es))
+
+-- ---- statements
+
+-- In a function:
+module _ (f : Frame) where
+  abbrev mutual
+    -- Whether a loop stands around it, where the innermost block begins, and the pairs alive in front of it.
+    pub stmt_typing : Bool → ℕ → List Pair → Stmt → Judged (List Pair × t.Stmt)
+    stmt_typing loop start ps (block b) = do
+      ss ← block_typing loop ps b
+      Ok ((ps, t.block ss))
+    stmt_typing loop start ps (variables vs) = do
+      ls ← locals_typing f start ps vs
+      Ok ((ls.0, t.locals ls.1))
+    stmt_typing loop start ps (expression e semicolon) = do
+      x ← optional_typing f.setting ps e
+      Ok ((ps, t.expression x))
+    stmt_typing loop start ps (break word semicolon) = jump f loop word (ps, t.break)
+    stmt_typing loop start ps (continue word semicolon) = jump f loop word (ps, t.continue)
+    stmt_typing loop start ps (return word e semicolon) = do
+      x ← return_typing f ps word e
+      Ok ((ps, t.return x))
+    stmt_typing loop start ps (when word left c right s) = do
+      x ← condition_typing f.setting ps c
+      ss ← branch_typing loop ps s
+      Ok ((ps, t.either x ss t.end))
+    stmt_typing loop start ps (either word left c right s otherwise u) = do
+      x ← condition_typing f.setting ps c
+      ss ← branch_typing loop ps s
+      us ← branch_typing loop ps u
+      Ok ((ps, t.either x ss us))
+    stmt_typing loop start ps (while word left c right s) = do
+      x ← condition_typing f.setting ps c
+      ss ← branch_typing true ps s
+      Ok ((ps, t.while x ss))
+    stmt_typing loop start ps (do_while word s again left c right semicolon) = do
+      ss ← branch_typing true ps s
+      x ← condition_typing f.setting ps c
+      Ok ((ps, t.do_while ss x))
+    stmt_typing loop start ps (for word left b c semicolon steps right s) = do
+      h ← head_typing f ps b c steps
+      ss ← branch_typing true h.0 s
+      Ok ((ps, t.for (t.then h.1 t.end) h.2 h.3 ss))
+
+    -- a statement in a block of its own
+    pub branch_typing : Bool → List Pair → Stmt → Judged t.Stmts
+    branch_typing loop ps s = do
+      x ← stmt_typing loop (length ps) ps s
+      Ok (t.then x.1 t.end)
+
+    pub block_typing : Bool → List Pair → Body → Judged t.Stmts
+    block_typing loop ps (body left ss right) = stmts_typing loop (length ps) ps ss
+
+    pub stmts_typing : Bool → ℕ → List Pair → Stmts → Judged t.Stmts
+    stmts_typing loop start ps end = Ok t.end
+    stmts_typing loop start ps (then s ss) = do
+      x ← stmt_typing loop start ps s
+      xs ← stmts_typing loop start x.0 ss
+      Ok (t.then x.1 xs)
+
+  -- the other branch of an `if`, where it has one
+  abbrev pub other_typing : Bool → List Pair → Option (Token × Stmt) → Judged t.Stmts
+  other_typing loop ps None = Ok t.end
+  other_typing loop ps (Some u) = branch_typing loop ps u.1
+
+  -- the body of a `for` with this start, condition and steps
+  abbrev pub loop_typing : List Pair → t.Stmt × Option t.Expr × List t.Expr → Stmt → Judged t.Stmt
+  loop_typing ps h s = do
+    ss ← branch_typing true ps s
+    Ok (t.for (t.then h.0 t.end) h.1 h.2 ss)

@@ -1,0 +1,11 @@
+//! The checker: bodies and initializers of a build, judged one by one, as a resolved tree or their errors.
+#![tactic(auto)]
+
+mod bodies;
+mod check;
+mod frame;
+mod locals;
+mod paths;
+mod statements;
+
+pub use check::check;

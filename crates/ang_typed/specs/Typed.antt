@@ -1,0 +1,90 @@
+-- The resolved tree of a module, without where it lies in memory: source text with its meaning settled. (docs/ARCHITECTURE.md.)
+use Rattle.std.specs.Prelude.{ℕ, Bool, List, [], ◌∷◌, Option}
+use Rattle.ang_kinds.specs.declared.primitive.Primitive.{Primitive}
+use Rattle.ang_kinds.specs.declared.types.Pass.{Pass}
+use Rattle.ang_types.specs.declared.arg_type.ArgType.{ArgType}
+use Rattle.ang_typed.specs.declared.expression.HostEntity.{HostEntity}
+use Rattle.ang_typed.specs.declared.expression.Variable.{Variable}
+use Rattle.ang_typed.specs.declared.expression.Operator.{Operator}
+use Rattle.ang_typed.specs.declared.expression.Comparison.{Comparison}
+use Rattle.ang_typed.specs.declared.expression.StepKind.{StepKind}
+use Rattle.ang_typed.specs.declared.program.Parameter.{Parameter}
+
+-- ---- expressions
+
+mutual
+  pub data Expr : Type 0 where
+    number : Primitive → ℕ → Expr
+    truth : Bool → Expr
+    variable : Variable → ArgType → Expr
+    convert : Primitive → Primitive → Expr → Expr
+    negate : Primitive → Expr → Expr
+    complement : Primitive → Expr → Expr
+    not : Expr → Expr
+    operate : Operator → Primitive → Expr → Expr → Expr
+    compare : Comparison → Primitive → Expr → Expr → Expr
+    and : Expr → Expr → Expr
+    or : Expr → Expr → Expr
+    choose : Expr → Expr → Expr → Expr
+    assign : Variable → ArgType → Expr → Expr
+    compound : Variable → Primitive → Operator → Primitive → Expr → Expr
+    step : Variable → Primitive → StepKind → Expr
+    call : ℕ → ArgType → Args → Expr
+    host_call : HostEntity → ArgType → Args → Expr
+
+  -- the arguments of a call
+  pub data Args : Type 0 where
+    none : Args
+    more : Arg → Args → Args
+
+  pub data Arg : Type 0 where
+    by_value : ArgType → Expr → Arg
+    out : Variable → ArgType → ArgType → Arg
+
+abbrev pub args : List Arg → Args
+args [] = none
+args (a ∷ others) = more a (args others)
+
+-- ---- statements
+
+-- a local, and its initializer
+pub record Local : Type 0 where
+  pub ty : ArgType
+  pub initializer : Option Expr
+
+mutual
+  pub data Stmt : Type 0 where
+    block : Stmts → Stmt
+    locals : List Local → Stmt
+    expression : Option Expr → Stmt
+    break : Stmt
+    continue : Stmt
+    return : Option Expr → Stmt
+    either : Expr → Stmts → Stmts → Stmt
+    while : Expr → Stmts → Stmt
+    do_while : Stmts → Expr → Stmt
+    for : Stmts → Option Expr → List Expr → Stmts → Stmt
+
+  pub data Stmts : Type 0 where
+    end : Stmts
+    then : Stmt → Stmts → Stmts
+
+abbrev pub stmts : List Stmt → Stmts
+stmts [] = end
+stmts (s ∷ ss) = then s (stmts ss)
+
+-- ---- modules
+
+pub record Function : Type 0 where
+  pub parameters : List Parameter
+  pub result : ArgType
+  pub body : Stmts
+
+pub record Global : Type 0 where
+  pub ty : ArgType
+  pub initializer : Option Expr
+
+-- functions and globals, each in the order of their declarations
+pub record Program : Type 0 where
+  pub functions : List Function
+  pub globals : List Global

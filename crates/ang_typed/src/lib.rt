@@ -1,0 +1,19 @@
+//! The resolved tree of a module: what the checker gives, and all that running it needs.
+//!
+//! Every name stands for the number of what it means, every conversion is written out, and every
+//! operator has the type in which it works, so that nothing looks a name or a type up again. A tree of
+//! these types is source text with its meaning settled: it keeps the source's constructs and its order of
+//! evaluation (docs/LANGUAGE.md), not its spelling.
+//!
+//! Numbers, in all of the tree: a *local* is numbered by how many parameters and locals of its function
+//! are alive at its declaration, so parameters come first, from 0; *functions* and *globals* are numbered
+//! from 0 in the order of their declarations, each kind for itself.
+#![tactic(auto)]
+
+mod expression;
+mod program;
+mod statement;
+
+pub use expression::{Argument, Comparison, Expression, HostEntity, Operator, StepKind, Variable};
+pub use program::{Function, Global, Parameter, Typed};
+pub use statement::{Block, Local, Statement};

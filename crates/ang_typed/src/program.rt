@@ -1,0 +1,42 @@
+//! A module with its meaning settled.
+
+use crate::expression::Expression;
+use crate::statement::Block;
+use ang_kinds::{List, Pass};
+use ang_types::ArgType;
+
+/// What the checker gives for the scripts of one build.
+#[derive(Debug, Drop)]
+pub struct Typed {
+    /// The functions, in the order of their declarations.
+    pub functions: List<Function>,
+    /// The global variables, in the order of their declarations, which is that of their initializers.
+    pub globals: List<Global>,
+}
+
+/// A function of the module.
+#[derive(Debug, Drop)]
+pub struct Function {
+    /// In order.
+    pub parameters: List<Parameter>,
+    /// The type of what it returns.
+    pub result: ArgType,
+    /// Its statements. A path through them that does not return ends only a `void` function.
+    pub body: Block,
+}
+
+/// A parameter.
+#[derive(Clone, Copy, PartialEq, Eq, Debug)]
+pub struct Parameter {
+    pub ty: ArgType,
+    /// A parameter by `&out` begins as 0 or `false`; the others begin with their argument.
+    pub pass: Pass,
+}
+
+/// A global variable.
+#[derive(Debug, Drop)]
+pub struct Global {
+    pub ty: ArgType,
+    /// A value of that type. Without one it stays 0 or `false`.
+    pub initializer: Option<Expression>,
+}

@@ -1,0 +1,31 @@
+//! Expressions that were typed.
+use ang_kinds::Place;
+use ang_lex::Token;
+use ang_typed::{Expression, Variable};
+use ang_types::ArgType;
+
+/// The variable whose name an expression is.
+#[derive(Clone, Copy, Drop)]
+pub struct NamedVariable {
+    /// The variable.
+    pub variable: Variable,
+    /// Whether it can't be assigned.
+    pub read_only: bool,
+    /// The name.
+    pub name: Token,
+    /// Whether the name stands alone, without parentheses.
+    pub bare: bool,
+}
+
+/// An expression that was typed.
+#[derive(Drop)]
+pub struct Operand {
+    /// The place of its first token.
+    pub place: Place,
+    /// Its type.
+    pub ty: ArgType,
+    /// Its resolved tree.
+    pub tree: Expression,
+    /// The variable whose name it is, in parentheses or not.
+    pub named: Option<NamedVariable>,
+}
