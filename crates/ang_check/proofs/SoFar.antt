@@ -3,7 +3,7 @@ use Rattle.std.specs.Prelude.{◌≡◌, refl, List, [], ◌∷◌, ◌++◌, Re
 use Rattle.std.proofs.Common.{ap}
 use Rattle.ang_typed.specs.Typed as t
 use Rattle.ang_typing.specs.declared.scope.Pair.{Pair}
-use Rattle.ang_typing.specs.Refusals.{Judged}
+use Rattle.ang_operators.specs.Refusals.{Judged}
 
 -- statements in front of others
 abbrev pub in_front : List t.Stmt → t.Stmts → t.Stmts

@@ -7,17 +7,18 @@ use Rattle.ang_kinds.specs.declared.place.Place.{Place}
 use Rattle.ang_lex.specs.declared.token.Token.{Token}
 use Rattle.ang_types.specs.declared.arg_type.ArgType.{ArgType}
 use Rattle.ang_types.specs.declared.arg_type.ArgType.TheVariants as type
+use Rattle.ang_types.specs.Ranks.{Lines}
 use Rattle.ang_tree.specs.declared.type_name.TypeName.{TypeName}
 use Rattle.ang_tree.specs.Tree.{Tree, Trees}
 use Rattle.ang_tree.specs.Stmt.{Init, absent, value, constructor, Var, Vars, Start, with_variables, with_expression, Stmt, Body, Stmts, block, variables, expression, break, continue, return, when, either, while, do_while, for, body, end, then}
 use Rattle.ang_typed.specs.Typed as t
 use Rattle.ang_names.specs.Sources.{text_of}
 use Rattle.ang_names.specs.Types.{Meaning, value_type_of, is_read_only}
-use Rattle.ang_typing.specs.declared.refusal.Asks.TheVariants as asks
+use Rattle.ang_operators.specs.declared.refusal.Asks.TheVariants as asks
 use Rattle.ang_typing.specs.declared.scope.Pair.{Pair}
 use Rattle.ang_typing.specs.Scope.{Setting, last_named}
-use Rattle.ang_typing.specs.Refusals.{Judged, ◌>>=◌, fault_at, refused_at, use_refused}
-use Rattle.ang_typing.specs.Operands.{Operand, fit, truth}
+use Rattle.ang_operators.specs.Refusals.{Judged, ◌>>=◌, fault_at, refused_at, use_refused}
+use Rattle.ang_operators.specs.Operands.{Operand, fit, truth}
 use Rattle.ang_check.specs.declared.frame.Frame.{Frame}
 use Rattle.ang_typing.specs.Typing.{typing_of, typing_of_args, typing_of_all}
 
@@ -88,7 +89,7 @@ abbrev pub initializer_typing : Setting → List Pair → TypeName → ArgType �
 initializer_typing s ps y ty absent = Ok None
 initializer_typing s ps y ty (value equals e) = do
   a ← typing_of s ps e
-  x ← fit s ty a
+  x ← fit s.lines ty a
   Ok (Some x)
 initializer_typing s ps y ty (constructor es) = do
   operands ← typing_of_args s ps es
@@ -119,12 +120,12 @@ locals_typing f start ps vs = do
 
 -- ---- `return`
 
-abbrev pub value_returned : Setting → ArgType → Operand → Judged t.Expr
-value_returned s type.Void a = Err (fault_at kind.BadConversion a.place)
-value_returned s type.Null a = fit s type.Null a
-value_returned s (type.Plain p) a = fit s (type.Plain p) a
-value_returned s (type.Object n c) a = fit s (type.Object n c) a
-value_returned s (type.Handle n c) a = fit s (type.Handle n c) a
+abbrev pub value_returned : Lines → ArgType → Operand → Judged t.Expr
+value_returned lines type.Void a = Err (fault_at kind.BadConversion a.place)
+value_returned lines type.Null a = fit lines type.Null a
+value_returned lines (type.Plain p) a = fit lines (type.Plain p) a
+value_returned lines (type.Object n c) a = fit lines (type.Object n c) a
+value_returned lines (type.Handle n c) a = fit lines (type.Handle n c) a
 
 abbrev pub nothing_returned : ArgType → Token → Judged (Option t.Expr)
 nothing_returned type.Void word = Ok None
@@ -138,7 +139,7 @@ abbrev pub return_typing : Frame → List Pair → Token → Option Tree → Jud
 return_typing f ps word None = nothing_returned f.result word
 return_typing f ps word (Some e) = do
   a ← typing_of f.setting ps e
-  x ← value_returned f.setting f.result a
+  x ← value_returned f.setting.lines f.result a
   Ok (Some x)
 
 -- ---- `break` and `continue`

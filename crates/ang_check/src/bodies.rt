@@ -2,21 +2,22 @@
 ghost use Rattle.std.specs.Prelude.{◌≡◌, length, map as list_map, [], Bool};
 ghost use Rattle.ang_tree.specs.View.{view_body, view_init};
 ghost use Rattle.ang_typed.specs.View.{view_block, view_function, view_global};
-ghost use Rattle.ang_typing.specs.Refusals.{Gives};
+ghost use Rattle.ang_operators.specs.Refusals.{Gives};
 ghost use Rattle.ang_check.specs.Bodies as spec;
 
 use crate::frame::Frame;
 use crate::locals::initializer;
-use crate::paths::body_ends;
 use crate::statements::block;
 use ang_kinds::{ErrorKind, List};
 use ang_lex::Token;
+use ang_operators::{Stop, refused};
 use ang_names::{ScriptFunction, ScriptGlobal, ScriptParameter};
+use ang_paths::body_ends;
 use ang_tree as written;
 use ang_tree::{Initializer, TypeName};
 use ang_typed::{Block, Function, Global as TypedGlobal, Parameter};
 use ang_types::ArgType;
-use ang_typing::{Pair, Setting, Stop, Text, refused};
+use ang_typing::{Pair, Setting, Text};
 use std::alloc::{AllocError, Global};
 
 fn pairs_of<'a>(alloc: Global, params: &'a [ScriptParameter]) -> Result<Vec<Pair<'a>>, AllocError>

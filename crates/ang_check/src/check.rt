@@ -8,12 +8,13 @@ ghost use Rattle.ang_check.specs.Bodies as spec;
 use crate::bodies::{function_typing, global_typing};
 use ang_kinds::{Error, List, Unbuilt};
 use ang_names::{Names, ScriptFunction, ScriptGlobal, text_at};
+use ang_operators::{Refusal, Stop};
 use ang_registry::View;
 use ang_tree as written;
 use ang_tree::{Declaration, Script, Variables};
 use ang_typed::{Function, Global as TypedGlobal, Typed};
 use ang_types::Lineage;
-use ang_typing::{Refusal, Setting, Stop};
+use ang_typing::Setting;
 use std::alloc::{AllocError, Global};
 
 /// What the bodies and initializers up to some place gave.

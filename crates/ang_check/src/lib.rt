@@ -5,7 +5,6 @@ mod bodies;
 mod check;
 mod frame;
 mod locals;
-mod paths;
 mod statements;
 
 pub use check::check;

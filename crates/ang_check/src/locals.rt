@@ -2,20 +2,18 @@
 ghost use Rattle.std.specs.Prelude.{◌≡◌, ◌≤◌, ◌++◌, ◌∷◌, [], length, take, map as list_map, option_map, OnOk};
 ghost use Rattle.ang_tree.specs.View.{view_init, view_var, view_vars};
 ghost use Rattle.ang_typed.specs.View.{view_expr, view_local, view_option};
-ghost use Rattle.ang_typing.specs.Refusals.{Gives};
+ghost use Rattle.ang_operators.specs.Refusals.{Gives};
 ghost use Rattle.ang_check.specs.Statements as spec;
 
 use crate::frame::Frame;
 use ang_kinds::{ErrorKind, Place};
 use ang_lex::Token;
+use ang_operators::{Asks, Stop, fault, fit, refused, use_refused};
 use ang_names::{is_read_only, value_type_of};
 use ang_tree::{Initializer, TypeName, Variable, Variables};
 use ang_typed::{Expression, Local};
 use ang_types::ArgType;
-use ang_typing::{
-    Asks, Pair, Setting, Stop, Text, fault, find_pair, fit, refused, typing, typing_of_all,
-    use_refused,
-};
+use ang_typing::{Pair, Setting, Text, find_pair, typing, typing_of_all};
 use std::alloc::Global;
 
 /// The most locals that can be alive at once in one function.
@@ -106,7 +104,7 @@ pub fn initializer(
         Initializer::Absent => Ok(None),
         Initializer::Value { value, .. } => {
             let operand = typing(alloc, setting, pairs, value)?;
-            Ok(Some(fit(alloc, setting, ty, operand)?))
+            Ok(Some(fit(alloc, setting.lineage(), ty, operand)?))
         }
         Initializer::Constructor(arguments) => {
             let _operands = typing_of_all(alloc, setting, pairs, arguments.items.as_slice())?;

@@ -1,21 +1,22 @@
 //! The typing of statements.
-ghost use Rattle.std.specs.Prelude.{◌≡◌, ◌≤◌, length, take, map as list_map, option_map, IfOk, OnOk};
+ghost use Rattle.std.specs.Prelude.{◌≡◌, ◌≤◌, ◌++◌, ◌∷◌, [], length, take, map as list_map, option_map, IfOk, OnOk};
 ghost use Rattle.ang_tree.specs.View as trees;
 ghost use Rattle.ang_typed.specs.Typed as tree;
 ghost use Rattle.ang_typed.specs.View.{view_block, view_expr, view_option, view_stmt, view_stmts};
-ghost use Rattle.ang_typing.specs.Refusals.{Gives, both_typed};
-ghost use Rattle.ang_typing.specs.View.{view_operand};
+ghost use Rattle.ang_operators.specs.Refusals.{Gives};
+ghost use Rattle.ang_operators.specs.View.{view_operand};
 ghost use Rattle.ang_check.specs.Statements as spec;
 
 use crate::frame::Frame;
 use crate::locals::locals;
 use ang_kinds::ErrorKind;
 use ang_lex::Token;
+use ang_operators::{Operand, Stop, fault, fit, refused, truth};
 use ang_tree as written;
 use ang_tree::{Argument, ForStart};
 use ang_typed::{Block, Expression, Statement};
-use ang_types::ArgType;
-use ang_typing::{Operand, Pair, Setting, Stop, fault, fit, refused, truth, typing, typing_of_all};
+use ang_types::{ArgType, Lineage};
+use ang_typing::{Pair, Setting, typing, typing_of_all};
 use std::alloc::{AllocError, Global};
 
 fn optional(
@@ -81,16 +82,16 @@ fn steps(
 
 fn value_returned(
     alloc: Global,
-    setting: &Setting<'_>,
+    lineage: &Lineage,
     ty: ArgType,
     operand: Operand,
 ) -> Result<Expression, Stop>
-    ensures exact { Gives view_expr result (spec.value_returned setting.now ty (view_operand operand)) }
+    ensures exact { Gives view_expr result (spec.value_returned lineage.now ty (view_operand operand)) }
 {
     match ty {
         ArgType::Void => Err(fault(ErrorKind::BadConversion, operand.place)),
         ArgType::Null | ArgType::Plain(_) | ArgType::Object { .. } | ArgType::Handle { .. } => fit(
-            alloc, setting, ty, operand,
+            alloc, lineage, ty, operand,
         ),
     }
 }
@@ -122,7 +123,7 @@ fn returned(
         None => nothing_returned(frame.result, word),
         Some(value) => {
             let operand = typing(alloc, &frame.setting, pairs, value)?;
-            Ok(Some(value_returned(alloc, &frame.setting, frame.result, operand)?))
+            Ok(Some(value_returned(alloc, frame.setting.lineage(), frame.result, operand)?))
         }
     }
 }
@@ -176,7 +177,7 @@ fn start<'a>(
 
 /// What stands in the parentheses of a `for`.
 #[derive(Drop)]
-struct Head {
+struct LoopHead {
     start: Statement,
     condition: Option<Expression>,
     steps: Vec<Expression>,
@@ -189,7 +190,7 @@ fn head<'a>(
     written: &ForStart,
     condition: &Option<written::Expression>,
     items: &[Argument],
-) -> Result<Head, Stop>
+) -> Result<LoopHead, Stop>
     requires parameters { frame.now.parameters ≤ length pairs.old.items }
     ensures exact { Gives (λ h. (pairs.new.items, view_stmt h.start, view_option h.condition, list_map view_expr h.steps.items)) result
         (spec.head_typing frame.now pairs.old.items (trees.view_start written.now) (trees.view_option condition.now) (trees.view_items items.now)) }
@@ -198,11 +199,23 @@ fn head<'a>(
     let start = start(alloc, frame, pairs, written)?;
     let condition = optional_condition(alloc, &frame.setting, pairs.as_slice(), condition)?;
     let steps = steps(alloc, &frame.setting, pairs.as_slice(), items)?;
-    Ok(Head {
+    Ok(LoopHead {
         start,
         condition,
         steps,
     })
+}
+
+/// The list with one more statement at its end.
+fn with_statement(
+    first: Vec<Statement>,
+    statement: Statement,
+) -> Result<Vec<Statement>, AllocError>
+    ensures exact { IfOk result (λ v. list_map view_stmt v.items ≡ list_map view_stmt first.items ++ (view_stmt statement ∷ [])) }
+{
+    let mut found = first;
+    found.push(statement)?;
+    Ok(found)
 }
 
 /// The statements of a block that begins at pair `start`, with the pairs that are alive behind the last.
@@ -223,7 +236,7 @@ fn statements<'a>(
     let mut found = Vec::new(alloc);
     for item in written {
         let typed = statement(alloc, frame, in_loop, start, pairs, item)?;
-        found.push(typed)?;
+        found = with_statement(found, typed)?;
     }
     Ok(Block { statements: found })
 }
@@ -287,47 +300,29 @@ fn other_branch<'a>(
     }
 }
 
-/// The two branches of an `if`.
+/// A condition, and what runs where it is true.
 #[derive(Drop)]
-struct Branches {
+struct Tested {
+    condition: Expression,
     then: Block,
-    otherwise: Block,
 }
 
-#[cycle(statement)]
-fn branches<'a>(
-    alloc: Global,
-    frame: &Frame<'a>,
-    in_loop: bool,
-    pairs: &mut Vec<Pair<'a>>,
-    then: &written::Statement,
-    otherwise: &Option<written::Else>,
-) -> Result<Branches, Stop>
-    requires parameters { frame.now.parameters ≤ length pairs.old.items }
-    ensures exact { Gives (λ b. (view_block b.«then», view_block b.otherwise)) result
-        (both_typed (spec.branch_typing frame.now in_loop pairs.old.items (trees.view_stmt «then».now))
-        (spec.other_typing frame.now in_loop pairs.old.items (option_map trees.view_else otherwise.now))) }
-    ensures same { OnOk result (pairs.new.items ≡ pairs.old.items) }
+fn conditional(tested: Tested, otherwise: Block) -> Statement
+    ensures exact { view_stmt result ≡ tree.either (view_expr tested.condition) (view_block tested.«then») (view_block otherwise) }
 {
-    let then = branch(alloc, frame, in_loop, pairs, then)?;
-    let otherwise = other_branch(alloc, frame, in_loop, pairs, otherwise)?;
-    Ok(Branches { then, otherwise })
+    let Tested { condition, then } = tested;
+    Statement::If {
+        condition,
+        then,
+        otherwise,
+    }
 }
 
-#[cycle(statement)]
-fn for_loop<'a>(
-    alloc: Global,
-    frame: &Frame<'a>,
-    pairs: &mut Vec<Pair<'a>>,
-    head: Head,
-    body: &written::Statement,
-) -> Result<Statement, Stop>
-    requires parameters { frame.now.parameters ≤ length pairs.old.items }
-    ensures exact { Gives view_stmt result (spec.loop_typing frame.now pairs.old.items (view_stmt head.start, view_option head.condition, list_map view_expr head.steps.items) (trees.view_stmt body.now)) }
-    ensures same { OnOk result (pairs.new.items ≡ pairs.old.items) }
+fn for_statement(alloc: Global, head: LoopHead, body: Block) -> Result<Statement, AllocError>
+    ensures exact { IfOk result (λ s. view_stmt s
+        ≡ tree.for (tree.«then» (view_stmt head.start) tree.end) (view_option head.condition) (list_map view_expr head.steps.items) (view_block body)) }
 {
-    let body = branch(alloc, frame, true, pairs, body)?;
-    let Head {
+    let LoopHead {
         start,
         condition,
         steps,
@@ -340,6 +335,23 @@ fn for_loop<'a>(
         steps,
         body,
     })
+}
+
+/// The body of a `for`, behind what stands in its parentheses.
+#[cycle(statement)]
+fn for_loop<'a>(
+    alloc: Global,
+    frame: &Frame<'a>,
+    pairs: &mut Vec<Pair<'a>>,
+    head: LoopHead,
+    body: &written::Statement,
+) -> Result<Statement, Stop>
+    requires parameters { frame.now.parameters ≤ length pairs.old.items }
+    ensures exact { Gives view_stmt result (spec.loop_typing frame.now pairs.old.items (view_stmt head.start, view_option head.condition, list_map view_expr head.steps.items) (trees.view_stmt body.now)) }
+    ensures same { OnOk result (pairs.new.items ≡ pairs.old.items) }
+{
+    let body = branch(alloc, frame, true, pairs, body)?;
+    Ok(for_statement(alloc, head, body)?)
 }
 
 /// A statement, in the block that begins at pair `start`.
@@ -385,13 +397,11 @@ fn statement<'a>(
             otherwise,
             ..
         } => {
-            let test = condition(alloc, &frame.setting, pairs.as_slice(), test)?;
-            let branches = branches(alloc, frame, in_loop, pairs, then, otherwise)?;
-            Ok(Statement::If {
-                condition: test,
-                then: branches.then,
-                otherwise: branches.otherwise,
-            })
+            let condition = condition(alloc, &frame.setting, pairs.as_slice(), test)?;
+            let then = branch(alloc, frame, in_loop, pairs, then)?;
+            let tested = Tested { condition, then };
+            let otherwise = other_branch(alloc, frame, in_loop, pairs, otherwise)?;
+            Ok(conditional(tested, otherwise))
         }
         written::Statement::While {
             condition: test,
