@@ -1,6 +1,6 @@
 -- The bodies and initializers of a build (docs/LANGUAGE.md, "Phases", the last): each is judged by itself, in the order of the
 -- declarations, and gives at most its first refusal.
-use Rattle.std.specs.Prelude.{ℕ, Bool, true, false, if◌then◌else◌, length, drop, List, [], ◌∷◌, ◌++◌, map, Option, Some, None, Result, Ok, Err}
+use Rattle.std.specs.Prelude.{ℕ, Bool, true, false, if◌then◌else◌, length, List, [], ◌∷◌, map, Option, Some, None, Result, Ok, Err}
 use Rattle.std.specs.List.{filter_map, flat_map}
 use Rattle.ang_kinds.specs.declared.error.Error.{Error}
 use Rattle.ang_kinds.specs.declared.error.ErrorKind.TheVariants as kind
@@ -8,7 +8,7 @@ use Rattle.ang_types.specs.declared.arg_type.ArgType.{ArgType}
 use Rattle.ang_types.specs.declared.arg_type.ArgType.TheVariants as type
 use Rattle.ang_registry.specs.Registration.{RegistrationList}
 use Rattle.ang_tree.specs.declared.type_name.TypeName.{TypeName}
-use Rattle.ang_tree.specs.Stmt.{Init, Var, Body}
+use Rattle.ang_tree.specs.Stmt.{Init, Vars, Body}
 use Rattle.ang_tree.specs.Declarations.{Decl, class, interface, import, function, globals, empty}
 use Rattle.ang_typed.specs.Typed as t
 use Rattle.ang_typed.specs.declared.program.Parameter.{Parameter}
@@ -67,7 +67,28 @@ global_typing s g y i = do
 
 -- ---- all of them
 
--- what one body or initializer in a section of some bytes gives
+-- A body or an initializer as it is written, in a section of some bytes: that of the function of this name, and that of a global of
+-- this type.
+pub data Part : Type 0 where
+  a_body : List ℕ → Token → Body → Part
+  an_initializer : List ℕ → TypeName → Init → Part
+
+abbrev pub initializers_of : List ℕ → Vars → List Part
+initializers_of text vs = map (λ v. an_initializer text vs.declared_type v.initializer) vs.items
+
+-- The parts of a declaration: each name of a `globals` has its own.
+abbrev pub parts_in : List ℕ → Decl → List Part
+parts_in text (function y x ps b) = a_body text x b ∷ []
+parts_in text (globals vs) = initializers_of text vs
+parts_in text (class final word x bases left members right) = []
+parts_in text (interface word x bases left methods right) = []
+parts_in text (import word y x ps from module_name semicolon) = []
+parts_in text (empty semicolon) = []
+
+abbrev pub parts_of : Source → List Part
+parts_of s = flat_map (parts_in s.text) s.declarations
+
+-- what one of them gives, with the bytes of its section
 pub data Judgement : Type 0 where
   a_function : List ℕ → Judged t.Function → Judgement
   a_global : List ℕ → Judged t.Global → Judgement
@@ -77,33 +98,18 @@ module _ (V : RegistrationList) (names : Names) where
   abbrev pub setting_in : List ℕ → Setting
   setting_in text = record { view = V; names = names; lines = []; text = text }
 
-  abbrev pub function_judged : List ℕ → Token → Body → ScriptFunction → Judgement
-  function_judged text x b f = a_function text (function_typing (setting_in text) f x b)
-
-  abbrev pub global_judged : List ℕ → TypeName → Var → ScriptGlobal → Judgement
-  global_judged text y v g = a_global text (global_typing (setting_in text) g y v.initializer)
-
-  -- the names of one declaration of globals, each with its global
-  abbrev pub globals_judged : List ℕ → TypeName → List Var → List ScriptGlobal → List Judgement
-  globals_judged text y [] gs = []
-  globals_judged text y (v ∷ vs) [] = []
-  globals_judged text y (v ∷ vs) (g ∷ gs) = global_judged text y v g ∷ globals_judged text y vs gs
-
-  -- The bodies and initializers of the declarations, in order, where these are the functions and globals that they declare.
-  abbrev pub judged_from : List ScriptFunction → List ScriptGlobal → List (List ℕ × Decl) → List Judgement
+  -- The parts one by one, where these are the functions and globals that they belong to, each kind in order.
+  abbrev pub judged_from : List ScriptFunction → List ScriptGlobal → List Part → List Judgement
   judged_from fs gs [] = []
-  judged_from [] gs ((text, function y x ps b) ∷ ds) = judged_from [] gs ds
-  judged_from (f ∷ fs) gs ((text, function y x ps b) ∷ ds) = function_judged text x b f ∷ judged_from fs gs ds
-  judged_from fs gs ((text, globals vs) ∷ ds) =
-      globals_judged text vs.declared_type vs.items gs ++ judged_from fs (drop (length vs.items) gs) ds
-  judged_from fs gs ((text, class final word x bases left members right) ∷ ds) = judged_from fs gs ds
-  judged_from fs gs ((text, interface word x bases left methods right) ∷ ds) = judged_from fs gs ds
-  judged_from fs gs ((text, import word y x ps from module_name semicolon) ∷ ds) = judged_from fs gs ds
-  judged_from fs gs ((text, empty semicolon) ∷ ds) = judged_from fs gs ds
+  judged_from [] gs (a_body text x b ∷ parts) = judged_from [] gs parts
+  judged_from (f ∷ fs) gs (a_body text x b ∷ parts) =
+      a_function text (function_typing (setting_in text) f x b) ∷ judged_from fs gs parts
+  judged_from fs [] (an_initializer text y i ∷ parts) = judged_from fs [] parts
+  judged_from fs (g ∷ gs) (an_initializer text y i ∷ parts) =
+      a_global text (global_typing (setting_in text) g y i) ∷ judged_from fs gs parts
 
   unfoldable pub judgements : List Source → List Judgement
-  judgements sources =
-      judged_from names.functions names.globals (flat_map (λ s. map (λ d. (s.text, d)) s.declarations) sources)
+  judgements sources = judged_from names.functions names.globals (flat_map parts_of sources)
 
 -- ---- what a build gets of it
 

@@ -2,9 +2,10 @@
 #![tactic(auto)]
 
 mod bodies;
-mod check;
+mod checking;
+mod found;
 mod frame;
 mod locals;
 mod statements;
 
-pub use check::check;
+pub use checking::check;
