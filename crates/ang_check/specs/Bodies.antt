@@ -17,7 +17,7 @@ use Rattle.ang_names.specs.declared.names.ScriptFunction.{ScriptFunction}
 use Rattle.ang_names.specs.declared.names.ScriptGlobal.{ScriptGlobal}
 use Rattle.ang_names.specs.declared.names.ScriptParameter.{ScriptParameter}
 use Rattle.ang_lex.specs.declared.token.Token.{Token}
-use Rattle.ang_names.specs.Sources.{Source, name_of}
+use Rattle.ang_written.specs.Sources.{Source, name_of}
 use Rattle.ang_operators.specs.declared.refusal.Refusal.{Refusal}
 use Rattle.ang_typing.specs.declared.scope.Pair.{Pair}
 use Rattle.ang_typing.specs.Scope.{Setting}

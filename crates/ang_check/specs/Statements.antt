@@ -12,8 +12,8 @@ use Rattle.ang_tree.specs.declared.type_name.TypeName.{TypeName}
 use Rattle.ang_tree.specs.Tree.{Tree, Trees}
 use Rattle.ang_tree.specs.Stmt.{Init, absent, value, constructor, Var, Vars, Start, with_variables, with_expression, Stmt, Body, Stmts, block, variables, expression, break, continue, return, when, either, while, do_while, for, body, end, then}
 use Rattle.ang_typed.specs.Typed as t
-use Rattle.ang_names.specs.Sources.{text_of}
-use Rattle.ang_names.specs.Types.{Meaning, value_type_of, is_read_only}
+use Rattle.ang_written.specs.Sources.{text_of}
+use Rattle.ang_written.specs.Types.{Meaning, value_type_of, is_read_only}
 use Rattle.ang_operators.specs.declared.refusal.Asks.TheVariants as asks
 use Rattle.ang_typing.specs.declared.scope.Pair.{Pair}
 use Rattle.ang_typing.specs.Scope.{Setting, last_named}

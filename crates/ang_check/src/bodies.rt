@@ -17,7 +17,8 @@ use ang_tree as written;
 use ang_tree::{Initializer, TypeName};
 use ang_typed::{Block, Function, Global as TypedGlobal, Parameter};
 use ang_types::ArgType;
-use ang_typing::{Pair, Setting, Text};
+use ang_typing::{Pair, Setting};
+use ang_written::Text;
 use std::alloc::{AllocError, Global};
 
 fn pairs_of<'a>(alloc: Global, params: &'a [ScriptParameter]) -> Result<Vec<Pair<'a>>, AllocError>

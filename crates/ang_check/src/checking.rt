@@ -1,7 +1,7 @@
 //! All bodies and initializers of a build.
 ghost use Rattle.std.specs.Prelude.{◌≡◌, [], ◌∷◌, IfOk, IfErr, OnOk, map as list_map};
 ghost use Rattle.ang_names.specs.Phases.{IsRefused};
-ghost use Rattle.ang_names.specs.Sources.{source_of};
+ghost use Rattle.ang_written.specs.Sources.{source_of};
 ghost use Rattle.ang_tree.specs.View.{view_body, view_decl, view_init, view_vars};
 ghost use Rattle.ang_typed.specs.View.{view_function, view_global, view_typed};
 ghost use Rattle.ang_check.specs.Bodies as bodies;

@@ -7,9 +7,10 @@ ghost use Rattle.ang_check.specs.Bodies as bodies;
 ghost use Rattle.ang_check.specs.Judging as spec;
 
 use ang_kinds::{Error, List};
-use ang_names::{ScriptFunction, ScriptGlobal, text_at};
+use ang_names::{ScriptFunction, ScriptGlobal};
 use ang_operators::{Refusal, Stop};
 use ang_typed::{Function, Global as TypedGlobal};
+use ang_written::text_at;
 use std::alloc::{AllocError, Global};
 
 /// What the bodies and initializers up to some place gave, and whose come next.

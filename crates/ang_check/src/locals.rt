@@ -9,11 +9,11 @@ use crate::frame::Frame;
 use ang_kinds::{ErrorKind, Place};
 use ang_lex::Token;
 use ang_operators::{Asks, Stop, fault, fit, refused, use_refused};
-use ang_names::{is_read_only, value_type_of};
+use ang_written::{Text, is_read_only, value_type_of};
 use ang_tree::{Initializer, TypeName, Variable, Variables};
 use ang_typed::{Expression, Local};
 use ang_types::ArgType;
-use ang_typing::{Pair, Setting, Text, find_pair, typing, typing_of_all};
+use ang_typing::{Pair, Setting, find_pair, typing, typing_of_all};
 use std::alloc::Global;
 
 /// The most locals that can be alive at once in one function.

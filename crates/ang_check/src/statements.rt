@@ -413,12 +413,12 @@ fn statement<'a>(
             Ok(Statement::While { condition, body })
         }
         written::Statement::DoWhile {
-            body,
-            condition: test,
+            body: repeated,
+            condition: again,
             ..
         } => {
-            let body = branch(alloc, frame, true, pairs, body)?;
-            let condition = condition(alloc, &frame.setting, pairs.as_slice(), test)?;
+            let body = branch(alloc, frame, true, pairs, repeated)?;
+            let condition = condition(alloc, &frame.setting, pairs.as_slice(), again)?;
             Ok(Statement::DoWhile { body, condition })
         }
         written::Statement::For {

@@ -3,7 +3,7 @@ use Rattle.std.specs.Prelude.{◌≡◌, ◌⊎◌, Bool, true, false, not, ◌&
 use Rattle.std.proofs.Common.{inl, inr}
 use Rattle.ang_tree.specs.Stmt.{Stmt, Body, Stmts, block, variables, expression, break, continue, return, when, either, while, do_while, for, body, end, then}
 use Rattle.ang_paths.specs.Paths.{is_true_word, breaks, body_breaks, some_break, ends, body_ends, some_ends}
-use Rattle.ang_paths.specs.Ways.{Way, ahead, out, again, home, Leaves, LeavesBody, LeavesAll}
+use Rattle.ang_paths.specs.Ways.{Way, ahead, out, around, home, Leaves, LeavesBody, LeavesAll}
 
 or_left : (a b : Bool) → (a || b) ≡ false → a ≡ false
 or_left true b e = e
@@ -41,15 +41,15 @@ mutual
   no_break (break word semicolon) e h = cc
   no_break (continue word semicolon) e h = cc
   no_break (return word x semicolon) e h = cc
-  no_break (when word left c right s) e (inl h) = cc
+  no_break (when word left c right s) e (inl h) = let k : out ≡ ahead = h.0 in cc
   no_break (when word left c right s) e (inr h) = no_break s e h
   no_break (either word left c right s otherwise u) e (inl h) = no_break s (or_left (breaks s) (breaks u) e) h
-  no_break (either word left c right s otherwise u) e (inr h) = no_break u (or_right (breaks s) (breaks u) e) h
+  no_break (either word left c right s otherwise u) e (inr h) = no_break u (or_right (breaks s) (breaks u) e) h.1
   no_break (while word left c right s) e (inl h) = let k : out ≡ ahead = h.0 in cc
   no_break (while word left c right s) e (inr h) = let k : out ≡ home = h.0 in cc
-  no_break (do_while word s word_again left c right semicolon) e (inl h) = cc
-  no_break (do_while word s word_again left c right semicolon) e (inr h) = let k : out ≡ home = h.0 in cc
-  no_break (for word left start c semicolon steps right s) e (inl h) = cc
+  no_break (do_while word s again left c right semicolon) e (inl h) = let k : out ≡ ahead = h.0 in cc
+  no_break (do_while word s again left c right semicolon) e (inr h) = let k : out ≡ home = h.0 in cc
+  no_break (for word left start c semicolon steps right s) e (inl h) = let k : out ≡ ahead = h.0 in cc
   no_break (for word left start c semicolon steps right s) e (inr h) = let k : out ≡ home = h.0 in cc
 
   pub no_break_body : (b : Body) → body_breaks b ≡ false → LeavesBody out b → ⊥
@@ -70,14 +70,14 @@ mutual
   no_way (return word x semicolon) e h = cc
   no_way (when word left c right s) e h = cc
   no_way (either word left c right s otherwise u) e (inl h) = no_way s (and_left (ends s) (ends u) e) h
-  no_way (either word left c right s otherwise u) e (inr h) = no_way u (and_right (ends s) (ends u) e) h
+  no_way (either word left c right s otherwise u) e (inr h) = no_way u (and_right (ends s) (ends u) e) h.1
   no_way (while word left c right s) e (inl h) =
       elim h.1 [
         inl f ↦ clash (is_true_word c) (and_left (is_true_word c) (not (breaks s)) e) f
       | inr g ↦ no_break s (not_false (breaks s) (and_right (is_true_word c) (not (breaks s)) e)) g
       ]
   no_way (while word left c right s) e (inr h) = let k : ahead ≡ home = h.0 in cc
-  no_way (do_while word s word_again left c right semicolon) e h = cc
+  no_way (do_while word s again left c right semicolon) e h = cc
   no_way (for word left start c semicolon steps right s) e h = cc
 
   pub no_way_body : (b : Body) → body_ends b ≡ true → LeavesBody ahead b → ⊥
