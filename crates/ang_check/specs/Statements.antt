@@ -1,6 +1,6 @@
 -- The typing of statements (docs/LANGUAGE.md, "Statements" and "Names"; the AngelScript manual, "Statements" and "Variables"): by cases
 -- on the tree, the resolved tree and the pairs that are alive behind it, or the first refusal in reading order.
-use Rattle.std.specs.Prelude.{ℕ, ◌-◌, nat_lt, Bool, true, false, if◌then◌else◌, is_some, length, drop, List, [], ◌∷◌, ◌++◌, Option, Some, None, Result, Ok, Err}
+use Rattle.std.specs.Prelude.{ℕ, ◌-◌, nat_lt, Bool, true, false, if◌then◌else◌, is_some, length, drop, List, [], ◌∷◌, ◌++◌, map, Option, Some, None, Result, Ok, Err}
 use Rattle.ang_kinds.specs.declared.error.ErrorKind.{ErrorKind}
 use Rattle.ang_kinds.specs.declared.error.ErrorKind.TheVariants as kind
 use Rattle.ang_kinds.specs.declared.place.Place.{Place}
@@ -15,6 +15,7 @@ use Rattle.ang_typed.specs.Typed as t
 use Rattle.ang_written.specs.Sources.{text_of}
 use Rattle.ang_written.specs.Types.{Meaning, value_type_of, is_read_only}
 use Rattle.ang_operators.specs.declared.refusal.Asks.TheVariants as asks
+use Rattle.ang_operators.specs.declared.refusal.Refusal.{Refusal}
 use Rattle.ang_typing.specs.declared.scope.Pair.{Pair}
 use Rattle.ang_typing.specs.Scope.{Setting, last_named}
 use Rattle.ang_operators.specs.Refusals.{Judged, ◌>>=◌, fault_at, refused_at, use_refused}
@@ -48,8 +49,7 @@ optional_condition s ps (Some c) = do
 -- ---- the steps of a `for`
 
 abbrev pub trees_of : List Operand → List t.Expr
-trees_of [] = []
-trees_of (a ∷ rest) = a.tree ∷ trees_of rest
+trees_of operands = map (λ a. a.tree) operands
 
 abbrev pub steps_typing : Setting → List Pair → Trees → Judged (List t.Expr)
 steps_typing s ps es = do
@@ -58,9 +58,16 @@ steps_typing s ps es = do
 
 -- ---- local variables
 
+abbrev pub is_unknown_type : ErrorKind → Bool
+is_unknown_type kind.UnknownType = true
+is_unknown_type _ = false
+
+-- an unknown name is a use, and another type is refused for what it is
+abbrev pub type_refused : Token → ErrorKind → Refusal
+type_refused x why = if is_unknown_type why then use_refused why x asks.Type else refused_at why x
+
 abbrev pub local_type_by : Token → Meaning → Judged ArgType
-local_type_by x (Err kind.UnknownType) = Err (use_refused kind.UnknownType x asks.Type)
-local_type_by x (Err why) = Err (refused_at why x)
+local_type_by x (Err why) = Err (type_refused x why)
 local_type_by x (Ok (type.Plain p)) = Ok (type.Plain p)
 local_type_by x (Ok type.Void) = Err (refused_at kind.BadType x)
 local_type_by x (Ok type.Null) = Err (fault_at kind.NotYet x.place)

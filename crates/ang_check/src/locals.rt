@@ -19,6 +19,23 @@ use std::alloc::Global;
 /// The most locals that can be alive at once in one function.
 pub const MOST_LOCALS: usize = 1024;
 
+fn is_unknown_type(kind: ErrorKind) -> bool
+    ensures exact { result ≡ spec.is_unknown_type kind }
+{
+    matches!(kind, ErrorKind::UnknownType)
+}
+
+/// Why what is written is no type of locals, at its name.
+fn type_refused(token: &Token, kind: ErrorKind) -> Stop
+    ensures exact { result ≡ Stop.Refused (spec.type_refused token.now kind) }
+{
+    if is_unknown_type(kind) {
+        use_refused(kind, token, Asks::Type)
+    } else {
+        refused(kind, token)
+    }
+}
+
 fn local_type_by(token: &Token, meaning: Result<ArgType, ErrorKind>) -> Result<ArgType, Stop>
     ensures exact { Gives (λ ty. ty) result (spec.local_type_by token.now meaning) }
 {
@@ -28,8 +45,7 @@ fn local_type_by(token: &Token, meaning: Result<ArgType, ErrorKind>) -> Result<A
         Ok(ArgType::Null | ArgType::Object { .. } | ArgType::Handle { .. }) => {
             Err(fault(ErrorKind::NotYet, token.place))
         }
-        Err(ErrorKind::UnknownType) => Err(use_refused(ErrorKind::UnknownType, token, Asks::Type)),
-        Err(kind) => Err(refused(kind, token)),
+        Err(kind) => Err(type_refused(token, kind)),
     }
 }
 

@@ -4,7 +4,7 @@ ghost use Rattle.ang_tree.specs.View as trees;
 ghost use Rattle.ang_typed.specs.Typed as tree;
 ghost use Rattle.ang_typed.specs.View.{view_block, view_expr, view_option, view_stmt, view_stmts};
 ghost use Rattle.ang_operators.specs.Refusals.{Gives};
-ghost use Rattle.ang_operators.specs.View.{view_operand};
+ghost use Rattle.ang_operators.specs.View.{view_operand, view_operands};
 ghost use Rattle.ang_check.specs.Statements as spec;
 
 use crate::frame::Frame;
@@ -63,6 +63,12 @@ fn optional_condition(
     }
 }
 
+fn trees_of(alloc: Global, operands: Vec<Operand>) -> Result<Vec<Expression>, AllocError>
+    ensures exact { IfOk result (λ v. list_map view_expr v.items ≡ spec.trees_of (view_operands operands.items)) }
+{
+    operands.into_iter().map(|operand| operand.tree).collect(alloc)
+}
+
 /// The steps of a `for`.
 fn steps(
     alloc: Global,
@@ -73,11 +79,7 @@ fn steps(
     ensures exact { Gives (λ v. list_map view_expr v.items) result (spec.steps_typing setting.now pairs.now (trees.view_items items.now)) }
 {
     let operands = typing_of_all(alloc, setting, pairs, items)?;
-    let mut steps = Vec::new(alloc);
-    for operand in operands {
-        steps.push(operand.tree)?;
-    }
-    Ok(steps)
+    Ok(trees_of(alloc, operands)?)
 }
 
 fn value_returned(

@@ -73,8 +73,8 @@ mutual
   no_way (either word left c right s otherwise u) e (inr h) = no_way u (and_right (ends s) (ends u) e) h.1
   no_way (while word left c right s) e (inl h) =
       elim h.1 [
-        inl f ↦ clash (is_true_word c) (and_left (is_true_word c) (not (breaks s)) e) f
-      | inr g ↦ no_break s (not_false (breaks s) (and_right (is_true_word c) (not (breaks s)) e)) g
+        | inl f ↦ clash (is_true_word c) (and_left (is_true_word c) (not (breaks s)) e) f
+        | inr g ↦ no_break s (not_false (breaks s) (and_right (is_true_word c) (not (breaks s)) e)) g
       ]
   no_way (while word left c right s) e (inr h) = let k : ahead ≡ home = h.0 in cc
   no_way (do_while word s again left c right semicolon) e h = cc
