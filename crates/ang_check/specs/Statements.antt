@@ -151,9 +151,9 @@ return_typing f ps word (Some e) = do
 
 -- ---- `break` and `continue`
 
-abbrev pub jump : {A : Type 0} → Frame → Bool → Token → A → Judged A
-jump f true word x = Ok x
-jump f false word x = Err (refused_at kind.Jump word)
+abbrev pub jump : Bool → Token → t.Stmt → Judged t.Stmt
+jump true word x = Ok x
+jump false word x = Err (refused_at kind.Jump word)
 
 -- ---- `for`
 
@@ -177,10 +177,22 @@ head_typing f ps b c steps = do
 
 -- ---- statements
 
+-- a statement in a block of its own
+abbrev pub alone : Judged (List Pair × t.Stmt) → Judged t.Stmts
+alone x = do
+  y ← x
+  Ok (t.then y.1 t.end)
+
+-- a `for` with this start, condition and steps
+abbrev pub looped : t.Stmt × Option t.Expr × List t.Expr → Judged t.Stmts → Judged t.Stmt
+looped h x = do
+  ss ← x
+  Ok (t.for (t.then h.0 t.end) h.1 h.2 ss)
+
 -- In a function:
 module _ (f : Frame) where
+  -- Whether a loop stands around the statement, where the innermost block begins, and the pairs alive in front of it.
   abbrev mutual
-    -- Whether a loop stands around it, where the innermost block begins, and the pairs alive in front of it.
     pub stmt_typing : Bool → ℕ → List Pair → Stmt → Judged (List Pair × t.Stmt)
     stmt_typing loop start ps (block b) = do
       ss ← block_typing loop ps b
@@ -191,38 +203,36 @@ module _ (f : Frame) where
     stmt_typing loop start ps (expression e semicolon) = do
       x ← optional_typing f.setting ps e
       Ok ((ps, t.expression x))
-    stmt_typing loop start ps (break word semicolon) = jump f loop word (ps, t.break)
-    stmt_typing loop start ps (continue word semicolon) = jump f loop word (ps, t.continue)
+    stmt_typing loop start ps (break word semicolon) = do
+      x ← jump loop word t.break
+      Ok ((ps, x))
+    stmt_typing loop start ps (continue word semicolon) = do
+      x ← jump loop word t.continue
+      Ok ((ps, x))
     stmt_typing loop start ps (return word e semicolon) = do
       x ← return_typing f ps word e
       Ok ((ps, t.return x))
     stmt_typing loop start ps (when word left c right s) = do
       x ← condition_typing f.setting ps c
-      ss ← branch_typing loop ps s
+      ss ← alone (stmt_typing loop (length ps) ps s)
       Ok ((ps, t.either x ss t.end))
     stmt_typing loop start ps (either word left c right s otherwise u) = do
       x ← condition_typing f.setting ps c
-      ss ← branch_typing loop ps s
-      us ← branch_typing loop ps u
+      ss ← alone (stmt_typing loop (length ps) ps s)
+      us ← alone (stmt_typing loop (length ps) ps u)
       Ok ((ps, t.either x ss us))
     stmt_typing loop start ps (while word left c right s) = do
       x ← condition_typing f.setting ps c
-      ss ← branch_typing true ps s
+      ss ← alone (stmt_typing true (length ps) ps s)
       Ok ((ps, t.while x ss))
     stmt_typing loop start ps (do_while word s again left c right semicolon) = do
-      ss ← branch_typing true ps s
+      ss ← alone (stmt_typing true (length ps) ps s)
       x ← condition_typing f.setting ps c
       Ok ((ps, t.do_while ss x))
     stmt_typing loop start ps (for word left b c semicolon steps right s) = do
       h ← head_typing f ps b c steps
-      ss ← branch_typing true h.0 s
-      Ok ((ps, t.for (t.then h.1 t.end) h.2 h.3 ss))
-
-    -- a statement in a block of its own
-    pub branch_typing : Bool → List Pair → Stmt → Judged t.Stmts
-    branch_typing loop ps s = do
-      x ← stmt_typing loop (length ps) ps s
-      Ok (t.then x.1 t.end)
+      x ← looped (h.1, h.2, h.3) (alone (stmt_typing true (length h.0) h.0 s))
+      Ok ((ps, x))
 
     pub block_typing : Bool → List Pair → Body → Judged t.Stmts
     block_typing loop ps (body left ss right) = stmts_typing loop (length ps) ps ss
@@ -234,6 +244,9 @@ module _ (f : Frame) where
       xs ← stmts_typing loop start x.0 ss
       Ok (t.then x.1 xs)
 
+  abbrev pub branch_typing : Bool → List Pair → Stmt → Judged t.Stmts
+  branch_typing loop ps s = alone (stmt_typing loop (length ps) ps s)
+
   -- the other branch of an `if`, where it has one
   abbrev pub other_typing : Bool → List Pair → Option (Token × Stmt) → Judged t.Stmts
   other_typing loop ps None = Ok t.end
@@ -241,6 +254,4 @@ module _ (f : Frame) where
 
   -- the body of a `for` with this start, condition and steps
   abbrev pub loop_typing : List Pair → t.Stmt × Option t.Expr × List t.Expr → Stmt → Judged t.Stmt
-  loop_typing ps h s = do
-    ss ← branch_typing true ps s
-    Ok (t.for (t.then h.0 t.end) h.1 h.2 ss)
+  loop_typing ps h s = looped h (branch_typing true ps s)

@@ -131,12 +131,11 @@ fn returned(
 }
 
 fn jump(
-    frame: &Frame<'_>,
     in_loop: bool,
     word: &Token,
     statement: Statement,
 ) -> Result<Statement, Stop>
-    ensures exact { Gives view_stmt result (spec.jump frame.now in_loop word.now (view_stmt statement)) }
+    ensures exact { Gives view_stmt result (spec.jump in_loop word.now (view_stmt statement)) }
 {
     if in_loop {
         Ok(statement)
@@ -385,9 +384,13 @@ fn statement<'a>(
             let value = optional(alloc, &frame.setting, pairs.as_slice(), value)?;
             Ok(Statement::Expression(value))
         }
-        written::Statement::Break { word, .. } => jump(frame, in_loop, word, Statement::Break),
+        written::Statement::Break { word, .. } => {
+            let found = jump(in_loop, word, Statement::Break)?;
+            Ok(found)
+        }
         written::Statement::Continue { word, .. } => {
-            jump(frame, in_loop, word, Statement::Continue)
+            let found = jump(in_loop, word, Statement::Continue)?;
+            Ok(found)
         }
         written::Statement::Return { word, value, .. } => {
             let value = returned(alloc, frame, pairs.as_slice(), word, value)?;
