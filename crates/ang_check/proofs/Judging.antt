@@ -4,10 +4,16 @@ use Rattle.std.specs.List.{filter_map, cons_option, flat_map}
 use Rattle.std.proofs.lemmas.Grind.{flat_map-append}
 use Rattle.std.proofs.lemmas.List.{map-append, take_more}
 use Rattle.ang_registry.specs.Registration.{RegistrationList}
+use Rattle.ang_lex.specs.declared.token.Token.{Token}
+use Rattle.ang_tree.specs.declared.type_name.TypeName.{TypeName}
+use Rattle.ang_tree.specs.Stmt.{Init, Body}
 use Rattle.ang_names.specs.declared.names.Names.{Names}
+use Rattle.ang_names.specs.declared.names.ScriptFunction.{ScriptFunction}
+use Rattle.ang_names.specs.declared.names.ScriptGlobal.{ScriptGlobal}
+use Rattle.ang_typing.specs.Scope.{Setting}
 use Rattle.ang_typed.specs.View.{view_function, view_global}
 use Rattle.ang_check.specs.declared.found.Found.{Found}
-use Rattle.ang_check.specs.Bodies.{Part, Judgement, judged_from, refusal_in, function_in, global_in}
+use Rattle.ang_check.specs.Bodies.{Part, a_body, an_initializer, Judgement, a_function, a_global, function_typing, global_typing, setting_in, judged_from, refusal_in, function_in, global_in}
 use Rattle.ang_check.specs.Judging.{Noted, Judges, judged_behind, functions_with, globals_with, errors_with}
 
 cons_joins : {A : Type 0} (o : Option A) (xs : List A) → cons_option o xs ≡ option_to_list o ++ xs
@@ -53,16 +59,101 @@ module _ (V : RegistrationList) (names : Names) where
   }
 
   -- the part whose judgement was noted
-  pub judges_noted : (old new : Found) (j : Judgement) (part : Part) → Noted old new j
+  judges_noted : (old new : Found) (j : Judgement) (part : Part)
+      → list_map view_function new.functions.items ≡ list_map view_function old.functions.items ++ option_to_list (function_in j)
+      → list_map view_global new.globals.items ≡ list_map view_global old.globals.items ++ option_to_list (global_in j)
+      → new.errors.items ≡ old.errors.items ++ option_to_list (refusal_in j)
       → ((rest : List Part) → judged_behind V names old (part ∷ rest) ≡ j ∷ judged_behind V names new rest) → Judges V names old new (part ∷ [])
-  judges_noted old new j part n e = record {
+  judges_noted old new j part f g r e = record {
     functions = λ rest. ap (λ js. list_map view_function old.functions.items ++ filter_map function_in js) (e rest)
-        ∙ joined function_in _ _ j (judged_behind V names new rest) n.functions;
+        ∙ joined function_in (list_map view_function old.functions.items) (list_map view_function new.functions.items) j (judged_behind V names new rest) f;
     globals = λ rest. ap (λ js. list_map view_global old.globals.items ++ filter_map global_in js) (e rest)
-        ∙ joined global_in _ _ j (judged_behind V names new rest) n.globals;
+        ∙ joined global_in (list_map view_global old.globals.items) (list_map view_global new.globals.items) j (judged_behind V names new rest) g;
     errors = λ rest. ap (λ js. old.errors.items ++ filter_map refusal_in js) (e rest)
-        ∙ joined refusal_in _ _ j (judged_behind V names new rest) n.errors;
+        ∙ joined refusal_in old.errors.items new.errors.items j (judged_behind V names new rest) r;
   }
+
+  -- a part that belongs to nothing
+  judges_skipped : (old : Found) (part : Part) → ((rest : List Part) → judged_behind V names old (part ∷ rest) ≡ judged_behind V names old rest)
+      → Judges V names old old (part ∷ [])
+  judges_skipped old part e = record {
+    functions = λ rest. ap (λ js. list_map view_function old.functions.items ++ filter_map function_in js) (e rest);
+    globals = λ rest. ap (λ js. list_map view_global old.globals.items ++ filter_map global_in js) (e rest);
+    errors = λ rest. ap (λ js. old.errors.items ++ filter_map refusal_in js) (e rest);
+  }
+
+  pub no_function_left : (old : Found) (text : List ℕ) (x : Token) (b : Body) → old.functions_left.now ≡ []
+      → Judges V names old old (a_body text x b ∷ [])
+  no_function_left old text x b e = judges_skipped old (a_body text x b) (λ rest.
+      ap (λ fs. judged_from V names fs old.globals_left.now (a_body text x b ∷ rest)) e
+      ∙ sym (ap (λ fs. judged_from V names fs old.globals_left.now rest) e))
+
+  pub no_global_left : (old : Found) (text : List ℕ) (y : TypeName) (i : Init) → old.globals_left.now ≡ []
+      → Judges V names old old (an_initializer text y i ∷ [])
+  no_global_left old text y i e = judges_skipped old (an_initializer text y i) (λ rest.
+      ap (λ gs. judged_from V names old.functions_left.now gs (an_initializer text y i ∷ rest)) e
+      ∙ sym (ap (λ gs. judged_from V names old.functions_left.now gs rest) e))
+
+  -- the body of the next function
+  pub judged_function : (old mid new : Found) (f : ScriptFunction) (fs : List ScriptFunction) (s : Setting) (text : List ℕ) (x : Token) (b : Body)
+      → old.functions_left.now ≡ f ∷ fs → mid.functions_left.now ≡ fs → mid.globals_left.now ≡ old.globals_left.now
+      → mid.functions.items ≡ old.functions.items → mid.globals.items ≡ old.globals.items → mid.errors.items ≡ old.errors.items
+      → s ≡ setting_in V names text → Noted mid new (a_function text (function_typing s f x b)) → Judges V names old new (a_body text x b ∷ [])
+  judged_function old mid new f fs s text x b split left same functions globals errors set n =
+      let j : Judgement = a_function text (function_typing (setting_in V names text) f x b) in
+      let m : Noted mid new j = subst (λ (q : Setting). Noted mid new (a_function text (function_typing q f x b))) set n in
+      judges_noted old new j (a_body text x b)
+        (m.functions ∙ ap (λ xs. list_map view_function xs ++ option_to_list (function_in j)) functions)
+        (m.globals ∙ ap (λ xs. list_map view_global xs ++ option_to_list (global_in j)) globals)
+        (m.errors ∙ ap (λ xs. xs ++ option_to_list (refusal_in j)) errors)
+        (λ rest. ap (λ xs. judged_from V names xs old.globals_left.now (a_body text x b ∷ rest)) split
+          ∙ ap (λ xs. j ∷ judged_from V names xs old.globals_left.now rest) (sym (m.functions_left ∙ left))
+          ∙ ap (λ xs. j ∷ judged_from V names new.functions_left.now xs rest) (sym (m.globals_left ∙ same)))
+
+  -- the initializer of the next global
+  pub judged_global : (old mid new : Found) (g : ScriptGlobal) (gs : List ScriptGlobal) (s : Setting) (text : List ℕ) (y : TypeName) (i : Init)
+      → old.globals_left.now ≡ g ∷ gs → mid.globals_left.now ≡ gs → mid.functions_left.now ≡ old.functions_left.now
+      → mid.functions.items ≡ old.functions.items → mid.globals.items ≡ old.globals.items → mid.errors.items ≡ old.errors.items
+      → s ≡ setting_in V names text → Noted mid new (a_global text (global_typing s g y i)) → Judges V names old new (an_initializer text y i ∷ [])
+  judged_global old mid new g gs s text y i split left same functions globals errors set n =
+      let j : Judgement = a_global text (global_typing (setting_in V names text) g y i) in
+      let m : Noted mid new j = subst (λ (q : Setting). Noted mid new (a_global text (global_typing q g y i))) set n in
+      judges_noted old new j (an_initializer text y i)
+        (m.functions ∙ ap (λ xs. list_map view_function xs ++ option_to_list (function_in j)) functions)
+        (m.globals ∙ ap (λ xs. list_map view_global xs ++ option_to_list (global_in j)) globals)
+        (m.errors ∙ ap (λ xs. xs ++ option_to_list (refusal_in j)) errors)
+        (λ rest. ap (λ xs. judged_from V names old.functions_left.now xs (an_initializer text y i ∷ rest)) split
+          ∙ ap (λ xs. j ∷ judged_from V names old.functions_left.now xs rest) (sym (m.globals_left ∙ left))
+          ∙ ap (λ xs. j ∷ judged_from V names xs new.globals_left.now rest) (sym (m.functions_left ∙ same)))
+
+  -- ---- all parts, from nothing on
+
+  pub errors_found : (a b : Found) (parts : List Part) → a.functions_left.now ≡ names.functions → a.globals_left.now ≡ names.globals
+      → a.errors.items ≡ [] → Judges V names a b parts
+      → b.errors.items ≡ filter_map refusal_in (judged_from V names names.functions names.globals parts)
+  errors_found a b parts f g e j =
+      sym (append-nil b.errors.items) ∙ sym (j.errors []) ∙ ap (errors_with V names a) (append-nil parts)
+      ∙ ap (λ xs. xs ++ filter_map refusal_in (judged_behind V names a parts)) e
+      ∙ ap (λ xs. filter_map refusal_in (judged_from V names xs a.globals_left.now parts)) f
+      ∙ ap (λ xs. filter_map refusal_in (judged_from V names names.functions xs parts)) g
+
+  pub functions_found : (a b : Found) (parts : List Part) → a.functions_left.now ≡ names.functions → a.globals_left.now ≡ names.globals
+      → a.functions.items ≡ [] → Judges V names a b parts
+      → list_map view_function b.functions.items ≡ filter_map function_in (judged_from V names names.functions names.globals parts)
+  functions_found a b parts f g e j =
+      sym (append-nil (list_map view_function b.functions.items)) ∙ sym (j.functions []) ∙ ap (functions_with V names a) (append-nil parts)
+      ∙ ap (λ xs. list_map view_function xs ++ filter_map function_in (judged_behind V names a parts)) e
+      ∙ ap (λ xs. filter_map function_in (judged_from V names xs a.globals_left.now parts)) f
+      ∙ ap (λ xs. filter_map function_in (judged_from V names names.functions xs parts)) g
+
+  pub globals_found : (a b : Found) (parts : List Part) → a.functions_left.now ≡ names.functions → a.globals_left.now ≡ names.globals
+      → a.globals.items ≡ [] → Judges V names a b parts
+      → list_map view_global b.globals.items ≡ filter_map global_in (judged_from V names names.functions names.globals parts)
+  globals_found a b parts f g e j =
+      sym (append-nil (list_map view_global b.globals.items)) ∙ sym (j.globals []) ∙ ap (globals_with V names a) (append-nil parts)
+      ∙ ap (λ xs. list_map view_global xs ++ filter_map global_in (judged_behind V names a parts)) e
+      ∙ ap (λ xs. filter_map global_in (judged_from V names xs a.globals_left.now parts)) f
+      ∙ ap (λ xs. filter_map global_in (judged_from V names names.functions xs parts)) g
 
   -- the parts of one item more
   pub judges_turn : {A S : Type 0} (parts : A → List Part) (v : S → A) (ss : List S) (i : ℕ) (s : S) (a b c : Found)

@@ -1,11 +1,6 @@
-pub mod Sources
 pub mod Declarations
-pub mod Types
-pub mod NotYet
-pub mod Spellings
 pub mod Taken
 pub mod Meant
 pub mod Phases
 pub mod Resolved
 pub mod Lookup
-pub mod HostNames

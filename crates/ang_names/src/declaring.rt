@@ -1,6 +1,6 @@
 //! What a build declares, or why it declares nothing.
 ghost use Rattle.std.specs.Prelude.{◌≡◌, [], IfOk, IfErr, OnOk, map as list_map};
-ghost use Rattle.ang_names.specs.Sources.{source_of};
+ghost use Rattle.ang_written.specs.Sources.{source_of};
 ghost use Rattle.ang_names.specs.Declarations.{declarations_of as all_declarations};
 ghost use Rattle.ang_names.specs.Phases as spec;
 ghost use Rattle.ang_names.specs.Phases.{IsRefused};
@@ -8,12 +8,12 @@ ghost use Rattle.ang_names.specs.Resolved as resolved;
 
 use crate::listed::declarations_of;
 use crate::names::Names;
-use crate::not_yet::not_yet;
 use crate::phase::phase_errors;
 use crate::resolved::names_of;
 use ang_kinds::{List, Unbuilt};
 use ang_registry::View;
 use ang_tree::Script;
+use ang_written::not_yet_errors;
 use std::alloc::Global;
 
 /// The names that the scripts declare, over what their module sees of the host.
@@ -28,7 +28,7 @@ pub fn declare(alloc: Global, view: &View, scripts: &[Script]) -> Result<Names, 
     ensures refused { IfErr result (λ why. IsRefused why
         (spec.errors_of view.now (list_map source_of scripts.now))) }
 {
-    let Ok(beyond) = not_yet(alloc, view, scripts) else {
+    let Ok(beyond) = not_yet_errors(alloc, view, scripts) else {
         return Err(Unbuilt::Memory);
     };
     if !beyond.is_empty() {

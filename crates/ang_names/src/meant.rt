@@ -3,13 +3,12 @@ ghost use Rattle.std.specs.Prelude.{◌≡◌, IfOk};
 ghost use Rattle.ang_names.specs.Meant as spec;
 
 use crate::listed::{Declared, Part};
-use crate::sources::error_at;
-use crate::types::{parameter_type_of, type_of, value_type_of};
 use ang_kinds::{Error, ErrorKind};
 use ang_lex::Token;
 use ang_registry::View;
 use ang_tree::{Parameter, TypeName};
 use ang_types::ArgType;
+use ang_written::{error_at, parameter_type_of, type_of, value_type_of};
 use std::alloc::{AllocError, Global};
 
 /// The parameters of one function.

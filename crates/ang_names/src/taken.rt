@@ -5,10 +5,9 @@ ghost use Rattle.ang_registry.specs.Registration.{entry_at};
 ghost use Rattle.ang_names.specs.Taken as spec;
 
 use crate::listed::{Declared, Part};
-use crate::sources::{error_at, text_at};
-use crate::spelling::{have_same_types, have_same_types_as_host};
 use ang_kinds::{EntityNo, Error, ErrorKind, Param};
 use ang_registry::{Entry, EntryKind, View};
+use ang_written::{error_at, have_same_types, have_same_types_as_host, text_at};
 use std::alloc::{AllocError, Global};
 
 /// The functions of one module.

@@ -1,9 +1,4 @@
 pub mod Scope
-pub mod Refusals
 pub mod Uses
-pub mod Operands
-pub mod View
-pub mod Forms
-pub mod Operations
 pub mod Calls
 pub mod Typing

@@ -1,4 +1,4 @@
--- The parameters and locals that are alive where an expression stands (docs/LANGUAGE.md, "Names"; the AngelScript manual, "Variables").
+-- The parameters and locals that are alive where an expression stands (docs/LANGUAGE.md, "Expressions": names; the AngelScript manual, "Variables").
 use Rattle.std.specs.Prelude.{ℕ, ◌+◌, bytes_eq, if◌then◌else◌, List, [], ◌∷◌, Option, Some, None}
 use Rattle.ang_registry.specs.Registration.{RegistrationList}
 use Rattle.ang_types.specs.Ranks.{Lines}

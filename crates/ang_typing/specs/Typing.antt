@@ -1,20 +1,21 @@
--- The typing of expressions (docs/LANGUAGE.md, "Types and resolution"): by cases on the tree, the type and the resolved tree, or the
+-- The typing of expressions (docs/LANGUAGE.md, "Expressions"): by cases on the tree, the type and the resolved tree, or the
 -- first refusal in reading order. Operands are typed first, from left to right, then the operation.
 use Rattle.std.specs.Prelude.{List, [], ◌∷◌, Result, Ok, Err}
 use Rattle.ang_lex.specs.declared.token.Token.{Token}
 use Rattle.ang_tree.specs.Tree.{Tree, Args, Trees, literal, name, call, scoped_call, cast, convert, group, postfix, member, method_call, prefix, binary, conditional, assignment, arguments, none, more}
+use Rattle.ang_written.specs.Sources.{text_of}
 use Rattle.ang_typing.specs.declared.scope.Pair.{Pair}
 use Rattle.ang_typing.specs.Scope.{Setting}
-use Rattle.ang_typing.specs.Refusals.{Judged, ◌>>=◌}
-use Rattle.ang_typing.specs.Operands.{Operand}
-use Rattle.ang_typing.specs.Operations.{not_yet, literal_typing, binary_typing, prefix_typing, postfix_typing, convert_typing, conditional_typing, assignment_typing}
-use Rattle.ang_typing.specs.Calls.{name_typing, group_typing, call_typing}
+use Rattle.ang_operators.specs.Refusals.{Judged, ◌>>=◌}
+use Rattle.ang_operators.specs.Operands.{Operand}
+use Rattle.ang_operators.specs.Operations.{not_yet, literal_typing, binary_typing, prefix_typing, postfix_typing, convert_typing, group_typing, conditional_typing, assignment_typing}
+use Rattle.ang_typing.specs.Calls.{name_typing, call_typing}
 
 -- In a setting, with these parameters and locals alive:
 module _ (s : Setting) (ps : List Pair) where
   abbrev mutual
     pub typing_of : Tree → Judged Operand
-    typing_of (literal x) = literal_typing s x
+    typing_of (literal x) = literal_typing x (text_of s.text x)
     typing_of (name x) = name_typing s ps x
     typing_of (call x es) = do
       operands ← typing_of_args es
@@ -23,7 +24,7 @@ module _ (s : Setting) (ps : List Pair) where
     typing_of (cast word less y greater left e right) = not_yet word.place
     typing_of (convert word left e right) = do
       a ← typing_of e
-      convert_typing s word a
+      convert_typing s.lines word a
     typing_of (group left e right) = do
       a ← typing_of e
       Ok (group_typing left.place a)
@@ -34,20 +35,20 @@ module _ (s : Setting) (ps : List Pair) where
     typing_of (method_call e dot x es) = not_yet dot.place
     typing_of (prefix op e) = do
       a ← typing_of e
-      prefix_typing s op a
+      prefix_typing s.lines op a
     typing_of (binary l op r) = do
       a ← typing_of l
       b ← typing_of r
-      binary_typing s a op.kind b
+      binary_typing s.lines a op.kind b
     typing_of (conditional c question l colon r) = do
       x ← typing_of c
       a ← typing_of l
       b ← typing_of r
-      conditional_typing s x a b
+      conditional_typing s.lines x a b
     typing_of (assignment l op r) = do
       a ← typing_of l
       b ← typing_of r
-      assignment_typing s a op.kind b
+      assignment_typing s.lines a op.kind b
 
     pub typing_of_args : Args → Judged (List Operand)
     typing_of_args (arguments left es right) = typing_of_all es

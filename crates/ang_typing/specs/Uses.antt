@@ -1,4 +1,4 @@
--- What a use of a name means (docs/LANGUAGE.md, "Names"; the AngelScript manual, "Function overloading" and "Access masks"). A use
+-- What a use of a name means (docs/LANGUAGE.md, "Expressions": names and calls; the AngelScript manual, "Function overloading" and "Access masks"). A use
 -- is a name, what is asked of it, and the types of the operands.
 use Rattle.std.specs.Prelude.{ℕ, Bool, ◌==◌, if◌then◌else◌, is_some, length, List, [], ◌∷◌, ◌++◌, map, slice_get, option_to_list, Option, Some, None}
 use Rattle.std.specs.List.{flat_map}
@@ -15,12 +15,12 @@ use Rattle.ang_typed.specs.declared.expression.Variable.{Variable}
 use Rattle.ang_typed.specs.declared.expression.Variable.TheVariants as variable
 use Rattle.ang_names.specs.declared.names.ScriptFunction.{ScriptFunction}
 use Rattle.ang_names.specs.declared.names.ScriptGlobal.{ScriptGlobal}
-use Rattle.ang_names.specs.declared.host.HostFunction.{HostFunction}
-use Rattle.ang_names.specs.declared.host.HostGlobal.{HostGlobal}
+use Rattle.ang_written.specs.declared.host.HostFunction.{HostFunction}
+use Rattle.ang_written.specs.declared.host.HostGlobal.{HostGlobal}
 use Rattle.ang_names.specs.Lookup.{functions_named, function_at, global_named, global_at, candidate_of}
-use Rattle.ang_names.specs.HostNames.{view_functions_named, view_global_named}
-use Rattle.ang_typing.specs.declared.refusal.Asks.{Asks}
-use Rattle.ang_typing.specs.declared.refusal.Asks.TheVariants as asks
+use Rattle.ang_written.specs.HostNames.{view_functions_named, view_global_named}
+use Rattle.ang_operators.specs.declared.refusal.Asks.{Asks}
+use Rattle.ang_operators.specs.declared.refusal.Asks.TheVariants as asks
 use Rattle.ang_typing.specs.declared.scope.Pair.{Pair}
 use Rattle.ang_typing.specs.declared.uses.Callee.{Callee}
 use Rattle.ang_typing.specs.declared.uses.Callee.TheVariants as callee

@@ -1,22 +1,19 @@
-//! Names, arguments and calls.
+//! Names and calls.
 ghost use Rattle.std.specs.Prelude.{◌≡◌, ◌∷◌, [], map as list_map, IfOk};
 ghost use Rattle.ang_types.specs.declared.arg_type.ArgType.{ArgType};
 ghost use Rattle.ang_typed.specs.View.{view_arg, view_expr};
 ghost use Rattle.ang_typing.specs.Calls as spec;
-ghost use Rattle.ang_typing.specs.Refusals.{Gives};
-ghost use Rattle.ang_typing.specs.View.{view_operand, view_operands};
+ghost use Rattle.ang_operators.specs.Refusals.{Gives};
+ghost use Rattle.ang_operators.specs.View.{view_operand, view_operands};
 
-use crate::fitting::fit;
-use crate::operand::{NamedVariable, Operand};
-use crate::refusal::{Asks, Stop, fault, use_refused};
 use crate::scope::Pair;
 use crate::setting::Setting;
-use crate::two_operands::plain_operand;
 use crate::uses::{Callable, Callee, Meant, resolve_call, resolve_name};
 use ang_kinds::{ErrorKind, List, Pass, Place};
 use ang_lex::Token;
+use ang_operators::{Asks, NamedVariable, Operand, Stop, fault, fit, plain_operand, use_refused};
 use ang_typed::{Argument, Expression, Variable};
-use ang_types::ArgType;
+use ang_types::{ArgType, Lineage};
 use std::alloc::{AllocError, Global};
 
 fn variable_at(name: &Token, variable: Variable, ty: ArgType, read_only: bool) -> Operand
@@ -61,27 +58,6 @@ pub fn named(setting: &Setting<'_>, pairs: &[Pair<'_>], token: &Token) -> Result
     named_by(token, meant)
 }
 
-fn inside(named: Option<NamedVariable>) -> Option<NamedVariable>
-    ensures exact { result ≡ spec.inside named }
-{
-    let mut named = named?;
-    named.bare = false;
-    Some(named)
-}
-
-/// An expression in parentheses that begin at this place. A name in them is still a target, but no bare name.
-/// It takes no memory.
-pub fn group(place: Place, operand: Operand) -> Operand
-    ensures exact { view_operand result ≡ spec.group_typing place (view_operand operand) }
-{
-    Operand {
-        place,
-        ty: operand.ty,
-        tree: operand.tree,
-        named: inside(operand.named),
-    }
-}
-
 fn is_property(variable: Variable) -> bool
     ensures exact { result ≡ spec.is_property variable }
 {
@@ -105,13 +81,13 @@ fn out_by(place: Place, named: Option<NamedVariable>) -> Result<Variable, Stop>
 
 fn value_for(
     alloc: Global,
-    setting: &Setting<'_>,
+    lineage: &Lineage,
     ty: ArgType,
     operand: Operand,
 ) -> Result<Argument, Stop>
-    ensures exact { Gives view_arg result (spec.value_for setting.now ty (view_operand operand)) }
+    ensures exact { Gives view_arg result (spec.value_for lineage.now ty (view_operand operand)) }
 {
-    let value = fit(alloc, setting, ty, operand)?;
+    let value = fit(alloc, lineage, ty, operand)?;
     Ok(Argument::Value { ty, value })
 }
 
@@ -133,14 +109,14 @@ fn out_for(ty: ArgType, operand: Operand) -> Result<Argument, Stop>
 #[tactic(auto, unfolding(crate::specs::Calls::argument))]
 fn argument(
     alloc: Global,
-    setting: &Setting<'_>,
+    lineage: &Lineage,
     param: (ArgType, Pass),
     operand: Operand,
 ) -> Result<Argument, Stop>
-    ensures exact { Gives view_arg result (spec.argument setting.now param (view_operand operand)) }
+    ensures exact { Gives view_arg result (spec.argument lineage.now param (view_operand operand)) }
 {
     match param.1 {
-        Pass::Value | Pass::RefIn | Pass::RefInOut => value_for(alloc, setting, param.0, operand),
+        Pass::Value | Pass::RefIn | Pass::RefInOut => value_for(alloc, lineage, param.0, operand),
         Pass::RefOut => out_for(param.0, operand),
     }
 }
@@ -148,11 +124,11 @@ fn argument(
 /// Each argument for its parameter, from left to right.
 fn arguments_for(
     alloc: Global,
-    setting: &Setting<'_>,
+    lineage: &Lineage,
     params: &[(ArgType, Pass)],
     operands: Vec<Operand>,
 ) -> Result<Vec<Argument>, Stop>
-    ensures exact { Gives (λ v. list_map view_arg v.items) result (spec.arguments_for setting.now params.now (view_operands operands.items)) }
+    ensures exact { Gives (λ v. list_map view_arg v.items) result (spec.arguments_for lineage.now params.now (view_operands operands.items)) }
 {
     let mut arguments = Vec::new(alloc);
     let mut rest = operands.into_iter();
@@ -160,7 +136,7 @@ fn arguments_for(
         let Some(operand) = rest.next() else {
             return Ok(arguments);
         };
-        let value = argument(alloc, setting, *param, operand)?;
+        let value = argument(alloc, lineage, *param, operand)?;
         arguments.push(value)?;
     }
     Ok(arguments)
@@ -185,16 +161,16 @@ fn call_of(callee: Callee, gives: ArgType, arguments: Vec<Argument>) -> Expressi
 
 fn called(
     alloc: Global,
-    setting: &Setting<'_>,
+    lineage: &Lineage,
     place: Place,
     callable: Callable,
     operands: Vec<Operand>,
 ) -> Result<Operand, Stop>
-    ensures exact { Gives view_operand result (spec.called setting.now place callable (view_operands operands.items)) }
+    ensures exact { Gives view_operand result (spec.called lineage.now place callable (view_operands operands.items)) }
 {
     let arguments = arguments_for(
         alloc,
-        setting,
+        lineage,
         callable.candidate.params.as_slice(),
         operands,
     )?;
@@ -214,17 +190,17 @@ fn types_of(alloc: Global, operands: &[Operand]) -> Result<Vec<ArgType>, AllocEr
 
 fn called_by(
     alloc: Global,
-    setting: &Setting<'_>,
+    lineage: &Lineage,
     name: &Token,
     operands: Vec<Operand>,
     types: List<ArgType>,
     meant: Meant,
 ) -> Result<Operand, Stop>
     requires types { types ≡ spec.types_of (view_operands operands.items) }
-    ensures exact { Gives view_operand result (spec.called_by setting.now name.now (view_operands operands.items) meant) }
+    ensures exact { Gives view_operand result (spec.called_by lineage.now name.now (view_operands operands.items) meant) }
 {
     match meant {
-        Meant::Call(callable) => called(alloc, setting, name.place, callable, operands),
+        Meant::Call(callable) => called(alloc, lineage, name.place, callable, operands),
         Meant::Variable(..) | Meant::Type(_) => Err(use_refused(
             ErrorKind::UnknownName,
             name,
@@ -252,7 +228,7 @@ pub fn call(
     let meant = resolve_call(alloc, setting, name.bytes(), types.as_slice())?;
     called_by(
         alloc,
-        setting,
+        setting.lineage(),
         token,
         operands,
         List::from_vec(types),

@@ -1,20 +1,18 @@
 //! The typing of expressions.
 ghost use Rattle.std.specs.Prelude.{◌≡◌, IfOk, ◌++◌, ◌∷◌, []};
 ghost use Rattle.ang_tree.specs.View as trees;
-ghost use Rattle.ang_typing.specs.Refusals.{Gives, both_typed};
+ghost use Rattle.ang_operators.specs.Refusals.{Gives, both_typed};
 ghost use Rattle.ang_typing.specs.Typing as spec;
-ghost use Rattle.ang_typing.specs.View.{view_operand, view_operands};
+ghost use Rattle.ang_operators.specs.View.{view_operand, view_operands};
 
-use crate::assignments::assignment;
-use crate::calls::{call, group, named};
-use crate::conditionals::{Branches, conditional};
-use crate::one_operand::{convert, literal, postfix, prefix};
-use crate::operand::Operand;
-use crate::refusal::{Stop, fault};
+use crate::calls::{call, named};
 use crate::scope::Pair;
 use crate::setting::Setting;
-use crate::two_operands::binary;
 use ang_kinds::ErrorKind;
+use ang_operators::{
+    Branches, Operand, Stop, assignment, binary, conditional, convert, fault, group, literal,
+    postfix, prefix,
+};
 use ang_tree::{Argument, Expression};
 use std::alloc::{AllocError, Global};
 
@@ -75,7 +73,7 @@ pub fn typing(
     ensures exact { Gives view_operand result (spec.typing_of setting.now pairs.now (trees.view_expr expression.now)) }
 {
     match expression {
-        Expression::Literal(token) => literal(setting, token),
+        Expression::Literal(token) => literal(token, setting.text_at(token).bytes()),
         Expression::Name(token) => named(setting, pairs, token),
         Expression::Call { name, arguments } => {
             let operands = typing_of_all(alloc, setting, pairs, arguments.items.as_slice())?;
@@ -89,7 +87,7 @@ pub fn typing(
             ..
         } => {
             let operand = typing(alloc, setting, pairs, operand)?;
-            convert(alloc, setting, primitive, operand)
+            convert(alloc, setting.lineage(), primitive, operand)
         }
         Expression::Parenthesized { open, inner, .. } => {
             let operand = typing(alloc, setting, pairs, inner)?;
@@ -103,7 +101,7 @@ pub fn typing(
         Expression::MethodCall { dot, .. } => Err(fault(ErrorKind::NotYet, dot.place)),
         Expression::Prefix { operator, operand } => {
             let operand = typing(alloc, setting, pairs, operand)?;
-            prefix(alloc, setting, operator, operand)
+            prefix(alloc, setting.lineage(), operator, operand)
         }
         Expression::Binary {
             left,
@@ -112,7 +110,7 @@ pub fn typing(
         } => {
             let left = typing(alloc, setting, pairs, left)?;
             let right = typing(alloc, setting, pairs, right)?;
-            binary(alloc, setting, left, operator.kind, right)
+            binary(alloc, setting.lineage(), left, operator.kind, right)
         }
         Expression::Conditional {
             condition,
@@ -122,7 +120,7 @@ pub fn typing(
         } => {
             let condition = typing(alloc, setting, pairs, condition)?;
             let branches = branches(alloc, setting, pairs, then, otherwise)?;
-            conditional(alloc, setting, condition, branches)
+            conditional(alloc, setting.lineage(), condition, branches)
         }
         Expression::Assignment {
             target,
@@ -131,7 +129,7 @@ pub fn typing(
         } => {
             let target = typing(alloc, setting, pairs, target)?;
             let value = typing(alloc, setting, pairs, value)?;
-            assignment(alloc, setting, target, operator.kind, value)
+            assignment(alloc, setting.lineage(), target, operator.kind, value)
         }
     }
 }

@@ -6,25 +6,13 @@
 //! else does.
 #![tactic(auto)]
 
-mod assignments;
 mod calls;
-mod conditionals;
 mod expressions;
-mod fitting;
-mod forms;
-mod one_operand;
-mod operand;
-mod refusal;
 mod scope;
 mod setting;
-mod trees;
-mod two_operands;
 mod uses;
 
 pub use expressions::{typing, typing_of_all};
-pub use fitting::{fit, truth};
-pub use operand::{NamedVariable, Operand};
-pub use refusal::{Asks, Refusal, Stop, fault, refused, use_refused};
-pub use scope::{Pair, Text, find_pair};
+pub use scope::{Pair, find_pair};
 pub use setting::Setting;
 pub use uses::{Callable, Callee, Meant, resolve_call, resolve_name};

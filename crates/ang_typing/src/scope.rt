@@ -3,44 +3,7 @@ ghost use Rattle.std.specs.Prelude.{◌≡◌, ◌<◌, length, IfSome, option_m
 ghost use Rattle.ang_typing.specs.Scope as spec;
 
 use ang_types::ArgType;
-use std::marker::Model;
-
-/// A name: some bytes of a section.
-#[derive(Drop)]
-pub struct Text<'a> {
-    bytes: &'a [u8],
-}
-
-impl<'a> Model for Text<'a> {
-    ghost use Rattle.std.specs.Prelude.{ℕ, List};
-
-    ghost Value = { List ℕ };
-
-    ghost view = { λ t. t.bytes.now };
-}
-
-impl<'a> Text<'a> {
-    /// The name of these bytes.
-    pub fn new(bytes: &'a [u8]) -> Text<'a>
-        ensures same { result ≡ bytes.now }
-    {
-        Text { bytes }
-    }
-
-    /// The same name once more.
-    pub fn again(&self) -> Text<'a>
-        ensures same { result ≡ self.now }
-    {
-        Text { bytes: self.bytes }
-    }
-
-    /// Its bytes.
-    pub fn bytes(&self) -> &'a [u8]
-        ensures same { result.now ≡ self.now }
-    {
-        self.bytes
-    }
-}
+use ang_written::Text;
 
 /// A parameter or a local.
 #[derive(Drop)]

@@ -1,12 +1,12 @@
 //! What is the same for all of a body.
 ghost use Rattle.std.specs.Prelude.{◌≡◌};
-ghost use Rattle.ang_names.specs.Sources.{text_of};
+ghost use Rattle.ang_written.specs.Sources.{text_of};
 
-use crate::scope::Text;
 use ang_lex::Token;
-use ang_names::{Names, text_at};
+use ang_names::Names;
 use ang_registry::View;
 use ang_types::Lineage;
+use ang_written::{Text, text_at};
 use std::marker::Model;
 
 /// What is the same for all of a body: what its module sees of the host, what the scripts declare, what stands

@@ -1,18 +1,17 @@
 //! What a use of a name means.
 ghost use Rattle.std.specs.Prelude.{◌≡◌, ◌++◌, ◌∷◌, [], IfOk, OnOk, slice_get, map as list_map, option_map, option_to_list};
+ghost use Rattle.std.specs.List.{flat_map};
 ghost use Rattle.ang_names.specs.Lookup.{function_at};
 ghost use Rattle.ang_typing.specs.Uses as spec;
-ghost use Rattle.ang_typing.specs.declared.refusal.Asks.TheVariants as asks;
+ghost use Rattle.ang_operators.specs.declared.refusal.Asks.TheVariants as asks;
 
 use crate::scope::{Pair, find_pair};
 use crate::setting::Setting;
 use ang_kinds::{ErrorKind, List};
-use ang_names::{
-    HostFunction, HostGlobal, Names, candidate_of, functions_named, global_named,
-    view_functions_named, view_global_named,
-};
+use ang_names::{Names, candidate_of, functions_named, global_named};
 use ang_typed::{HostEntity, Variable};
 use ang_types::{ArgType, Candidate, Pick, resolve};
+use ang_written::{HostFunction, HostGlobal, view_functions_named, view_global_named};
 use std::alloc::{AllocError, Global};
 
 /// A function that a call can mean.
@@ -140,18 +139,29 @@ fn with_callable(
     Ok(found)
 }
 
+/// The functions of the script of these numbers, as ones that a call can mean.
+fn callables_at(
+    alloc: Global,
+    names: &Names,
+    numbers: &[usize],
+) -> Result<Vec<Callable>, AllocError>
+    ensures exact { IfOk result (λ v. v.items ≡ flat_map (spec.script_callable names.now.functions) numbers.now) }
+{
+    let mut found = Vec::new(alloc);
+    for number in numbers {
+        let callable = script_callable(alloc, names, *number)?;
+        found = with_callable(found, callable)?;
+    }
+    Ok(found)
+}
+
 /// The functions of the script that a name can call.
 #[tactic(auto, unfolding(crate::specs::Uses::script_callables))]
 fn script_callables(alloc: Global, names: &Names, name: &[u8]) -> Result<Vec<Callable>, AllocError>
     ensures exact { IfOk result (λ v. v.items ≡ spec.script_callables names.now.functions name.now) }
 {
     let numbers = functions_named(alloc, names, name)?;
-    let mut found = Vec::new(alloc);
-    for number in numbers.as_slice() {
-        let callable = script_callable(alloc, names, *number)?;
-        found = with_callable(found, callable)?;
-    }
-    Ok(found)
+    callables_at(alloc, names, numbers.as_slice())
 }
 
 fn host_callable(function: HostFunction) -> Callable

@@ -1,6 +1,6 @@
 use Rattle.std.proofs.Common.{◌≡◌, ◌++◌, drop}
 use Rattle.ang_typing.specs.Calls as spec
-use Rattle.ang_typing.specs.View.{view_operands}
+use Rattle.ang_operators.specs.View.{view_operands}
 use Rattle.ang_typing.proofs.calls.types_of.Given as goal
 
 abbrev pub invariant-loop-operand : goal.invariant-loop-operand
