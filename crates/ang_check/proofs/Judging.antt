@@ -103,12 +103,12 @@ module _ (V : RegistrationList) (names : Names) where
       let j : Judgement = a_function text (function_typing (setting_in V names text) f x b) in
       let m : Noted mid new j = subst (λ (q : Setting). Noted mid new (a_function text (function_typing q f x b))) set n in
       judges_noted old new j (a_body text x b)
-        (m.functions ∙ ap (λ xs. list_map view_function xs ++ option_to_list (function_in j)) functions)
-        (m.globals ∙ ap (λ xs. list_map view_global xs ++ option_to_list (global_in j)) globals)
-        (m.errors ∙ ap (λ xs. xs ++ option_to_list (refusal_in j)) errors)
-        (λ rest. ap (λ xs. judged_from V names xs old.globals_left.now (a_body text x b ∷ rest)) split
-          ∙ ap (λ xs. j ∷ judged_from V names xs old.globals_left.now rest) (sym (m.functions_left ∙ left))
-          ∙ ap (λ xs. j ∷ judged_from V names new.functions_left.now xs rest) (sym (m.globals_left ∙ same)))
+      (m.functions ∙ ap (λ xs. list_map view_function xs ++ option_to_list (function_in j)) functions)
+      (m.globals ∙ ap (λ xs. list_map view_global xs ++ option_to_list (global_in j)) globals)
+      (m.errors ∙ ap (λ xs. xs ++ option_to_list (refusal_in j)) errors)
+      (λ rest. ap (λ xs. judged_from V names xs old.globals_left.now (a_body text x b ∷ rest)) split
+      ∙ ap (λ xs. j ∷ judged_from V names xs old.globals_left.now rest) (sym (m.functions_left ∙ left))
+      ∙ ap (λ xs. j ∷ judged_from V names new.functions_left.now xs rest) (sym (m.globals_left ∙ same)))
 
   -- the initializer of the next global
   pub judged_global : (old mid new : Found) (g : ScriptGlobal) (gs : List ScriptGlobal) (s : Setting) (text : List ℕ) (y : TypeName) (i : Init)
@@ -119,12 +119,12 @@ module _ (V : RegistrationList) (names : Names) where
       let j : Judgement = a_global text (global_typing (setting_in V names text) g y i) in
       let m : Noted mid new j = subst (λ (q : Setting). Noted mid new (a_global text (global_typing q g y i))) set n in
       judges_noted old new j (an_initializer text y i)
-        (m.functions ∙ ap (λ xs. list_map view_function xs ++ option_to_list (function_in j)) functions)
-        (m.globals ∙ ap (λ xs. list_map view_global xs ++ option_to_list (global_in j)) globals)
-        (m.errors ∙ ap (λ xs. xs ++ option_to_list (refusal_in j)) errors)
-        (λ rest. ap (λ xs. judged_from V names old.functions_left.now xs (an_initializer text y i ∷ rest)) split
-          ∙ ap (λ xs. j ∷ judged_from V names old.functions_left.now xs rest) (sym (m.globals_left ∙ left))
-          ∙ ap (λ xs. j ∷ judged_from V names xs new.globals_left.now rest) (sym (m.functions_left ∙ same)))
+      (m.functions ∙ ap (λ xs. list_map view_function xs ++ option_to_list (function_in j)) functions)
+      (m.globals ∙ ap (λ xs. list_map view_global xs ++ option_to_list (global_in j)) globals)
+      (m.errors ∙ ap (λ xs. xs ++ option_to_list (refusal_in j)) errors)
+      (λ rest. ap (λ xs. judged_from V names old.functions_left.now xs (an_initializer text y i ∷ rest)) split
+      ∙ ap (λ xs. j ∷ judged_from V names old.functions_left.now xs rest) (sym (m.globals_left ∙ left))
+      ∙ ap (λ xs. j ∷ judged_from V names xs new.globals_left.now rest) (sym (m.functions_left ∙ same)))
 
   -- ---- all parts, from nothing on
 

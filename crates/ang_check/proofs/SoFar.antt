@@ -1,6 +1,7 @@
 -- What a loop has so far, in front of what is left.
 use Rattle.std.proofs.Common.{Bool, ◌≡◌, ◌<◌, ◌≤◌, ◌+◌, refl, ap, sym, ◌∙◌, ℕ, suc, List, [], ◌∷◌, ◌++◌, append_assoc, append-nil, length, get_or, drop, take, drop-cons, add-one, arith, Result, Ok, Err, map as list_map}
-use Rattle.std.proofs.lemmas.List.{length-take, take-take, drop_all}
+use Rattle.std.proofs.lemmas.List.{length-append, take-take, drop_all}
+use Rattle.std.proofs.Math.Seq.{take-length, take-append_seam}
 use Rattle.ang_tree.specs.Stmt as s
 use Rattle.ang_tree.specs.View as trees
 use Rattle.ang_tree.specs.declared.statement.Statement.{Statement}
@@ -12,7 +13,7 @@ use Rattle.ang_typing.specs.declared.scope.Pair.{Pair}
 use Rattle.ang_operators.specs.declared.refusal.Refusal.{Refusal}
 use Rattle.ang_operators.specs.Refusals.{Judged, ◌>>=◌}
 use Rattle.ang_check.specs.declared.frame.Frame.{Frame}
-use Rattle.ang_check.specs.Statements.{stmt_typing, stmts_typing, local_typing, each_local}
+use Rattle.ang_check.specs.Statements.{Keeps, stmt_typing, stmts_typing, local_typing, each_local}
 
 -- ---- lists
 
@@ -20,14 +21,24 @@ use Rattle.ang_check.specs.Statements.{stmt_typing, stmts_typing, local_typing, 
 pub drop_item : {A : Type 0} (xs : List A) (i : ℕ) (x : A) → i < length xs → x ≡ get_or xs i x → drop i xs ≡ x ∷ drop (i + 1) xs
 drop_item xs i x lt e = drop-cons xs i x lt ∙ ap (λ y. y ∷ drop (suc i) xs) (sym e) ∙ ap (λ n. x ∷ drop n xs) (sym (add-one i))
 
--- what begins with a list is at least as long
-pub kept_length : {A : Type 0} (xs ys : List A) → take (length xs) ys ≡ xs → length xs ≤ length ys
-kept_length xs ys e = omega (arith, ap length e, length-take (length xs) ys)
+-- ---- pairs
 
--- what begins with a list that begins with another begins with that
-pub kept_on : {A : Type 0} (xs ys zs : List A) → take (length xs) ys ≡ xs → take (length ys) zs ≡ ys → take (length xs) zs ≡ xs
-kept_on xs ys zs e f =
-    sym (take-take (length xs) (length ys) zs (kept_length xs ys e)) ∙ ap (take (length xs)) f ∙ e
+pub keeps_same : (a b : List Pair) → b ≡ a → Keeps a b
+keeps_same a b e = record { front = ap (λ x. take (length a) x) e ∙ take-length a; longer = omega (arith, ap length e) }
+
+pub keeps_pushed : (a b : List Pair) (p : Pair) → b ≡ a ++ (p ∷ []) → Keeps a b
+keeps_pushed a b p e = record {
+  front = ap (λ x. take (length a) x) e ∙ take-append_seam a (p ∷ []);
+  longer = omega (arith, ap length e, length-append a (p ∷ []));
+}
+
+pub keeps_on : (a b c : List Pair) → Keeps a b → Keeps b c → Keeps a c
+keeps_on a b c f g = record {
+  front = sym (take-take (length a) (length b) c f.longer) ∙ ap (take (length a)) g.front ∙ f.front;
+  longer = omega (arith, f.longer, g.longer);
+}
+
+pub ruleset keeps = (keeps_same, keeps_pushed, keeps_on)
 
 -- ---- statements
 

@@ -1,6 +1,6 @@
 -- The typing of statements (docs/LANGUAGE.md, "Statements" and "Names"; the AngelScript manual, "Statements" and "Variables"): by cases
 -- on the tree, the resolved tree and the pairs that are alive behind it, or the first refusal in reading order.
-use Rattle.std.specs.Prelude.{ℕ, ◌-◌, nat_lt, Bool, true, false, if◌then◌else◌, is_some, length, drop, List, [], ◌∷◌, ◌++◌, map, Option, Some, None, Result, Ok, Err}
+use Rattle.std.specs.Prelude.{◌≡◌, ℕ, ◌-◌, ◌≤◌, nat_lt, Bool, true, false, if◌then◌else◌, is_some, length, take, drop, List, [], ◌∷◌, ◌++◌, map, Option, Some, None, Result, Ok, Err}
 use Rattle.ang_kinds.specs.declared.error.ErrorKind.{ErrorKind}
 use Rattle.ang_kinds.specs.declared.error.ErrorKind.TheVariants as kind
 use Rattle.ang_kinds.specs.declared.place.Place.{Place}
@@ -57,6 +57,11 @@ steps_typing s ps es = do
   Ok (trees_of operands)
 
 -- ---- local variables
+
+-- The pairs that were alive are, in front of others.
+pub record Keeps (old new : List Pair) : Type 0 where
+  pub front : take (length old) new ≡ old
+  pub longer : length old ≤ length new
 
 abbrev pub is_unknown_type : ErrorKind → Bool
 is_unknown_type kind.UnknownType = true
@@ -246,11 +251,6 @@ module _ (f : Frame) where
 
   abbrev pub branch_typing : Bool → List Pair → Stmt → Judged t.Stmts
   branch_typing loop ps s = alone (stmt_typing loop (length ps) ps s)
-
-  -- the other branch of an `if`, where it has one
-  abbrev pub other_typing : Bool → List Pair → Option (Token × Stmt) → Judged t.Stmts
-  other_typing loop ps None = Ok t.end
-  other_typing loop ps (Some u) = branch_typing loop ps u.1
 
   -- the body of a `for` with this start, condition and steps
   abbrev pub loop_typing : List Pair → t.Stmt × Option t.Expr × List t.Expr → Stmt → Judged t.Stmt

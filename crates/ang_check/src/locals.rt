@@ -1,5 +1,5 @@
 //! Local variables.
-ghost use Rattle.std.specs.Prelude.{◌≡◌, ◌≤◌, ◌++◌, ◌∷◌, [], length, take, map as list_map, option_map, OnOk};
+ghost use Rattle.std.specs.Prelude.{◌≡◌, ◌≤◌, length, map as list_map, OnOk};
 ghost use Rattle.ang_tree.specs.View.{view_init, view_var, view_vars};
 ghost use Rattle.ang_typed.specs.View.{view_expr, view_local, view_option};
 ghost use Rattle.ang_operators.specs.Refusals.{Gives};
@@ -9,11 +9,11 @@ use crate::frame::Frame;
 use ang_kinds::{ErrorKind, Place};
 use ang_lex::Token;
 use ang_operators::{Asks, Stop, fault, fit, refused, use_refused};
-use ang_written::{Text, is_read_only, value_type_of};
 use ang_tree::{Initializer, TypeName, Variable, Variables};
 use ang_typed::{Expression, Local};
 use ang_types::ArgType;
 use ang_typing::{Pair, Setting, find_pair, typing, typing_of_all};
+use ang_written::{Text, is_read_only, value_type_of};
 use std::alloc::Global;
 
 /// The most locals that can be alive at once in one function.
@@ -130,7 +130,7 @@ pub fn initializer(
 }
 
 /// One local, which is known behind its initializer.
-#[tactic(auto, unfolding(crate::specs::Statements::local_typing))]
+#[tactic(auto, using(crate::proofs::SoFar::keeps), unfolding(crate::specs::Statements::local_typing))]
 fn local<'a>(
     alloc: Global,
     frame: &Frame<'a>,
@@ -144,6 +144,7 @@ fn local<'a>(
     requires parameters { frame.now.parameters ≤ length pairs.old.items }
     ensures exact { Gives (λ l. (pairs.new.items, view_local l)) result
         (spec.local_typing frame.now start pairs.old.items declared.now ty (view_var variable.now)) }
+    ensures kept { OnOk result (spec.Keeps pairs.old.items pairs.new.items) }
 {
     let name = local_name(frame, start, pairs.as_slice(), &variable.name)?;
     let initializer = initializer(
@@ -163,7 +164,7 @@ fn local<'a>(
 }
 
 /// The locals of a declaration, in the block that begins at pair `start`.
-#[tactic(auto, unfolding(crate::specs::Statements::locals_typing))]
+#[tactic(auto, using(crate::proofs::SoFar::keeps), unfolding(crate::specs::Statements::locals_typing))]
 pub fn locals<'a>(
     alloc: Global,
     frame: &Frame<'a>,
@@ -175,7 +176,7 @@ pub fn locals<'a>(
     requires parameters { frame.now.parameters ≤ length pairs.old.items }
     ensures exact { Gives (λ ls. (pairs.new.items, list_map view_local ls.items)) result
         (spec.locals_typing frame.now start pairs.old.items (view_vars variables.now)) }
-    ensures kept { OnOk result (take (length pairs.old.items) pairs.new.items ≡ pairs.old.items) }
+    ensures kept { OnOk result (spec.Keeps pairs.old.items pairs.new.items) }
 {
     let ty = local_type(&frame.setting, &variables.declared_type)?;
     let mut found = Vec::new(alloc);

@@ -1,5 +1,5 @@
 //! The typing of statements.
-ghost use Rattle.std.specs.Prelude.{◌≡◌, ◌≤◌, ◌++◌, ◌∷◌, [], length, take, map as list_map, option_map, IfOk, OnOk};
+ghost use Rattle.std.specs.Prelude.{◌≡◌, ◌≤◌, ◌++◌, ◌∷◌, [], length, map as list_map, IfOk, OnOk};
 ghost use Rattle.ang_tree.specs.View as trees;
 ghost use Rattle.ang_typed.specs.Typed as tree;
 ghost use Rattle.ang_typed.specs.View.{view_block, view_expr, view_option, view_stmt, view_stmts};
@@ -66,7 +66,10 @@ fn optional_condition(
 fn trees_of(alloc: Global, operands: Vec<Operand>) -> Result<Vec<Expression>, AllocError>
     ensures exact { IfOk result (λ v. list_map view_expr v.items ≡ spec.trees_of (view_operands operands.items)) }
 {
-    operands.into_iter().map(|operand| operand.tree).collect(alloc)
+    operands
+        .into_iter()
+        .map(|operand| operand.tree)
+        .collect(alloc)
 }
 
 /// The steps of a `for`.
@@ -130,11 +133,7 @@ fn returned(
     }
 }
 
-fn jump(
-    in_loop: bool,
-    word: &Token,
-    statement: Statement,
-) -> Result<Statement, Stop>
+fn jump(in_loop: bool, word: &Token, statement: Statement) -> Result<Statement, Stop>
     ensures exact { Gives view_stmt result (spec.jump in_loop word.now (view_stmt statement)) }
 {
     if in_loop {
@@ -154,6 +153,7 @@ fn block_of(alloc: Global, statement: Statement) -> Result<Block, AllocError>
 }
 
 /// What a `for` begins with, in the block that begins there.
+#[tactic(auto, using(crate::proofs::SoFar::keeps))]
 fn start<'a>(
     alloc: Global,
     frame: &Frame<'a>,
@@ -162,7 +162,7 @@ fn start<'a>(
 ) -> Result<Statement, Stop>
     requires parameters { frame.now.parameters ≤ length pairs.old.items }
     ensures exact { Gives (λ x. (pairs.new.items, view_stmt x)) result (spec.start_typing frame.now pairs.old.items (trees.view_start written.now)) }
-    ensures kept { OnOk result (take (length pairs.old.items) pairs.new.items ≡ pairs.old.items) }
+    ensures kept { OnOk result (spec.Keeps pairs.old.items pairs.new.items) }
 {
     match written {
         ForStart::Variables(variables) => {
@@ -184,6 +184,7 @@ struct LoopHead {
     steps: Vec<Expression>,
 }
 
+#[tactic(auto, using(crate::proofs::SoFar::keeps))]
 fn head<'a>(
     alloc: Global,
     frame: &Frame<'a>,
@@ -195,7 +196,7 @@ fn head<'a>(
     requires parameters { frame.now.parameters ≤ length pairs.old.items }
     ensures exact { Gives (λ h. (pairs.new.items, view_stmt h.start, view_option h.condition, list_map view_expr h.steps.items)) result
         (spec.head_typing frame.now pairs.old.items (trees.view_start written.now) (trees.view_option condition.now) (trees.view_items items.now)) }
-    ensures kept { OnOk result (take (length pairs.old.items) pairs.new.items ≡ pairs.old.items) }
+    ensures kept { OnOk result (spec.Keeps pairs.old.items pairs.new.items) }
 {
     let start = start(alloc, frame, pairs, written)?;
     let condition = optional_condition(alloc, &frame.setting, pairs.as_slice(), condition)?;
@@ -208,10 +209,7 @@ fn head<'a>(
 }
 
 /// The list with one more statement at its end.
-fn with_statement(
-    first: Vec<Statement>,
-    statement: Statement,
-) -> Result<Vec<Statement>, AllocError>
+fn with_statement(first: Vec<Statement>, statement: Statement) -> Result<Vec<Statement>, AllocError>
     ensures exact { IfOk result (λ v. list_map view_stmt v.items ≡ list_map view_stmt first.items ++ (view_stmt statement ∷ [])) }
 {
     let mut found = first;
@@ -221,6 +219,7 @@ fn with_statement(
 
 /// The statements of a block that begins at pair `start`, with the pairs that are alive behind the last.
 #[cycle(statement)]
+#[tactic(auto, using(crate::proofs::SoFar::keeps))]
 fn statements<'a>(
     alloc: Global,
     frame: &Frame<'a>,
@@ -232,7 +231,7 @@ fn statements<'a>(
     requires block { start ≤ length pairs.old.items }
     requires parameters { frame.now.parameters ≤ length pairs.old.items }
     ensures exact { Gives view_block result (spec.stmts_typing frame.now in_loop start pairs.old.items (trees.view_stmts written.now)) }
-    ensures kept { OnOk result (take (length pairs.old.items) pairs.new.items ≡ pairs.old.items) }
+    ensures kept { OnOk result (spec.Keeps pairs.old.items pairs.new.items) }
 {
     let mut found = Vec::new(alloc);
     for item in written {
@@ -244,6 +243,7 @@ fn statements<'a>(
 
 /// Statements in a block of their own. The pairs are those that they were where it is left.
 #[cycle(statement)]
+#[tactic(auto, using(crate::proofs::SoFar::keeps))]
 pub fn block<'a>(
     alloc: Global,
     frame: &Frame<'a>,
@@ -263,6 +263,7 @@ pub fn block<'a>(
 
 /// A statement in a block of its own.
 #[cycle(statement)]
+#[tactic(auto, using(crate::proofs::SoFar::keeps))]
 fn branch<'a>(
     alloc: Global,
     frame: &Frame<'a>,
@@ -280,32 +281,20 @@ fn branch<'a>(
     Ok(block_of(alloc, typed)?)
 }
 
-/// The other branch of an `if`, an empty block where it has none.
-#[cycle(statement)]
-fn other_branch<'a>(
-    alloc: Global,
-    frame: &Frame<'a>,
-    in_loop: bool,
-    pairs: &mut Vec<Pair<'a>>,
-    written: &Option<written::Else>,
-) -> Result<Block, Stop>
-    requires parameters { frame.now.parameters ≤ length pairs.old.items }
-    ensures exact { Gives view_block result (spec.other_typing frame.now in_loop pairs.old.items (option_map trees.view_else written.now)) }
-    ensures same { OnOk result (pairs.new.items ≡ pairs.old.items) }
-{
-    match written {
-        None => Ok(Block {
-            statements: Vec::new(alloc),
-        }),
-        Some(written) => branch(alloc, frame, in_loop, pairs, &written.branch),
-    }
-}
-
 /// A condition, and what runs where it is true.
 #[derive(Drop)]
 struct Tested {
     condition: Expression,
     then: Block,
+}
+
+/// A block of no statements.
+fn empty_block(alloc: Global) -> Block
+    ensures exact { view_block result ≡ tree.end }
+{
+    Block {
+        statements: Vec::new(alloc),
+    }
 }
 
 fn conditional(tested: Tested, otherwise: Block) -> Statement
@@ -340,12 +329,13 @@ fn for_statement(alloc: Global, head: LoopHead, body: Block) -> Result<Statement
 
 /// The body of a `for`, behind what stands in its parentheses.
 #[cycle(statement)]
+#[tactic(auto, using(crate::proofs::SoFar::keeps))]
 fn for_loop<'a>(
     alloc: Global,
     frame: &Frame<'a>,
     pairs: &mut Vec<Pair<'a>>,
-    head: LoopHead,
     body: &written::Statement,
+    head: LoopHead,
 ) -> Result<Statement, Stop>
     requires parameters { frame.now.parameters ≤ length pairs.old.items }
     ensures exact { Gives view_stmt result (spec.loop_typing frame.now pairs.old.items (view_stmt head.start, view_option head.condition, list_map view_expr head.steps.items) (trees.view_stmt body.now)) }
@@ -357,6 +347,7 @@ fn for_loop<'a>(
 
 /// A statement, in the block that begins at pair `start`.
 #[cycle(statement)]
+#[tactic(auto, using(crate::proofs::SoFar::keeps))]
 fn statement<'a>(
     alloc: Global,
     frame: &Frame<'a>,
@@ -369,7 +360,7 @@ fn statement<'a>(
     requires parameters { frame.now.parameters ≤ length pairs.old.items }
     ensures exact { Gives (λ x. (pairs.new.items, view_stmt x)) result
         (spec.stmt_typing frame.now in_loop start pairs.old.items (trees.view_stmt written.now)) }
-    ensures kept { OnOk result (take (length pairs.old.items) pairs.new.items ≡ pairs.old.items) }
+    ensures kept { OnOk result (spec.Keeps pairs.old.items pairs.new.items) }
 {
     match written {
         written::Statement::Block(inner) => {
@@ -405,8 +396,13 @@ fn statement<'a>(
             let condition = condition(alloc, &frame.setting, pairs.as_slice(), test)?;
             let then = branch(alloc, frame, in_loop, pairs, then)?;
             let tested = Tested { condition, then };
-            let otherwise = other_branch(alloc, frame, in_loop, pairs, otherwise)?;
-            Ok(conditional(tested, otherwise))
+            match otherwise {
+                None => Ok(conditional(tested, empty_block(alloc))),
+                Some(other) => {
+                    let otherwise = branch(alloc, frame, in_loop, pairs, &other.branch)?;
+                    Ok(conditional(tested, otherwise))
+                }
+            }
         }
         written::Statement::While {
             condition: test,
@@ -435,7 +431,7 @@ fn statement<'a>(
         } => {
             let outside = pairs.len();
             let head = head(alloc, frame, pairs, first, condition, steps.as_slice())?;
-            let found = for_loop(alloc, frame, pairs, head, body)?;
+            let found = for_loop(alloc, frame, pairs, body, head)?;
             pairs.truncate(outside);
             Ok(found)
         }
