@@ -1,6 +1,6 @@
 -- The bodies and initializers of a build (docs/LANGUAGE.md, "Phases", the last): each is judged by itself, in the order of the
 -- declarations, and gives at most its first refusal.
-use Rattle.std.specs.Prelude.{ℕ, Bool, true, false, if◌then◌else◌, length, List, [], ◌∷◌, map, Option, Some, None, Result, Ok, Err}
+use Rattle.std.specs.Prelude.{ℕ, Bool, true, false, ◌||◌, if◌then◌else◌, length, List, [], ◌∷◌, map, Option, Some, None, Result, Ok, Err}
 use Rattle.std.specs.List.{filter_map, flat_map}
 use Rattle.ang_kinds.specs.declared.error.Error.{Error}
 use Rattle.ang_kinds.specs.declared.error.ErrorKind.TheVariants as kind
@@ -49,9 +49,11 @@ abbrev pub function_with : ScriptFunction → t.Stmts → t.Function
 function_with f ss = record { parameters = map parameter_of f.params; result = f.result; body = ss }
 
 -- Every path through a function with a result has to end.
+abbrev pub may_end : Bool → ArgType → Bool
+may_end ends ty = ends || is_void ty
+
 abbrev pub ending : ScriptFunction → Token → Bool → t.Stmts → Judged t.Function
-ending f x true ss = Ok (function_with f ss)
-ending f x false ss = if is_void f.result then Ok (function_with f ss) else Err (refused_at kind.NoReturn x)
+ending f x ends ss = if may_end ends f.result then Ok (function_with f ss) else Err (refused_at kind.NoReturn x)
 
 -- the body of the function that is declared with this name
 unfoldable pub function_typing : Setting → ScriptFunction → Token → Body → Judged t.Function

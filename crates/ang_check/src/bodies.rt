@@ -63,6 +63,24 @@ fn function_with(
     })
 }
 
+fn is_void(ty: ArgType) -> bool
+    ensures exact { result ≡ spec.is_void ty }
+{
+    match ty {
+        ArgType::Void => true,
+        ArgType::Null | ArgType::Plain(_) | ArgType::Object { .. } | ArgType::Handle { .. } => {
+            false
+        }
+    }
+}
+
+/// Whether a body may end so: each path through it ends, or the function has no result.
+fn may_end(ends: bool, ty: ArgType) -> bool
+    ensures exact { result ≡ spec.may_end ends ty }
+{
+    ends || is_void(ty)
+}
+
 fn ending(
     alloc: Global,
     function: &ScriptFunction,
@@ -72,10 +90,11 @@ fn ending(
 ) -> Result<Function, Stop>
     ensures exact { Gives view_function result (spec.ending function.now name.now ends (view_block body)) }
 {
-    if !ends && function.result != ArgType::Void {
-        return Err(refused(ErrorKind::NoReturn, name));
+    if may_end(ends, function.result) {
+        Ok(function_with(alloc, function, body)?)
+    } else {
+        Err(refused(ErrorKind::NoReturn, name))
     }
-    Ok(function_with(alloc, function, body)?)
 }
 
 /// The body of a function.
