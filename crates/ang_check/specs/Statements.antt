@@ -10,7 +10,8 @@ use Rattle.ang_types.specs.declared.arg_type.ArgType.TheVariants as type
 use Rattle.ang_types.specs.Ranks.{Lines}
 use Rattle.ang_tree.specs.declared.type_name.TypeName.{TypeName}
 use Rattle.ang_tree.specs.Tree.{Tree, Trees}
-use Rattle.ang_tree.specs.Stmt.{Init, absent, value, constructor, Var, Vars, Start, with_variables, with_expression, Stmt, Body, Stmts, block, variables, expression, break, continue, return, when, either, while, do_while, for, body, end, then}
+use Rattle.ang_tree.specs.Stmt.{Init, absent, value, constructor, Var, Vars, Start, with_variables, with_expression, Stmt, Body, Stmts, block, variables, expression, break, continue, return, when, either, while, do_while, for, body, end}
+use Rattle.ang_tree.specs.Stmt as written
 use Rattle.ang_typed.specs.Typed as t
 use Rattle.ang_written.specs.Sources.{text_of}
 use Rattle.ang_written.specs.Types.{Meaning, value_type_of, is_read_only}
@@ -244,7 +245,7 @@ module _ (f : Frame) where
 
     pub stmts_typing : Bool → ℕ → List Pair → Stmts → Judged t.Stmts
     stmts_typing loop start ps end = Ok t.end
-    stmts_typing loop start ps (then s ss) = do
+    stmts_typing loop start ps (written.then s ss) = do
       x ← stmt_typing loop start ps s
       xs ← stmts_typing loop start x.0 ss
       Ok (t.then x.1 xs)

@@ -1,5 +1,5 @@
 //! One body, one initializer.
-ghost use Rattle.std.specs.Prelude.{◌≡◌, length, map as list_map, [], Bool};
+ghost use Rattle.std.specs.Prelude.{◌≡◌, IfOk, map as list_map};
 ghost use Rattle.ang_tree.specs.View.{view_body, view_init};
 ghost use Rattle.ang_typed.specs.View.{view_block, view_function, view_global};
 ghost use Rattle.ang_operators.specs.Refusals.{Gives};
