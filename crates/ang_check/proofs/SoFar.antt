@@ -1,5 +1,5 @@
 -- What a loop has so far, in front of what is left.
-use Rattle.std.proofs.Common.{Bool, ◌≡◌, ◌<◌, ◌≤◌, ◌+◌, refl, ap, sym, ◌∙◌, ℕ, suc, List, [], ◌∷◌, ◌++◌, append_assoc, append-nil, length, get_or, drop, take, drop-cons, add-one, arith, Result, Ok, Err, map as list_map}
+use Rattle.std.proofs.Common.{Bool, ◌≡◌, ◌<◌, ◌≤◌, ◌+◌, refl, ap, sym, ◌∙◌, ℕ, suc, List, [], ◌∷◌, ◌++◌, append_assoc, append-nil, length, get_or, drop, take, drop-cons, add-one, arith, Ok, Err, map as list_map}
 use Rattle.std.proofs.lemmas.List.{length-append, take-take, drop_all}
 use Rattle.std.proofs.Math.Seq.{take-length, take-append_seam}
 use Rattle.ang_tree.specs.Stmt as s

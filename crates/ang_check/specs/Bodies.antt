@@ -1,6 +1,6 @@
 -- The bodies and initializers of a build (docs/LANGUAGE.md, "Phases", the last): each is judged by itself, in the order of the
 -- declarations, and gives at most its first refusal.
-use Rattle.std.specs.Prelude.{ℕ, Bool, true, false, ◌||◌, if◌then◌else◌, length, List, [], ◌∷◌, map, Option, Some, None, Result, Ok, Err}
+use Rattle.std.specs.Prelude.{ℕ, Bool, true, false, ◌||◌, if◌then◌else◌, length, List, [], ◌∷◌, map, Option, Some, None, Ok, Err}
 use Rattle.std.specs.List.{filter_map, flat_map}
 use Rattle.ang_kinds.specs.declared.error.Error.{Error}
 use Rattle.ang_kinds.specs.declared.error.ErrorKind.TheVariants as kind

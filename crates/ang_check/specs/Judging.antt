@@ -1,5 +1,5 @@
 -- What judging the parts of a build has so far, in front of what is left.
-use Rattle.std.specs.Prelude.{◌≡◌, ℕ, List, ◌++◌, map, Option, Some, None, option_to_list}
+use Rattle.std.specs.Prelude.{◌≡◌, List, ◌++◌, map, option_to_list}
 use Rattle.std.specs.List.{filter_map}
 use Rattle.ang_kinds.specs.declared.error.Error.{Error}
 use Rattle.ang_registry.specs.Registration.{RegistrationList}

@@ -1,9 +1,8 @@
 -- The typing of statements (docs/LANGUAGE.md, "Statements" and "Names"; the AngelScript manual, "Statements" and "Variables"): by cases
 -- on the tree, the resolved tree and the pairs that are alive behind it, or the first refusal in reading order.
-use Rattle.std.specs.Prelude.{◌≡◌, ℕ, ◌-◌, ◌≤◌, nat_lt, Bool, true, false, if◌then◌else◌, is_some, length, take, drop, List, [], ◌∷◌, ◌++◌, map, Option, Some, None, Result, Ok, Err}
+use Rattle.std.specs.Prelude.{◌≡◌, ℕ, ◌-◌, ◌≤◌, nat_lt, Bool, true, false, if◌then◌else◌, is_some, length, take, drop, List, [], ◌∷◌, ◌++◌, map, Option, Some, None, Ok, Err}
 use Rattle.ang_kinds.specs.declared.error.ErrorKind.{ErrorKind}
 use Rattle.ang_kinds.specs.declared.error.ErrorKind.TheVariants as kind
-use Rattle.ang_kinds.specs.declared.place.Place.{Place}
 use Rattle.ang_lex.specs.declared.token.Token.{Token}
 use Rattle.ang_types.specs.declared.arg_type.ArgType.{ArgType}
 use Rattle.ang_types.specs.declared.arg_type.ArgType.TheVariants as type

@@ -1,12 +1,12 @@
 //! Local variables.
 ghost use Rattle.std.specs.Prelude.{◌≡◌, ◌≤◌, length, map as list_map, OnOk};
 ghost use Rattle.ang_tree.specs.View.{view_init, view_var, view_vars};
-ghost use Rattle.ang_typed.specs.View.{view_expr, view_local, view_option};
+ghost use Rattle.ang_typed.specs.View.{view_local, view_option};
 ghost use Rattle.ang_operators.specs.Refusals.{Gives};
 ghost use Rattle.ang_check.specs.Statements as spec;
 
 use crate::frame::Frame;
-use ang_kinds::{ErrorKind, Place};
+use ang_kinds::ErrorKind;
 use ang_lex::Token;
 use ang_operators::{Asks, Stop, fault, fit, refused, use_refused};
 use ang_tree::{Initializer, TypeName, Variable, Variables};
