@@ -1,22 +1,16 @@
--- The code of lists of expressions and of statements, as it stands in a row.
-use Rattle.std.specs.Prelude.{ℕ, suc, ◌+◌, List, [], ◌∷◌, ◌++◌, length}
-use Rattle.ang_core.specs.declared.tree.Expression.{Expression}
+-- The code of statements in turn, as a list has them.
+use Rattle.std.specs.Prelude.{ℕ, ◌+◌, List, [], ◌∷◌, ◌++◌, length}
 use Rattle.ang_core.specs.declared.tree.Statement.{Statement}
 use Rattle.ang_core.specs.Sound.{declared}
 use Rattle.ang_code.specs.declared.instruction.Instruction.{Instruction}
-use Rattle.ang_gen.specs.Code.{expr_code, stmt_code}
+use Rattle.ang_gen.specs.Code.{stmt_code}
 
--- each above the values of those before it
-abbrev pub list_code : ℕ → List Expression → List Instruction
-list_code d [] = []
-list_code d (e ∷ es) = expr_code d e ++ list_code (suc d) es
-
--- the locals that statements in turn leave alive
+-- the locals that they leave alive
 abbrev pub declared_in : List Statement → ℕ
 declared_in [] = 0
 declared_in (s ∷ ss) = declared_in ss + declared s
 
--- statements in turn, each with the locals of those before it
+-- each where the locals of those before it are alive
 abbrev pub statements_code : ℕ → ℕ → ℕ → ℕ → ℕ → List Statement → List Instruction
 statements_code q n m kb kc [] = []
 statements_code q n m kb kc (s ∷ ss) =

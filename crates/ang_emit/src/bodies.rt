@@ -10,7 +10,7 @@ ghost use Rattle.ang_emit.specs.Programs.{IsBodyCode, AreBodyCodes, HasFunctions
 use crate::expression::sum;
 use crate::height::statement_peak;
 use crate::statement::{Exits, declared_by, write_statement};
-use crate::text::Text;
+use ang_gen::Text;
 use ang_code::{Instruction, RoutineCode};
 use ang_core::{Body, Statement};
 use std::alloc::{AllocError, Global};

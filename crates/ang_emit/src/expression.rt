@@ -1,9 +1,9 @@
 //! The code of expressions, written from its end.
 ghost use Rattle.std.specs.Prelude.{◌≡◌, ◌+◌, ◌++◌, IfOk, OnOk};
 ghost use Rattle.ang_gen.specs.Code.{expr_code, outs_code, swap_at, swaps_code};
-ghost use Rattle.ang_emit.specs.Rows.{list_code};
+ghost use Rattle.ang_gen.specs.Rows.{list_code};
 
-use crate::text::Text;
+use ang_gen::Text;
 use ang_code::Instruction;
 use ang_core::Expression;
 use ang_meaning::{Spot, Target};

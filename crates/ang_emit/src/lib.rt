@@ -6,6 +6,8 @@ mod bodies;
 mod expression;
 mod height;
 mod statement;
-mod text;
 
 pub use bodies::{generate, generate_body, generate_module};
+
+#[cfg(test)]
+mod tests;

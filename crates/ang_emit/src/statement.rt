@@ -7,7 +7,7 @@ ghost use Rattle.ang_gen.specs.Code.{expr_code, leave_code, block_code, stmt_cod
 ghost use Rattle.ang_emit.specs.Rows.{statements_code, declared_in};
 
 use crate::expression::{sum, write_expression};
-use crate::text::Text;
+use ang_gen::Text;
 use ang_code::Instruction;
 use ang_core::{Expression, Statement};
 use std::alloc::AllocError;

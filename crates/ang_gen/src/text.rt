@@ -1,7 +1,7 @@
 //! Instructions, written from the last one to the first.
 //!
 //! So the distance of a forward jump is known when it is written.
-ghost use Rattle.std.specs.Prelude.{◌≡◌, ◌<◌, List, ◌∷◌, ◌++◌, [], length, OnOk};
+ghost use Rattle.std.specs.Prelude.{◌≡◌, ◌<◌, List, ◌∷◌, ◌++◌, [], length, OnOk, OnErr};
 ghost use Rattle.ang_code.specs.declared.instruction.Instruction.{Instruction};
 ghost use Rattle.ang_code.specs.declared.instruction.Instruction.TheVariants.{Back};
 
@@ -9,7 +9,7 @@ use ang_code::Instruction;
 use std::alloc::{AllocError, Global};
 use std::marker::Model;
 
-/// A text whose beginning is still to be written.
+/// A body's instructions, of which the first ones are still to be written.
 #[derive(Drop)]
 pub struct Text {
     reversed: Vec<Instruction>,
@@ -42,14 +42,19 @@ impl Text {
     }
 
     /// Writes one instruction before those that are there.
+    ///
+    /// # Errors
+    /// Want of memory, which leaves the text as it was.
     pub fn put(&mut self, instruction: Instruction) -> Result<(), AllocError>
         ensures before { OnOk result (self.new ≡ instruction ∷ self.old) }
+        ensures unchanged { OnErr result (self.new ≡ self.old) }
     {
         self.reversed.push(instruction)?;
         Ok(())
     }
 
-    /// Makes the instruction that has `behind` instructions behind it a jump back by `distance`.
+    /// Makes the instruction that has `behind` instructions behind it a jump back by `distance`. The
+    /// others stay.
     pub fn set_back(&mut self, behind: usize, distance: usize)
         requires there { behind < length self.old }
         ensures set { (front rest : List Instruction) (i : Instruction) → self.old ≡ front ++ i ∷ rest → length rest ≡ behind

@@ -1,12 +1,15 @@
--- Worked examples of the operators, computed.
+-- Worked examples of the operators and of `is`, computed.
 use Rattle.std.proofs.Common.{◌≡◌, ℕ, ◌-◌, ◌^◌, refl}
-use Rattle.std.specs.Prelude.{true, false}
+use Rattle.std.specs.Prelude.{true, false, Some, None}
 use Rattle.std.specs.Int.{int_wrap}
 use Rattle.ang_kinds.specs.declared.primitive.Primitive.TheVariants.{I8, I16, I32, I64, U8, U16, U32, U64}
 use Rattle.ang_kinds.specs.declared.fault.Fault.TheVariants.{DivideByZero, DivideOverflow}
 use Rattle.ang_meaning.specs.declared.operation.Arithmetic.TheVariants.{Add, Subtract, Multiply, Divide, Remainder, And, Or, Xor, ShiftLeft, ShiftRight, ShiftSigned}
 use Rattle.ang_meaning.specs.declared.operation.Comparison.TheVariants.{Equal, Less}
 use Rattle.ang_meaning.specs.declared.operation.Change.{Change}
+use Rattle.ang_meaning.specs.declared.slot.Slot.TheVariants.{Script, Host}
+use Rattle.ang_meaning.specs.Setting.{is_null}
+use Rattle.ang_meaning.specs.Perform.{is_same}
 use Rattle.ang_meaning.specs.Numbers.{Is, Cannot, worked, converted, negated, complemented, holds_of, Into, changed}
 
 -- 64 bits that stand for -n
@@ -84,3 +87,16 @@ more = refl
 count : worked ShiftLeft I32 1 33 ≡ Is 2
 unfolding worked int_wrap
 count = refl
+
+-- null is null, whatever the types of the handles; keys of two drivers are never one object
+nulls : is_same (Script None) (Host 2 None) ≡ true
+unfolding is_same is_null
+nulls = refl
+
+keys : is_same (Host 1 (Some 0)) (Host 2 (Some 0)) ≡ false
+unfolding is_same is_null
+keys = refl
+
+one : is_same (Host 2 (Some 7)) (Host 2 (Some 7)) ≡ true
+unfolding is_same is_null
+one = refl

@@ -1,4 +1,4 @@
--- Values that pass between a script and its drivers, and askings (docs/EMBEDDING.md; the AngelScript manual, "Registering a function").
+-- Values that pass between a script and its drivers, and askings (docs/MEANING.md, "Operations"; docs/EMBEDDING.md, "Drivers"; the AngelScript manual, "Registering a function").
 use Rattle.std.specs.Prelude.{ℕ, zero, suc, ◌^◌, ◌-◌, ◌&&◌, Bool, true, false, not, nat_eq, nat_lt, nat_le, int_le, ℤ, pos, negsuc, List, [], ◌∷◌, ◌++◌, reverse, Option, Some, None, if◌then◌else◌}
 use Rattle.ang_kinds.specs.declared.value.Value.{Value}
 use Rattle.ang_kinds.specs.declared.value.Value.TheVariants.{Int, Uint, Bool as Truth, Key}

@@ -19,9 +19,10 @@ use Rattle.ang_meaning.specs.declared.routine.Callee.TheVariants.{Own, Import}
 use Rattle.ang_meaning.specs.declared.routine.Passing.{Passing}
 use Rattle.ang_meaning.specs.declared.routine.Passing.TheVariants.{In, Out, Object}
 
--- each module's name; the registered entities by number, where there is one; each function's parameters, the last one first, where there is such a
--- function; each import's parameters as its module declares them, the last one first, and where the import leads; and how many functions may stand one
--- inside the other: 200, and 201 where the outermost is an initializer, which does not count
+-- By module: its name, each import's parameters as the module declares them, and where the import leads, if it is bound. An import takes no objects but
+-- handles, so its call never faults with `Null`. By number: the registered entities. By routine: a function's parameters, where there is such a function.
+-- Parameters have the last one first. And how many functions may stand one inside the other: 200, and 201 where the outermost is an initializer, which
+-- does not count.
 pub record Setting : Type 0 where
   pub name : ℕ → List ℕ
   pub host : ℕ → Option HostUse

@@ -1,5 +1,5 @@
 -- The world outside the locals of a run: objects with the counts of the places that hold them, globals, events, and what the run is told from
--- outside (docs/MEANING.md; the AngelScript manual, "Memory management").
+-- outside (docs/MEANING.md, "The world of a run"; the AngelScript manual, "Memory management").
 use Rattle.std.specs.Prelude.{ℕ, zero, suc, ◌+◌, Bool, true, false, ◌&&◌, nat_eq, List, [], ◌∷◌, ◌++◌, length, Option, Some, None, if◌then◌else◌}
 use Rattle.ang_host.specs.declared.answer.HostReply.{HostReply}
 use Rattle.ang_host.specs.declared.event.HostEvent.{HostEvent}

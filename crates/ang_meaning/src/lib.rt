@@ -1,5 +1,6 @@
 //! What a running script speaks of: slots, strict operations, host entities as code asks them, and in
-//! `specs/` the world outside the locals with what each operation does to it (docs/MEANING.md).
+//! `specs/` the world outside the locals with what each operation does to it (docs/MEANING.md, "The world
+//! of a run" and "Operations").
 #![tactic(auto)]
 
 mod host;

@@ -74,7 +74,7 @@ pub enum Operation {
     Complement(Prim),
     /// `!`
     Not,
-    /// `is`: whether two handles name the same object, or both none.
+    /// `is`: whether two handles name the same object, or are both null.
     Same,
     /// The value of a global of the running module.
     GlobalGet(u32),
