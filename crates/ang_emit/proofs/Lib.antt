@@ -1,3 +1,4 @@
 pub mod Lists
+pub mod Turns
 pub mod Rising
 pub mod Whole

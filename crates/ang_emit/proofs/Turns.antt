@@ -1,0 +1,70 @@
+-- One turn of each loop, and its end: what was done so far, then what is left, is all of it.
+use Rattle.std.proofs.Common.{◌≡◌, ℕ, zero, suc, ◌+◌, ◌-◌, ◌<◌, ◌≤◌, List, [], ◌∷◌, ◌++◌, length, get_or, take, drop, refl, sym, ap, subst, ◌∙◌, arith, append_assoc}
+use Rattle.std.specs.Prelude.{max}
+use Rattle.std.proofs.lemmas.List.{drop_more}
+use Rattle.std.proofs.Math.ListN.{drop_of_length-le}
+use Rattle.ang_meaning.specs.declared.routine.Target.{Target}
+use Rattle.ang_core.specs.declared.tree.Expression.{Expression}
+use Rattle.ang_core.specs.declared.tree.Statement.{Statement}
+use Rattle.ang_core.specs.Sound.{declared}
+use Rattle.ang_code.specs.declared.instruction.Instruction.{Instruction}
+use Rattle.ang_gen.specs.Code.{swap_at, swaps_code}
+use Rattle.ang_emit.specs.Rows.{declared_in}
+use Rattle.ang_emit.specs.Peaks.{peak, list_peak, statement_peak, statements_peak}
+
+-- an element that was read at the index, and what follows it
+pub next_of : {A : Type 0} (xs : List A) (i : ℕ) (x : A) → i < length xs → x ≡ get_or xs i x → drop i xs ≡ x ∷ drop (i + 1) xs
+next_of xs i x h e = drop_more xs i x h ∙ ap (λ y. y ∷ drop (i + 1) xs) (sym e)
+
+-- ---- targets
+
+pub swaps_turn : (base u i : ℕ) (xs : List Target) (x : Target) (text longer all : List Instruction) → i < length xs → x ≡ get_or xs i x →
+  swaps_code u base (drop i xs) ++ text ≡ all → longer ≡ swap_at x.to u base x.spot ∷ text → swaps_code (u + 1) base (drop (i + 1) xs) ++ longer ≡ all
+swaps_turn base u i xs x text longer all h e so_far new =
+    let rest = drop (i + 1) xs in
+    let one : u + 1 ≡ suc u = omega arith in
+    ap (λ l. swaps_code (u + 1) base rest ++ l) new
+    ∙ ap (λ n. swaps_code n base rest ++ (swap_at x.to u base x.spot ∷ text)) one
+    ∙ sym (append_assoc (swaps_code (suc u) base rest) (swap_at x.to u base x.spot ∷ []) text)
+    ∙ ap (λ l. swaps_code u base l ++ text) (sym (next_of xs i x h e))
+    ∙ so_far
+
+pub swaps_end : (base u i : ℕ) (xs : List Target) (text all : List Instruction) → length xs ≤ i → swaps_code u base (drop i xs) ++ text ≡ all → text ≡ all
+swaps_end base u i xs text all h so_far = ap (λ l. swaps_code u base l ++ text) (sym (drop_of_length-le xs h)) ∙ so_far
+
+-- ---- heights
+
+pub peak_turn : (d next i high top n all : ℕ) (xs : List Expression) (x : Expression) → i < length xs → x ≡ get_or xs i x →
+  max high (list_peak d (drop i xs)) ≡ all → n ≡ peak d x → next ≡ d + 1 → top ≡ max high n → max top (list_peak next (drop (i + 1) xs)) ≡ all
+peak_turn d next i high top n all xs x h e so_far new there over =
+    let one : next ≡ suc d = omega arith in
+    let rest : list_peak next (drop (i + 1) xs) ≡ list_peak (suc d) (drop (i + 1) xs) = ap (λ k. list_peak k (drop (i + 1) xs)) one in
+    let here : list_peak d (drop i xs) ≡ max (peak d x) (list_peak (suc d) (drop (i + 1) xs)) = ap (λ l. list_peak d l) (next_of xs i x h e) in
+    omega arith
+
+pub peak_end : (d i high all : ℕ) (xs : List Expression) → length xs ≤ i → max high (list_peak d (drop i xs)) ≡ all → high ≡ all
+peak_end d i high all xs h so_far =
+    let none : list_peak d (drop i xs) ≡ 0 = ap (λ l. list_peak d l) (drop_of_length-le xs h) in omega arith
+
+pub rise_turn : (n next i high top m all : ℕ) (xs : List Statement) (x : Statement) → i < length xs → x ≡ get_or xs i x →
+  max high (statements_peak n (drop i xs)) ≡ all → m ≡ statement_peak n x → next ≡ declared x + n → top ≡ max high m → max top (statements_peak next (drop (i + 1) xs)) ≡ all
+rise_turn n next i high top m all xs x h e so_far new there over =
+    let rest : statements_peak next (drop (i + 1) xs) ≡ statements_peak (declared x + n) (drop (i + 1) xs) = ap (λ k. statements_peak k (drop (i + 1) xs)) there in
+    let here : statements_peak n (drop i xs) ≡ max (statement_peak n x) (statements_peak (declared x + n) (drop (i + 1) xs)) = ap (λ l. statements_peak n l) (next_of xs i x h e) in
+    omega arith
+
+pub rise_end : (n i high all : ℕ) (xs : List Statement) → length xs ≤ i → max high (statements_peak n (drop i xs)) ≡ all → high ≡ all
+rise_end n i high all xs h so_far =
+    let none : statements_peak n (drop i xs) ≡ 0 = ap (λ l. statements_peak n l) (drop_of_length-le xs h) in omega arith
+
+-- ---- locals
+
+pub declared_turn : (i count n : ℕ) (xs : List Statement) (x : Statement) → i < length xs → x ≡ get_or xs i x →
+  count + declared_in (drop i xs) ≡ declared_in xs → n ≡ declared x → count + n + declared_in (drop (i + 1) xs) ≡ declared_in xs
+declared_turn i count n xs x h e so_far new =
+    let here : declared_in (drop i xs) ≡ declared_in (drop (i + 1) xs) + declared x = ap (λ l. declared_in l) (next_of xs i x h e) in
+    omega arith
+
+pub declared_end : (i count : ℕ) (xs : List Statement) → length xs ≤ i → count + declared_in (drop i xs) ≡ declared_in xs → count ≡ declared_in xs
+declared_end i count xs h so_far =
+    let none : declared_in (drop i xs) ≡ 0 = ap (λ l. declared_in l) (drop_of_length-le xs h) in omega arith
