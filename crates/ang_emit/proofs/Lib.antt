@@ -1,4 +1,5 @@
 pub mod Lists
+pub mod Shapes
 pub mod Turns
 pub mod Rising
 pub mod Whole

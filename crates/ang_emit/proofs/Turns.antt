@@ -1,15 +1,18 @@
 -- One turn of each loop, and its end: what was done so far, then what is left, is all of it.
-use Rattle.std.proofs.Common.{◌≡◌, ℕ, zero, suc, ◌+◌, ◌-◌, ◌<◌, ◌≤◌, List, [], ◌∷◌, ◌++◌, length, get_or, take, drop, refl, sym, ap, subst, ◌∙◌, arith, append_assoc}
-use Rattle.std.specs.Prelude.{max}
-use Rattle.std.proofs.lemmas.List.{drop_more}
+use Rattle.std.proofs.Common.{◌≡◌, ℕ, zero, suc, ◌+◌, ◌-◌, ◌<◌, ◌≤◌, List, [], ◌∷◌, ◌++◌, length, get_or, take, drop, refl, sym, ap, subst, ◌∙◌, arith, append_assoc, length-append}
+use Rattle.std.specs.Prelude.{max, map, reverse}
+use Rattle.std.proofs.lemmas.List.{drop_more, map-append, reverse-append, reverse-reverse}
+use Rattle.std.proofs.Math.Seq.{split_at}
+use denote.Ref.{Bor}
 use Rattle.std.proofs.Math.ListN.{drop_of_length-le}
 use Rattle.ang_meaning.specs.declared.routine.Target.{Target}
 use Rattle.ang_core.specs.declared.tree.Expression.{Expression}
 use Rattle.ang_core.specs.declared.tree.Statement.{Statement}
 use Rattle.ang_core.specs.Sound.{declared}
 use Rattle.ang_code.specs.declared.instruction.Instruction.{Instruction}
-use Rattle.ang_gen.specs.Code.{swap_at, swaps_code}
-use Rattle.ang_emit.specs.Rows.{declared_in}
+use Rattle.ang_gen.specs.Code.{swap_at, swaps_code, expr_code, stmt_code}
+use Rattle.ang_gen.specs.Rows.{list_code}
+use Rattle.ang_emit.specs.Rows.{declared_in, statements_code}
 use Rattle.ang_emit.specs.Peaks.{peak, list_peak, statement_peak, statements_peak}
 
 -- an element that was read at the index, and what follows it
@@ -68,3 +71,56 @@ declared_turn i count n xs x h e so_far new =
 pub declared_end : (i count : ℕ) (xs : List Statement) → length xs ≤ i → count + declared_in (drop i xs) ≡ declared_in xs → count ≡ declared_in xs
 declared_end i count xs h so_far =
     let none : declared_in (drop i xs) ≡ 0 = ap (λ l. declared_in l) (drop_of_length-le xs h) in omega arith
+
+declared_front : (a b : List Statement) → declared_in (a ++ b) ≡ declared_in b + declared_in a
+declared_front [] b = omega arith
+declared_front (s ∷ a) b = omega (arith, declared_front a b)
+
+-- ---- loops from the end
+
+seam : {A : Type 0} (a : List A) (x : A) (b : List A) → reverse (a ++ x ∷ b) ≡ reverse b ++ (x ∷ reverse a)
+seam a x b = reverse-append a (x ∷ b) ∙ ap (λ l. l ++ reverse a) (reverse-append (x ∷ []) b) ∙ append_assoc (reverse b) (x ∷ []) (reverse a)
+
+-- one item more
+pub one_more : {A : Type 0} (ys : List (Bor A)) (y : Bor A) → reverse (map (λ z. z.now) (ys ++ y ∷ [])) ≡ y.now ∷ reverse (map (λ z. z.now) ys)
+one_more ys y = ap (λ l. reverse l) (map-append (λ z. z.now) ys (y ∷ [])) ∙ reverse-append (map (λ z. z.now) ys) (y.now ∷ [])
+
+-- what comes next stands in front of what came
+pub last_of : {A : Type 0} (xs done : List A) (k : ℕ) (x : A) → k < length (reverse xs) → x ≡ get_or (reverse xs) k x → done ≡ take k (reverse xs) →
+  xs ≡ reverse (drop (suc k) (reverse xs)) ++ (x ∷ reverse done)
+last_of xs done k x h e d =
+    sym (reverse-reverse xs)
+    ∙ ap (λ l. reverse l) (split_at (reverse xs) k x h)
+    ∙ ap (λ y. reverse (take k (reverse xs) ++ y ∷ drop (suc k) (reverse xs))) (sym e)
+    ∙ seam (take k (reverse xs)) x (drop (suc k) (reverse xs))
+    ∙ ap (λ l. reverse (drop (suc k) (reverse xs)) ++ (x ∷ reverse l)) (sym d)
+
+pub operands_turn : (next here : ℕ) (ys : List (Bor Expression)) (y : Bor Expression) (text longer old : List Instruction) →
+  text ≡ list_code next (reverse (map (λ z. z.now) ys)) ++ old → next ≡ suc here → longer ≡ expr_code here y.now ++ text →
+  longer ≡ list_code here (reverse (map (λ z. z.now) (ys ++ y ∷ []))) ++ old
+operands_turn next here ys y text longer old so_far n_is new =
+    let done = reverse (map (λ z. z.now) ys) in
+    new
+    ∙ ap (λ l. expr_code here y.now ++ l) (so_far ∙ ap (λ n. list_code n done ++ old) n_is)
+    ∙ sym (append_assoc (expr_code here y.now) (list_code (suc here) done) old)
+    ∙ ap (λ l. list_code here l ++ old) (sym (one_more ys y))
+
+pub row_turn : (q m here next exit again : ℕ) (ys : List (Bor Statement)) (y : Bor Statement) (text longer old : List Instruction) →
+  text ≡ statements_code q next m (length old - exit) (length old - again) (reverse (map (λ z. z.now) ys)) ++ old → next ≡ declared y.now + here →
+  exit ≤ length old → again ≤ length old → longer ≡ stmt_code q here m (length text - exit) (length text - again) y.now ++ text →
+  longer ≡ statements_code q here m (length old - exit) (length old - again) (reverse (map (λ z. z.now) (ys ++ y ∷ []))) ++ old
+row_turn q m here next exit again ys y text longer old so_far n_is exit_in again_in new =
+    let done = reverse (map (λ z. z.now) ys) in
+    let b = length old - exit in
+    let c = length old - again in
+    let cr = statements_code q (declared y.now + here) m b c done in
+    let text_is : text ≡ cr ++ old = so_far ∙ ap (λ n. statements_code q n m b c done ++ old) n_is in
+    let size : length text ≡ length cr + length old = ap length text_is ∙ length-append cr old in
+    let b_is : length text - exit ≡ b + length cr = omega arith in
+    let c_is : length text - again ≡ c + length cr = omega arith in
+    new
+    ∙ ap (λ k. stmt_code q here m k (length text - again) y.now ++ text) b_is
+    ∙ ap (λ k. stmt_code q here m (b + length cr) k y.now ++ text) c_is
+    ∙ ap (λ l. stmt_code q here m (b + length cr) (c + length cr) y.now ++ l) text_is
+    ∙ sym (append_assoc (stmt_code q here m (b + length cr) (c + length cr) y.now) cr old)
+    ∙ ap (λ l. statements_code q here m b c l ++ old) (sym (one_more ys y))

@@ -48,13 +48,13 @@ fn frame_peak(params: usize, s: &Statement) -> Result<usize, AllocError>
 pub fn generate_body(alloc: Global, body: &Body) -> Result<RoutineCode, AllocError>
     ensures code { IfOk result (λ code. IsBodyCode body.now code) }
 {
+    let count = body.params.len();
+    let text = body_text(alloc, count, &body.statement)?;
+    let peak = frame_peak(count, &body.statement)?;
     let params = body.params.clone()?;
-    let text = body_text(alloc, params.len(), &body.statement)?;
-    let peak = frame_peak(params.len(), &body.statement)?;
-    let height = peak - params.len();
     Ok(RoutineCode {
         params,
-        height,
+        height: peak - count,
         text,
     })
 }

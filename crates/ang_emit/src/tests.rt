@@ -1,11 +1,13 @@
+//! Whole bodies and programs, with the code that docs/MEANING.md ("Code") gives for each construct.
 use crate::{generate, generate_body, generate_module};
 use ang_code::{Instruction, RoutineCode};
 use ang_core::{Body, Expression, Statement};
-use ang_meaning::{Callee, Passing, Spot, Target};
+use ang_kinds::Prim;
+use ang_meaning::{Arithmetic, Callee, Operation, Passing, Spot, Target};
 use std::alloc::{AllocError, Global};
 
-// `int twice(int a) { return a + a; }` would have such a body, with `b ? a : 2` in place of the sum.
-fn chooses(alloc: Global) -> Result<Body, AllocError> {
+// `return b ? a : 2;` with the parameters a and b.
+fn choosing(alloc: Global) -> Result<Body, AllocError> {
     let test = Box::new(alloc, Expression::Local(0))?;
     let one = Box::new(alloc, Expression::Local(1))?;
     let two = Box::new(alloc, Expression::Number(2))?;
@@ -15,12 +17,51 @@ fn chooses(alloc: Global) -> Result<Body, AllocError> {
     })
 }
 
+// `while (b) { int x = 7; if (b) break; else continue; }` with the parameter b.
+fn looping(alloc: Global) -> Result<Body, AllocError> {
+    let leave = Box::new(alloc, Statement::Break)?;
+    let again = Box::new(alloc, Statement::Continue)?;
+    let choice = Statement::If(Expression::Local(1), leave, again);
+    let row = vec![in alloc; Statement::Declare(Expression::Number(7)), choice]?;
+    let body = Box::new(alloc, Statement::Block(row))?;
+    let step = Box::new(alloc, Statement::Skip)?;
+    Ok(Body {
+        params: vec![in alloc; Passing::In]?,
+        statement: Statement::While(Expression::Local(0), body, step),
+    })
+}
+
+// `do { } while (true);`
+fn repeating(alloc: Global) -> Result<Body, AllocError> {
+    let body = Box::new(alloc, Statement::Skip)?;
+    Ok(Body {
+        params: vec![in alloc]?,
+        statement: Statement::DoWhile(Expression::Number(1), body),
+    })
+}
+
+// `1 - f(a, a);` where the second parameter of f is `&out`, with the parameter a.
+fn calling(alloc: Global) -> Result<Body, AllocError> {
+    let target = Target {
+        spot: Spot::Local(0),
+        to: Some(Prim::I32),
+    };
+    let arguments = vec![in alloc; Expression::Local(0), Expression::Number(0)]?;
+    let call = Expression::Call(Callee::Own(3), arguments, vec![in alloc; target]?);
+    let operands = vec![in alloc; Expression::Number(1), call]?;
+    let minus = Operation::Work(Arithmetic::Subtract, Prim::I32);
+    Ok(Body {
+        params: vec![in alloc; Passing::In]?,
+        statement: Statement::Evaluate(Expression::Apply(minus, operands)),
+    })
+}
+
 #[test]
 fn a_choice(rt: HostRuntime) -> Result<(), AllocError> {
-    let body = chooses(rt.alloc())?;
-    let code = generate_body(rt.alloc(), &body)?;
+    let code = generate_body(rt.alloc(), &choosing(rt.alloc())?)?;
+    assert_eq!(rt; code.params.as_slice(), [Passing::In, Passing::In].as_slice());
     assert_eq!(rt; code.height, 1);
-    assert_eq!(rt; code.text.as_slice(), [
+    let want = [
         Instruction::Load(0),
         Instruction::SkipIfFalse(2),
         Instruction::Load(1),
@@ -29,6 +70,102 @@ fn a_choice(rt: HostRuntime) -> Result<(), AllocError> {
         Instruction::Return(0),
         Instruction::PushBits(0),
         Instruction::Return(0),
-    ].as_slice());
+    ];
+    assert_eq!(rt; code.text.as_slice(), want.as_slice());
+    Ok(())
+}
+
+#[test]
+fn a_loop(rt: HostRuntime) -> Result<(), AllocError> {
+    let code = generate_body(rt.alloc(), &looping(rt.alloc())?)?;
+    assert_eq!(rt; code.height, 2);
+    let want = [
+        Instruction::Tick,
+        Instruction::Load(0),
+        Instruction::SkipIfFalse(10),
+        Instruction::PushBits(7),
+        Instruction::Load(1),
+        Instruction::SkipIfFalse(3),
+        Instruction::Leave(1),
+        Instruction::GoOn(5),
+        Instruction::GoOn(2),
+        Instruction::Leave(1),
+        Instruction::GoOn(1),
+        Instruction::Leave(1),
+        Instruction::Back(11),
+        Instruction::PushBits(0),
+        Instruction::Return(0),
+    ];
+    assert_eq!(rt; code.text.as_slice(), want.as_slice());
+    Ok(())
+}
+
+#[test]
+fn a_loop_that_begins_with_its_body(rt: HostRuntime) -> Result<(), AllocError> {
+    let code = generate_body(rt.alloc(), &repeating(rt.alloc())?)?;
+    assert_eq!(rt; code.height, 1);
+    let want = [
+        Instruction::GoOn(3),
+        Instruction::Tick,
+        Instruction::PushBits(1),
+        Instruction::SkipIfFalse(1),
+        Instruction::Back(2),
+        Instruction::PushBits(0),
+        Instruction::Return(0),
+    ];
+    assert_eq!(rt; code.text.as_slice(), want.as_slice());
+    Ok(())
+}
+
+#[test]
+fn operands_from_left_to_right(rt: HostRuntime) -> Result<(), AllocError> {
+    let code = generate_body(rt.alloc(), &calling(rt.alloc())?)?;
+    assert_eq!(rt; code.height, 3);
+    let want = [
+        Instruction::PushBits(1),
+        Instruction::Load(1),
+        Instruction::PushBits(0),
+        Instruction::Enter(Callee::Own(3)),
+        Instruction::Swap {
+            to: Some(Prim::I32),
+            under: 1,
+            with: 3,
+        },
+        Instruction::DropUnder(1),
+        Instruction::Do(Operation::Work(Arithmetic::Subtract, Prim::I32)),
+        Instruction::Drop,
+        Instruction::PushBits(0),
+        Instruction::Return(0),
+    ];
+    assert_eq!(rt; code.text.as_slice(), want.as_slice());
+    Ok(())
+}
+
+// The heights of a module's codes tell them apart.
+fn heights(alloc: Global, codes: &[RoutineCode]) -> Result<Vec<usize>, AllocError> {
+    codes.iter().map(|code| code.height).collect(alloc)
+}
+
+#[test]
+fn one_code_for_each_body(rt: HostRuntime) -> Result<(), AllocError> {
+    let alloc = rt.alloc();
+    let bodies = vec![in alloc; looping(alloc)?, repeating(alloc)?, calling(alloc)?]?;
+    let codes = generate_module(alloc, &bodies)?;
+    assert_eq!(rt; heights(alloc, &codes)?.as_slice(), [2, 1, 3].as_slice());
+    Ok(())
+}
+
+#[test]
+fn one_list_for_each_module(rt: HostRuntime) -> Result<(), AllocError> {
+    let alloc = rt.alloc();
+    let first = vec![in alloc; calling(alloc)?]?;
+    let second = vec![in alloc; repeating(alloc)?, looping(alloc)?]?;
+    let program = vec![in alloc; first, second]?;
+    let codes = generate(alloc, &program)?;
+    let mut found = Vec::new(alloc);
+    for module in &codes {
+        found.push(module.len())?;
+    }
+    assert_eq!(rt; found.as_slice(), [1, 2].as_slice());
     Ok(())
 }
