@@ -124,3 +124,13 @@ row_turn q m here next exit again ys y text longer old so_far n_is exit_in again
     ∙ ap (λ l. stmt_code q here m (b + length cr) (c + length cr) y.now ++ l) text_is
     ∙ sym (append_assoc (stmt_code q here m (b + length cr) (c + length cr) y.now) cr old)
     ∙ ap (λ l. statements_code q here m b c l ++ old) (sym (one_more ys y))
+
+-- the locals of what is still to be written
+pub row_room : (xs : List Statement) (ys : List (Bor Statement)) (y : Bor Statement) (locals here total : ℕ) → length ys < length (reverse xs) → y.now ≡ get_or (reverse xs) (length ys) y.now →
+  map (λ z. z.now) ys ≡ take (length ys) (reverse xs) → total ≡ declared_in xs + locals → here + declared_in (reverse (map (λ z. z.now) ys)) ≡ total → declared y.now + locals ≤ here
+row_room xs ys y locals here total h e d total_is here_is =
+    let done = reverse (map (λ z. z.now) ys) in
+    let front = reverse (drop (suc (length ys)) (reverse xs)) in
+    let whole : declared_in xs ≡ declared_in (y.now ∷ done) + declared_in front =
+        ap (λ l. declared_in l) (last_of xs (map (λ z. z.now) ys) (length ys) y.now h e d) ∙ declared_front front (y.now ∷ done) in
+    omega arith
