@@ -1,7 +1,7 @@
 -- One turn of each loop, and its end: what was done so far, then what is left, is all of it.
 use Rattle.std.proofs.Common.{◌≡◌, ℕ, zero, suc, ◌+◌, ◌-◌, ◌<◌, ◌≤◌, List, [], ◌∷◌, ◌++◌, length, get_or, take, drop, refl, sym, ap, subst, ◌∙◌, arith, append_assoc, length-append}
 use Rattle.std.specs.Prelude.{max, map, reverse}
-use Rattle.std.proofs.lemmas.List.{drop_more, map-append, reverse-append, reverse-reverse}
+use Rattle.std.proofs.lemmas.List.{drop_more, get_or_default, map-append, reverse-append, reverse-reverse}
 use Rattle.std.proofs.Math.Seq.{split_at}
 use denote.Ref.{Bor}
 use Rattle.std.proofs.Math.ListN.{drop_of_length-le}
@@ -31,6 +31,13 @@ swaps_turn base u i xs x text longer all h e so_far new =
     ∙ sym (append_assoc (swaps_code (suc u) base rest) (swap_at x.to u base x.spot ∷ []) text)
     ∙ ap (λ l. swaps_code u base l ++ text) (sym (next_of xs i x h e))
     ∙ so_far
+
+-- the same of an element that was read with any default
+pub swaps_turn_at : (base u next i : ℕ) (xs : List Target) (d : Target) (text longer all : List Instruction) → i < length xs →
+  swaps_code u base (drop i xs) ++ text ≡ all → longer ≡ swap_at (get_or xs i d).to u base (get_or xs i d).spot ∷ text → next ≡ u + 1 → swaps_code next base (drop (i + 1) xs) ++ longer ≡ all
+swaps_turn_at base u next i xs d text longer all h so_far new next_is =
+    ap (λ n. swaps_code n base (drop (i + 1) xs) ++ longer) next_is
+    ∙ swaps_turn base u i xs (get_or xs i d) text longer all h (get_or_default xs i d (get_or xs i d) h) so_far new
 
 pub swaps_end : (base u i : ℕ) (xs : List Target) (text all : List Instruction) → length xs ≤ i → swaps_code u base (drop i xs) ++ text ≡ all → text ≡ all
 swaps_end base u i xs text all h so_far = ap (λ l. swaps_code u base l ++ text) (sym (drop_of_length-le xs h)) ∙ so_far

@@ -78,7 +78,6 @@ fn write_test(text: &mut Text, mark: usize, test: &Expression) -> Result<(), All
 
 // The beginning of a loop whose body and step are written, in front of its jump back, which has `behind`
 // instructions behind it.
-#[tactic(none)]
 fn begin_loop(text: &mut Text, behind: usize, test: &Expression) -> Result<(), AllocError>
     requires { behind < length text.old }
     ensures { (body step rest : List Instruction) → text.old ≡ body ++ (step ++ BackBy 0 ∷ rest) → length rest ≡ behind
@@ -91,7 +90,6 @@ fn begin_loop(text: &mut Text, behind: usize, test: &Expression) -> Result<(), A
 }
 
 // A block: a statement, and what gives up its locals.
-#[tactic(none)]
 #[cycle(statement)]
 fn write_block(text: &mut Text, exits: Exits, locals: usize, s: &Statement) -> Result<(), AllocError>
     requires params { exits.params ≤ locals }
@@ -107,7 +105,6 @@ fn write_block(text: &mut Text, exits: Exits, locals: usize, s: &Statement) -> R
 }
 
 // A loop's step, which is a block that leaves no loop.
-#[tactic(none)]
 #[cycle(statement)]
 fn write_step(text: &mut Text, params: usize, locals: usize, s: &Statement) -> Result<(), AllocError>
     requires { params ≤ locals }
@@ -125,7 +122,6 @@ fn write_step(text: &mut Text, params: usize, locals: usize, s: &Statement) -> R
 }
 
 // Statements in turn.
-#[tactic(none)]
 #[cycle(statement)]
 fn write_row(text: &mut Text, exits: Exits, locals: usize, row: &[Statement]) -> Result<(), AllocError>
     requires params { exits.params ≤ locals }
@@ -144,7 +140,6 @@ fn write_row(text: &mut Text, exits: Exits, locals: usize, row: &[Statement]) ->
 }
 
 /// Writes the code of a statement where so many locals are alive.
-#[tactic(none)]
 #[cycle(statement)]
 pub fn write_statement(text: &mut Text, exits: Exits, locals: usize, s: &Statement) -> Result<(), AllocError>
     requires params { exits.params ≤ locals }
