@@ -1,0 +1,2 @@
+pub mod Lightening
+pub mod Steps

@@ -1,0 +1,87 @@
+//! One list of instructions for each body.
+use ang_kinds::Prim;
+use ang_meaning::{Callee, Change, Operation, Passing, Routine};
+
+/// One instruction. The stack's values are counted from its top, which is 0; a jump says how many
+/// instructions it passes.
+#[derive(Clone, Copy, PartialEq, Eq, Debug)]
+pub enum Instruction {
+    /// Pushes a number or truth value.
+    PushBits(u64),
+    /// Pushes the null handle to a script type.
+    PushNull,
+    /// Pushes the null handle to a type of that driver.
+    PushNoKey(u32),
+    /// Pushes the value at that place.
+    Load(usize),
+    /// Stores the top value at that place, counted without the top, and leaves the top.
+    Store(usize),
+    /// Changes the value at that place, counted without the top, by the top value, which the change's
+    /// value replaces.
+    Change(Change, usize),
+    /// Takes an operation's operands, the last one on top, and pushes its value.
+    Do(Operation),
+    /// Gives up the top value.
+    Drop,
+    /// Gives up so many values.
+    Leave(usize),
+    /// Takes a truth value, and passes so many instructions where it is false.
+    SkipIfFalse(usize),
+    /// Passes so many instructions.
+    GoOn(usize),
+    /// Takes a tick.
+    Tick,
+    /// Takes a tick and goes back by so many instructions.
+    Back(usize),
+    /// Enters a script function, whose arguments are on top, the last one first.
+    Enter(Callee),
+    /// Brings the value at the place `under` to the type `to`, if any, and exchanges it with the one at
+    /// the place `with`.
+    Swap {
+        /// The integer type.
+        to: Option<Prim>,
+        /// The place of the value that moves.
+        under: u32,
+        /// The place of the variable.
+        with: usize,
+    },
+    /// The same with a global of the running module.
+    SwapGlobal {
+        /// The integer type.
+        to: Option<Prim>,
+        /// The place of the value that moves.
+        under: u32,
+        /// The global's number.
+        global: u32,
+    },
+    /// Gives up so many values below the top one, the lowest first.
+    DropUnder(usize),
+    /// Leaves the body with the top value; below it so many locals are given up, and then the parameters
+    /// other than `&out`.
+    Return(usize),
+}
+
+/// An instruction has at most 16 bytes.
+const _: () = prove!(std::mem::size_of::<Instruction>() <= 16);
+
+/// Where a caller goes on.
+#[derive(Clone, Copy, PartialEq, Eq, Debug)]
+pub struct Frame {
+    /// The body.
+    pub of: Routine,
+    /// The number of its next instruction.
+    pub at: usize,
+    /// How high the stack may stand while it runs.
+    pub room: usize,
+}
+
+/// The code of one body.
+#[derive(Drop)]
+pub struct RoutineCode {
+    /// How each parameter takes its argument, the last parameter first.
+    pub params: Vec<Passing>,
+    /// How many values it puts above its parameters at most.
+    pub height: usize,
+    /// The instructions.
+    pub text: Vec<Instruction>,
+}

@@ -1,0 +1,8 @@
+//! Instructions of the stack machine. In `specs/` stands what each of them does: the code's own meaning
+//! (docs/MEANING.md).
+#![tactic(auto)]
+
+mod instruction;
+pub mod laws;
+
+pub use instruction::{Frame, Instruction, RoutineCode};

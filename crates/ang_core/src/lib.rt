@@ -1,0 +1,7 @@
+//! The core tree: a script's bodies in a few forms, with every name a number and every conversion written
+//! out. In `specs/` stands what such a body does, by cases on the tree (docs/MEANING.md).
+#![tactic(auto)]
+
+mod tree;
+
+pub use tree::{Body, Expression, Statement};

@@ -1,0 +1,62 @@
+//! Bodies of script functions and of initializers.
+use ang_meaning::{Callee, Change, Operation, Passing, Target};
+
+/// An expression. A local is counted from the innermost one, which is 0; parameters are locals.
+#[derive(Drop)]
+pub enum Expression {
+    /// A number or truth value in its canonical form.
+    Number(u64),
+    /// The null handle to a script type.
+    Null,
+    /// The null handle to a type of that driver.
+    NoKey(u32),
+    /// The value of a local.
+    Local(usize),
+    /// Stores the value into a local; its value is what was stored.
+    Assign(usize, Box<Expression>),
+    /// Changes a local by the value.
+    Change(usize, Change, Box<Expression>),
+    /// A strict operation on its operands, in the order in which they are evaluated.
+    Apply(Operation, Vec<Expression>),
+    /// A call of a script function with all its arguments, in order, and the variables that its `&out`
+    /// parameters' values move into, the last one first. The argument of an `&out` parameter is 0, false
+    /// or null.
+    Call(Callee, Vec<Expression>, Vec<Target>),
+    /// The second where the first is true, and else the third.
+    Choose(Box<Expression>, Box<Expression>, Box<Expression>),
+}
+
+/// A statement.
+#[derive(Drop)]
+pub enum Statement {
+    /// Nothing.
+    Skip,
+    /// Gives up the expression's value.
+    Evaluate(Expression),
+    /// A new innermost local with that value.
+    Declare(Expression),
+    /// Statements in turn, whose locals are given up at its end.
+    Block(Vec<Statement>),
+    /// The first where the test is true, and else the second; each is a block.
+    If(Expression, Box<Statement>, Box<Statement>),
+    /// A loop: a tick and the test, then the first, which is a block, and the second, which is the loop's
+    /// step.
+    While(Expression, Box<Statement>, Box<Statement>),
+    /// A loop whose first pass has no test and no tick before it.
+    DoWhile(Expression, Box<Statement>),
+    /// Leaves the body with that value; 0 where it has no result.
+    Return(Expression),
+    /// Leaves the innermost loop.
+    Break,
+    /// Goes on with the step of the innermost loop.
+    Continue,
+}
+
+/// A function, or an initializer's body, which has no parameters.
+#[derive(Drop)]
+pub struct Body {
+    /// How each parameter takes its argument, the last parameter first.
+    pub params: Vec<Passing>,
+    /// What it does.
+    pub statement: Statement,
+}

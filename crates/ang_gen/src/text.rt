@@ -1,0 +1,69 @@
+//! Instructions, written from the last one to the first.
+//!
+//! So the distance of a forward jump is known when it is written.
+ghost use Rattle.std.specs.Prelude.{◌≡◌, ◌<◌, List, ◌∷◌, ◌++◌, [], length, OnOk};
+ghost use Rattle.ang_code.specs.declared.instruction.Instruction.{Instruction};
+ghost use Rattle.ang_code.specs.declared.instruction.Instruction.TheVariants.{Back};
+
+use ang_code::Instruction;
+use std::alloc::{AllocError, Global};
+use std::marker::Model;
+
+/// A text whose beginning is still to be written.
+#[derive(Drop)]
+pub struct Text {
+    reversed: Vec<Instruction>,
+}
+
+impl Model for Text {
+    ghost use Rattle.std.specs.Prelude.{List, reverse};
+    ghost use Rattle.ang_code.specs.declared.instruction.Instruction.{Instruction};
+
+    ghost Value = { List Instruction };
+
+    ghost view = { λ a. reverse a.reversed.items };
+}
+
+impl Text {
+    /// The text that is empty so far.
+    pub fn new(alloc: Global) -> Text
+        ensures empty { result ≡ [] }
+    {
+        Text {
+            reversed: Vec::new(alloc),
+        }
+    }
+
+    /// How many instructions it has.
+    pub fn len(&self) -> usize
+        ensures count { result ≡ length self.now }
+    {
+        self.reversed.len()
+    }
+
+    /// Writes one instruction before those that are there.
+    pub fn put(&mut self, instruction: Instruction) -> Result<(), AllocError>
+        ensures before { OnOk result (self.new ≡ instruction ∷ self.old) }
+    {
+        self.reversed.push(instruction)?;
+        Ok(())
+    }
+
+    /// Makes the instruction that has `behind` instructions behind it a jump back by `distance`.
+    pub fn set_back(&mut self, behind: usize, distance: usize)
+        requires there { behind < length self.old }
+        ensures set { (front rest : List Instruction) (i : Instruction) → self.old ≡ front ++ i ∷ rest → length rest ≡ behind
+            → self.new ≡ front ++ Back distance ∷ rest }
+    {
+        self.reversed[behind] = Instruction::Back(distance);
+    }
+
+    /// The instructions in their order.
+    pub fn into_vec(self) -> Vec<Instruction>
+        ensures same { result.items ≡ self }
+    {
+        let Text { mut reversed } = self;
+        reversed.reverse();
+        reversed
+    }
+}

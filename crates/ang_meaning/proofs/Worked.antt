@@ -1,0 +1,86 @@
+-- Worked examples of the operators, computed.
+use Rattle.std.proofs.Common.{◌≡◌, ℕ, ◌-◌, ◌^◌, refl}
+use Rattle.std.specs.Prelude.{true, false}
+use Rattle.std.specs.Int.{int_wrap}
+use Rattle.ang_kinds.specs.declared.primitive.Primitive.TheVariants.{I8, I16, I32, I64, U8, U16, U32, U64}
+use Rattle.ang_kinds.specs.declared.fault.Fault.TheVariants.{DivideByZero, DivideOverflow}
+use Rattle.ang_meaning.specs.declared.operation.Arithmetic.TheVariants.{Add, Subtract, Multiply, Divide, Remainder, And, Or, Xor, ShiftLeft, ShiftRight, ShiftSigned}
+use Rattle.ang_meaning.specs.declared.operation.Comparison.TheVariants.{Equal, Less}
+use Rattle.ang_meaning.specs.declared.operation.Change.{Change}
+use Rattle.ang_meaning.specs.Numbers.{Is, Cannot, worked, converted, negated, complemented, holds_of, Into, changed}
+
+-- 64 bits that stand for -n
+abbrev minus : ℕ → ℕ
+minus n = 2 ^ 64 - n
+
+-- -8 >> 1 fills zeros into 32 bits, and -8 >>> 1 copies the sign
+zeros : worked ShiftRight I32 (minus 8) 1 ≡ Is 2147483644
+unfolding worked int_wrap
+zeros = refl
+
+sign : worked ShiftSigned I32 (minus 8) 1 ≡ Is (minus 4)
+unfolding worked int_wrap
+sign = refl
+
+-- the least `int` divided by -1, and the same in 64 bits
+least_int : worked Divide I32 (minus 2147483648) (minus 1) ≡ Cannot DivideOverflow
+unfolding worked int_wrap
+least_int = refl
+
+wide : worked Divide I64 (minus 2147483648) (minus 1) ≡ Is 2147483648
+unfolding worked int_wrap
+wide = refl
+
+-- division truncates toward zero, and the remainder has the sign of the first
+toward_zero : worked Divide I32 (minus 7) 2 ≡ Is (minus 3)
+unfolding worked int_wrap
+toward_zero = refl
+
+rest : worked Remainder I32 (minus 7) 2 ≡ Is (minus 1)
+unfolding worked int_wrap
+rest = refl
+
+by_zero : worked Remainder U64 7 0 ≡ Cannot DivideByZero
+unfolding worked int_wrap
+by_zero = refl
+
+-- uint8 255 and one more is 0; 200 as int8 is -56
+up : changed (record { work = Add; at = I32; to = U8; old = false }) 255 1 ≡ Into 0 0
+unfolding changed worked int_wrap
+up = refl
+
+narrow : converted I8 200 ≡ minus 56
+unfolding int_wrap
+narrow = refl
+
+-- 0 + -56
+sum : worked Add I32 0 (minus 56) ≡ Is (minus 56)
+unfolding worked int_wrap
+sum = refl
+
+-- 6 & 3, then compared with 2
+both : worked And I32 6 3 ≡ Is 2
+unfolding worked
+both = refl
+
+-- unary minus of an unsigned number wraps; -1 is below 0 only as a signed number
+unsigned_minus : negated U32 1 ≡ 4294967295
+unfolding negated
+unsigned_minus = refl
+
+turned : complemented I32 0 ≡ minus 1
+unfolding complemented int_wrap
+turned = refl
+
+less : holds_of Less true (minus 1) 0 ≡ 1
+unfolding holds_of
+less = refl
+
+more : holds_of Less false (minus 1) 0 ≡ 0
+unfolding holds_of
+more = refl
+
+-- a shift's count is taken modulo the width
+count : worked ShiftLeft I32 1 33 ≡ Is 2
+unfolding worked int_wrap
+count = refl

@@ -1,0 +1,122 @@
+-- Values that pass between a script and its drivers, and askings (docs/EMBEDDING.md; the AngelScript manual, "Registering a function").
+use Rattle.std.specs.Prelude.{ℕ, zero, suc, ◌^◌, ◌-◌, ◌&&◌, Bool, true, false, not, nat_eq, nat_lt, nat_le, int_le, ℤ, pos, negsuc, List, [], ◌∷◌, ◌++◌, reverse, Option, Some, None, if◌then◌else◌}
+use Rattle.ang_kinds.specs.declared.value.Value.{Value}
+use Rattle.ang_kinds.specs.declared.value.Value.TheVariants.{Int, Uint, Bool as Truth, Key}
+use Rattle.ang_kinds.specs.declared.primitive.Primitive.{Primitive}
+use Rattle.ang_kinds.specs.declared.primitive.Primitive.TheVariants.{I8, I16, I32, I64, U8, U16, U32, U64, Bool as TruthType}
+use Rattle.ang_kinds.specs.declared.mask.EntityNo.{EntityNo}
+use Rattle.ang_kinds.specs.declared.fault.Fault.{Fault}
+use Rattle.ang_kinds.specs.declared.fault.Fault.TheVariants.{Null, Host as HostFault, BadAnswer, NoObject, Memory, Tally}
+use Rattle.ang_host.specs.declared.answer.Made.TheVariants.{Key as MadeKey, Nothing as MadeNothing, Fault as MadeFault, Memory as MadeMemory, Full as MadeFull}
+use Rattle.ang_host.specs.declared.answer.Answer.TheVariants.{Void, Gave, Fault as SaidFault, Memory as SaidMemory, Full}
+use Rattle.ang_host.specs.declared.answer.HostReply.{HostReply}
+use Rattle.ang_host.specs.declared.answer.HostReply.TheVariants.{Making, Asking}
+use Rattle.ang_host.specs.declared.event.HostEvent.TheVariants.{Called}
+use Rattle.ang_meaning.specs.declared.slot.Slot.{Slot}
+use Rattle.ang_meaning.specs.declared.slot.Slot.TheVariants.{Bits, Script, Host}
+use Rattle.ang_meaning.specs.declared.host.HostType.{HostType}
+use Rattle.ang_meaning.specs.declared.host.HostType.TheVariants.{Nothing, Plain, Handle}
+use Rattle.ang_meaning.specs.declared.host.HostUse.{HostUse}
+use Rattle.ang_meaning.specs.Numbers.{is_signed, width_of, number, bits_of, least}
+use Rattle.ang_meaning.specs.World.{World, Input, Said, Tried, Yes, No, memory_step, one_more, hold, give_all}
+use Rattle.ang_meaning.specs.Setting.{Setting, use_at}
+
+-- a strict operation: a value and what is left, or a fault
+pub data Done : Type 0 where
+  Fine : Slot → World → Done
+  Fails : Fault → World → Done
+
+-- the value, which one more place holds, unless a tally is full
+abbrev pub holding : Slot → Tried → Done
+holding v (No w) = Fails Tally w
+holding v (Yes w) = Fine v w
+
+-- a number as it is handed to a driver
+abbrev pub plain_value : Primitive → ℕ → Value
+plain_value TruthType n = Truth (not (nat_eq n 0))
+plain_value I8 n = Int (number true n)
+plain_value I16 n = Int (number true n)
+plain_value I32 n = Int (number true n)
+plain_value I64 n = Int (number true n)
+plain_value U8 n = Uint n
+plain_value U16 n = Uint n
+plain_value U32 n = Uint n
+plain_value U64 n = Uint n
+
+-- a slot as it is handed to driver d, where its declared type is this; what is not of the type goes as the null key
+abbrev pub value_of : ℕ → HostType → Slot → Value
+value_of d (Plain p) (Bits n) = plain_value p n
+value_of d Handle (Host e (Some k)) = if nat_eq d e then Key (Some k) else Key None
+value_of d _ _ = Key None
+
+abbrev pub values_of : ℕ → List HostType → List Slot → List Value
+values_of d [] vs = []
+values_of d (ty ∷ types) [] = []
+values_of d (ty ∷ types) (v ∷ vs) = value_of d ty v ∷ values_of d types vs
+
+-- an integer type without a sign
+abbrev pub is_unsigned : Primitive → Bool
+is_unsigned TruthType = false
+is_unsigned I8 = false
+is_unsigned I16 = false
+is_unsigned I32 = false
+is_unsigned I64 = false
+is_unsigned U8 = true
+is_unsigned U16 = true
+is_unsigned U32 = true
+is_unsigned U64 = true
+
+-- whether a number is in the range of a signed type
+abbrev pub is_within : Primitive → ℤ → Bool
+is_within p (pos n) = nat_lt n (2 ^ (width_of p - 1))
+is_within p (negsuc n) = int_le (least p) (negsuc n)
+
+abbrev pub if_within : Bool → ℕ → Option Slot
+if_within true n = Some (Bits n)
+if_within false n = None
+
+-- what a driver's value of a declared type is in a slot; none where it is not of that type or not in its range
+unfoldable pub slot_of : ℕ → HostType → Value → Option Slot
+slot_of d (Plain p) (Int z) = if_within (is_signed p && is_within p z) (bits_of p z)
+slot_of d (Plain TruthType) (Truth b) = Some (Bits (if b then 1 else 0))
+slot_of d (Plain p) (Uint n) = if_within (is_unsigned p && nat_lt n (2 ^ width_of p)) n
+slot_of d Handle (Key k) = Some (Host d k)
+slot_of d _ _ = None
+
+abbrev pub accepted : Option Slot → World → Done
+accepted None w = Fails BadAnswer w
+accepted (Some v) w = holding v (hold v w)
+
+-- whether the declared result is void
+abbrev pub is_void : HostType → Bool
+is_void Nothing = true
+is_void (Plain p) = false
+is_void Handle = false
+
+-- what a driver's reply gives to the script; a made object has its first place already
+unfoldable pub replied_by : ℕ → HostType → HostReply → World → Done
+replied_by d result (Making (MadeKey k)) w = Fine (Host d (Some k)) (one_more (Host d (Some k)) w)
+replied_by d result (Making MadeNothing) w = Fails NoObject w
+replied_by d result (Making (MadeFault n)) w = Fails (HostFault n) w
+replied_by d result (Making MadeMemory) w = Fails Memory w
+replied_by d result (Making MadeFull) w = Fails Tally w
+replied_by d result (Asking Void) w = if is_void result then Fine (Bits 0) w else Fails BadAnswer w
+replied_by d result (Asking (Gave v)) w = accepted (slot_of d result v) w
+replied_by d result (Asking (SaidFault n)) w = Fails (HostFault n) w
+replied_by d result (Asking SaidMemory) w = Fails Memory w
+replied_by d result (Asking Full) w = Fails Tally w
+
+-- one asking: the event is listed, whatever the reply
+abbrev pub asked_from : Setting → ℕ → EntityNo → Option ℕ → List Value → HostType → List Input → World → Done
+asked_from z m e object args result (Said reply ∷ rest) w =
+    replied_by (use_at z e).driver result reply
+    (record w { inputs = rest; events = w.events ++ Called (z.name m) e (use_at z e).driver object args reply ∷ [] })
+asked_from z m e object args result _ w = Fails Memory w
+
+abbrev pub asked_told : Setting → ℕ → EntityNo → Option ℕ → List Value → HostType → Tried → Done
+asked_told z m e object args result (No w) = Fails Memory w
+asked_told z m e object args result (Yes w) = asked_from z m e object args result w.inputs w
+
+-- An asking of entity e for module m: memory for its event first, and then the driver's reply.
+unfoldable pub asked : Setting → ℕ → EntityNo → Option ℕ → List Value → HostType → World → Done
+asked z m e object args result w = asked_told z m e object args result (memory_step w)

@@ -1,0 +1,142 @@
+-- Numbers of the script's types and the operators on them (docs/LANGUAGE.md, "Expressions"; the AngelScript manual, "Expressions").
+use Rattle.std.specs.Prelude.{ℕ, zero, suc, ◌+◌, ◌-◌, ◌*◌, ◌/◌, ◌%◌, ◌^◌, Bool, true, false, not, ◌&&◌, if◌then◌else◌, nat_eq, ℤ, pos, negsuc, ◌+ℤ◌, ◌-ℤ◌, ◌*ℤ◌, neg_ℤ, int_lt, int_le, int_div, int_rem, bit_and, bit_or, bit_xor}
+use Rattle.std.specs.Int.{w8, w16, w32, w64, cast_signed, cast_unsigned, int_div_euclid, int_rem_euclid, int_wrap}
+use Rattle.ang_kinds.specs.declared.primitive.Primitive.{Primitive}
+use Rattle.ang_kinds.specs.declared.primitive.Primitive.TheVariants.{I8, I16, I32, I64, U8, U16, U32, U64, Bool as Truth}
+use Rattle.ang_kinds.specs.declared.fault.Fault.{Fault}
+use Rattle.ang_kinds.specs.declared.fault.Fault.TheVariants.{DivideByZero, DivideOverflow}
+use Rattle.ang_meaning.specs.declared.operation.Arithmetic.{Arithmetic}
+use Rattle.ang_meaning.specs.declared.operation.Arithmetic.TheVariants.{Add, Subtract, Multiply, Divide, Remainder, And, Or, Xor, ShiftLeft, ShiftRight, ShiftSigned}
+use Rattle.ang_meaning.specs.declared.operation.Comparison.{Comparison}
+use Rattle.ang_meaning.specs.declared.operation.Comparison.TheVariants.{Equal, Unequal, Less, LessEqual, Greater, GreaterEqual}
+use Rattle.ang_meaning.specs.declared.operation.Change.{Change}
+
+abbrev pub is_signed : Primitive → Bool
+is_signed I8 = true
+is_signed I16 = true
+is_signed I32 = true
+is_signed I64 = true
+is_signed U8 = false
+is_signed U16 = false
+is_signed U32 = false
+is_signed U64 = false
+is_signed Truth = false
+
+-- the number of bits of a type
+abbrev pub width_of : Primitive → ℕ
+width_of I8 = 8
+width_of I16 = 16
+width_of I32 = 32
+width_of I64 = 64
+width_of U8 = 8
+width_of U16 = 16
+width_of U32 = 32
+width_of U64 = 64
+width_of Truth = 1
+
+-- the one number of the type that differs from z by a multiple of 2 ^ width
+abbrev pub wrapped : Primitive → ℤ → ℤ
+wrapped I8 z = int_wrap w8 z
+wrapped I16 z = int_wrap w16 z
+wrapped I32 z = int_wrap w32 z
+wrapped I64 z = int_wrap w64 z
+wrapped U8 z = int_rem_euclid z (pos (2 ^ 8))
+wrapped U16 z = int_rem_euclid z (pos (2 ^ 16))
+wrapped U32 z = int_rem_euclid z (pos (2 ^ 32))
+wrapped U64 z = int_rem_euclid z (pos (2 ^ 64))
+wrapped Truth z = int_rem_euclid z (pos 2)
+
+-- A number is kept as 64 bits: two's complement where its type is signed. This is the number that the bits stand for.
+abbrev pub number : Bool → ℕ → ℤ
+number true n = cast_signed w64 n
+number false n = pos n
+
+abbrev pub number_of : Primitive → ℕ → ℤ
+number_of p n = number (is_signed p) n
+
+-- the bits of a number that is brought into the type
+abbrev pub bits_of : Primitive → ℤ → ℕ
+bits_of p z = cast_unsigned w64 (wrapped p z)
+
+-- a conversion keeps the low bits
+abbrev pub converted : Primitive → ℕ → ℕ
+converted p n = bits_of p (pos n)
+
+-- the bits of the result, or a fault
+pub data Worked : Type 0 where
+  Is : ℕ → Worked
+  Cannot : Fault → Worked
+
+-- the least number of a type
+abbrev pub least : Primitive → ℤ
+least I8 = negsuc (2 ^ 7 - 1)
+least I16 = negsuc (2 ^ 15 - 1)
+least I32 = negsuc (2 ^ 31 - 1)
+least I64 = negsuc (2 ^ 63 - 1)
+least U8 = pos 0
+least U16 = pos 0
+least U32 = pos 0
+least U64 = pos 0
+least Truth = pos 0
+
+-- the least number divided by -1 has no quotient in its type
+abbrev pub divided : Primitive → ℤ → ℤ → ℤ → Worked
+divided p x (pos zero) result = Cannot DivideByZero
+divided p x (pos (suc n)) result = Is (bits_of p result)
+divided p x (negsuc zero) result = if int_le x (least p) then Cannot DivideOverflow else Is (bits_of p result)
+divided p x (negsuc (suc n)) result = Is (bits_of p result)
+
+-- A binary operator in a type. A shift's count is taken modulo the width; `>>` fills zeros into the type's bits, and `>>>` divides by the power of 2,
+-- rounding down, which copies the sign.
+unfoldable pub worked : Arithmetic → Primitive → ℕ → ℕ → Worked
+worked Add p x y = Is (bits_of p (number_of p x +ℤ number_of p y))
+worked Subtract p x y = Is (bits_of p (number_of p x -ℤ number_of p y))
+worked Multiply p x y = Is (bits_of p (number_of p x *ℤ number_of p y))
+worked Divide p x y = divided p (number_of p x) (number_of p y) (int_div (number_of p x) (number_of p y))
+worked Remainder p x y = divided p (number_of p x) (number_of p y) (int_rem (number_of p x) (number_of p y))
+worked And p x y = Is (bit_and x y)
+worked Or p x y = Is (bit_or x y)
+worked Xor p x y = Is (bit_xor x y)
+worked ShiftLeft p x y = Is (bits_of p (pos (x * 2 ^ (y % width_of p))))
+worked ShiftRight p x y = Is (bits_of p (pos (x % 2 ^ width_of p / 2 ^ (y % width_of p))))
+worked ShiftSigned p x y = Is (bits_of p (int_div_euclid (number_of p x) (pos (2 ^ (y % width_of p)))))
+
+-- 1 where it holds, and else 0
+abbrev pub truth : Bool → ℕ
+truth true = 1
+truth false = 0
+
+abbrev pub compared : Comparison → ℤ → ℤ → ℕ → ℕ → Bool
+compared Equal x y m n = nat_eq m n
+compared Unequal x y m n = not (nat_eq m n)
+compared Less x y m n = int_lt x y
+compared LessEqual x y m n = int_le x y
+compared Greater x y m n = int_lt y x
+compared GreaterEqual x y m n = int_le y x
+
+-- a comparison of numbers of a signed type, or of an unsigned one
+unfoldable pub holds_of : Comparison → Bool → ℕ → ℕ → ℕ
+holds_of c signed x y = truth (compared c (number signed x) (number signed y) x y)
+
+unfoldable pub negated : Primitive → ℕ → ℕ
+negated p x = bits_of p (neg_ℤ (number_of p x))
+
+-- each bit turned: -1 - x
+unfoldable pub complemented : Primitive → ℕ → ℕ
+complemented p x = bits_of p (negsuc 0 -ℤ number_of p x)
+
+unfoldable pub denied : ℕ → ℕ
+denied x = truth (nat_eq x 0)
+
+-- what a change stores and what its expression gives, or a fault
+pub data Changed : Type 0 where
+  Into : (stored given : ℕ) → Changed
+  Never : Fault → Changed
+
+abbrev pub changed_to : Change → ℕ → Worked → Changed
+changed_to c x (Cannot f) = Never f
+changed_to c x (Is n) = Into (converted c.to n) (if c.old then x else converted c.to n)
+
+-- a variable's value x changed by y
+unfoldable pub changed : Change → ℕ → ℕ → Changed
+changed c x y = changed_to c x (worked c.work c.at (converted c.at x) y)

@@ -1,0 +1,120 @@
+-- What stays the same while a run goes on: the modules, the registered entities, the functions and where the imports lead.
+use Rattle.std.specs.Prelude.{ℕ, Bool, true, false, ◌&&◌, not, List, [], ◌∷◌, Option, Some, None}
+use Rattle.ang_kinds.specs.declared.fault.Fault.{Fault}
+use Rattle.ang_kinds.specs.declared.fault.Fault.TheVariants.{Unbound}
+use Rattle.ang_meaning.specs.declared.slot.Slot.{Slot}
+use Rattle.ang_meaning.specs.declared.slot.Slot.TheVariants.{Bits, Script, Host}
+use Rattle.ang_kinds.specs.declared.mask.EntityNo.{EntityNo}
+use Rattle.ang_host.specs.declared.event.Role.TheVariants.{Making as MakingRole, Calling as CallingRole, Property as PropertyRole}
+use Rattle.ang_host.specs.declared.event.Role.{Role}
+use Rattle.ang_meaning.specs.declared.host.HostType.{HostType}
+use Rattle.ang_meaning.specs.declared.host.HostType.TheVariants.{Nothing, Plain, Handle}
+use Rattle.ang_meaning.specs.declared.operation.Operation.{Operation}
+use Rattle.ang_meaning.specs.declared.operation.Operation.TheVariants.{Work, Compare, Convert, Negate, Complement, Not, Same, GlobalGet, GlobalSet, GlobalChange, Ask, Read, Write, Alter}
+use Rattle.ang_meaning.specs.declared.host.HostUse.{HostUse}
+use Rattle.ang_meaning.specs.World.{World}
+use Rattle.ang_meaning.specs.declared.routine.Routine.{Routine}
+use Rattle.ang_meaning.specs.declared.routine.Callee.{Callee}
+use Rattle.ang_meaning.specs.declared.routine.Callee.TheVariants.{Own, Import}
+use Rattle.ang_meaning.specs.declared.routine.Passing.{Passing}
+use Rattle.ang_meaning.specs.declared.routine.Passing.TheVariants.{In, Out, Object}
+
+-- each module's name; the registered entities by number, where there is one; each function's parameters, the last one first, where there is such a
+-- function; each import's parameters as its module declares them, the last one first, and where the import leads; and how many functions may stand one
+-- inside the other: 200, and 201 where the outermost is an initializer, which does not count
+pub record Setting : Type 0 where
+  pub name : ℕ → List ℕ
+  pub host : ℕ → Option HostUse
+  pub params : Routine → Option (List Passing)
+  pub imported : ℕ → ℕ → Option (List Passing)
+  pub linked : ℕ → ℕ → Option Routine
+  pub nesting : ℕ
+
+-- stands where there is no entity; no sound code asks it
+abbrev pub nobody : HostUse
+nobody = record { driver = 0; role = CallingRole 0; member = false; params = []; result = Nothing }
+
+abbrev pub host_in : Option HostUse → HostUse
+host_in None = nobody
+host_in (Some u) = u
+
+abbrev pub use_at : Setting → EntityNo → HostUse
+use_at z e = host_in (z.host e.0)
+
+-- the function that a call enters, or why it enters none
+pub data Found : Type 0 where
+  Enters : Routine → Found
+  Misses : Fault → Found
+
+abbrev pub bound : Option Routine → Found
+bound (Some g) = Enters g
+bound None = Misses Unbound
+
+-- What a callee means in a module, where the values on top are its arguments, the last one first.
+unfoldable pub target : Setting → ℕ → Callee → List Slot → World → Found
+target z m (Own g) vs w = Enters (record { home = m; number = g })
+target z m (Import i) vs w = bound (z.linked m i)
+
+unfoldable pub is_null : Slot → Bool
+is_null (Bits n) = false
+is_null (Script None) = true
+is_null (Script (Some n)) = false
+is_null (Host d None) = true
+is_null (Host d (Some k)) = false
+
+-- whether each parameter that wants an object has one; both lists have the last one first
+abbrev pub has_objects : List Passing → List Slot → Bool
+has_objects [] vs = true
+has_objects (p ∷ ps) [] = true
+has_objects (In ∷ ps) (v ∷ vs) = has_objects ps vs
+has_objects (Out ∷ ps) (v ∷ vs) = has_objects ps vs
+has_objects (Object ∷ ps) (v ∷ vs) = not (is_null v) && has_objects ps vs
+
+-- the parameters of a function, and none where there is no such function
+abbrev pub params_in : Option (List Passing) → List Passing
+params_in (Some ps) = ps
+params_in None = []
+
+abbrev pub params_of : Setting → Routine → List Passing
+params_of z g = params_in (z.params g)
+
+-- whether an entity is asked by a call: a function or method, or a factory, which makes an object and has no receiver
+abbrev pub is_handle : HostType → Bool
+is_handle Nothing = false
+is_handle (Plain p) = false
+is_handle Handle = true
+
+abbrev pub is_called_by : Role → Bool → HostType → Bool
+is_called_by (MakingRole f) member result = not member && is_handle result
+is_called_by (CallingRole f) member result = true
+is_called_by (PropertyRole f) member result = false
+
+abbrev pub is_property : Role → Bool
+is_property (MakingRole f) = false
+is_property (CallingRole f) = false
+is_property (PropertyRole f) = true
+
+abbrev pub may_call : Option HostUse → Bool
+may_call None = false
+may_call (Some u) = is_called_by u.role u.member u.result
+
+abbrev pub may_access : Option HostUse → Bool
+may_access None = false
+may_access (Some u) = is_property u.role
+
+-- Whether an operation asks an entity that there is, in the way of its role.
+unfoldable pub is_fit : Setting → Operation → Bool
+is_fit z (Work a p) = true
+is_fit z (Compare c signed) = true
+is_fit z (Convert p) = true
+is_fit z (Negate p) = true
+is_fit z (Complement p) = true
+is_fit z Not = true
+is_fit z Same = true
+is_fit z (GlobalGet g) = true
+is_fit z (GlobalSet g) = true
+is_fit z (GlobalChange g c) = true
+is_fit z (Ask e) = may_call (z.host e.0)
+is_fit z (Read e) = may_access (z.host e.0)
+is_fit z (Write e) = may_access (z.host e.0)
+is_fit z (Alter e c) = may_access (z.host e.0)

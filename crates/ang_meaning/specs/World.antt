@@ -1,0 +1,162 @@
+-- The world outside the locals of a run: objects with the counts of the places that hold them, globals, events, and what the run is told from
+-- outside (docs/MEANING.md; the AngelScript manual, "Memory management").
+use Rattle.std.specs.Prelude.{ℕ, zero, suc, ◌+◌, Bool, true, false, ◌&&◌, nat_eq, List, [], ◌∷◌, ◌++◌, length, Option, Some, None, if◌then◌else◌}
+use Rattle.ang_host.specs.declared.answer.HostReply.{HostReply}
+use Rattle.ang_host.specs.declared.event.HostEvent.{HostEvent}
+use Rattle.ang_host.specs.declared.event.HostEvent.TheVariants.{Ended}
+use Rattle.ang_meaning.specs.declared.slot.Slot.{Slot}
+use Rattle.ang_meaning.specs.declared.slot.Slot.TheVariants.{Bits, Script, Host}
+
+-- a script object: its number, its class, the places that hold it, and its fields, those of the base class first, in order of declaration
+pub record ScriptRecord : Type 0 where
+  pub number : ℕ
+  pub class : ℕ
+  pub count : ℕ
+  pub fields : List Slot
+
+-- a host object: its driver, its key, and the places that hold it
+pub record HostRecord : Type 0 where
+  pub driver : ℕ
+  pub key : ℕ
+  pub count : ℕ
+
+-- What a run is told from outside, in the order in which it asks: whether there is memory where it wants some, what a driver answered, whether a tally
+-- has room for one more place, and the number of a new script object.
+pub data Input : Type 0 where
+  Room : Bool → Input
+  Said : HostReply → Input
+  Counted : Bool → Input
+  Fresh : ℕ → Input
+
+pub record World : Type 0 where
+  pub objects : List ScriptRecord
+  pub hosts : List HostRecord
+  pub globals : List (List Slot)
+  pub events : List HostEvent
+  pub inputs : List Input
+
+abbrev pub with_inputs : List Input → World → World
+with_inputs is w = record w { inputs = is }
+
+-- a step that may be refused; the world is told either way
+pub data Tried : Type 0 where
+  Yes : World → Tried
+  No : World → Tried
+
+abbrev pub if_told : Bool → World → Tried
+if_told true w = Yes w
+if_told false w = No w
+
+-- a step that wants memory
+abbrev pub memory_told : List Input → World → Tried
+memory_told (Room b ∷ rest) w = if_told b (with_inputs rest w)
+memory_told _ w = No w
+
+unfoldable pub memory_step : World → Tried
+memory_step w = memory_told w.inputs w
+
+-- one more place: the count of a script object, and of a host object, which comes to be listed with its first place
+unfoldable pub script_raised : ℕ → List ScriptRecord → List ScriptRecord
+script_raised n [] = []
+script_raised n (o ∷ os) = let rest = script_raised n os in if nat_eq o.number n then (record o { count = suc o.count } ∷ os) else (o ∷ rest)
+
+abbrev pub is_host : ℕ → ℕ → HostRecord → Bool
+is_host d k h = nat_eq h.driver d && nat_eq h.key k
+
+unfoldable pub host_raised : ℕ → ℕ → List HostRecord → List HostRecord
+host_raised d k [] = record { driver = d; key = k; count = 1 } ∷ []
+host_raised d k (h ∷ hs) = let rest = host_raised d k hs in if is_host d k h then (record h { count = suc h.count } ∷ hs) else (h ∷ rest)
+
+unfoldable pub one_more : Slot → World → World
+one_more (Bits n) w = w
+one_more (Script None) w = w
+one_more (Script (Some n)) w = record w { objects = script_raised n w.objects }
+one_more (Host d None) w = w
+one_more (Host d (Some k)) w = record w { hosts = host_raised d k w.hosts }
+
+-- a tally is asked for room where an object is held once more
+abbrev pub tally_told : List Input → World → Tried
+tally_told (Counted b ∷ rest) w = if_told b (with_inputs rest w)
+tally_told _ w = No w
+
+unfoldable pub tally_step : Slot → World → Tried
+tally_step (Bits n) w = Yes w
+tally_step (Script None) w = Yes w
+tally_step (Script (Some n)) w = tally_told w.inputs w
+tally_step (Host d None) w = Yes w
+tally_step (Host d (Some k)) w = tally_told w.inputs w
+
+abbrev pub held : Slot → Tried → Tried
+held v (No w) = No w
+held v (Yes w) = Yes (one_more v w)
+
+-- one more place holds the value, unless a tally is full
+unfoldable pub hold : Slot → World → Tried
+hold v w = held v (tally_step v w)
+
+-- what is left of a list of script objects, with the fields of the one that ended
+pub data Lowered : Type 0 where
+  Gone : List Slot → List ScriptRecord → Lowered
+  Kept : List ScriptRecord → Lowered
+
+abbrev pub behind : ScriptRecord → Lowered → Lowered
+behind o (Gone vs os) = Gone vs (o ∷ os)
+behind o (Kept os) = Kept (o ∷ os)
+
+abbrev pub one_less : ScriptRecord → ℕ → List ScriptRecord → Lowered
+one_less o zero os = Gone o.fields os
+one_less o (suc zero) os = Gone o.fields os
+one_less o (suc (suc c)) os = Kept (record o { count = suc c } ∷ os)
+
+unfoldable pub script_lowered : ℕ → List ScriptRecord → Lowered
+script_lowered n [] = Kept []
+script_lowered n (o ∷ os) = let rest = script_lowered n os in if nat_eq o.number n then one_less o o.count os else behind o rest
+
+-- whether the host object ended, and the host objects that are left
+pub record HostLowered : Type 0 where
+  pub ended : Bool
+  pub hosts : List HostRecord
+
+abbrev pub host_behind : HostRecord → HostLowered → HostLowered
+host_behind h l = record { ended = l.ended; hosts = h ∷ l.hosts }
+
+abbrev pub host_less : HostRecord → ℕ → List HostRecord → HostLowered
+host_less h zero hs = record { ended = true; hosts = hs }
+host_less h (suc zero) hs = record { ended = true; hosts = hs }
+host_less h (suc (suc c)) hs = record { ended = false; hosts = record h { count = suc c } ∷ hs }
+
+unfoldable pub host_lowered : ℕ → ℕ → List HostRecord → HostLowered
+host_lowered d k [] = record { ended = false; hosts = [] }
+host_lowered d k (h ∷ hs) = let rest = host_lowered d k hs in if is_host d k h then host_less h h.count hs else host_behind h rest
+
+-- the end of a host object is listed
+abbrev pub host_given : ℕ → ℕ → HostLowered → World → World
+host_given d k l w = record w { hosts = l.hosts; events = if l.ended then (w.events ++ Ended d k ∷ []) else w.events }
+
+-- each in turn, the first one first
+abbrev pub each_given : (Slot → World → World) → List Slot → World → World
+each_given go [] w = w
+each_given go (v ∷ vs) w = each_given go vs (go v w)
+
+-- a script object that ended gives up its fields
+abbrev pub script_given : (Slot → World → World) → Lowered → World → World
+script_given go (Kept os) w = record w { objects = os }
+script_given go (Gone vs os) w = each_given go vs (record w { objects = os })
+
+-- One place fewer, where at most n script objects end one inside the other. Each leaves the world as it ends, so there are never more than the world has.
+unfoldable pub given : ℕ → Slot → World → World
+given n (Bits x) w = w
+given n (Script None) w = w
+given n (Host d None) w = w
+given n (Host d (Some k)) w = host_given d k (host_lowered d k w.hosts) w
+given zero (Script (Some k)) w = w
+given (suc n) (Script (Some k)) w = script_given (given n) (script_lowered k w.objects) w
+
+-- one place gives up its value
+unfoldable pub give : Slot → World → World
+give v w = given (length w.objects) v w
+
+-- all of these, the first one first
+abbrev pub give_all : List Slot → World → World
+give_all [] w = w
+give_all (v ∷ vs) w = give_all vs (give v w)

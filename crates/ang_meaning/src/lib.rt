@@ -1,0 +1,13 @@
+//! What a running script speaks of: slots, strict operations, host entities as code asks them, and in
+//! `specs/` the world outside the locals with what each operation does to it (docs/MEANING.md).
+#![tactic(auto)]
+
+mod host;
+mod operation;
+mod routine;
+mod slot;
+
+pub use host::{HostType, HostUse};
+pub use operation::{Arithmetic, Change, Comparison, Operation};
+pub use routine::{Callee, Passing, Routine, Spot, Target};
+pub use slot::Slot;

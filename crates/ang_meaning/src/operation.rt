@@ -1,0 +1,98 @@
+//! Strict operations: they take the values of their operands, and do not run where one of these fails.
+use ang_kinds::{EntityNo, Prim};
+
+/// What a binary operator on two integers computes (the AngelScript manual, "Expressions").
+#[derive(Clone, Copy, PartialEq, Eq, Debug)]
+pub enum Arithmetic {
+    /// `+`, which wraps.
+    Add,
+    /// `-`, which wraps.
+    Subtract,
+    /// `*`, which wraps.
+    Multiply,
+    /// `/`, truncated toward zero.
+    Divide,
+    /// `%`, with the sign of the first operand.
+    Remainder,
+    /// `&`
+    And,
+    /// `|`
+    Or,
+    /// `^`
+    Xor,
+    /// `<<`
+    ShiftLeft,
+    /// `>>`, which fills zeros.
+    ShiftRight,
+    /// `>>>`, which copies the sign of a signed number and fills zeros into an unsigned one.
+    ShiftSigned,
+}
+
+/// What a comparison of two numbers tests.
+#[derive(Clone, Copy, PartialEq, Eq, Debug)]
+pub enum Comparison {
+    /// `==`
+    Equal,
+    /// `!=`, and `xor` of truth values.
+    Unequal,
+    /// `<`
+    Less,
+    /// `<=`
+    LessEqual,
+    /// `>`
+    Greater,
+    /// `>=`
+    GreaterEqual,
+}
+
+/// How a variable changes by an operand, in a compound assignment, `++` or `--`: its value is brought
+/// to the type `at`, the operation is done there, and the result is brought to the variable's type `to`.
+#[derive(Clone, Copy, PartialEq, Eq, Debug)]
+pub struct Change {
+    /// The operation, whose first operand is the variable.
+    pub work: Arithmetic,
+    /// The type in which it is done.
+    pub at: Prim,
+    /// The variable's type.
+    pub to: Prim,
+    /// Whether the expression's value is the variable's old one, as for a postfix `++`, and not the new.
+    pub old: bool,
+}
+
+/// A strict operation. Its width and sign are written in it, so no value carries a type.
+#[derive(Clone, Copy, PartialEq, Eq, Debug)]
+pub enum Operation {
+    /// A binary operator on integers, done in that type.
+    Work(Arithmetic, Prim),
+    /// A comparison; the flag says whether the numbers are of a signed type.
+    Compare(Comparison, bool),
+    /// The conversion of a number to that type, which keeps the low bits.
+    Convert(Prim),
+    /// Unary `-` in that type.
+    Negate(Prim),
+    /// `~` in that type.
+    Complement(Prim),
+    /// `!`
+    Not,
+    /// `is`: whether two handles name the same object, or both none.
+    Same,
+    /// The value of a global of the running module.
+    GlobalGet(u32),
+    /// Stores the operand into a global of the running module; its value is what was stored.
+    GlobalSet(u32),
+    /// Changes a global of the running module by the operand.
+    GlobalChange(u32, Change),
+    /// Calls a host function or method, or makes a host object by a factory. A receiver is the first
+    /// operand.
+    Ask(EntityNo),
+    /// Reads a host property; of a type's property the operand is the object.
+    Read(EntityNo),
+    /// Writes a host property. The first operand is the value, and of a type's property the second is
+    /// the object. Its value is what was stored.
+    Write(EntityNo),
+    /// Changes a host property by the first operand; of a type's property the second is the object.
+    Alter(EntityNo, Change),
+}
+
+/// An operation stays small, so that an instruction with one has at most 16 bytes.
+const _: () = prove!(std::mem::size_of::<Operation>() <= 12);

@@ -1,0 +1,19 @@
+//! Numbers of the script's types, computed on the 64 bits in which they are kept.
+//!
+//! Each function gives exactly what the definitions of `ang_meaning` say (docs/LANGUAGE.md, "Expressions";
+//! the AngelScript manual, "Expressions"). None takes memory.
+#![tactic(auto)]
+
+mod changes;
+mod comparisons;
+mod conversions;
+mod division;
+mod operators;
+mod shifts;
+#[cfg(test)]
+mod tests;
+
+pub use changes::{Altered, change};
+pub use comparisons::{compare, deny};
+pub use conversions::{complement, convert, negate};
+pub use operators::work;

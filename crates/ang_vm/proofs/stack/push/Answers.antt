@@ -1,0 +1,5 @@
+use Rattle.ang_vm.proofs.Values.{value_pushed}
+use Rattle.ang_vm.proofs.stack.push.Goals as goal
+
+pub returns : goal.returns
+returns c = record { pushed = value_pushed c.args.stack.now c.args.top c.args.value c.requires.room }

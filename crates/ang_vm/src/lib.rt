@@ -1,0 +1,15 @@
+//! The machine that runs the code of script functions.
+//!
+//! Its stack is a slice with a number that says how much of it is in use, and room for a whole body is
+//! taken as the body is entered, so that no instruction takes memory. Each instruction is a small function
+//! whose contract is that instruction's clause in `ang_code`'s definition of the machine.
+#![tactic(auto)]
+
+pub mod arms;
+pub mod doing;
+pub mod many;
+pub mod operations;
+pub mod stack;
+pub mod stop;
+pub mod store;
+pub mod table;
