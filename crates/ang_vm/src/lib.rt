@@ -6,10 +6,17 @@
 #![tactic(auto)]
 
 pub mod arms;
+pub mod calls;
 pub mod doing;
+pub mod jumps;
 pub mod many;
 pub mod operations;
+pub mod outside;
+pub mod place;
+pub mod returns;
+pub mod run;
 pub mod stack;
 pub mod stop;
 pub mod store;
 pub mod table;
+pub mod turns;

@@ -1,0 +1,145 @@
+//! Where a body is left.
+ghost use Rattle.std.specs.Prelude.{◌≡◌, ℕ, ◌-◌, ◌<◌, ◌≤◌, ◌++◌, List, length, reverse, Some, IfOk};
+ghost use Rattle.ang_meaning.specs.declared.slot.Slot.{Slot};
+ghost use Rattle.ang_meaning.specs.World.{with_inputs};
+ghost use Rattle.ang_meaning.specs.Results.{give_others as others_given, outs_of};
+ghost use Rattle.ang_meaning.specs.Told.{Told};
+ghost use Rattle.ang_code.specs.declared.instruction.Instruction.TheVariants.{Return};
+ghost use Rattle.ang_code.specs.Machine.{act, back};
+ghost use Rattle.ang_vm.specs.Stacks.{values};
+ghost use Rattle.ang_vm.specs.Tables.{setting_of, texts_of};
+ghost use Rattle.ang_vm.specs.Legs.{Fits, AllFit, given_by, is_out_passing, left};
+
+use crate::many::give_top;
+use crate::place::{Ending, Place, Standing};
+use crate::stack::{peek, push};
+use crate::store::Store;
+use crate::table::{params_at, Table};
+use ang_code::Frame;
+use ang_meaning::{Passing, Slot};
+
+/// A parameter's value at its body's end: that of an `&out` parameter stays, and any other is given up.
+#[inline(always)]
+fn give_unless_out<S: Store>(passing: Passing, value: Slot, store: &mut S)
+    ensures told { Told (λ is. given_by passing value (with_inputs is (S.world store.old))) (λ is. with_inputs is (S.world store.new)) }
+{
+    match passing {
+        Passing::In => store.give(value),
+        Passing::Out => {}
+        Passing::Object => store.give(value),
+    }
+}
+
+/// The parameters other than `&out` give up their values, the last parameter first.
+pub fn give_others<S: Store>(params: &[Passing], stack: &[Slot], store: &mut S, top: usize)
+    requires enough { length params.now ≤ top }
+    requires within { top ≤ length stack.now }
+    ensures told { Told (λ is. others_given params.now (values stack.now top) (with_inputs is (S.world store.old))) (λ is. with_inputs is (S.world store.new)) }
+{
+    for (i, passing) in params.iter().enumerate() {
+        let value = peek(stack, top - i, 0);
+        give_unless_out(*passing, value, store);
+    }
+}
+
+/// The values of the `&out` parameters move down to where the parameters begin; how many values are in use
+/// then.
+pub fn keep_outs(params: &[Passing], stack: &mut [Slot], top: usize) -> usize
+    requires enough { length params.now ≤ top }
+    requires within { top ≤ length stack.old }
+    ensures kept { values stack.new result ≡ outs_of params.now (values stack.old top) ++ values stack.old (top - length params.now) }
+    ensures fewer { result ≤ top }
+{
+    let count = params.len();
+    let mut kept = top - count;
+    for i in 0..count {
+        if is_out(params[count - 1 - i]) {
+            let value = peek(stack, top - count + i + 1, 0);
+            push(stack, kept, value);
+            kept += 1;
+        }
+    }
+    kept
+}
+
+#[inline(always)]
+fn is_out(passing: Passing) -> bool
+    ensures exact { result ≡ is_out_passing passing }
+{
+    match passing {
+        Passing::In => false,
+        Passing::Out => true,
+        Passing::Object => false,
+    }
+}
+
+/// The innermost caller goes on with a value on top of those in use, or the run ends with it where there is
+/// none.
+fn hand_back<S: Store>(
+    stack: &mut [Slot],
+    frames: &mut Vec<Frame>,
+    store: &mut S,
+    value: Slot,
+    kept: usize,
+    ticks: u64,
+) -> Result<Standing, Ending>
+    requires below { kept < length stack.old }
+    requires callers { AllFit (length stack.old) (reverse frames.old.items) }
+    ensures told { (outs rest : List Slot) → values stack.old kept ≡ outs ++ rest
+        → Told (λ is. back (reverse frames.old.items) value outs rest ticks (with_inputs is (S.world store.old)))
+        (λ is. left result stack.new (reverse frames.new.items) (with_inputs is (S.world store.new))) }
+    ensures fits { IfOk result (λ s. Fits s stack.new frames.new.items) }
+{
+    let Some(caller) = frames.pop() else {
+        give_top(stack, store, kept, kept);
+        return Err(Ending::Gives(value, ticks));
+    };
+    if kept >= caller.room {
+        return Err(Ending::Lost);
+    }
+    push(stack, kept, value);
+    Ok(Standing {
+        body: caller.of,
+        room: caller.room,
+        place: Place {
+            at: caller.at,
+            top: kept + 1,
+            ticks,
+        },
+    })
+}
+
+/// `Return`: the body gives up so many locals and its parameters, and its caller goes on with the top value,
+/// above those of the `&out` parameters.
+pub fn leave_body<S: Store>(
+    table: &Table,
+    stack: &mut [Slot],
+    frames: &mut Vec<Frame>,
+    store: &mut S,
+    from: Standing,
+    count: usize,
+) -> Result<Standing, Ending>
+    requires fits { Fits from stack.old frames.old.items }
+    ensures told { (nesting : ℕ) → Told (λ is. act (setting_of table.now nesting) (texts_of table.now) (Some (Return count)) from.body from.place.at
+        from.room (values stack.old from.place.top) (reverse frames.old.items) from.place.ticks (with_inputs is (S.world store.old)))
+        (λ is. left result stack.new (reverse frames.new.items) (with_inputs is (S.world store.new))) }
+    ensures fits { IfOk result (λ s. Fits s stack.new frames.new.items) }
+{
+    let top = from.place.top;
+    if top == 0 {
+        return Err(Ending::Lost);
+    }
+    if count > top - 1 {
+        return Err(Ending::Lost);
+    }
+    let params = params_at(table, from.body);
+    let base = top - 1 - count;
+    if params.len() > base {
+        return Err(Ending::Lost);
+    }
+    let value = peek(stack, top, 0);
+    give_top(stack, store, top - 1, count);
+    give_others(params, stack, store, base);
+    let kept = keep_outs(params, stack, base);
+    hand_back(stack, frames, store, value, kept, from.place.ticks)
+}
