@@ -2,5 +2,10 @@ pub mod Values
 pub mod Tests
 pub mod Parts
 pub mod Operators
-pub mod Many
-pub mod Doing
+pub mod SeveralGiven
+pub mod TopValues
+pub mod Paths
+pub mod Turning
+pub mod Globals
+pub mod Calling
+pub mod Leaving

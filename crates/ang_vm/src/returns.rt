@@ -1,5 +1,5 @@
 //! Where a body is left.
-ghost use Rattle.std.specs.Prelude.{◌≡◌, ℕ, ◌-◌, ◌<◌, ◌≤◌, ◌++◌, List, length, reverse, Some, IfOk};
+ghost use Rattle.std.specs.Prelude.{◌≡◌, ℕ, ◌+◌, ◌-◌, ◌<◌, ◌≤◌, ◌++◌, List, length, reverse, Some, IfOk};
 ghost use Rattle.ang_meaning.specs.declared.slot.Slot.{Slot};
 ghost use Rattle.ang_meaning.specs.World.{with_inputs};
 ghost use Rattle.ang_meaning.specs.Results.{give_others as others_given, outs_of};
@@ -8,7 +8,7 @@ ghost use Rattle.ang_code.specs.declared.instruction.Instruction.TheVariants.{Re
 ghost use Rattle.ang_code.specs.Machine.{act, back};
 ghost use Rattle.ang_vm.specs.Stacks.{values};
 ghost use Rattle.ang_vm.specs.Tables.{setting_of, texts_of};
-ghost use Rattle.ang_vm.specs.Legs.{Fits, AllFit, given_by, is_out_passing, left};
+ghost use Rattle.ang_vm.specs.Legs.{Fits, AllFit, given_by, with_out, Unmoved, left};
 
 use crate::many::give_top;
 use crate::place::{Ending, Place, Standing};
@@ -42,6 +42,25 @@ pub fn give_others<S: Store>(params: &[Passing], stack: &[Slot], store: &mut S, 
     }
 }
 
+/// A parameter's value at its body's end, where it is one of an `&out` parameter: it moves down on top of the
+/// first `kept` values. How many are in use then.
+#[inline(always)]
+fn keep_if_out(passing: Passing, stack: &mut [Slot], kept: usize, value: Slot) -> usize
+    requires room { kept < length stack.old }
+    ensures kept { values stack.new result ≡ with_out passing value (values stack.old kept) }
+    ensures unmoved { Unmoved stack.old stack.new (kept + 1) }
+    ensures most { result ≤ kept + 1 }
+{
+    match passing {
+        Passing::In => kept,
+        Passing::Out => {
+            push(stack, kept, value);
+            kept + 1
+        }
+        Passing::Object => kept,
+    }
+}
+
 /// The values of the `&out` parameters move down to where the parameters begin; how many values are in use
 /// then.
 pub fn keep_outs(params: &[Passing], stack: &mut [Slot], top: usize) -> usize
@@ -51,26 +70,13 @@ pub fn keep_outs(params: &[Passing], stack: &mut [Slot], top: usize) -> usize
     ensures fewer { result ≤ top }
 {
     let count = params.len();
-    let mut kept = top - count;
+    let base = top - count;
+    let mut kept = base;
     for i in 0..count {
-        if is_out(params[count - 1 - i]) {
-            let value = peek(stack, top - count + i + 1, 0);
-            push(stack, kept, value);
-            kept += 1;
-        }
+        let value = peek(stack, base + i + 1, 0);
+        kept = keep_if_out(params[count - 1 - i], stack, kept, value);
     }
     kept
-}
-
-#[inline(always)]
-fn is_out(passing: Passing) -> bool
-    ensures exact { result ≡ is_out_passing passing }
-{
-    match passing {
-        Passing::In => false,
-        Passing::Out => true,
-        Passing::Object => false,
-    }
 }
 
 /// The innermost caller goes on with a value on top of those in use, or the run ends with it where there is

@@ -169,7 +169,7 @@ pub fn run_call<S: Store>(
     budget: u64,
 ) -> Ending
     ensures ends { Ends (setting_of table.now nesting) (texts_of table.now)
-        (λ is. call_begins (texts_of table.now) budget entry (reverse arguments.items) (with_inputs is (S.world store.old)))
+        (λ is. call_begins (setting_of table.now nesting) (texts_of table.now) budget entry (reverse arguments.items) (with_inputs is (S.world store.old)))
         result (S.world store.new) }
 {
     if budget == 0 {
@@ -189,7 +189,7 @@ pub fn run_initializer<S: Store>(
     ticks: u64,
 ) -> Ending
     ensures ends { Ends (setting_of table.now nesting) (texts_of table.now)
-        (λ is. initializer_begins (texts_of table.now) ticks entry (with_inputs is (S.world store.old)))
+        (λ is. initializer_begins (setting_of table.now nesting) (texts_of table.now) ticks entry (with_inputs is (S.world store.old)))
         result (S.world store.new) }
 {
     run_from(alloc, table, nesting, store, entry, Vec::new(alloc), ticks)

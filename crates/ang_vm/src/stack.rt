@@ -1,5 +1,5 @@
 //! The machine's stack: a slice of which the first `top` places are in use, the top value last.
-ghost use Rattle.std.specs.Prelude.{◌≡◌, ◌<◌, ◌≤◌, ◌+◌, ◌-◌, ◌∷◌, length};
+ghost use Rattle.std.specs.Prelude.{◌≡◌, ◌<◌, ◌≤◌, ◌+◌, ◌-◌, ◌∷◌, length, slice_set};
 ghost use Rattle.ang_meaning.specs.Results.{local_at, local_set, drop_some};
 ghost use Rattle.ang_vm.specs.Stacks.{values};
 
@@ -40,6 +40,7 @@ pub fn poke(stack: &mut [Slot], top: usize, place: usize, value: Slot)
 pub fn push(stack: &mut [Slot], top: usize, value: Slot)
     requires room { top < length stack.old }
     ensures pushed { values stack.new (top + 1) ≡ value ∷ values stack.old top }
+    ensures written { stack.new ≡ slice_set stack.old top value }
 {
     stack[top] = value;
 }

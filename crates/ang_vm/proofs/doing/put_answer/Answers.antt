@@ -1,5 +1,5 @@
 use Rattle.std.proofs.Common.{refl, arith}
-use Rattle.ang_vm.proofs.Doing.{put_value}
+use Rattle.ang_vm.proofs.TopValues.{put_value}
 use Rattle.ang_vm.proofs.doing.put_answer.Goals as goal
 
 pub returns-in-Ok : goal.returns-in-Ok

@@ -1,5 +1,5 @@
 use Rattle.std.proofs.Common.{◌≤◌, ◌<◌, ◌-◌, length, arith}
-use Rattle.ang_vm.proofs.Many.{under_none, under_lost, under_done}
+use Rattle.ang_vm.proofs.SeveralGiven.{under_none, under_lost, under_done}
 use Rattle.ang_vm.proofs.many.drop_under.Goals as goal
 
 pub returns-then-top-eq0 : goal.returns-then-top-eq0

@@ -4,7 +4,7 @@ use Rattle.ang_meaning.specs.Results.{give_back}
 use Rattle.ang_meaning.proofs.Telling.{told_same, told_then}
 use Rattle.ang_code.specs.Machine.{take_some}
 use Rattle.ang_vm.specs.Stacks.{values}
-use Rattle.ang_vm.proofs.Many.{back_turn}
+use Rattle.ang_vm.proofs.SeveralGiven.{back_turn}
 use Rattle.ang_vm.proofs.many.give_lowest_first.Goals as goal
 
 pub loop-given-init : goal.loop-given-init

@@ -3,7 +3,7 @@ use Rattle.ang_meaning.specs.World.{with_inputs}
 use Rattle.ang_meaning.specs.Results.{give_some}
 use Rattle.ang_meaning.proofs.Telling.{told_same, told_then}
 use Rattle.ang_vm.specs.Stacks.{values}
-use Rattle.ang_vm.proofs.Many.{give_turn, give_over}
+use Rattle.ang_vm.proofs.SeveralGiven.{give_turn, give_over}
 use Rattle.ang_vm.proofs.many.give_top.Goals as goal
 
 pub loop-given-init : goal.loop-given-init

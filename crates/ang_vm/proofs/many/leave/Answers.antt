@@ -1,5 +1,5 @@
 use Rattle.std.proofs.Common.{◌≤◌, ◌<◌, length, arith}
-use Rattle.ang_vm.proofs.Many.{leave_lost, leave_done}
+use Rattle.ang_vm.proofs.SeveralGiven.{leave_lost, leave_done}
 use Rattle.ang_vm.proofs.many.leave.Goals as goal
 
 pub returns-then-count-top : goal.returns-then-count-top
