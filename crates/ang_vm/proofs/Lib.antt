@@ -9,3 +9,4 @@ pub mod Turning
 pub mod Globals
 pub mod Calling
 pub mod Leaving
+pub mod Running

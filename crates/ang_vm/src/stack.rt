@@ -12,17 +12,8 @@ pub fn peek(stack: &[Slot], top: usize, place: usize) -> Slot
     requires within { top ≤ length stack.now }
     ensures exact { result ≡ local_at (values stack.now top) place }
 {
-    stack[top - 1 - place]
-}
-
-/// The top value.
-#[inline(always)]
-pub fn top_value(stack: &[Slot], top: usize) -> Slot
-    requires some { 0 < top }
-    requires within { top ≤ length stack.now }
-    ensures split { values stack.now top ≡ result ∷ values stack.now (top - 1) }
-{
-    stack[top - 1]
+    let at = top - 1 - place;
+    stack[at]
 }
 
 /// Puts a value at a place, counted from the top value, which is 0.

@@ -1,0 +1,28 @@
+use Rattle.std.proofs.Common.{◌≡◌, ◌≢◌, ◌<◌, ap, refl, ◌∙◌, arith}
+use Rattle.ang_meaning.specs.Results.{on_test}
+use Rattle.ang_vm.proofs.Turning.{skip_nothing, skip_true, skip_passes, skip_out, skip_null}
+use Rattle.ang_vm.proofs.jumps.skip_if_false.Goals as goal
+
+pub returns-then-here-top-eq0 : goal.returns-then-here-top-eq0
+returns-then-here-top-eq0 c =
+    record { turned = λ t f w is_next. skip_nothing t f c.args.room c.args.here c.args.stack.now w c.requires.in_room c.args.count c.args.size is_next (omega arith) }
+
+pub returns-then-n-ne0 : goal.returns-then-n-ne0
+returns-then-n-ne0 c =
+    record { turned = λ t f w is_next. skip_true t f c.args.room c.args.here c.args.stack.now w c.requires.in_room c.args.count c.args.size is_next c.peek.result (omega arith) c.requires.within c.peek.ensures.exact c.in-Bits.n c.in-Bits.is c.if-n-ne0.true }
+
+pub returns-in-Some : goal.returns-in-Some
+returns-in-Some c =
+    record { turned = λ t f w is_next. skip_passes t f c.args.room c.args.here c.args.stack.now w c.requires.in_room c.args.count c.args.size is_next c.peek.result (omega arith) c.requires.within c.peek.ensures.exact c.in-Bits.n c.in-Some.at c.in-Bits.is (omega arith) c.in-Some.ensures.some.0 }
+
+pub returns-in-None : goal.returns-in-None
+returns-in-None c =
+    record { turned = λ t f w is_next. skip_out t f c.args.room c.args.here c.args.stack.now w c.requires.in_room c.args.count c.args.size is_next c.peek.result (omega arith) c.requires.within c.peek.ensures.exact c.in-Bits.n c.in-Bits.is (omega arith) c.in-None.ensures.none }
+
+pub returns-in-Script : goal.returns-in-Script
+returns-in-Script c =
+    record { turned = λ t f w is_next. skip_null t f c.args.room c.args.here c.args.stack.now w c.requires.in_room c.args.count c.args.size is_next c.peek.result (omega arith) c.requires.within c.peek.ensures.exact (λ bad off on. ap (λ v. on_test v bad off on) c.in-Script.is) }
+
+pub returns-in-Host : goal.returns-in-Host
+returns-in-Host c =
+    record { turned = λ t f w is_next. skip_null t f c.args.room c.args.here c.args.stack.now w c.requires.in_room c.args.count c.args.size is_next c.peek.result (omega arith) c.requires.within c.peek.ensures.exact (λ bad off on. ap (λ v. on_test v bad off on) c.in-Host.is) }
