@@ -18,7 +18,7 @@ use ang_kinds::Fault;
 use ang_meaning::{Callee, Passing, Routine, Slot};
 
 /// Whether a handle is null; a number is not.
-#[tactic(auto, unfolding(ang_meaning::specs::Setting::is_null))] // KEEP
+#[tactic(auto, unfolding(ang_meaning::specs::Setting::is_null))]
 fn is_null(value: Slot) -> bool
     ensures exact { result ≡ is_null_slot value }
 {
@@ -33,7 +33,6 @@ fn is_null(value: Slot) -> bool
 
 /// Whether a parameter misses its object.
 #[inline(always)]
-#[tactic(none)]
 fn misses_object(passing: Passing, value: Slot) -> bool
     ensures exact { result ≡ misses passing value }
 {
@@ -45,7 +44,6 @@ fn misses_object(passing: Passing, value: Slot) -> bool
 }
 
 /// Whether each parameter that wants an object has one among the top values, of which there are enough.
-#[tactic(none)]
 pub fn have_objects(params: &[Passing], stack: &[Slot], top: usize) -> bool
     requires enough { length params.now ≤ top }
     requires within { top ≤ length stack.now }
@@ -61,7 +59,6 @@ pub fn have_objects(params: &[Passing], stack: &[Slot], top: usize) -> bool
 }
 
 /// Room above the values in use for so many more; none where there is no memory for it.
-#[tactic(none)]
 fn reserve(stack: &mut Vec<Slot>, top: usize, height: usize) -> Option<usize>
     requires within { top ≤ length stack.old.items }
     ensures exact { IfSome result (λ room. (room ≡ top + height) × (room ≤ length stack.new.items)) }
@@ -81,7 +78,6 @@ fn reserve(stack: &mut Vec<Slot>, top: usize, height: usize) -> Option<usize>
 ///
 /// # Errors
 /// `Memory` where there is none.
-#[tactic(none)]
 pub fn begin(
     table: &Table,
     body: Routine,
@@ -110,7 +106,6 @@ pub fn begin(
 ///
 /// # Errors
 /// `Null`, `Depth`, `Budget` and `Memory`, the first of them that applies.
-#[tactic(none)]
 pub fn enter_body(
     table: &Table,
     nesting: usize,
@@ -157,7 +152,6 @@ pub fn enter_body(
 ///
 /// # Errors
 /// `Unbound`, `Null`, `Depth`, `Budget` and `Memory`, the first of them that applies.
-#[tactic(none)]
 pub fn enter(
     table: &Table,
     nesting: usize,

@@ -16,7 +16,6 @@ use ang_meaning::Slot;
 
 /// The next instruction's place after one that leaves so many values in use, or why there is none.
 #[inline(always)]
-#[tactic(none)]
 pub fn next(here: Place, went: Result<usize, Stop>) -> Result<Place, Pause>
     requires inside { here.at + 1 < 2 ^ 64 }
     ensures exact { result ≡ next_of here went }
@@ -35,7 +34,6 @@ pub fn next(here: Place, went: Result<usize, Stop>) -> Result<Place, Pause>
 /// The place that so many instructions are passed to, in a text of `size` instructions: none behind the
 /// text's end.
 #[inline(always)]
-#[tactic(none)]
 fn pass(here: Place, count: usize, size: usize) -> Option<usize>
     requires inside { here.at < size }
     ensures some { IfSome result (λ at. (at ≡ here.at + 1 + count) × (at ≤ size)) }
@@ -49,7 +47,6 @@ fn pass(here: Place, count: usize, size: usize) -> Option<usize>
 
 /// `GoOn`: so many instructions are passed.
 #[inline(always)]
-#[tactic(none)]
 pub fn go_on(here: Place, room: usize, count: usize, size: usize) -> Result<Place, Pause>
     requires inside { here.at < size }
     requires in_room { here.top ≤ room }
@@ -64,7 +61,6 @@ pub fn go_on(here: Place, room: usize, count: usize, size: usize) -> Result<Plac
 
 /// `SkipIfFalse`: the top value is taken, and so many instructions are passed where it is false.
 #[inline(always)]
-#[tactic(none)]
 pub fn skip_if_false(
     stack: &[Slot],
     here: Place,
@@ -104,7 +100,6 @@ pub fn skip_if_false(
 
 /// `Tick`: a tick is taken.
 #[inline(always)]
-#[tactic(none)]
 pub fn tick(here: Place, room: usize, size: usize) -> Result<Place, Pause>
     requires inside { here.at < size }
     requires in_room { here.top ≤ room }
@@ -123,7 +118,6 @@ pub fn tick(here: Place, room: usize, size: usize) -> Result<Place, Pause>
 
 /// `Back`: a tick is taken, and the body goes back by so many instructions.
 #[inline(always)]
-#[tactic(none)]
 pub fn go_back(here: Place, room: usize, count: usize, size: usize) -> Result<Place, Pause>
     requires in_room { here.top ≤ room }
     ensures turned { (t : Table) (f : Routine) (stack : List Slot) (w : World)

@@ -22,7 +22,6 @@ use ang_meaning::{HostType, HostUse, Operation, Routine, Slot};
 
 /// A registered entity, where there is one.
 #[inline(always)]
-#[tactic(none)]
 fn entity_at(table: &Table, entity: EntityNo) -> Option<&HostUse>
     ensures exact { (nesting : ℕ) → MatchOption result ((setting_of table.now nesting).host entity.0 ≡ None)
         (λ used. (setting_of table.now nesting).host entity.0 ≡ Some used.now) }
@@ -30,7 +29,6 @@ fn entity_at(table: &Table, entity: EntityNo) -> Option<&HostUse>
     table.entities.get(entity.0 as usize)
 }
 
-#[tactic(none)]
 fn is_handle(given: HostType) -> bool
     ensures exact { result ≡ is_handle_type given }
 {
@@ -42,7 +40,6 @@ fn is_handle(given: HostType) -> bool
 }
 
 /// Whether an entity is asked by a call: a function or method, or a factory.
-#[tactic(none)]
 fn is_called(used: &HostUse) -> bool
     ensures exact { result ≡ is_called_by used.now.role used.now.member used.now.result }
 {
@@ -54,7 +51,6 @@ fn is_called(used: &HostUse) -> bool
 }
 
 /// Whether an entity is a property.
-#[tactic(none)]
 fn is_property(used: &HostUse) -> bool
     ensures exact { result ≡ is_property_role used.now.role }
 {
@@ -67,7 +63,6 @@ fn is_property(used: &HostUse) -> bool
 
 /// One where an entity is asked of an object, and else none.
 #[inline(always)]
-#[tactic(none)]
 fn receivers(used: &HostUse) -> usize
     ensures exact { result ≡ member_count used.now.member }
 {
@@ -75,7 +70,7 @@ fn receivers(used: &HostUse) -> usize
 }
 
 /// How many operands a call of an entity takes; none where it is not asked by a call.
-#[tactic(auto, unfolding(ang_meaning::specs::Setting::is_fit, ang_meaning::specs::Perform::operands))] // KEEP
+#[tactic(auto, unfolding(ang_meaning::specs::Setting::is_fit, ang_meaning::specs::Perform::operands))]
 fn call_operands(table: &Table, entity: EntityNo) -> Option<usize>
     ensures some { (nesting : ℕ) → IfSome result (λ n. (is_fit (setting_of table.now nesting) (Ask entity) ≡ true)
         × (n ≡ operands (setting_of table.now nesting) (Ask entity))) }
@@ -89,7 +84,6 @@ fn call_operands(table: &Table, entity: EntityNo) -> Option<usize>
 }
 
 /// How many receivers a property takes; none where the entity is no property.
-#[tactic(none)]
 fn access_receivers(table: &Table, entity: EntityNo) -> Option<usize>
     ensures some { (nesting : ℕ) → IfSome result (λ n. (may_access ((setting_of table.now nesting).host entity.0) ≡ true)
         × (n ≡ member_count (use_at (setting_of table.now nesting) entity).member)) }
@@ -103,7 +97,7 @@ fn access_receivers(table: &Table, entity: EntityNo) -> Option<usize>
 }
 
 /// How many operands an operation takes; none where it asks no entity, or not in the way of its role.
-#[tactic(auto, unfolding(ang_meaning::specs::Setting::is_fit, ang_meaning::specs::Perform::operands))] // KEEP
+#[tactic(auto, unfolding(ang_meaning::specs::Setting::is_fit, ang_meaning::specs::Perform::operands))]
 pub fn operands_of(table: &Table, operation: Operation) -> Option<usize>
     ensures some { (nesting : ℕ) → IfSome result (λ n. (is_fit (setting_of table.now nesting) operation ≡ true)
         × (n ≡ operands (setting_of table.now nesting) operation)) }
@@ -129,7 +123,6 @@ pub fn operands_of(table: &Table, operation: Operation) -> Option<usize>
 
 /// `Do` of an operation that the store does. The operands are handed over where they stand, so nothing is
 /// copied and no memory is taken.
-#[tactic(none)]
 pub fn do_outside<S: Store>(
     table: &Table,
     body: Routine,
@@ -160,7 +153,6 @@ pub fn do_outside<S: Store>(
 
 /// `Do`: an operation takes its operands from the stack, and puts its value there.
 #[inline(always)]
-#[tactic(none)]
 pub fn do_operation<S: Store>(
     table: &Table,
     body: Routine,
@@ -188,7 +180,6 @@ pub fn do_operation<S: Store>(
 }
 
 /// `SwapGlobal`: the value at the place `under`, brought to the type, and a global change places.
-#[tactic(none)]
 pub fn swap_global<S: Store>(
     body: Routine,
     stack: &mut [Slot],

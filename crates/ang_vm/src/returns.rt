@@ -20,7 +20,6 @@ use ang_meaning::{Passing, Slot};
 
 /// A parameter's value at its body's end: that of an `&out` parameter stays, and any other is given up.
 #[inline(always)]
-#[tactic(none)]
 fn give_unless_out<S: Store>(passing: Passing, value: Slot, store: &mut S)
     ensures told { Told (λ is. given_by passing value (with_inputs is (S.world store.old))) (λ is. with_inputs is (S.world store.new)) }
 {
@@ -32,7 +31,6 @@ fn give_unless_out<S: Store>(passing: Passing, value: Slot, store: &mut S)
 }
 
 /// The parameters other than `&out` give up their values, the last parameter first.
-#[tactic(none)]
 pub fn give_others<S: Store>(params: &[Passing], stack: &[Slot], store: &mut S, top: usize)
     requires enough { length params.now ≤ top }
     requires within { top ≤ length stack.now }
@@ -47,7 +45,6 @@ pub fn give_others<S: Store>(params: &[Passing], stack: &[Slot], store: &mut S, 
 /// A parameter's value at its body's end, where it is one of an `&out` parameter: it moves down on top of the
 /// first `kept` values. How many are in use then.
 #[inline(always)]
-#[tactic(none)]
 fn keep_if_out(passing: Passing, stack: &mut [Slot], kept: usize, value: Slot) -> usize
     requires room { kept < length stack.old }
     ensures kept { values stack.new result ≡ with_out passing value (values stack.old kept) }
@@ -66,7 +63,6 @@ fn keep_if_out(passing: Passing, stack: &mut [Slot], kept: usize, value: Slot) -
 
 /// The values of the `&out` parameters move down to where the parameters begin; how many values are in use
 /// then.
-#[tactic(none)]
 pub fn keep_outs(params: &[Passing], stack: &mut [Slot], top: usize) -> usize
     requires enough { length params.now ≤ top }
     requires within { top ≤ length stack.old }
@@ -85,7 +81,6 @@ pub fn keep_outs(params: &[Passing], stack: &mut [Slot], top: usize) -> usize
 
 /// The innermost caller goes on with a value on top of those in use, or the run ends with it where there is
 /// none.
-#[tactic(none)]
 fn hand_back<S: Store>(
     stack: &mut [Slot],
     frames: &mut Vec<Frame>,
@@ -122,7 +117,6 @@ fn hand_back<S: Store>(
 
 /// `Return`: the body gives up so many locals and its parameters, and its caller goes on with the top value,
 /// above those of the `&out` parameters.
-#[tactic(none)]
 pub fn leave_body<S: Store>(
     table: &Table,
     stack: &mut [Slot],

@@ -23,7 +23,6 @@ use ang_meaning::{Routine, Slot};
 use std::alloc::Global;
 
 /// The run faults: all values in use are given up, the top one first.
-#[tactic(none)]
 fn fail<S: Store>(stack: &Vec<Slot>, store: &mut S, top: usize, fault: Fault) -> Ending
     requires within { top ≤ length stack.now.items }
     ensures told { Told (λ is. faulted fault (values stack.now.items top) (with_inputs is (S.world store.old))) (λ is. Over (outcome result (with_inputs is (S.world store.new)))) }
@@ -33,7 +32,6 @@ fn fail<S: Store>(stack: &Vec<Slot>, store: &mut S, top: usize, fault: Fault) ->
 }
 
 /// The end of a run whose next body does not begin, while so many values are in use.
-#[tactic(none)]
 fn give_up<S: Store>(stack: &Vec<Slot>, store: &mut S, top: usize, stop: Stop) -> Ending
     requires within { top ≤ length stack.now.items }
     ensures told { (frames : List Frame) → Told (λ is. begun (Err stop) top stack.now.items frames (with_inputs is (S.world store.old))) (λ is. Over (outcome result (with_inputs is (S.world store.new)))) }
@@ -45,7 +43,6 @@ fn give_up<S: Store>(stack: &Vec<Slot>, store: &mut S, top: usize, stop: Stop) -
 }
 
 /// The running body, over the whole stack.
-#[tactic(none)]
 fn run_within<S: Store>(
     table: &Table,
     stack: &mut Vec<Slot>,
@@ -68,7 +65,6 @@ fn run_within<S: Store>(
 }
 
 /// The running body is left, over the whole stack.
-#[tactic(none)]
 fn leave_within<S: Store>(
     table: &Table,
     stack: &mut Vec<Slot>,
@@ -87,7 +83,6 @@ fn leave_within<S: Store>(
 }
 
 /// The running body until its next pause, and what that pause is for.
-#[tactic(none)]
 fn leg<S: Store>(
     table: &Table,
     nesting: usize,
@@ -117,7 +112,6 @@ fn leg<S: Store>(
 }
 
 /// Goes on until the run ends.
-#[tactic(none)]
 pub fn run<S: Store>(
     table: &Table,
     nesting: usize,
@@ -141,7 +135,6 @@ pub fn run<S: Store>(
 }
 
 /// Begins a body on a stack of its own and runs it to its end.
-#[tactic(none)]
 fn run_from<S: Store>(
     alloc: Global,
     table: &Table,
@@ -166,7 +159,6 @@ fn run_from<S: Store>(
 
 /// A command's call of a function with these arguments, the first one first, which it takes, and a budget of
 /// ticks; `nesting` functions may stand one inside the other.
-#[tactic(none)]
 pub fn run_call<S: Store>(
     alloc: Global,
     table: &Table,
@@ -188,7 +180,6 @@ pub fn run_call<S: Store>(
 }
 
 /// The body of a global's initializer, whose entry takes no tick.
-#[tactic(none)]
 pub fn run_initializer<S: Store>(
     alloc: Global,
     table: &Table,

@@ -16,7 +16,7 @@ returns-in-Ok c =
     let a = c.in-Ok.altered in
     record {
       acts = λ z code w. change_done z code c.args.room c.args.top c.args.stack.now _ w w deep c.args.place near c.peek-operand.result c.peek-operand.ensures.exact c.args.by c.peek-old.result c.peek-old.ensures.exact c.change_slot.result c.change_slot.ensures.exact a c.in-Ok.is
-          (c.poke-2.ensures.exact ∙ ap (λ s. local_set s 0 (Bits a.given)) c.poke.ensures.exact);
+          (c.poke-in-Ok.ensures.exact ∙ ap (λ s. local_set s 0 (Bits a.given)) c.poke.ensures.exact);
       in_room = c.requires.in_room;
     }
 

@@ -2,8 +2,8 @@ use Rattle.std.proofs.Common.{◌≡◌, ◌<◌, ◌-◌, arith}
 use Rattle.ang_vm.proofs.Turning.{back_taken, back_missed}
 use Rattle.ang_vm.proofs.jumps.go_back.Goals as goal
 
-pub returns-then-here-ticks-eq0 : goal.returns-then-here-ticks-eq0
-returns-then-here-ticks-eq0 c =
+pub returns-then-here-eq0 : goal.returns-then-here-eq0
+returns-then-here-eq0 c =
     record { turned = λ t f stack w is_next. back_missed t f c.args.room c.args.here stack w c.requires.in_room c.args.count c.args.size is_next (omega arith) }
 
 pub returns : goal.returns

@@ -3,8 +3,8 @@ use Rattle.ang_meaning.specs.Results.{on_test}
 use Rattle.ang_vm.proofs.Turning.{skip_nothing, skip_true, skip_passes, skip_out, skip_null}
 use Rattle.ang_vm.proofs.jumps.skip_if_false.Goals as goal
 
-pub returns-then-here-top-eq0 : goal.returns-then-here-top-eq0
-returns-then-here-top-eq0 c =
+pub returns-then-here-eq0 : goal.returns-then-here-eq0
+returns-then-here-eq0 c =
     record { turned = λ t f w is_next. skip_nothing t f c.args.room c.args.here c.args.stack.now w c.requires.in_room c.args.count c.args.size is_next (omega arith) }
 
 pub returns-then-n-ne0 : goal.returns-then-n-ne0

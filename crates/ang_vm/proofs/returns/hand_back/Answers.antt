@@ -8,8 +8,8 @@ use Rattle.ang_vm.proofs.Calling.{no_callers, push_front}
 use Rattle.ang_vm.proofs.Leaving.{back_over, back_lost, back_on}
 use Rattle.ang_vm.proofs.returns.hand_back.Goals as goal
 
-pub returns-else-caller : goal.returns-else-caller
-returns-else-caller g c =
+pub returns-in_default : goal.returns-in_default
+returns-in_default g c =
     let w = g.S.Store.world c.args.store.now in
     let none = no_callers c.args.frames.now.items (omega arith) in
     let deep : c.args.kept ≤ length c.args.stack.now = omega (arith, c.requires.below) in
@@ -19,8 +19,8 @@ returns-else-caller g c =
       fits = tt;
     }
 
-pub returns-then-kept-caller_room : goal.returns-then-kept-caller_room
-returns-then-kept-caller_room g c =
+pub returns-then-kept-caller : goal.returns-then-kept-caller
+returns-then-kept-caller g c =
     let w = g.S.Store.world c.args.store.now in
     let split_frames = ap reverse c.in-Some.ensures.items ∙ push_front c.pop.new.self.items c.in-Some.caller in
     let deep : c.args.kept ≤ length c.args.stack.now = omega (arith, c.requires.below) in
