@@ -66,12 +66,13 @@ fn reserve(stack: &mut Vec<Slot>, top: usize, height: usize) -> Option<usize>
     ensures grows { length stack.old.items ≤ length stack.new.items }
 {
     let room = top.checked_add(height)?;
-    if room > stack.len() {
-        if stack.resize(room, Slot::Bits(0)).is_err() {
-            return None;
-        }
+    if room <= stack.len() {
+        return Some(room);
     }
-    Some(room)
+    match stack.resize(room, Slot::Bits(0)) {
+        Ok(()) => Some(room),
+        Err(_) => None,
+    }
 }
 
 /// A body begins, where there is memory for its frame.
@@ -142,10 +143,10 @@ pub fn enter_body(
         at: from.place.at + 1,
         room: from.room,
     };
-    if frames.push(caller).is_err() {
-        return Err(Stop::Fails(Fault::Memory));
+    match frames.push(caller) {
+        Ok(()) => begin(table, body, stack, top, from.place.ticks - 1),
+        Err(_) => Err(Stop::Fails(Fault::Memory)),
     }
-    begin(table, body, stack, top, from.place.ticks - 1)
 }
 
 /// `Enter`: the function that a call names is entered.

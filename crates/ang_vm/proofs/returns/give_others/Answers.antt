@@ -1,0 +1,21 @@
+use Rattle.std.proofs.Common.{◌≡◌, ◌≤◌, ◌<◌, ◌+◌, ◌-◌, length, drop, sym, ap, ◌∙◌, refl, arith}
+use Rattle.ang_meaning.specs.World.{with_inputs}
+use Rattle.ang_meaning.specs.Results.{give_others}
+use Rattle.ang_meaning.proofs.Telling.{told_same, told_then}
+use Rattle.ang_vm.specs.Stacks.{values}
+use Rattle.ang_vm.proofs.Calling.{none_left}
+use Rattle.ang_vm.proofs.Leaving.{others_turn}
+use Rattle.ang_vm.proofs.returns.give_others.Goals as goal
+
+pub loop-i-init : goal.loop-i-init
+loop-i-init g c = told_same (λ is. refl)
+
+pub loop-i-preserved : goal.loop-i-preserved
+loop-i-preserved g c =
+    told_then c.loop-i.invariant
+    (others_turn c.args.params.now c.args.stack.now c.args.top c.loop-i.i c.loop-i-item.result c.peek-value.result (g.S.Store.world c.loop-i.store) (g.S.Store.world c.give_unless_out.new.store) (omega arith) c.requires.enough c.requires.within c.loop-i-item.is c.peek-value.ensures.exact c.give_unless_out.ensures.told)
+
+pub returns : goal.returns
+returns g c =
+    let w = g.S.Store.world c.loop-i.store in
+    record { told = told_then c.loop-i.invariant (told_same (λ is. ap (λ ps. give_others ps (values c.args.stack.now (c.args.top - c.loop-i.i)) (with_inputs is w)) (none_left c.args.params.now c.loop-i.i (omega arith)))) }
