@@ -138,17 +138,19 @@ pub fn do_outside<S: Store>(
         (S.world store.old) result stack.new (S.world store.new) }
     ensures in_room { IfOk result (λ n. n ≤ room) }
 {
-    let Some(count) = operands_of(table, operation) else {
-        return Err(Stop::Lost);
-    };
-    if count > top {
-        return Err(Stop::Lost);
+    match operands_of(table, operation) {
+        None => Err(Stop::Lost),
+        Some(count) => {
+            if count > top {
+                return Err(Stop::Lost);
+            }
+            if top - count >= room {
+                return Err(Stop::Lost);
+            }
+            let answer = store.perform(table, body.home, operation, &stack[top - count..top]);
+            put_answer(stack, top, count, answer)
+        }
     }
-    if top - count >= room {
-        return Err(Stop::Lost);
-    }
-    let answer = store.perform(table, body.home, operation, &stack[top - count..top]);
-    put_answer(stack, top, count, answer)
 }
 
 /// `Do`: an operation takes its operands from the stack, and puts its value there.

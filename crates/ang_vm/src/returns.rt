@@ -96,23 +96,27 @@ fn hand_back<S: Store>(
         (λ is. left result stack.new (reverse frames.new.items) (with_inputs is (S.world store.new))) }
     ensures fits { IfOk result (λ s. Fits s stack.new frames.new.items) }
 {
-    let Some(caller) = frames.pop() else {
-        give_top(stack, store, kept, kept);
-        return Err(Ending::Gives(value, ticks));
-    };
-    if kept >= caller.room {
-        return Err(Ending::Lost);
+    match frames.pop() {
+        None => {
+            give_top(stack, store, kept, kept);
+            Err(Ending::Gives(value, ticks))
+        }
+        Some(caller) => {
+            if kept >= caller.room {
+                return Err(Ending::Lost);
+            }
+            push(stack, kept, value);
+            Ok(Standing {
+                body: caller.of,
+                room: caller.room,
+                place: Place {
+                    at: caller.at,
+                    top: kept + 1,
+                    ticks,
+                },
+            })
+        }
     }
-    push(stack, kept, value);
-    Ok(Standing {
-        body: caller.of,
-        room: caller.room,
-        place: Place {
-            at: caller.at,
-            top: kept + 1,
-            ticks,
-        },
-    })
 }
 
 /// `Return`: the body gives up so many locals and its parameters, and its caller goes on with the top value,

@@ -5,11 +5,11 @@ use Rattle.ang_vm.proofs.TopValues.{do_unfit, do_short, do_full, do_told, room_l
 use Rattle.ang_vm.proofs.Values.{values_above}
 use Rattle.ang_vm.proofs.outside.do_outside.Goals as goal
 
-pub returns-in_default : goal.returns-in_default
-returns-in_default g c =
+pub returns-in-None : goal.returns-in-None
+returns-in-None g c =
     let w = g.S.Store.world c.args.store.now in
     let deep : c.args.top ≤ length c.args.stack.now = omega (arith, c.requires.in_room, c.requires.within) in
-    record { acts = λ nesting code. do_unfit (setting_of c.args.table.now nesting) code c.args.operation c.args.room c.args.top c.args.stack.now c.args.stack.now w deep (c.in_default.ensures.none nesting) c.args.body; in_room = tt }
+    record { acts = λ nesting code. do_unfit (setting_of c.args.table.now nesting) code c.args.operation c.args.room c.args.top c.args.stack.now c.args.stack.now w deep (c.in-None.ensures.none nesting) c.args.body; in_room = tt }
 
 pub returns-then-count-top : goal.returns-then-count-top
 returns-then-count-top g c =
@@ -23,8 +23,8 @@ returns-then-top-room g c =
     let deep : c.args.top ≤ length c.args.stack.now = omega (arith, c.requires.in_room, c.requires.within) in
     record { acts = λ nesting code. let h = c.in-Some.ensures.some nesting in do_full (setting_of c.args.table.now nesting) code c.args.operation c.args.room c.args.top c.args.stack.now c.args.stack.now w deep h.0 c.in-Some.count (sym h.1) (omega arith) (omega arith) c.args.body; in_room = tt }
 
-pub returns : goal.returns
-returns g c =
+pub returns-in-Some : goal.returns-in-Some
+returns-in-Some g c =
     let w = g.S.Store.world c.args.store.now in
     let deep : c.args.top ≤ length c.args.stack.now = omega (arith, c.requires.in_room, c.requires.within) in
     let n = c.in-Some.count in

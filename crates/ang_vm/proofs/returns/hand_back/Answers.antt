@@ -8,10 +8,10 @@ use Rattle.ang_vm.proofs.Calling.{no_callers, push_front}
 use Rattle.ang_vm.proofs.Leaving.{back_over, back_lost, back_on}
 use Rattle.ang_vm.proofs.returns.hand_back.Goals as goal
 
-pub returns-in_default : goal.returns-in_default
-returns-in_default g c =
+pub returns-in-None : goal.returns-in-None
+returns-in-None g c =
     let w = g.S.Store.world c.args.store.now in
-    let none = no_callers c.args.frames.now.items (omega arith) in
+    let none = no_callers c.args.frames.now.items (omega (arith, c.in-None.ensures.cases.0)) in
     let deep : c.args.kept ≤ length c.args.stack.now = omega (arith, c.requires.below) in
     record {
       told = λ outs rest split. told_then (told_same (λ is. ap (λ fr. back fr c.args.value outs rest c.args.ticks (with_inputs is w)) none))
@@ -30,8 +30,8 @@ returns-then-kept-caller g c =
       fits = tt;
     }
 
-pub returns : goal.returns
-returns g c =
+pub returns-in-Some : goal.returns-in-Some
+returns-in-Some g c =
     let w = g.S.Store.world c.args.store.now in
     let split_frames = ap reverse c.in-Some.ensures.items ∙ push_front c.pop.new.self.items c.in-Some.caller in
     let deep : c.args.kept ≤ length c.args.stack.now = omega (arith, c.requires.below) in
