@@ -1,4 +1,5 @@
 use Rattle.std.proofs.Common.{◌≡◌, ◌+◌, ◌-◌, ◌<◌, length, drop, sym, ap, ◌∙◌, refl, cond, false, arith}
+use Rattle.std.proofs.lemmas.List.{get_or_default}
 use Rattle.ang_meaning.specs.Setting.{has_objects}
 use Rattle.ang_vm.specs.Stacks.{values}
 use Rattle.ang_vm.proofs.Calling.{objects_turn, none_left}
@@ -12,7 +13,7 @@ returns-then-misses_object c =
     let i = c.loop-i.i in
     let rest = has_objects (drop (i + 1) c.args.params.now) (values c.args.stack.now (c.args.top - (i + 1))) in
     record {
-      exact = sym (c.loop-i.invariant ∙ objects_turn c.args.params.now c.args.stack.now c.args.top i c.loop-i-item.result c.peek-value.result (omega arith) c.requires.enough c.requires.within c.loop-i-item.is c.peek-value.ensures.exact
+      exact = sym (c.loop-i.invariant ∙ objects_turn c.args.params.now c.args.stack.now c.args.top i _ c.peek-value.result (omega arith) c.requires.enough c.requires.within (get_or_default c.args.params.now i _ _ (omega arith)) c.peek-value.ensures.exact
           ∙ ap (λ b. cond b false rest) (sym c.misses_object.ensures.exact ∙ c.if-misses_object.true));
     }
 
@@ -20,7 +21,7 @@ pub loop-i-preserved : goal.loop-i-preserved
 loop-i-preserved c =
     let i = c.loop-i.i in
     let rest = has_objects (drop (i + 1) c.args.params.now) (values c.args.stack.now (c.args.top - (i + 1))) in
-    c.loop-i.invariant ∙ objects_turn c.args.params.now c.args.stack.now c.args.top i c.loop-i-item.result c.peek-value.result (omega arith) c.requires.enough c.requires.within c.loop-i-item.is c.peek-value.ensures.exact
+    c.loop-i.invariant ∙ objects_turn c.args.params.now c.args.stack.now c.args.top i _ c.peek-value.result (omega arith) c.requires.enough c.requires.within (get_or_default c.args.params.now i _ _ (omega arith)) c.peek-value.ensures.exact
     ∙ ap (λ b. cond b false rest) (sym c.misses_object.ensures.exact ∙ c.if-misses_object.false)
 
 pub returns : goal.returns

@@ -1,4 +1,5 @@
 use Rattle.std.proofs.Common.{◌≡◌, ◌≤◌, ◌<◌, ◌+◌, ◌-◌, length, drop, sym, ap, ◌∙◌, refl, arith}
+use Rattle.std.proofs.lemmas.List.{get_or_default}
 use Rattle.ang_meaning.specs.World.{with_inputs}
 use Rattle.ang_meaning.specs.Results.{give_others}
 use Rattle.ang_meaning.proofs.Telling.{told_same, told_then}
@@ -13,7 +14,7 @@ loop-i-init g c = told_same (λ is. refl)
 pub loop-i-preserved : goal.loop-i-preserved
 loop-i-preserved g c =
     told_then c.loop-i.invariant
-    (others_turn c.args.params.now c.args.stack.now c.args.top c.loop-i.i c.loop-i-item.result c.peek-value.result (g.S.Store.world c.loop-i.store) (g.S.Store.world c.give_unless_out.new.store) (omega arith) c.requires.enough c.requires.within c.loop-i-item.is c.peek-value.ensures.exact c.give_unless_out.ensures.told)
+    (others_turn c.args.params.now c.args.stack.now c.args.top c.loop-i.i _ c.peek-value.result (g.S.Store.world c.loop-i.store) (g.S.Store.world c.give_unless_out.new.store) (omega arith) c.requires.enough c.requires.within (get_or_default c.args.params.now c.loop-i.i _ _ (omega arith)) c.peek-value.ensures.exact c.give_unless_out.ensures.told)
 
 pub returns : goal.returns
 returns g c =

@@ -1,4 +1,5 @@
 use Rattle.std.proofs.Common.{◌≡◌, ◌≤◌, ◌<◌, ◌+◌, ◌-◌, ◌++◌, length, drop, sym, ap, ◌∙◌, refl, arith}
+use Rattle.std.proofs.lemmas.List.{get_or_default}
 use Rattle.ang_meaning.specs.Results.{outs_of}
 use Rattle.ang_vm.specs.Stacks.{values}
 use Rattle.ang_vm.proofs.Leaving.{kept_none, kept_turn}
@@ -10,7 +11,7 @@ loop-i-init c = kept_none c.args.params.now c.args.stack.now (c.args.top - lengt
 pub loop-i-preserved : goal.loop-i-preserved
 loop-i-preserved c =
     let base = c.args.top - length c.args.params.now in
-    kept_turn c.args.params.now c.args.stack.now c.loop-i.stack c.keep_if_out.new.stack base c.loop-i.i c.loop-i.kept c.keep_if_out.result _ c.peek-value.result (omega arith) (omega (arith, c.requires.enough, c.requires.within)) c.loop-i.auto.stack refl c.peek-value.ensures.exact c.loop-i.invariant
+    kept_turn c.args.params.now c.args.stack.now c.loop-i.stack c.keep_if_out.new.stack base c.loop-i.i c.loop-i.kept c.keep_if_out.result _ c.peek-value.result (omega arith) (omega (arith, c.requires.enough, c.requires.within)) c.loop-i.auto.stack (get_or_default c.args.params.now (length c.args.params.now - 1 - c.loop-i.i) _ _ (omega arith)) c.peek-value.ensures.exact c.loop-i.invariant
     c.keep_if_out.ensures.kept c.keep_if_out.ensures.unmoved c.keep_if_out.ensures.most
 
 pub returns : goal.returns
