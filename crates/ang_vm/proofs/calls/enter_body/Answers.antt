@@ -56,7 +56,7 @@ returns-then-len-nesting c =
     let objects = ap (λ ps. has_objects ps (values stack f.place.top)) (sym (c.params_at-params.ensures.exact c.args.nesting)) ∙ sym (ap (λ l. has_objects c.params_at-params.result.now (values l f.place.top)) c.as_slice.ensures.value) ∙ sym c.have_objects.ensures.exact ∙ c.if-not-have_objects.false in
     let callers = length-reverse c.args.frames.now.items in
     record {
-      told = λ w. told_same (λ is. enters_deep z code c.args.body stack f.place.top frames (caller_at f) f.place.ticks deep few objects (omega (arith, callers, c.len-2.ensures)) (with_inputs is w));
+      told = λ w. told_same (λ is. enters_deep z code c.args.body stack f.place.top frames (caller_at f) f.place.ticks deep few objects (omega (arith, callers, c.len-2.ensures, c.args.frames.now.ok.0)) (with_inputs is w));
       fits = tt;
       grows = omega arith;
     }
@@ -73,7 +73,7 @@ returns-then-from-eq0 c =
     let few : length (params_of z c.args.body) ≤ f.place.top = omega (arith, count) in
     let objects = ap (λ ps. has_objects ps (values stack f.place.top)) (sym (c.params_at-params.ensures.exact c.args.nesting)) ∙ sym (ap (λ l. has_objects c.params_at-params.result.now (values l f.place.top)) c.as_slice.ensures.value) ∙ sym c.have_objects.ensures.exact ∙ c.if-not-have_objects.false in
     let callers = length-reverse c.args.frames.now.items in
-    let nests : length frames + 1 < c.args.nesting = omega (arith, callers, c.len-2.ensures) in
+    let nests : length frames + 1 < c.args.nesting = omega (arith, callers, c.len-2.ensures, c.args.frames.now.ok.0) in
     record {
       told = λ w. told_same (λ is. enters_spent z code c.args.body stack f.place.top frames (caller_at f) f.place.ticks deep few objects nests (omega arith) (with_inputs is w));
       fits = tt;
@@ -92,7 +92,7 @@ returns-in-Err c =
     let few : length (params_of z c.args.body) ≤ f.place.top = omega (arith, count) in
     let objects = ap (λ ps. has_objects ps (values stack f.place.top)) (sym (c.params_at-params.ensures.exact c.args.nesting)) ∙ sym (ap (λ l. has_objects c.params_at-params.result.now (values l f.place.top)) c.as_slice.ensures.value) ∙ sym c.have_objects.ensures.exact ∙ c.if-not-have_objects.false in
     let callers = length-reverse c.args.frames.now.items in
-    let nests : length frames + 1 < c.args.nesting = omega (arith, callers, c.len-2.ensures) in
+    let nests : length frames + 1 < c.args.nesting = omega (arith, callers, c.len-2.ensures, c.args.frames.now.ok.0) in
     record {
       told = λ w. told_then (told_same (λ is. enters_begins z code c.args.body stack f.place.top frames (caller_at f) f.place.ticks deep few objects nests (omega arith) (with_inputs is w))) (begins_refused code c.args.body stack f.place.top (caller_at f ∷ frames) (f.place.ticks - 1) w stack refl);
       fits = tt;
@@ -111,7 +111,7 @@ returns-in-Ok c =
     let few : length (params_of z c.args.body) ≤ f.place.top = omega (arith, count) in
     let objects = ap (λ ps. has_objects ps (values stack f.place.top)) (sym (c.params_at-params.ensures.exact c.args.nesting)) ∙ sym (ap (λ l. has_objects c.params_at-params.result.now (values l f.place.top)) c.as_slice.ensures.value) ∙ sym c.have_objects.ensures.exact ∙ c.if-not-have_objects.false in
     let callers = length-reverse c.args.frames.now.items in
-    let nests : length frames + 1 < c.args.nesting = omega (arith, callers, c.len-2.ensures) in
+    let nests : length frames + 1 < c.args.nesting = omega (arith, callers, c.len-2.ensures, c.args.frames.now.ok.0) in
     let pushed : reverse c.push.new.self.items ≡ caller_at f ∷ frames = ap reverse c.in-Ok.ensures.items ∙ push_front c.args.frames.now.items (caller_at f) in
     record {
       told = λ w. told_then (told_same (λ is. enters_begins z code c.args.body stack f.place.top frames (caller_at f) f.place.ticks deep few objects nests (omega arith) (with_inputs is w) ∙ ap (λ fr. begins code c.args.body (values stack f.place.top) fr (f.place.ticks - 1) (with_inputs is w)) (sym pushed))) (c.begin.ensures.told (reverse c.push.new.self.items) w);

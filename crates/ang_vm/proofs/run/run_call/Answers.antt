@@ -15,7 +15,7 @@ returns-then-budget-eq0 g c =
     let code = texts_of c.args.table.now in
     let w = g.S.Store.world c.args.store.now in
     let s = reverse c.args.arguments.items in
-    let all = all_values c.args.arguments.items c.len-held.result c.len-held.ensures in
+    let all = all_values c.args.arguments.items c.len-held.result (omega (arith, c.len-held.ensures, c.args.arguments.ok.0)) in
     record {
       ends = whole_ends z code (λ is. call_begins z code c.args.budget c.args.entry s (with_inputs is w)) c.fail.result (g.S.Store.world c.fail.new.store)
           (reach_told z code (told_then (told_same (λ is. call_spent z code c.args.budget c.args.entry s (with_inputs is w) (omega arith) ∙ ap (λ x. fault Budget x (with_inputs is w)) (sym all))) c.fail.ensures.told));
