@@ -12,7 +12,7 @@ ghost use Rattle.ang_vm.specs.Legs.{Fits, begun, caller_at, misses};
 use crate::place::{Place, Standing};
 use crate::stack::peek;
 use crate::stop::Stop;
-use crate::table::{callee_of, height_at, params_at, Table};
+use crate::table::{Table, callee_of, height_at, params_at};
 use ang_code::Frame;
 use ang_kinds::Fault;
 use ang_meaning::{Callee, Passing, Routine, Slot};

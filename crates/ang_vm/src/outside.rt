@@ -9,9 +9,7 @@ ghost use Rattle.ang_vm.specs.Tables.{setting_of};
 ghost use Rattle.ang_vm.specs.Arms.{ActsIn};
 
 use crate::arms::bring;
-use crate::doing::{
-    do_compare, do_complement, do_convert, do_negate, do_not, do_work, put_answer,
-};
+use crate::doing::{do_compare, do_complement, do_convert, do_negate, do_not, do_work, put_answer};
 use crate::stack::{peek, poke};
 use crate::stop::Stop;
 use crate::store::Store;

@@ -14,7 +14,7 @@ use crate::many::give_top;
 use crate::place::{Ending, Place, Standing};
 use crate::stack::{peek, push};
 use crate::store::Store;
-use crate::table::{params_at, Table};
+use crate::table::{Table, params_at};
 use ang_code::Frame;
 use ang_meaning::{Passing, Slot};
 

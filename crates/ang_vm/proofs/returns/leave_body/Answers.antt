@@ -57,8 +57,8 @@ returns g c =
     record {
       told = λ nesting. told_then
           (leaves_on (setting_of c.args.table.now nesting) (texts_of c.args.table.now) f.body f.place.at f.room c.args.stack.now f.place.top c.args.count (reverse c.args.frames.now.items) f.place.ticks deep
-            c.peek-value.result (omega arith) c.peek-value.ensures.exact c.params_at-params.result.now (g.S.Store.world c.args.store.now) (g.S.Store.world c.give_top.new.store) (g.S.Store.world c.give_others.new.store) outs rest
-            (c.params_at-params.ensures.exact nesting) (omega arith) c.give_top.ensures.told c.give_others.ensures.told refl refl)
+          c.peek-value.result (omega arith) c.peek-value.ensures.exact c.params_at-params.result.now (g.S.Store.world c.args.store.now) (g.S.Store.world c.give_top.new.store) (g.S.Store.world c.give_others.new.store) outs rest
+          (c.params_at-params.ensures.exact nesting) (omega arith) c.give_top.ensures.told c.give_others.ensures.told refl refl)
           (c.hand_back.ensures.told outs rest c.keep_outs-kept.ensures.kept);
       fits = c.hand_back.ensures.fits;
     }
