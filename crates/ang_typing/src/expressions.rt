@@ -1,7 +1,7 @@
 //! The typing of expressions.
 ghost use Rattle.std.specs.Prelude.{◌≡◌, IfOk, ◌++◌, ◌∷◌, []};
 ghost use Rattle.ang_tree.specs.View as trees;
-ghost use Rattle.ang_operators.specs.Refusals.{Gives, both_typed};
+ghost use Rattle.ang_operators.specs.Refusals.{Gives};
 ghost use Rattle.ang_typing.specs.Typing as spec;
 ghost use Rattle.ang_operators.specs.View.{view_operand, view_operands};
 
@@ -43,20 +43,11 @@ pub fn typing_of_all(
     Ok(found)
 }
 
-#[cycle(typing)]
-fn branches(
-    alloc: Global,
-    setting: &Setting<'_>,
-    pairs: &[Pair<'_>],
-    then: &Expression,
-    otherwise: &Expression,
-) -> Result<Branches, Stop>
-    ensures exact { Gives (λ b. (view_operand b.«then», view_operand b.otherwise)) result
-        (both_typed (spec.typing_of setting.now pairs.now (trees.view_expr «then».now)) (spec.typing_of setting.now pairs.now (trees.view_expr otherwise.now))) }
-{
-    let then = typing(alloc, setting, pairs, then)?;
-    let otherwise = typing(alloc, setting, pairs, otherwise)?;
-    Ok(Branches { then, otherwise })
+/// The first two operands of a `?:`, while the third is typed.
+#[derive(Drop)]
+struct Asked {
+    condition: Operand,
+    then: Operand,
 }
 
 /// The type and the resolved tree of an expression, with these parameters and locals alive, the innermost last.
@@ -119,7 +110,11 @@ pub fn typing(
             ..
         } => {
             let condition = typing(alloc, setting, pairs, condition)?;
-            let branches = branches(alloc, setting, pairs, then, otherwise)?;
+            let then = typing(alloc, setting, pairs, then)?;
+            let asked = Asked { condition, then };
+            let otherwise = typing(alloc, setting, pairs, otherwise)?;
+            let Asked { condition, then } = asked;
+            let branches = Branches { then, otherwise };
             conditional(alloc, setting.lineage(), condition, branches)
         }
         Expression::Assignment {
