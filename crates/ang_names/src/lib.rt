@@ -16,6 +16,7 @@ mod phase;
 mod resolved;
 mod taken;
 
+pub use ang_kinds::Unbuilt;
 pub use ang_written::{
     HostFunction, HostGlobal, error_at, is_read_only, text_at, type_of, value_type_of,
     view_functions_named, view_global_named,

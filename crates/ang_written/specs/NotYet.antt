@@ -1,6 +1,6 @@
 -- Declarations beyond what is built so far (docs/LANGUAGE.md, "What is built so far"; what comes when is this profile's own):
--- classes, interfaces and imports, and declarations that use object types, host functions that take or give objects, handles,
--- `this`, `null`, `cast`, `is`, `!is` or a member.
+-- classes, interfaces and imports, and declarations that use object types, host functions that give objects, handles, `this`,
+-- `null`, `cast`, `is`, `!is` or a member. A function that takes an object is none of these: no argument that is built is one.
 use Rattle.std.specs.Prelude.{◌≡◌, ℕ, Bool, true, false, ◌&&◌, ◌||◌, bytes_eq, is_some, List, [], ◌∷◌, Option, Some, None}
 use Rattle.std.specs.List.{list_any, flat_map}
 use Rattle.ang_kinds.specs.declared.error.Error.{Error}
@@ -8,7 +8,6 @@ use Rattle.ang_kinds.specs.declared.error.ErrorKind.TheVariants as kind
 use Rattle.ang_lex.specs.declared.token.Token.{Token}
 use Rattle.ang_lex.specs.declared.token.TokenKind.{TokenKind}
 use Rattle.ang_lex.specs.declared.token.TokenKind.TheVariants as k
-use Rattle.ang_kinds.specs.declared.types.Signature.{Signature}
 use Rattle.ang_kinds.specs.declared.types.TypeRef.{TypeRef}
 use Rattle.ang_kinds.specs.declared.types.TypeRef.TheVariants as ref
 use Rattle.ang_registry.specs.declared.entry.Entry.{Entry}
@@ -63,19 +62,16 @@ BeginsWith t ts = (rest : List Token) × (ts ≡ t ∷ rest)
 abbrev pub beyond : Decl → Error
 beyond d = fault_at kind.NotYet (first_token d).place
 
--- ---- host functions that take or give objects
+-- ---- host functions that give objects
 
 abbrev pub is_object : TypeRef → Bool
 is_object ref.Void = false
 is_object (ref.Plain p) = false
 is_object (ref.Object own s o h) = true
 
-abbrev pub has_objects : Signature → Bool
-has_objects s = is_object s.result || list_any (λ p. is_object p.ty) s.params
-
 abbrev pub is_object_function : List ℕ → Option Entry → Bool
 is_object_function called None = false
-is_object_function called (Some x) = is_function x.kind && bytes_eq x.signature.name called && has_objects x.signature
+is_object_function called (Some x) = is_function x.kind && bytes_eq x.signature.name called && is_object x.signature.result
 
 -- ---- declarations
 
@@ -90,7 +86,7 @@ module _ (V : RegistrationList) (text : List ℕ) where
   unfoldable pub is_host_type : Token → Bool
   is_host_type t = is_some (type_named V (text_of text t))
 
-  -- some function of this name that the view has takes or gives objects
+  -- some function of this name that the view has gives an object
   unfoldable pub is_object_call : Token → Bool
   is_object_call t = list_any (is_object_function (text_of text t)) V
 

@@ -1,6 +1,6 @@
 //! Declarations beyond what is built so far: classes, interfaces and imports, and declarations that use
-//! object types, host functions that take or give objects, handles, `this`, `null`, `cast`, `is`, `!is` or a
-//! member.
+//! object types, host functions that give objects, handles, `this`, `null`, `cast`, `is`, `!is` or a member. A
+//! function that takes an object is none of these: no argument that is built is one, so no call means it.
 ghost use Rattle.std.specs.Prelude.{◌≡◌, ◌++◌, IfOk, OnOk, Some, map as list_map};
 ghost use Rattle.std.specs.List.{list_any};
 ghost use Rattle.ang_registry.specs.Registration.{entry_at};
@@ -11,7 +11,7 @@ ghost use Rattle.ang_written.specs.Sources.{source_of};
 
 use crate::sources::{fault_at, text_at};
 use crate::types::type_number;
-use ang_kinds::{EntityNo, Error, ErrorKind, Param, Signature, TypeRef};
+use ang_kinds::{EntityNo, Error, ErrorKind, TypeRef};
 use ang_lex::{Token, TokenKind};
 use ang_registry::{Entry, EntryKind, View};
 use ang_tree::{
@@ -36,25 +36,13 @@ fn is_object(ty: &TypeRef) -> bool
     }
 }
 
-fn takes_objects(params: &[Param]) -> bool
-    ensures exact { result ≡ list_any (λ p. spec.is_object p.ty) params.now }
-{
-    params.iter().any(|param| is_object(&param.ty))
-}
-
-/// Whether a signature takes or gives objects.
-fn has_objects(signature: &Signature) -> bool
-    ensures exact { result ≡ spec.has_objects signature.now }
-{
-    is_object(&signature.result) || takes_objects(signature.params.as_slice())
-}
-
+/// Whether a host entry is a function of this name that gives an object.
 fn is_object_function(entry: &Entry, name: &[u8]) -> bool
     ensures exact { result ≡ spec.is_object_function name.now (Some entry.now) }
 {
     matches!(entry.kind, EntryKind::Function)
         && entry.signature.name.as_slice() == name
-        && has_objects(&entry.signature)
+        && is_object(&entry.signature.result)
 }
 
 fn is_object_function_at(view: &View, number: EntityNo, name: &[u8]) -> bool
@@ -66,7 +54,7 @@ fn is_object_function_at(view: &View, number: EntityNo, name: &[u8]) -> bool
     }
 }
 
-/// Whether some function of this name that the module sees takes or gives objects.
+/// Whether some function of this name that the module sees gives an object.
 fn names_object_function(view: &View, name: &[u8]) -> bool
     ensures exact { result ≡ list_any (spec.is_object_function name.now) view.now }
 {
