@@ -1,13 +1,17 @@
--- The errors of declarations, read off their lists from the left.
-use Rattle.std.proofs.Common.{◌<◌, ◌+◌, length, get_or, take, drop, ◌≡◌, ap, sym, ◌∙◌, ℕ, List, [], ◌∷◌, ◌++◌, append_assoc, Option, Some, None}
-use Rattle.std.specs.Prelude.{option_to_list}
-use Rattle.std.proofs.lemmas.List.{take_more}
+-- What declarations build to, read off their lists from the left.
+use Rattle.std.proofs.Common.{◌≡◌, ◌≢◌, refl, ◌<◌, ◌+◌, length, get_or, drop, ap, sym, ◌∙◌, ℕ, List, [], ◌∷◌, ◌++◌, append_assoc, Option, Some, None}
+use Rattle.std.specs.Prelude.{Err}
 use Rattle.ang_kinds.specs.declared.error.Error.{Error}
 use Rattle.ang_registry.specs.Registration.{RegistrationList}
 use Rattle.ang_build.specs.declared.program.HostCall.{HostCall}
 use Rattle.ang_build.specs.declared.script.Statement.{Statement}
 use Rattle.ang_build.specs.declared.script.Declaration.{Declaration}
-use Rattle.ang_build.specs.Build.{name_error, name_errors, statement_error, body_error, first_of, resolved_statement, resolved_body}
+use Rattle.ang_kinds.specs.declared.error.Unbuilt.{Unbuilt}
+use Rattle.ang_kinds.specs.declared.error.Unbuilt.TheVariants as unbuilt
+use Rattle.ang_written.specs.Sources.{Source, first_of}
+use Rattle.ang_names.specs.Phases.{IsRefused}
+use Rattle.ang_build.specs.Build.{Errors, statement_error, body_error, resolved_statement, resolved_body, after_declaring}
+use Rattle.ang_build.specs.Answer.{IsBuilt}
 use Rattle.ang_build.proofs.Items.{drop-item}
 
 pub body_error-found : (V : RegistrationList) (ds : List Declaration) (ss : List Statement) (i : ℕ) (s : Statement) (e : Error)
@@ -31,15 +35,8 @@ more_calls V ss i s was now call h lt is k e =
     ∙ sym (append_assoc was (resolved_statement V s) (resolved_body V (drop (i + 1) ss)))
     ∙ ap (λ xs. xs ++ resolved_body V (drop (i + 1) ss)) (ap (λ xs. was ++ xs) (sym k) ∙ sym e)
 
--- the error of one more name
-pub more_names : (V : RegistrationList) (ds : List Declaration) (i : ℕ) (d : Declaration) (was now : List Error) (o : Option Error)
-    → name_errors V [] ds ≡ was ++ name_errors V (take i ds) (drop i ds) → i < length ds → d ≡ get_or ds i d → o ≡ name_error V (take i ds) d → now ≡ was ++ option_to_list o
-    → name_errors V [] ds ≡ now ++ name_errors V (take (i + 1) ds) (drop (i + 1) ds)
-more_names V ds i d was now o h lt is k e =
-    let before : take i ds ++ d ∷ [] ≡ take (i + 1) ds = ap (λ x. take i ds ++ x ∷ []) is ∙ sym (take_more ds i d lt) in
-    let more : List Error = name_errors V (take (i + 1) ds) (drop (i + 1) ds) in
-    let step : name_errors V (take i ds) (drop i ds) ≡ option_to_list o ++ more =
-    ap (name_errors V (take i ds)) (drop-item ds i d lt is)
-    ∙ ap (λ xs. option_to_list (name_error V (take i ds) d) ++ name_errors V xs (drop (i + 1) ds)) before
-    ∙ ap (λ x. option_to_list x ++ more) (sym k) in
-    h ∙ ap (λ xs. was ++ xs) step ∙ sym (append_assoc was (option_to_list o) more) ∙ ap (λ xs. xs ++ more) (sym e)
+-- what is refused of the declarations is the answer
+pub refused-built : (V : RegistrationList) (ss : List Source) (why : Unbuilt) (found : List Error) → IsRefused why found → IsBuilt (Err why) (after_declaring V ss found)
+refused-built V ss (unbuilt.Errors es) [] h = absurd (h.1 refl)
+refused-built V ss (unbuilt.Errors es) (e ∷ found) h = ap Errors (sym h.0)
+refused-built V ss unbuilt.Memory found h = tt

@@ -278,7 +278,7 @@ const SECTIONS: [(&str, &str); 7] = [
     ("int f(", "error Syntax 0:1:7 -\n"),
     (
         "int a, b; class C {}",
-        "error NotYet 0:1:1 -\nerror NotYet 0:1:1 -\nerror NotYet 0:1:11 -\n",
+        "error NotYet 0:1:11 -\n",
     ),
     (
         "int m(){return ((((((((((((((((((((((((((((((((((((((((((((((((((((((((((((((((1))))))))))))))))))))))))))))))))))))))))))))))))))))))))))))))));}",
