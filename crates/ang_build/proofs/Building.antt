@@ -1,17 +1,12 @@
 -- What declarations build to, read off their lists from the left.
-use Rattle.std.proofs.Common.{◌≡◌, ◌≢◌, refl, ◌<◌, ◌+◌, length, get_or, drop, ap, sym, ◌∙◌, ℕ, List, [], ◌∷◌, ◌++◌, append_assoc, Option, Some, None}
-use Rattle.std.specs.Prelude.{Err}
+use Rattle.std.proofs.Common.{◌≡◌, ◌<◌, ◌+◌, length, get_or, drop, ap, sym, ◌∙◌, ℕ, List, ◌++◌, append_assoc, Some, None}
 use Rattle.ang_kinds.specs.declared.error.Error.{Error}
 use Rattle.ang_registry.specs.Registration.{RegistrationList}
 use Rattle.ang_build.specs.declared.program.HostCall.{HostCall}
 use Rattle.ang_build.specs.declared.script.Statement.{Statement}
 use Rattle.ang_build.specs.declared.script.Declaration.{Declaration}
-use Rattle.ang_kinds.specs.declared.error.Unbuilt.{Unbuilt}
-use Rattle.ang_kinds.specs.declared.error.Unbuilt.TheVariants as unbuilt
-use Rattle.ang_written.specs.Sources.{Source, first_of}
-use Rattle.ang_names.specs.Phases.{IsRefused}
-use Rattle.ang_build.specs.Build.{Errors, statement_error, body_error, resolved_statement, resolved_body, after_declaring}
-use Rattle.ang_build.specs.Answer.{IsBuilt}
+use Rattle.ang_written.specs.Sources.{first_of}
+use Rattle.ang_build.specs.Build.{statement_error, body_error, resolved_statement, resolved_body}
 use Rattle.ang_build.proofs.Items.{drop-item}
 
 pub body_error-found : (V : RegistrationList) (ds : List Declaration) (ss : List Statement) (i : ℕ) (s : Statement) (e : Error)
@@ -34,9 +29,3 @@ more_calls V ss i s was now call h lt is k e =
     h ∙ ap (λ xs. was ++ resolved_body V xs) (drop-item ss i s lt is)
     ∙ sym (append_assoc was (resolved_statement V s) (resolved_body V (drop (i + 1) ss)))
     ∙ ap (λ xs. xs ++ resolved_body V (drop (i + 1) ss)) (ap (λ xs. was ++ xs) (sym k) ∙ sym e)
-
--- what is refused of the declarations is the answer
-pub refused-built : (V : RegistrationList) (ss : List Source) (why : Unbuilt) (found : List Error) → IsRefused why found → IsBuilt (Err why) (after_declaring V ss found)
-refused-built V ss (unbuilt.Errors es) [] h = absurd (h.1 refl)
-refused-built V ss (unbuilt.Errors es) (e ∷ found) h = ap Errors (sym h.0)
-refused-built V ss unbuilt.Memory found h = tt

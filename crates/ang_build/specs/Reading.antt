@@ -36,14 +36,17 @@ abbrev pub IsUnparsed : Stop → ParseError → Type 0
 IsUnparsed (Fault e) fault = (e ≡ grammar_error fault) × (fault ≢ parse.Memory)
 IsUnparsed Memory fault = Unit {0}
 
--- the functions of all declarations or the error of the first that is not built, unless memory was refused
+-- the error at which the build stops, unless memory was refused
+abbrev pub StopsAt : Stop → Functions → Type 0
+StopsAt (Fault e) found = found ≡ Err e
+StopsAt Memory found = Unit {0}
+
+-- the functions of all declarations, or why there are none
 abbrev pub AreFunctions : Result (Vec Declaration Global) Stop → Functions → Type 0
 AreFunctions (Ok ds) found = found ≡ Ok ds.items
-AreFunctions (Err (Fault e)) found = found ≡ Err e
-AreFunctions (Err Memory) found = Unit {0}
+AreFunctions (Err why) found = StopsAt why found
 
 -- the same of a list that grew
 abbrev pub AreListed : {U : Type 0} → Result U Stop → List Declaration → Functions → Type 0
 AreListed (Ok u) ds found = found ≡ Ok ds
-AreListed (Err (Fault e)) ds found = found ≡ Err e
-AreListed (Err Memory) ds found = Unit {0}
+AreListed (Err why) ds found = StopsAt why found

@@ -41,11 +41,7 @@ fn first_token(declaration: &tree::Declaration) -> Token
 fn not_yet(alloc: Global, declaration: &tree::Declaration) -> Error
     ensures { result ≡ written.beyond (view_decl declaration.now) }
 {
-    nameless(
-        alloc,
-        ErrorKind::NotYet,
-        first_token(declaration).place,
-    )
+    nameless(alloc, ErrorKind::NotYet, first_token(declaration).place)
 }
 
 /// Adds the function that a declaration is. A `;` alone is none.

@@ -31,11 +31,7 @@ fn lexical(alloc: Global, fault: LexError) -> Stop
         LexError::TooLong(place) => Stop::Fault(nameless(alloc, ErrorKind::TooLong, place)),
         LexError::BadByte(place) => Stop::Fault(nameless(alloc, ErrorKind::BadByte, place)),
         LexError::BadNumber(place) => Stop::Fault(nameless(alloc, ErrorKind::BadNumber, place)),
-        LexError::OpenComment(place) => Stop::Fault(nameless(
-            alloc,
-            ErrorKind::OpenComment,
-            place,
-        )),
+        LexError::OpenComment(place) => Stop::Fault(nameless(alloc, ErrorKind::OpenComment, place)),
         LexError::Memory => Stop::Memory,
     }
 }
