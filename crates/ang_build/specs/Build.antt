@@ -88,7 +88,7 @@ abbrev pub after_reading : RegistrationList → Functions → Built
 after_reading V (Err e) = Errors (e ∷ [])
 after_reading V (Ok ds) = after_bodies V ds (body_errors V ds ds)
 
--- what is refused of the names and types of the declarations goes before what is not built yet
+-- the errors of the declarations, in the phases over all of them, go before what is not built yet
 abbrev pub after_declaring : RegistrationList → List Source → List Error → Built
 after_declaring V ss (e ∷ es) = Errors (e ∷ es)
 after_declaring V ss [] = after_reading V (all_functions ss)

@@ -123,7 +123,7 @@ abbrev pub or_beyond : Option Declaration → Decl → Functions
 or_beyond None d = Err (beyond d)
 or_beyond (Some f) d = Ok (f ∷ [])
 
--- Functions of that form are built, and nothing else is: `NotYet` at the declaration's first token. A `;` alone declares nothing.
+-- A function of the form above is built, and any other declaration is `NotYet` at its first token. A `;` alone declares nothing.
 abbrev pub functions_of : List ℕ → Decl → Functions
 functions_of text (class final word x bases left members right) = Err (beyond (class final word x bases left members right))
 functions_of text (interface word x bases left methods right) = Err (beyond (interface word x bases left methods right))

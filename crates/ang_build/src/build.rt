@@ -223,7 +223,8 @@ fn build_declared(alloc: Global, view: &View, scripts: &[Script]) -> Result<Prog
     }
 }
 
-/// The program that the scripts build to, over what the mask meets, or why they do not.
+/// The program that the scripts build to, over what the mask meets, or why they do not. The names that they
+/// declare are let go again: the bodies that are built use what the host declares alone.
 fn build_scripts(alloc: Global, view: &View, scripts: &[Script]) -> Result<Program, Unbuilt>
     ensures { IsBuilt result (after_sections view.now (Ok (list_map source_of scripts.now))) }
 {
