@@ -2,6 +2,6 @@ pub mod Items
 pub mod Searching
 pub mod Building
 pub mod Trees
-pub mod FirstTokens
+pub mod Listing
 pub mod SeenCalls
 pub mod SoFar

@@ -1,7 +1,6 @@
 -- What is built calls what is seen.
 use Rattle.std.proofs.Common.{◌≡◌, refl, sym, subst, ℕ, ℤ, List, [], ◌∷◌, All, Option, Some, None, map as list_map}
 use Rattle.std.specs.Prelude.{Result, Ok, Err}
-use Rattle.std.specs.List.{flat_map}
 use Rattle.std.proofs.lemmas.List.Elements.{All-nil, All-cons, All-append, All-map}
 use Rattle.ang_kinds.specs.declared.error.Error.{Error}
 use Rattle.ang_registry.specs.Registration.{RegistrationList, seen, entry_at, function_named, SeesFunction}
@@ -9,9 +8,11 @@ use Rattle.ang_registry.proofs.Seen.{SeesFunction-from_function_named}
 use Rattle.ang_build.specs.declared.program.Program.{Program}
 use Rattle.ang_build.specs.declared.script.Statement.{Statement}
 use Rattle.ang_build.specs.declared.script.Declaration.{Declaration}
-use Rattle.ang_build.specs.Thin.{Source, functions_in, errors_in}
+use Rattle.ang_written.specs.Sources.{Source}
+use Rattle.ang_names.specs.Phases.{errors_of}
+use Rattle.ang_build.specs.Thin.{Functions, all_functions}
 use Rattle.ang_build.specs.Script.{sources_of}
-use Rattle.ang_build.specs.Build.{Compiled, call_of_entry, calls_of, resolved_statement, resolved_body, resolved, after_bodies, after_names, after_reading, after_sections, body_errors, name_errors, build_of}
+use Rattle.ang_build.specs.Build.{Compiled, call_of_entry, calls_of, resolved_statement, resolved_body, resolved, after_bodies, after_reading, after_declaring, after_sections, body_errors, build_of}
 use Rattle.ang_build.specs.SeenCalls.{IsSeenCall, HasSeenCalls}
 
 -- the call that a seen function's entry gives
@@ -43,19 +44,18 @@ after_bodies-sound R m ds [] p h =
     subst (HasSeenCalls R m) e (seen_program R m ds)
 after_bodies-sound R m ds (e ∷ es) p h = cc
 
-after_names-sound : (R : RegistrationList) (m : ℕ) (ds : List Declaration) (es : List Error) (p : Program)
-    → after_names (seen R m) ds es ≡ Compiled p → HasSeenCalls R m p
-after_names-sound R m ds [] p h = after_bodies-sound R m ds (body_errors (seen R m) ds ds) p h
-after_names-sound R m ds (e ∷ es) p h = cc
+after_reading-sound : (R : RegistrationList) (m : ℕ) (found : Functions) (p : Program) → after_reading (seen R m) found ≡ Compiled p → HasSeenCalls R m p
+after_reading-sound R m (Ok ds) p h = after_bodies-sound R m ds (body_errors (seen R m) ds ds) p h
+after_reading-sound R m (Err e) p h = cc
 
-after_reading-sound : (R : RegistrationList) (m : ℕ) (ds : List Declaration) (es : List Error) (p : Program)
-    → after_reading (seen R m) ds es ≡ Compiled p → HasSeenCalls R m p
-after_reading-sound R m ds [] p h = after_names-sound R m ds (name_errors (seen R m) [] ds) p h
-after_reading-sound R m ds (e ∷ es) p h = cc
+after_declaring-sound : (R : RegistrationList) (m : ℕ) (ss : List Source) (es : List Error) (p : Program)
+    → after_declaring (seen R m) ss es ≡ Compiled p → HasSeenCalls R m p
+after_declaring-sound R m ss [] p h = after_reading-sound R m (all_functions ss) p h
+after_declaring-sound R m ss (e ∷ es) p h = cc
 
 after_sections-sound : (R : RegistrationList) (m : ℕ) (read : Result (List Source) Error) (p : Program)
     → after_sections (seen R m) read ≡ Compiled p → HasSeenCalls R m p
-after_sections-sound R m (Ok ss) p h = after_reading-sound R m (flat_map functions_in ss) (flat_map errors_in ss) p h
+after_sections-sound R m (Ok ss) p h = after_declaring-sound R m ss (errors_of (seen R m) ss) p h
 after_sections-sound R m (Err e) p h = cc
 
 -- the calls of a program that was built over the view of a mask

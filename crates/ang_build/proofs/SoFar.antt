@@ -2,7 +2,7 @@
 use Rattle.std.specs.Prelude.{List, ◌++◌, Option, Some, None, Result, Ok, Err}
 use Rattle.ang_kinds.specs.declared.error.Error.{Error}
 use Rattle.ang_build.specs.declared.script.Statement.{Statement}
-use Rattle.ang_build.specs.Thin.{Source}
+use Rattle.ang_written.specs.Sources.{Source}
 
 abbrev pub all_in_front : List Statement → Option (List Statement) → Option (List Statement)
 all_in_front ss None = None

@@ -3,8 +3,8 @@ use Rattle.std.specs.Prelude.{◌≡◌, [], ◌∷◌, Result, Ok, Err}
 use Rattle.ang_kinds.specs.declared.error.Unbuilt.{Unbuilt}
 use Rattle.ang_kinds.specs.declared.error.Unbuilt.TheVariants as unbuilt
 use Rattle.ang_build.specs.declared.program.Program.{Program}
-use Rattle.ang_build.specs.declared.section.Unread.{Unread}
-use Rattle.ang_build.specs.declared.section.Unread.TheVariants as unread
+use Rattle.ang_build.specs.declared.stop.Stop.{Stop}
+use Rattle.ang_build.specs.declared.stop.Stop.TheVariants as stop
 use Rattle.ang_build.specs.Build.{Built, Errors, Compiled}
 
 -- the program or the errors, unless memory was refused
@@ -13,8 +13,8 @@ IsBuilt (Ok p) built = built ≡ Compiled p
 IsBuilt (Err (unbuilt.Errors es)) built = built ≡ Errors es
 IsBuilt (Err unbuilt.Memory) built = Unit {0}
 
--- the fault of a section alone, unless memory was refused
-abbrev pub IsOneError : Unbuilt → Unread → Type 0
-IsOneError (unbuilt.Errors es) (unread.Fault e) = es ≡ e ∷ []
-IsOneError (unbuilt.Errors es) unread.Memory = ⊥
+-- the one error, unless memory was refused
+abbrev pub IsOneError : Unbuilt → Stop → Type 0
+IsOneError (unbuilt.Errors es) (stop.Fault e) = es ≡ e ∷ []
+IsOneError (unbuilt.Errors es) stop.Memory = ⊥
 IsOneError unbuilt.Memory u = Unit {0}

@@ -1,10 +1,10 @@
 -- What a build gives (docs/MEANING.md, "A build"; the AngelScript manual, "Script modules"): the errors of the first phase
 -- that refuses something, or the program.
-use Rattle.std.specs.Prelude.{ℕ, ℤ, ◌==◌, ◌||◌, Bool, true, false, if◌then◌else◌, List, [], ◌∷◌, ◌++◌, length, Option, Some, None, Result, Ok, Err, bytes_eq, option_to_list, map as list_map}
+use Rattle.std.specs.Prelude.{ℕ, ℤ, Bool, true, false, if◌then◌else◌, List, [], ◌∷◌, ◌++◌, Option, Some, None, Result, Ok, Err, bytes_eq, option_to_list, map as list_map}
 use Rattle.std.specs.List.{flat_map, list_any}
 use Rattle.ang_kinds.specs.declared.error.Error.{Error}
 use Rattle.ang_kinds.specs.declared.error.ErrorKind.{ErrorKind}
-use Rattle.ang_kinds.specs.declared.error.ErrorKind.TheVariants.{Duplicate, Limit, UnknownName, NoMatch, NotYet}
+use Rattle.ang_kinds.specs.declared.error.ErrorKind.TheVariants.{UnknownName, NoMatch, NotYet}
 use Rattle.ang_registry.specs.declared.entry.Entry.{Entry}
 use Rattle.ang_registry.specs.Registration.{RegistrationList, entry_at, function_named}
 use Rattle.ang_build.specs.declared.program.HostCall.{HostCall}
@@ -13,8 +13,10 @@ use Rattle.ang_build.specs.declared.program.Program.{Program}
 use Rattle.ang_build.specs.declared.script.Name.{Name}
 use Rattle.ang_build.specs.declared.script.Statement.{Statement}
 use Rattle.ang_build.specs.declared.script.Declaration.{Declaration}
-use Rattle.ang_build.specs.Thin.{Source, fault_at, functions_in, errors_in}
-use Rattle.ang_build.specs.Host.{is_taken_by, is_beyond_named}
+use Rattle.ang_written.specs.Sources.{Source, fault_at, first_of}
+use Rattle.ang_names.specs.Phases.{errors_of}
+use Rattle.ang_build.specs.Thin.{Functions, all_functions}
+use Rattle.ang_build.specs.Host.{is_beyond_named}
 use Rattle.ang_build.specs.Script.{sources_of}
 
 pub data Built : Type 0 where
@@ -30,23 +32,7 @@ abbrev pub declares : List Declaration → List ℕ → Bool
 declares [] name = false
 declares (d ∷ ds) name = if bytes_eq d.name.text name then true else declares ds name
 
--- ---- the names of the declarations
-
-abbrev pub most_functions : ℕ
-most_functions = 4096
-
--- A later function of the same name and parameters is refused, and a function against what the host has under its name; and then
--- the first function above the limit.
-abbrev pub name_error : RegistrationList → List Declaration → Declaration → Option Error
-name_error V before d =
-    if list_any (is_taken_by d.name.text) V || declares before d.name.text then Some (error_at Duplicate d.name)
-    else (if length before == most_functions then Some (error_at Limit d.name) else None)
-
-abbrev pub name_errors : RegistrationList → List Declaration → List Declaration → List Error
-name_errors V before [] = []
-name_errors V before (d ∷ ds) = option_to_list (name_error V before d) ++ name_errors V (before ++ d ∷ []) ds
-
--- ---- the bodies, looked at where no name is refused
+-- ---- the bodies, looked at where no declaration is refused
 
 -- A call by a name resolves to the seen host function of the name. It is not built yet where the host has something else to call
 -- under that name, and a script function of the name takes no argument.
@@ -59,10 +45,6 @@ use_error false None false callee = Some (error_at UnknownName callee)
 abbrev pub statement_error : RegistrationList → List Declaration → Statement → Option Error
 statement_error V ds s =
     use_error (list_any (is_beyond_named s.callee.text) V) (function_named V s.callee.text) (declares ds s.callee.text) s.callee
-
-abbrev pub first_of : Option Error → Option Error → Option Error
-first_of (Some e) rest = Some e
-first_of None rest = rest
 
 -- the first error of a body, in reading order
 abbrev pub body_error : RegistrationList → List Declaration → List Statement → Option Error
@@ -101,18 +83,19 @@ abbrev pub after_bodies : RegistrationList → List Declaration → List Error �
 after_bodies V ds (e ∷ es) = Errors (e ∷ es)
 after_bodies V ds [] = Compiled (record { functions = list_map (resolved V) ds })
 
-abbrev pub after_names : RegistrationList → List Declaration → List Error → Built
-after_names V ds (e ∷ es) = Errors (e ∷ es)
-after_names V ds [] = after_bodies V ds (body_errors V ds ds)
+-- the first declaration that is not built yet gives the only error, and the bodies are not looked at
+abbrev pub after_reading : RegistrationList → Functions → Built
+after_reading V (Err e) = Errors (e ∷ [])
+after_reading V (Ok ds) = after_bodies V ds (body_errors V ds ds)
 
--- the declarations that are not built yet go first
-abbrev pub after_reading : RegistrationList → List Declaration → List Error → Built
-after_reading V ds (e ∷ es) = Errors (e ∷ es)
-after_reading V ds [] = after_names V ds (name_errors V [] ds)
+-- the errors of the declarations, in the phases over all of them, go before what is not built yet
+abbrev pub after_declaring : RegistrationList → List Source → List Error → Built
+after_declaring V ss (e ∷ es) = Errors (e ∷ es)
+after_declaring V ss [] = after_reading V (all_functions ss)
 
 abbrev pub after_sections : RegistrationList → Result (List Source) Error → Built
 after_sections V (Err e) = Errors (e ∷ [])
-after_sections V (Ok ss) = after_reading V (flat_map functions_in ss) (flat_map errors_in ss)
+after_sections V (Ok ss) = after_declaring V ss (errors_of V ss)
 
 -- what the sections build to, over what the module sees
 abbrev pub build_of : RegistrationList → List (List ℕ) → Built

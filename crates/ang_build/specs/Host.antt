@@ -10,24 +10,6 @@ use Rattle.ang_registry.specs.declared.entry.Entry.{Entry}
 use Rattle.ang_registry.specs.declared.entry.EntryKind.{EntryKind}
 use Rattle.ang_registry.specs.declared.entry.EntryKind.TheVariants.{HostType, Factory, Method, Property, Function, Global}
 
--- ---- what a script's function can't stand beside
-
--- Types, functions and global properties share one space of names, and functions of one name differ in their parameters. A script's
--- function has none so far.
-abbrev pub takes_name : EntryKind → Signature → Bool
-takes_name HostType s = true
-takes_name Factory s = false
-takes_name Method s = false
-takes_name Property s = false
-takes_name Function s = length s.params == 0
-takes_name Global s = true
-
-abbrev pub is_taken_by : List ℕ → Option Entry → Bool
-is_taken_by name None = false
-is_taken_by name (Some x) = bytes_eq x.signature.name name && takes_name x.kind x.signature
-
--- ---- what a call is not built of yet
-
 abbrev pub is_i32 : Primitive → Bool
 is_i32 I32 = true
 is_i32 _ = false

@@ -1,4 +1,4 @@
--- What the reader of sections answers.
+-- What the readers of sections and of declarations answer.
 use Rattle.std.specs.Prelude.{◌≡◌, ◌≢◌, List, Vec, Result, Ok, Err, map as list_map}
 use Rattle.std.specs.declared.alloc.Global.{Global}
 use Rattle.ang_kinds.specs.declared.error.Error.{Error}
@@ -7,29 +7,46 @@ use Rattle.ang_lex.specs.declared.error.LexError.TheVariants as lex
 use Rattle.ang_parse.specs.declared.error.ParseError.{ParseError}
 use Rattle.ang_parse.specs.declared.error.ParseError.TheVariants as parse
 use Rattle.ang_tree.specs.declared.declaration.Script.{Script}
-use Rattle.ang_build.specs.declared.section.Unread.{Unread}
-use Rattle.ang_build.specs.declared.section.Unread.TheVariants.{Fault, Memory}
-use Rattle.ang_build.specs.Thin.{Source}
-use Rattle.ang_build.specs.Script.{source_of, lexical_error, grammar_error}
+use Rattle.ang_build.specs.declared.stop.Stop.{Stop}
+use Rattle.ang_build.specs.declared.stop.Stop.TheVariants.{Fault, Memory}
+use Rattle.ang_written.specs.Sources.{Source, source_of}
+use Rattle.ang_build.specs.declared.script.Declaration.{Declaration}
+use Rattle.ang_build.specs.Script.{lexical_error, grammar_error}
+use Rattle.ang_build.specs.Thin.{Functions}
 
 -- a section's declarations or its error, unless memory was refused
-abbrev pub IsSource : Result Script Unread → Result Source Error → Type 0
+abbrev pub IsSource : Result Script Stop → Result Source Error → Type 0
 IsSource (Ok s) read = read ≡ Ok (source_of s)
 IsSource (Err (Fault e)) read = read ≡ Err e
 IsSource (Err Memory) read = Unit {0}
 
 -- the same of all sections
-abbrev pub AreSources : Result (Vec Script Global) Unread → Result (List Source) Error → Type 0
+abbrev pub AreSources : Result (Vec Script Global) Stop → Result (List Source) Error → Type 0
 AreSources (Ok ss) read = read ≡ Ok (list_map source_of ss.items)
 AreSources (Err (Fault e)) read = read ≡ Err e
 AreSources (Err Memory) read = Unit {0}
 
 -- the error of a section's first fault, which want of memory is not
-abbrev pub IsFault : Unread → LexError → Type 0
+abbrev pub IsFault : Stop → LexError → Type 0
 IsFault (Fault e) fault = (e ≡ lexical_error fault) × (fault ≢ lex.Memory)
 IsFault Memory fault = Unit {0}
 
 -- the same of a parser's answer
-abbrev pub IsUnparsed : Unread → ParseError → Type 0
+abbrev pub IsUnparsed : Stop → ParseError → Type 0
 IsUnparsed (Fault e) fault = (e ≡ grammar_error fault) × (fault ≢ parse.Memory)
 IsUnparsed Memory fault = Unit {0}
+
+-- the error at which the build stops, unless memory was refused
+abbrev pub StopsAt : Stop → Functions → Type 0
+StopsAt (Fault e) found = found ≡ Err e
+StopsAt Memory found = Unit {0}
+
+-- the functions of all declarations, or why there are none
+abbrev pub AreFunctions : Result (Vec Declaration Global) Stop → Functions → Type 0
+AreFunctions (Ok ds) found = found ≡ Ok ds.items
+AreFunctions (Err why) found = StopsAt why found
+
+-- the same of a list that grew
+abbrev pub AreListed : {U : Type 0} → Result U Stop → List Declaration → Functions → Type 0
+AreListed (Ok u) ds found = found ≡ Ok ds
+AreListed (Err why) ds found = StopsAt why found

@@ -7,17 +7,11 @@ use Rattle.ang_lex.specs.declared.token.Token.{Token}
 use Rattle.ang_lex.specs.declared.error.LexError.{LexError}
 use Rattle.ang_lex.specs.declared.error.LexError.TheVariants as lex
 use Rattle.ang_lex.specs.Tokens.{tokens_of, start_of}
-use Rattle.ang_tree.specs.declared.declaration.Script.{Script}
 use Rattle.ang_tree.specs.Declarations.{Decl}
-use Rattle.ang_tree.specs.View.{view_script}
 use Rattle.ang_parse.specs.declared.error.ParseError.{ParseError}
 use Rattle.ang_parse.specs.declared.error.ParseError.TheVariants as parse
 use Rattle.ang_parse.specs.Answers.{script_of}
-use Rattle.ang_build.specs.Thin.{fault_at, Source}
-
--- what contracts see of a script's tree
-abbrev pub source_of : Script → Source
-source_of s = record { text = s.source.items; declarations = view_script s }
+use Rattle.ang_written.specs.Sources.{Source, fault_at}
 
 -- ---- the error of a section
 

@@ -1,11 +1,7 @@
 -- The part of the language that is built so far, read off a script's trees (docs/LANGUAGE.md, "What is built so far").
-use Rattle.std.specs.Prelude.{◌≡◌, ℕ, ◌^◌, ℤ, pos, ◌+ℤ◌, ◌-ℤ◌, nat_lt, Bool, true, false, if◌then◌else◌, List, [], ◌∷◌, Option, Some, None, slice_range, option_to_list, map as list_map}
-use Rattle.std.specs.List.{flat_map}
+use Rattle.std.specs.Prelude.{ℕ, ◌^◌, ℤ, pos, ◌+ℤ◌, ◌-ℤ◌, nat_lt, Bool, true, false, if◌then◌else◌, List, [], ◌∷◌, ◌++◌, Option, Some, None, Result, Ok, Err}
 use Rattle.std.specs.Int.{int_wrap, w32}
 use Rattle.ang_kinds.specs.declared.error.Error.{Error}
-use Rattle.ang_kinds.specs.declared.error.ErrorKind.{ErrorKind}
-use Rattle.ang_kinds.specs.declared.error.ErrorKind.TheVariants.{NotYet}
-use Rattle.ang_kinds.specs.declared.place.Place.{Place}
 use Rattle.ang_kinds.specs.declared.primitive.Primitive.{Primitive}
 use Rattle.ang_kinds.specs.declared.primitive.Primitive.TheVariants.{I32}
 use Rattle.ang_lex.specs.declared.token.Token.{Token}
@@ -22,10 +18,8 @@ use Rattle.ang_tree.specs.Declarations.{Params, Decl, class, interface, import, 
 use Rattle.ang_build.specs.declared.script.Name.{Name}
 use Rattle.ang_build.specs.declared.script.Statement.{Statement}
 use Rattle.ang_build.specs.declared.script.Declaration.{Declaration}
-
--- the bytes of a token in its section's text
-abbrev pub text_of : List ℕ → Token → List ℕ
-text_of text t = slice_range text t.span.start t.span.end
+use Rattle.ang_written.specs.Sources.{Source, text_of}
+use Rattle.ang_written.specs.NotYet.{beyond}
 
 abbrev pub name_of : List ℕ → Token → Name
 name_of text t = record { text = text_of text t; place = t.place }
@@ -121,61 +115,40 @@ function_of text y x ps b =
 
 -- ---- declarations
 
--- the token, where it is written, or else the one behind it
-abbrev pub token_or : Option Token → Token → Token
-token_or None next = next
-token_or (Some t) next = t
+-- the functions of what is built, or the error of the first declaration that is not
+abbrev pub Functions : Type 0
+Functions = Result (List Declaration) Error
 
-abbrev pub first_of_type : TypeName → Token
-first_of_type y = token_or y.constant y.name
+abbrev pub or_beyond : Option Declaration → Decl → Functions
+or_beyond None d = Err (beyond d)
+or_beyond (Some f) d = Ok (f ∷ [])
 
--- the first token of a declaration
-abbrev pub first_token : Decl → Token
-first_token (class final word x bases left members right) = token_or final word
-first_token (interface word x bases left methods right) = word
-first_token (import word y x ps from text semicolon) = word
-first_token (function y x ps b) = first_of_type y
-first_token (globals vs) = first_of_type vs.declared_type
-first_token (empty semicolon) = semicolon
-
--- the tokens begin with this one
-abbrev pub BeginsWith : Token → List Token → Type 0
-BeginsWith t ts = (rest : List Token) × (ts ≡ t ∷ rest)
-
--- an error without a name
-abbrev pub fault_at : ErrorKind → Place → Error
-fault_at kind place = record { kind = kind; place = place; name = [] }
-
--- the error of a declaration that is not built yet
-abbrev pub beyond : Decl → Error
-beyond d = fault_at NotYet (first_token d).place
-
--- the function that is built
-abbrev pub functions_of : List ℕ → Decl → List Declaration
-functions_of text (function y x ps b) = option_to_list (function_of text y x ps b)
-functions_of text _ = []
-
-abbrev pub unless_built : {A : Type 0} → Option A → Error → List Error
-unless_built (Some a) e = []
-unless_built None e = e ∷ []
-
--- The errors of a declaration beyond that: one, and one for each name of a `globals`. A `;` alone declares nothing.
-abbrev pub not_yet : List ℕ → Decl → List Error
-not_yet text (function y x ps b) = unless_built (function_of text y x ps b) (beyond (function y x ps b))
-not_yet text (globals vs) = list_map (λ v. beyond (globals vs)) vs.items
-not_yet text (empty semicolon) = []
-not_yet text d = beyond d ∷ []
+-- A function of the form above is built, and any other declaration is `NotYet` at its first token. A `;` alone declares nothing.
+abbrev pub functions_of : List ℕ → Decl → Functions
+functions_of text (class final word x bases left members right) = Err (beyond (class final word x bases left members right))
+functions_of text (interface word x bases left methods right) = Err (beyond (interface word x bases left methods right))
+functions_of text (import word y x ps from module_name semicolon) = Err (beyond (import word y x ps from module_name semicolon))
+functions_of text (function y x ps b) = or_beyond (function_of text y x ps b) (function y x ps b)
+functions_of text (globals vs) = Err (beyond (globals vs))
+functions_of text (empty semicolon) = Ok []
 
 -- ---- scripts
 
--- a section as it was read: its bytes and its declarations
-pub record Source : Type 0 where
-  pub text : List ℕ
-  pub declarations : List Decl
+-- those of both
+abbrev pub functions_joined : Functions → Functions → Functions
+functions_joined (Err e) rest = Err e
+functions_joined (Ok ds) (Err e) = Err e
+functions_joined (Ok ds) (Ok others) = Ok (ds ++ others)
 
--- the functions that are built, and the errors of all other declarations
-abbrev pub functions_in : Source → List Declaration
-functions_in s = flat_map (functions_of s.text) s.declarations
+-- those of each item, in order
+abbrev pub functions_of_each : {A : Type 0} → (A → Functions) → List A → Functions
+functions_of_each f [] = Ok []
+functions_of_each f (x ∷ xs) = functions_joined (f x) (functions_of_each f xs)
 
-abbrev pub errors_in : Source → List Error
-errors_in s = flat_map (not_yet s.text) s.declarations
+-- those of a section
+abbrev pub functions_in : Source → Functions
+functions_in s = functions_of_each (functions_of s.text) s.declarations
+
+-- those of all sections
+abbrev pub all_functions : List Source → Functions
+all_functions ss = functions_of_each functions_in ss

@@ -1,21 +1,21 @@
-//! Builds a program from its declarations: the names first, and then the bodies.
-ghost use Rattle.std.specs.Prelude.{◌≡◌, ◌<◌, ◌^◌, ◌++◌, [], length, Option, Ok, IfOk, OnOk, option_to_list, map as list_map};
-ghost use Rattle.ang_build.specs.Build.{declares, error_at, name_error, name_errors, statement_error, body_error, body_errors, resolved_statement, resolved_body, resolved, after_names, after_sections, build_of};
-ghost use Rattle.ang_build.specs.Script.{source_of};
+//! Builds a program from its declarations: the declarations first, and then the bodies.
+ghost use Rattle.std.specs.Prelude.{◌≡◌, ◌<◌, ◌^◌, ◌++◌, length, Ok, IfOk, OnOk, option_to_list, map as list_map};
+ghost use Rattle.ang_written.specs.Sources.{source_of};
+ghost use Rattle.ang_build.specs.Thin.{all_functions};
+ghost use Rattle.ang_build.specs.Build.{declares, error_at, statement_error, body_error, body_errors, resolved_statement, resolved_body, resolved, after_bodies, after_reading, after_sections, build_of};
 ghost use Rattle.ang_build.specs.Answer.{IsBuilt, IsOneError};
 
-use crate::declared::{Declared, declare_all};
-use crate::host::{is_beyond_built, is_taken, seen_function};
+use crate::declared::declared_functions;
+use crate::host::{is_beyond_built, seen_function};
 use crate::program::{Function, HostCall, Program};
 use crate::script::{Declaration, Name, Statement};
-use crate::section::{Unread, nameless, read_sections};
+use crate::section::{nameless, read_sections};
+use crate::stop::Stop;
 use ang_kinds::{Error, ErrorKind, List, Unbuilt};
+use ang_names::declare;
 use ang_registry::View;
 use ang_tree::Script;
 use std::alloc::{AllocError, Global};
-
-/// The functions of one module.
-const MOST_FUNCTIONS: usize = 4096;
 
 fn is_declared(declarations: &[Declaration<'_>], name: &[u8]) -> bool
     ensures { result ≡ declares declarations.now name.now }
@@ -40,25 +40,6 @@ fn named_error(alloc: Global, kind: ErrorKind, name: &Name<'_>) -> Result<Error,
     })
 }
 
-/// What is wrong with the name of a declaration behind these.
-fn check_name(
-    alloc: Global,
-    view: &View,
-    before: &[Declaration<'_>],
-    declaration: &Declaration<'_>,
-) -> Result<Option<Error>, AllocError>
-    ensures { IfOk result (λ e. e ≡ name_error view.now before.now declaration.now) }
-{
-    let name = &declaration.name;
-    if is_taken(view, name.text.bytes()) || is_declared(before, name.text.bytes()) {
-        return Ok(Some(named_error(alloc, ErrorKind::Duplicate, name)?));
-    }
-    if before.len() == MOST_FUNCTIONS {
-        return Ok(Some(named_error(alloc, ErrorKind::Limit, name)?));
-    }
-    Ok(None)
-}
-
 fn push_error(errors: &mut Vec<Error>, error: Option<Error>) -> Result<(), AllocError>
     ensures { OnOk result (errors.new.items ≡ errors.old.items ++ option_to_list error) }
 {
@@ -66,22 +47,6 @@ fn push_error(errors: &mut Vec<Error>, error: Option<Error>) -> Result<(), Alloc
         errors.push(error)?;
     }
     Ok(())
-}
-
-/// The errors of the declarations' names, in order.
-fn check_names(
-    alloc: Global,
-    view: &View,
-    declarations: &[Declaration<'_>],
-) -> Result<Vec<Error>, AllocError>
-    ensures { IfOk result (λ es. es.items ≡ name_errors view.now [] declarations.now) }
-{
-    let mut errors = Vec::new(alloc);
-    for (i, declaration) in declarations.iter().enumerate() {
-        let error = check_name(alloc, view, &declarations[..i], declaration)?;
-        push_error(&mut errors, error)?;
-    }
-    Ok(errors)
 }
 
 /// What is wrong with a call.
@@ -214,20 +179,14 @@ fn resolve_program(
     })
 }
 
-/// The program that the declarations build to, over what the mask meets, or why they do not.
+/// The program of functions whose names stand, over what the mask meets, or the errors of their bodies.
 fn build_program(
     alloc: Global,
     view: &View,
     declarations: &[Declaration<'_>],
 ) -> Result<Program, Unbuilt>
-    ensures { IsBuilt result (after_names view.now declarations.now (name_errors view.now [] declarations.now)) }
+    ensures { IsBuilt result (after_bodies view.now declarations.now (body_errors view.now declarations.now declarations.now)) }
 {
-    let Ok(errors) = check_names(alloc, view, declarations) else {
-        return Err(Unbuilt::Memory)
-    };
-    if !errors.is_empty() {
-        return Err(Unbuilt::Errors(List::from_vec(errors)));
-    }
     let Ok(errors) = check_bodies(alloc, view, declarations) else {
         return Err(Unbuilt::Memory)
     };
@@ -240,25 +199,11 @@ fn build_program(
     }
 }
 
-/// The program that the scripts build to, over what the mask meets, or why they do not.
-fn build_scripts(alloc: Global, view: &View, scripts: &[Script]) -> Result<Program, Unbuilt>
-    ensures { IsBuilt result (after_sections view.now (Ok (list_map source_of scripts.now))) }
+/// The one error at which a build stops.
+fn one_error(alloc: Global, stop: Stop) -> Unbuilt
+    ensures { IsOneError result stop }
 {
-    let Ok(declared) = declare_all(alloc, scripts) else {
-        return Err(Unbuilt::Memory)
-    };
-    let Declared { functions, errors } = declared;
-    if !errors.is_empty() {
-        return Err(Unbuilt::Errors(List::from_vec(errors)));
-    }
-    build_program(alloc, view, &functions)
-}
-
-/// The one error of a section that could not be read.
-fn one_error(alloc: Global, unread: Unread) -> Unbuilt
-    ensures { IsOneError result unread }
-{
-    let Unread::Fault(error) = unread else {
+    let Stop::Fault(error) = stop else {
         return Unbuilt::Memory;
     };
     let mut errors = Vec::new(alloc);
@@ -268,18 +213,38 @@ fn one_error(alloc: Global, unread: Unread) -> Unbuilt
     }
 }
 
+/// The program of scripts of which no phase refuses a declaration.
+fn build_declared(alloc: Global, view: &View, scripts: &[Script]) -> Result<Program, Unbuilt>
+    ensures { IsBuilt result (after_reading view.now (all_functions (list_map source_of scripts.now))) }
+{
+    match declared_functions(alloc, scripts) {
+        Ok(functions) => build_program(alloc, view, &functions),
+        Err(stop) => Err(one_error(alloc, stop)),
+    }
+}
+
+/// The program that the scripts build to, over what the mask meets, or why they do not. The names that they
+/// declare are let go again: the bodies that are built use what the host declares alone.
+fn build_scripts(alloc: Global, view: &View, scripts: &[Script]) -> Result<Program, Unbuilt>
+    ensures { IsBuilt result (after_sections view.now (Ok (list_map source_of scripts.now))) }
+{
+    declare(alloc, view, scripts)?;
+    build_declared(alloc, view, scripts)
+}
+
 /// The program of sections, in their order, over what a module sees of the registration list.
 ///
 /// # Errors
 /// `Errors` has what is refused, in order of sections and text: the first section that is not read, with
-/// its fault alone; else each declaration that is not built yet; else the names that are refused; else the
-/// first error of each body. `Memory` comes where a growth was refused, in the place of any answer.
+/// its fault alone; else the errors of the declarations (`ang_names::declare`); else the first declaration
+/// that is not built yet, alone; else the first error of each body. `Memory` comes where a growth was
+/// refused, in the place of any answer.
 pub fn build_sections(alloc: Global, view: &View, sections: &[List<u8>]) -> Result<Program, Unbuilt>
     requires few { length sections.now < 2 ^ 32 }
     ensures built { IsBuilt result (build_of view.now sections.now) }
 {
     match read_sections(alloc, sections) {
         Ok(scripts) => build_scripts(alloc, view, &scripts),
-        Err(unread) => Err(one_error(alloc, unread)),
+        Err(stop) => Err(one_error(alloc, stop)),
     }
 }

@@ -1,129 +1,95 @@
-//! What scripts declare.
-ghost use Rattle.std.specs.Prelude.{◌≡◌, ◌++◌, IfOk, OnOk, map as list_map};
-ghost use Rattle.std.specs.List.{flat_map};
-ghost use Rattle.ang_kinds.specs.declared.error.ErrorKind.{ErrorKind};
-ghost use Rattle.ang_tree.specs.Declarations.{Decl, globals};
-ghost use Rattle.ang_tree.specs.View.{view_vars, view_decl, view_function};
+//! The functions that scripts declare.
+ghost use Rattle.std.specs.Prelude.{◌≡◌, Ok, map as list_map};
+ghost use Rattle.ang_tree.specs.View.{view_decl};
+ghost use Rattle.ang_written.specs.NotYet as written;
+ghost use Rattle.ang_written.specs.Sources.{source_of};
+ghost use Rattle.ang_build.specs.Reading.{AreFunctions, AreListed};
 ghost use Rattle.ang_build.specs.Thin as spec;
-ghost use Rattle.ang_build.specs.Script.{source_of};
+ghost use Rattle.ang_build.specs.Thin.{functions_joined};
 
 use crate::script::Declaration;
 use crate::section::nameless;
+use crate::stop::Stop;
 use crate::thin::built_function;
 use ang_kinds::{Error, ErrorKind};
 use ang_lex::Token;
 use ang_tree as tree;
-use ang_tree::{Script, TypeName, Variables};
-use std::alloc::{AllocError, Global};
-
-/// What scripts declare: the functions that are built, and the errors of all other declarations.
-#[derive(Drop)]
-pub struct Declared<'a> {
-    pub functions: Vec<Declaration<'a>>,
-    pub errors: Vec<Error>,
-}
-
-/// The error of a declaration that begins with this token.
-fn not_yet(alloc: Global, first: &Token) -> Error
-    ensures { result ≡ spec.fault_at ErrorKind.NotYet first.now.place }
-{
-    nameless(alloc, ErrorKind::NotYet, first.place)
-}
+use ang_tree::{Script, TypeName};
+use std::alloc::Global;
 
 fn first_of_type(declared: &TypeName) -> Token
-    ensures { result ≡ spec.first_of_type declared.now }
+    ensures { result ≡ written.first_of_type declared.now }
 {
     declared.constant.unwrap_or(declared.name)
 }
 
-/// One error for each of the variables.
-fn refuse_globals(
-    alloc: Global,
-    variables: &Variables,
-    errors: &mut Vec<Error>,
-) -> Result<(), AllocError>
-    ensures { OnOk result (errors.new.items ≡ errors.old.items ++ list_map (λ v. spec.beyond (globals (view_vars variables.now))) (view_vars variables.now).items) }
+/// The first token of a declaration.
+fn first_token(declaration: &tree::Declaration) -> Token
+    ensures { result ≡ written.first_token (view_decl declaration.now) }
 {
-    let first = first_of_type(&variables.declared_type);
-    for _variable in &variables.items {
-        errors.push(not_yet(alloc, &first))?;
-    }
-    Ok(())
-}
-
-/// A function, or its error.
-fn declare_function<'a>(
-    alloc: Global,
-    text: &'a [u8],
-    written: &tree::Function,
-    into: &mut Declared<'a>,
-) -> Result<(), AllocError>
-    ensures functions { OnOk result (into.new.functions.items ≡ into.old.functions.items ++ spec.functions_of text.now (view_function written.now)) }
-    ensures errors { OnOk result (into.new.errors.items ≡ into.old.errors.items ++ spec.not_yet text.now (view_function written.now)) }
-{
-    match built_function(alloc, text, written)? {
-        Some(function) => into.functions.push(function)?,
-        None => {
-            let first = first_of_type(&written.result);
-            into.errors.push(not_yet(alloc, &first))?;
-        }
-    }
-    Ok(())
-}
-
-/// One declaration of a section.
-fn declare<'a>(
-    alloc: Global,
-    text: &'a [u8],
-    declaration: &tree::Declaration,
-    into: &mut Declared<'a>,
-) -> Result<(), AllocError>
-    ensures functions { OnOk result (into.new.functions.items ≡ into.old.functions.items ++ spec.functions_of text.now (view_decl declaration.now)) }
-    ensures errors { OnOk result (into.new.errors.items ≡ into.old.errors.items ++ spec.not_yet text.now (view_decl declaration.now)) }
-{
-    let first = match declaration {
-        tree::Declaration::Function(written) => {
-            return declare_function(alloc, text, written, into);
-        }
-        tree::Declaration::Globals(variables) => {
-            return refuse_globals(alloc, variables, &mut into.errors);
-        }
-        tree::Declaration::Empty(_) => return Ok(()),
+    match declaration {
         tree::Declaration::Class(class) => class.final_word.unwrap_or(class.word),
         tree::Declaration::Interface(interface) => interface.word,
         tree::Declaration::Import(import) => import.word,
+        tree::Declaration::Function(function) => first_of_type(&function.result),
+        tree::Declaration::Globals(variables) => first_of_type(&variables.declared_type),
+        tree::Declaration::Empty(semicolon) => *semicolon,
+    }
+}
+
+/// The error of a declaration that is not built yet.
+fn not_yet(alloc: Global, declaration: &tree::Declaration) -> Error
+    ensures { result ≡ written.beyond (view_decl declaration.now) }
+{
+    nameless(alloc, ErrorKind::NotYet, first_token(declaration).place)
+}
+
+/// Adds the function that a declaration is. A `;` alone is none.
+fn list_function<'a>(
+    alloc: Global,
+    text: &'a [u8],
+    declaration: &tree::Declaration,
+    functions: &mut Vec<Declaration<'a>>,
+) -> Result<(), Stop>
+    ensures { AreListed result functions.new.items (functions_joined (Ok functions.old.items) (spec.functions_of text.now (view_decl declaration.now))) }
+{
+    let function = match declaration {
+        tree::Declaration::Function(function) => built_function(alloc, text, function)?,
+        tree::Declaration::Empty(_) => return Ok(()),
+        tree::Declaration::Class(_)
+        | tree::Declaration::Interface(_)
+        | tree::Declaration::Import(_)
+        | tree::Declaration::Globals(_) => None,
     };
-    into.errors.push(not_yet(alloc, &first))?;
+    let Some(function) = function else {
+        return Err(Stop::Fault(not_yet(alloc, declaration)));
+    };
+    functions.push(function)?;
     Ok(())
 }
 
-/// The declarations of one section.
-fn declare_script<'a>(
+/// Adds the functions of one section.
+fn list_functions<'a>(
     alloc: Global,
     script: &'a Script,
-    into: &mut Declared<'a>,
-) -> Result<(), AllocError>
-    ensures functions { OnOk result (into.new.functions.items ≡ into.old.functions.items ++ spec.functions_in (source_of script.now)) }
-    ensures errors { OnOk result (into.new.errors.items ≡ into.old.errors.items ++ spec.errors_in (source_of script.now)) }
+    functions: &mut Vec<Declaration<'a>>,
+) -> Result<(), Stop>
+    ensures { AreListed result functions.new.items (functions_joined (Ok functions.old.items) (spec.functions_in (source_of script.now))) }
 {
     let text = script.source.as_slice();
     for declaration in &script.declarations {
-        declare(alloc, text, declaration, into)?;
+        list_function(alloc, text, declaration, functions)?;
     }
     Ok(())
 }
 
-/// The declarations of all sections, in order.
-pub fn declare_all(alloc: Global, scripts: &[Script]) -> Result<Declared<'_>, AllocError>
-    ensures functions { IfOk result (λ d. d.functions.items ≡ flat_map spec.functions_in (list_map source_of scripts.now)) }
-    ensures errors { IfOk result (λ d. d.errors.items ≡ flat_map spec.errors_in (list_map source_of scripts.now)) }
+/// The functions of all sections, in order, or the error of the first declaration that is not built yet.
+pub fn declared_functions(alloc: Global, scripts: &[Script]) -> Result<Vec<Declaration<'_>>, Stop>
+    ensures { AreFunctions result (spec.all_functions (list_map source_of scripts.now)) }
 {
-    let mut declared = Declared {
-        functions: Vec::new(alloc),
-        errors: Vec::new(alloc),
-    };
+    let mut functions = Vec::new(alloc);
     for script in scripts {
-        declare_script(alloc, script, &mut declared)?;
+        list_functions(alloc, script, &mut functions)?;
     }
-    Ok(declared)
+    Ok(functions)
 }

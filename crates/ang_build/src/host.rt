@@ -39,17 +39,6 @@ fn takes_one_int(signature: &Signature) -> bool
     is_void(&signature.result) && params.len() == 1 && are_ints(params)
 }
 
-/// Whether a script's function of the entry's name can't stand beside it.
-fn takes_name(entry: &Entry) -> bool
-    ensures { result ≡ spec.takes_name entry.now.kind entry.now.signature }
-{
-    match entry.kind {
-        EntryKind::HostType | EntryKind::Global => true,
-        EntryKind::Function => entry.signature.params.as_slice().is_empty(),
-        EntryKind::Factory | EntryKind::Method | EntryKind::Property => false,
-    }
-}
-
 /// Whether a call of the entry's name is not built yet.
 fn is_beyond(entry: &Entry) -> bool
     ensures { result ≡ spec.is_beyond entry.now.kind entry.now.signature }
@@ -65,16 +54,6 @@ fn has_name(entry: &Entry, name: &[u8]) -> bool
     ensures { result ≡ bytes_eq entry.now.signature.name name.now }
 {
     entry.signature.name.as_slice() == name
-}
-
-/// Whether the entry of a number takes the name.
-fn is_taken_at(view: &View, number: u32, name: &[u8]) -> bool
-    ensures { result ≡ spec.is_taken_by name.now (entry_at view.now number) }
-{
-    match view.get(EntityNo(number)) {
-        None => false,
-        Some(entry) => has_name(entry, name) && takes_name(entry),
-    }
 }
 
 /// Whether calls of the entry of a number by the name are not built yet.
@@ -95,18 +74,6 @@ fn is_function_at(view: &View, number: u32, name: &[u8]) -> bool
         None => false,
         Some(entry) => matches!(entry.kind, EntryKind::Function) && has_name(entry, name),
     }
-}
-
-/// Whether a script's function of the name can't stand beside what is seen.
-pub fn is_taken(view: &View, name: &[u8]) -> bool
-    ensures { result ≡ list_any (spec.is_taken_by name.now) view.now }
-{
-    for number in 0..view.len() as u32 {
-        if is_taken_at(view, number, name) {
-            return true;
-        }
-    }
-    false
 }
 
 /// Whether a call by the name is not built yet, for something that is seen under it.

@@ -5,12 +5,11 @@
 mod build;
 mod declared;
 mod host;
-pub mod laws;
 mod program;
 mod script;
 mod section;
+mod stop;
 mod thin;
 
 pub use build::build_sections;
 pub use program::{Function, HostCall, Program};
-pub use thin::text_at;

@@ -1,46 +1,16 @@
 //! Reads the sections of a build, one by one, to the first that fails.
 ghost use Rattle.std.specs.Prelude.{◌≡◌, ◌<◌, ◌^◌, length};
 ghost use Rattle.ang_kinds.specs.declared.error.ErrorKind.{ErrorKind};
-ghost use Rattle.ang_build.specs.Thin.{fault_at};
+ghost use Rattle.ang_written.specs.Sources.{fault_at};
 ghost use Rattle.ang_build.specs.Script.{source_from, sources_of};
 ghost use Rattle.ang_build.specs.Reading.{IsSource, AreSources, IsFault, IsUnparsed};
 
+use crate::stop::Stop;
 use ang_kinds::{Error, ErrorKind, List, Place};
 use ang_lex::{LexError, lex};
 use ang_parse::{ParseError, parse};
 use ang_tree::Script;
-use std::alloc::{AllocError, AllocFailed, Global};
-
-/// Why a section has no declarations.
-#[derive(Drop, Debug)]
-pub enum Unread {
-    /// What is wrong in the section.
-    Fault(Error),
-    /// A growth of memory was refused.
-    Memory,
-}
-
-impl From<AllocError> for Unread {
-    ghost use Rattle.std.specs.Prelude.{◌≡◌};
-    ghost use Rattle.ang_build.specs.declared.section.Unread.TheVariants.{Memory};
-
-    ghost from_gives = { λ _ e. e ≡ Memory };
-
-    fn from(_error: AllocError) -> Unread {
-        Unread::Memory
-    }
-}
-
-impl<T: Drop> From<AllocFailed<T>> for Unread {
-    ghost use Rattle.std.specs.Prelude.{◌≡◌};
-    ghost use Rattle.ang_build.specs.declared.section.Unread.TheVariants.{Memory};
-
-    ghost from_gives = { λ _ e. e ≡ Memory };
-
-    fn from(_error: AllocFailed<T>) -> Unread {
-        Unread::Memory
-    }
-}
+use std::alloc::Global;
 
 /// An error without a name.
 pub fn nameless(alloc: Global, kind: ErrorKind, place: Place) -> Error
@@ -54,39 +24,35 @@ pub fn nameless(alloc: Global, kind: ErrorKind, place: Place) -> Error
 }
 
 /// The error that a section's first fault is, unless it is want of memory.
-fn lexical(alloc: Global, fault: LexError) -> Unread
+fn lexical(alloc: Global, fault: LexError) -> Stop
     ensures { IsFault result fault }
 {
     match fault {
-        LexError::TooLong(place) => Unread::Fault(nameless(alloc, ErrorKind::TooLong, place)),
-        LexError::BadByte(place) => Unread::Fault(nameless(alloc, ErrorKind::BadByte, place)),
-        LexError::BadNumber(place) => Unread::Fault(nameless(alloc, ErrorKind::BadNumber, place)),
-        LexError::OpenComment(place) => Unread::Fault(nameless(
-            alloc,
-            ErrorKind::OpenComment,
-            place,
-        )),
-        LexError::Memory => Unread::Memory,
+        LexError::TooLong(place) => Stop::Fault(nameless(alloc, ErrorKind::TooLong, place)),
+        LexError::BadByte(place) => Stop::Fault(nameless(alloc, ErrorKind::BadByte, place)),
+        LexError::BadNumber(place) => Stop::Fault(nameless(alloc, ErrorKind::BadNumber, place)),
+        LexError::OpenComment(place) => Stop::Fault(nameless(alloc, ErrorKind::OpenComment, place)),
+        LexError::Memory => Stop::Memory,
     }
 }
 
 /// The error that a parser's answer is, unless it is want of memory.
-fn grammatical(alloc: Global, fault: ParseError) -> Unread
+fn grammatical(alloc: Global, fault: ParseError) -> Stop
     ensures { IsUnparsed result fault }
 {
     match fault {
-        ParseError::TooDeep(place) => Unread::Fault(nameless(alloc, ErrorKind::TooDeep, place)),
-        ParseError::Syntax(place, name) => Unread::Fault(Error {
+        ParseError::TooDeep(place) => Stop::Fault(nameless(alloc, ErrorKind::TooDeep, place)),
+        ParseError::Syntax(place, name) => Stop::Fault(Error {
             kind: ErrorKind::Syntax,
             place,
             name,
         }),
-        ParseError::Memory => Unread::Memory,
+        ParseError::Memory => Stop::Memory,
     }
 }
 
 /// The declarations of one section.
-fn read_section(alloc: Global, sect: u32, text: &[u8]) -> Result<Script, Unread>
+fn read_section(alloc: Global, sect: u32, text: &[u8]) -> Result<Script, Stop>
     ensures { IsSource result (source_from sect text.now) }
 {
     let tokens = match lex(alloc, text, sect) {
@@ -100,7 +66,7 @@ fn read_section(alloc: Global, sect: u32, text: &[u8]) -> Result<Script, Unread>
 }
 
 /// The declarations of all sections, in order.
-pub fn read_sections(alloc: Global, sections: &[List<u8>]) -> Result<Vec<Script>, Unread>
+pub fn read_sections(alloc: Global, sections: &[List<u8>]) -> Result<Vec<Script>, Stop>
     requires { length sections.now < 2 ^ 32 }
     ensures { AreSources result (sources_of 0 sections.now) }
 {

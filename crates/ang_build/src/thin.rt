@@ -1,23 +1,15 @@
 //! The part of the language that is built so far, read off a script's trees.
-ghost use Rattle.std.specs.Prelude.{◌≡◌, ◌++◌, ◌∷◌, [], Option, IfOk, OnOk, map as list_map};
-ghost use Rattle.ang_tree.specs.View.{view_expr, view_items, view_stmt, view_stmts, view_params, view_body, view_vars, view_decl};
+ghost use Rattle.std.specs.Prelude.{◌≡◌, IfOk};
+ghost use Rattle.ang_tree.specs.View.{view_expr, view_items, view_stmt, view_stmts, view_params, view_body};
 ghost use Rattle.ang_build.specs.Thin as spec;
 
-use crate::script::{Declaration, Name, Statement, Text};
-use ang_kinds::{Error, ErrorKind, List, Place, Prim};
+use crate::script::{Declaration, Name, Statement};
+use ang_kinds::{List, Prim};
 use ang_lex::{Number, Token, TokenKind, number};
 use ang_tree as tree;
 use ang_tree::{Argument, Expression, TypeName};
+use ang_written::{Text, text_at};
 use std::alloc::{AllocError, Global};
-
-/// The bytes of a token in its section's text.
-pub fn text_at<'a>(text: &'a [u8], token: &Token) -> &'a [u8]
-    ensures { result.now ≡ spec.text_of text.now token.now }
-{
-    let start = text.len().min(token.span.start as usize);
-    let end = text.len().min(token.span.end as usize).max(start);
-    &text[start..end]
-}
 
 fn name_at<'a>(text: &'a [u8], token: &Token) -> Name<'a>
     ensures { result ≡ spec.name_of text.now token.now }

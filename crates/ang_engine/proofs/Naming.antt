@@ -1,7 +1,7 @@
 -- The name in the tokens of a declaration.
 use Rattle.std.proofs.Common.{◌≡◌, ◌<◌, ◌≤◌, refl, ap, sym, ◌∙◌, arith, ℕ, true, false, List, [], ◌∷◌, length, get_or, Some, None}
 use Rattle.ang_lex.specs.declared.token.Token.{Token}
-use Rattle.ang_build.specs.Thin.{text_of}
+use Rattle.ang_written.specs.Sources.{text_of}
 use Rattle.ang_engine.specs.Functions.{are_declared, with_name, called_name}
 
 -- four tokens

@@ -1,5 +1,5 @@
 -- A run that has come as far as some of its calls, and how it goes on.
-use Rattle.std.proofs.Common.{◌+◌, ◌≡◌, refl, ap, sym, ◌∙◌, subst, inl, inr, ℕ, true, false, List, [], ◌∷◌, ◌++◌, append_assoc, Option, Some, None, ◌⊎◌}
+use Rattle.std.proofs.Common.{◌≡◌, refl, ap, sym, ◌∙◌, subst, inl, inr, ℕ, true, false, List, [], ◌∷◌, ◌++◌, append_assoc, Option, Some, None, ◌⊎◌}
 use Rattle.std.specs.Prelude.{option_map, pos}
 use Rattle.std.proofs.lemmas.List.{append-nil}
 use Rattle.ang_kinds.specs.declared.fault.Fault.{Fault}

@@ -7,7 +7,7 @@ use Rattle.ang_lex.specs.declared.error.LexError.{LexError}
 use Rattle.ang_lex.specs.Tokens.{tokens_of}
 use Rattle.ang_build.specs.declared.program.Function.{Function}
 use Rattle.ang_build.specs.declared.program.Program.{Program}
-use Rattle.ang_build.specs.Thin.{text_of}
+use Rattle.ang_written.specs.Sources.{text_of}
 
 abbrev pub is_void : TokenKind → Bool
 is_void k.Void = true

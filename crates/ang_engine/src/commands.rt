@@ -14,11 +14,12 @@ ghost use Rattle.ang_engine.specs.World.{state_of, world_of, module_named};
 
 use crate::module::{MOST_SECTIONS, Module};
 use crate::reply::{Outcome, Refusal, Reply};
-use ang_build::{Function, Program, build_sections, text_at};
+use ang_build::{Function, Program, build_sections};
 use ang_host::HostEvent;
 use ang_kinds::{Error, List, Mask, Unbuilt, Value};
 use ang_lex::{LexError, Token, TokenKind, is_name, lex};
 use ang_registry::Registry;
+use ang_written::text_at;
 use std::alloc::Global;
 use std::mem;
 

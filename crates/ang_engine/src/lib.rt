@@ -8,7 +8,7 @@ mod module;
 mod reply;
 mod run;
 
-pub use ang_build::laws;
+pub use ang_written::laws;
 pub use command::Command;
 pub use engine::Engine;
 pub use reply::{NewError, NewRefused, Outcome, Refusal, Reply};

@@ -154,7 +154,7 @@ fn run<P: Read, S: Read>(
 }
 
 /// Profile, session, output and status.
-const RUNS: [(&str, &str, &str, Status); 19] = [
+const RUNS: [(&str, &str, &str, Status); 23] = [
     (PROFILE, SESSION, OUTPUT, Status::AllOk),
     (
         PROFILE,
@@ -186,6 +186,30 @@ const RUNS: [(&str, &str, &str, Status); 19] = [
         ALL_KINDS,
         "module a 00000001\nbuild a\nsection a 1\nvoid m(){ print(1); }\nbuild a\n",
         "ok\nok\nok\nerror NotYet 0:1:11 -\nrefused BuildErrors\n",
+        Status::SomeRefused,
+    ),
+    (
+        "mask 00000001\nfunction 0 0 void log(int)\nfunction 0 1 void log(int,int)\n",
+        "module a 00000002\nsection a 1\nvoid main(){ log(1); }\nbuild a\n",
+        "ok\nok\nerror UnknownName 0:1:14 log\nrefused BuildErrors\n",
+        Status::SomeRefused,
+    ),
+    (
+        "mask 00000001\ntype Counter 1\nfactory Counter 1 Counter@ f(int)\n",
+        "module a 00000002\nsection a 1\nvoid m(){ Counter(5); }\nbuild a\n",
+        "ok\nok\nerror UnknownName 0:1:11 Counter\nrefused BuildErrors\n",
+        Status::SomeRefused,
+    ),
+    (
+        "mask 00000001\ntype Cell 2\n",
+        "module a 00000002\nsection a 1\nvoid Cell() {}\nbuild a\ncall a () void Cell()\n",
+        "ok\nok\nok\nok\n",
+        Status::AllOk,
+    ),
+    (
+        "mask 00000001\ntype Cell 2\n",
+        "module a 00000003\nsection a 1\nvoid Cell() {}\nbuild a\n",
+        "ok\nok\nerror Duplicate 0:1:6 Cell\nrefused BuildErrors\n",
         Status::SomeRefused,
     ),
     (
@@ -270,16 +294,41 @@ fn whole_runs(rt: HostRuntime) -> Result<(), Fail> {
 }
 
 /// A section, and the errors of its build.
-const SECTIONS: [(&str, &str); 7] = [
+const SECTIONS: [(&str, &str); 20] = [
     ("/* cut", "error OpenComment 0:1:1 -\n"),
     ("int a; # b", "error BadByte 0:1:8 -\n"),
     ("void m(){ 1x; }", "error BadNumber 0:1:11 -\n"),
     ("void m() { return }", "error Syntax 0:1:19 }\n"),
     ("int f(", "error Syntax 0:1:7 -\n"),
+    ("int a, b; class C {}", "error NotYet 0:1:11 -\n"),
+    ("int a; int a; class C {}", "error NotYet 0:1:15 -\n"),
+    ("int a; int a;", "error Duplicate 0:1:12 a\n"),
     (
-        "int a, b; class C {}",
-        "error NotYet 0:1:1 -\nerror NotYet 0:1:1 -\nerror NotYet 0:1:11 -\n",
+        "void f(int a) {} void f(int32 b) {}",
+        "error Duplicate 0:1:23 f\n",
     ),
+    ("void print(int x) {}", "error Duplicate 0:1:6 print\n"),
+    ("int print;", "error Duplicate 0:1:5 print\n"),
+    (
+        "Nope a, b;",
+        "error UnknownType 0:1:1 Nope\nerror UnknownType 0:1:1 Nope\n",
+    ),
+    ("Nope b; int a; int a;", "error Duplicate 0:1:20 a\n"),
+    ("void f(void a) {}", "error BadType 0:1:8 void\n"),
+    ("void f(int &inout a) {}", "error BadType 0:1:8 int\n"),
+    (
+        "void f(int64 a, int b) {} void f(int a, int64 b) {}",
+        "error NotYet 0:1:1 -\n",
+    ),
+    (
+        "void m() { print(1); } int y = 1; int z;",
+        "error NotYet 0:1:24 -\n",
+    ),
+    (
+        "int f(int n) { if (n <= 1) return 1; return f(n - 1) + 1; }",
+        "error NotYet 0:1:1 -\n",
+    ),
+    ("void w() { limit = 4; } int w;", "error Duplicate 0:1:29 w\n"),
     (
         "int m(){return ((((((((((((((((((((((((((((((((((((((((((((((((((((((((((((((((1))))))))))))))))))))))))))))))))))))))))))))))))))))))))))))))));}",
         "error TooDeep 0:1:79 -\n",

@@ -1,5 +1,6 @@
 use Rattle.std.proofs.Common.{◌≡◌, drop, map as list_map}
-use Rattle.ang_build.specs.Script.{source_of, sources_of}
+use Rattle.ang_written.specs.Sources.{source_of}
+use Rattle.ang_build.specs.Script.{sources_of}
 use Rattle.ang_build.proofs.SoFar.{all_joined}
 use Rattle.ang_build.proofs.section.read_sections.Given as goal
 
