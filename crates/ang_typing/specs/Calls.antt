@@ -1,6 +1,5 @@
 -- Names and calls (docs/LANGUAGE.md, "Expressions"; the AngelScript manual, "Function calls" and "Parameter references").
-use Rattle.std.specs.Prelude.{ℕ, Bool, true, false, not, ◌&&◌, if◌then◌else◌, List, [], ◌∷◌, map, Option, Some, None, Result, Ok, Err}
-use Rattle.ang_kinds.specs.declared.error.ErrorKind.{ErrorKind}
+use Rattle.std.specs.Prelude.{Bool, true, false, not, ◌&&◌, if◌then◌else◌, List, [], ◌∷◌, map, Option, Some, None, Ok, Err}
 use Rattle.ang_kinds.specs.declared.error.ErrorKind.TheVariants as kind
 use Rattle.ang_kinds.specs.declared.place.Place.{Place}
 use Rattle.ang_kinds.specs.declared.types.Pass.{Pass}

@@ -1,7 +1,6 @@
 -- The typing of expressions (docs/LANGUAGE.md, "Expressions"): by cases on the tree, the type and the resolved tree, or the
 -- first refusal in reading order. Operands are typed first, from left to right, then the operation.
-use Rattle.std.specs.Prelude.{List, [], ◌∷◌, Result, Ok, Err}
-use Rattle.ang_lex.specs.declared.token.Token.{Token}
+use Rattle.std.specs.Prelude.{List, [], ◌∷◌, Ok}
 use Rattle.ang_tree.specs.Tree.{Tree, Args, Trees, literal, name, call, scoped_call, cast, convert, group, postfix, member, method_call, prefix, binary, conditional, assignment, arguments, none, more}
 use Rattle.ang_written.specs.Sources.{text_of}
 use Rattle.ang_typing.specs.declared.scope.Pair.{Pair}

@@ -1,17 +1,13 @@
 -- What a use of a name means (docs/LANGUAGE.md, "Expressions": names and calls; the AngelScript manual, "Function overloading" and "Access masks"). A use
 -- is a name, what is asked of it, and the types of the operands.
-use Rattle.std.specs.Prelude.{ℕ, Bool, ◌==◌, if◌then◌else◌, is_some, length, List, [], ◌∷◌, ◌++◌, map, slice_get, option_to_list, Option, Some, None}
+use Rattle.std.specs.Prelude.{ℕ, ◌==◌, if◌then◌else◌, is_some, length, List, ◌++◌, map, slice_get, option_to_list, Option, Some, None}
 use Rattle.std.specs.List.{flat_map}
-use Rattle.ang_kinds.specs.declared.error.ErrorKind.{ErrorKind}
 use Rattle.ang_kinds.specs.declared.error.ErrorKind.TheVariants as kind
 use Rattle.ang_registry.specs.Types.{type_named}
 use Rattle.ang_types.specs.declared.arg_type.ArgType.{ArgType}
-use Rattle.ang_types.specs.declared.candidate.Candidate.{Candidate}
 use Rattle.ang_types.specs.declared.candidate.Pick.{Pick}
 use Rattle.ang_types.specs.declared.candidate.Pick.TheVariants as pick
 use Rattle.ang_types.specs.Best.{best_of}
-use Rattle.ang_typed.specs.declared.expression.HostEntity.{HostEntity}
-use Rattle.ang_typed.specs.declared.expression.Variable.{Variable}
 use Rattle.ang_typed.specs.declared.expression.Variable.TheVariants as variable
 use Rattle.ang_names.specs.declared.names.ScriptFunction.{ScriptFunction}
 use Rattle.ang_names.specs.declared.names.ScriptGlobal.{ScriptGlobal}
@@ -22,7 +18,6 @@ use Rattle.ang_written.specs.HostNames.{view_functions_named, view_global_named}
 use Rattle.ang_operators.specs.declared.refusal.Asks.{Asks}
 use Rattle.ang_operators.specs.declared.refusal.Asks.TheVariants as asks
 use Rattle.ang_typing.specs.declared.scope.Pair.{Pair}
-use Rattle.ang_typing.specs.declared.uses.Callee.{Callee}
 use Rattle.ang_typing.specs.declared.uses.Callee.TheVariants as callee
 use Rattle.ang_typing.specs.declared.uses.Callable.{Callable}
 use Rattle.ang_typing.specs.declared.uses.Meant.{Meant}
