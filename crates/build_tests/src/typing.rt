@@ -261,10 +261,12 @@ fn entry_called(
     let lineage = Lineage::new(Vec::new(alloc));
     let setting = Setting::new(&view, &names, &lineage, b"put(5)");
     match resolve_call(alloc, &setting, b"put", &[INT])? {
-        Meant::Call(Callable {
-            callee: Callee::Host(host),
-            ..
-        }) => Ok(Some(host.entity)),
+        Meant::Call(
+            Callable {
+                callee: Callee::Host(host),
+                ..
+            },
+        ) => Ok(Some(host.entity)),
         _ => Ok(None),
     }
 }
