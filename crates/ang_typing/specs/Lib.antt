@@ -1,0 +1,4 @@
+pub mod Scope
+pub mod Uses
+pub mod Calls
+pub mod Typing

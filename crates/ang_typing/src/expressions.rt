@@ -1,0 +1,130 @@
+//! The typing of expressions.
+ghost use Rattle.std.specs.Prelude.{◌≡◌, IfOk, ◌++◌, ◌∷◌, []};
+ghost use Rattle.ang_tree.specs.View as trees;
+ghost use Rattle.ang_operators.specs.Refusals.{Gives};
+ghost use Rattle.ang_typing.specs.Typing as spec;
+ghost use Rattle.ang_operators.specs.View.{view_operand, view_operands};
+
+use crate::calls::{call, named};
+use crate::scope::Pair;
+use crate::setting::Setting;
+use ang_kinds::ErrorKind;
+use ang_operators::{
+    Branches, Operand, Stop, assignment, binary, conditional, convert, fault, group, literal,
+    postfix, prefix,
+};
+use ang_tree::{Argument, Expression};
+use std::alloc::{AllocError, Global};
+
+/// The list with one more operand at its end.
+fn with_operand(first: Vec<Operand>, operand: Operand) -> Result<Vec<Operand>, AllocError>
+    ensures { IfOk result (λ v. view_operands v.items ≡ view_operands first.items ++ (view_operand operand ∷ [])) }
+{
+    let mut found = first;
+    found.push(operand)?;
+    Ok(found)
+}
+
+/// Expressions with commas between them, typed from left to right.
+#[cycle(typing)]
+pub fn typing_of_all(
+    alloc: Global,
+    setting: &Setting<'_>,
+    pairs: &[Pair<'_>],
+    items: &[Argument],
+) -> Result<Vec<Operand>, Stop>
+    ensures exact { Gives (λ v. view_operands v.items) result (spec.typing_of_all setting.now pairs.now (trees.view_items items.now)) }
+{
+    let mut found = Vec::new(alloc);
+    for item in items {
+        let operand = typing(alloc, setting, pairs, &item.value)?;
+        found = with_operand(found, operand)?;
+    }
+    Ok(found)
+}
+
+/// The first two operands of a `?:`, while the third is typed.
+#[derive(Drop)]
+struct Asked {
+    condition: Operand,
+    then: Operand,
+}
+
+/// The type and the resolved tree of an expression, with these parameters and locals alive, the innermost last.
+///
+/// Else the first refusal in reading order: operands from left to right, then the operation. Each comes from
+/// one of the functions of this crate, which say when.
+#[cycle(typing)]
+pub fn typing(
+    alloc: Global,
+    setting: &Setting<'_>,
+    pairs: &[Pair<'_>],
+    expression: &Expression,
+) -> Result<Operand, Stop>
+    ensures exact { Gives view_operand result (spec.typing_of setting.now pairs.now (trees.view_expr expression.now)) }
+{
+    match expression {
+        Expression::Literal(token) => literal(token, setting.text_at(token).bytes()),
+        Expression::Name(token) => named(setting, pairs, token),
+        Expression::Call { name, arguments } => {
+            let operands = typing_of_all(alloc, setting, pairs, arguments.items.as_slice())?;
+            call(alloc, setting, name, operands)
+        }
+        Expression::ScopedCall { class, .. } => Err(fault(ErrorKind::NotYet, class.place)),
+        Expression::Cast { word, .. } => Err(fault(ErrorKind::NotYet, word.place)),
+        Expression::Convert {
+            primitive,
+            operand,
+            ..
+        } => {
+            let operand = typing(alloc, setting, pairs, operand)?;
+            convert(alloc, setting.lineage(), primitive, operand)
+        }
+        Expression::Parenthesized { open, inner, .. } => {
+            let operand = typing(alloc, setting, pairs, inner)?;
+            Ok(group(open.place, operand))
+        }
+        Expression::Postfix { operand, operator } => {
+            let operand = typing(alloc, setting, pairs, operand)?;
+            postfix(operand, operator.kind)
+        }
+        Expression::Member { dot, .. } => Err(fault(ErrorKind::NotYet, dot.place)),
+        Expression::MethodCall { dot, .. } => Err(fault(ErrorKind::NotYet, dot.place)),
+        Expression::Prefix { operator, operand } => {
+            let operand = typing(alloc, setting, pairs, operand)?;
+            prefix(alloc, setting.lineage(), operator, operand)
+        }
+        Expression::Binary {
+            left,
+            operator,
+            right,
+        } => {
+            let left = typing(alloc, setting, pairs, left)?;
+            let right = typing(alloc, setting, pairs, right)?;
+            binary(alloc, setting.lineage(), left, operator.kind, right)
+        }
+        Expression::Conditional {
+            condition,
+            then,
+            otherwise,
+            ..
+        } => {
+            let condition = typing(alloc, setting, pairs, condition)?;
+            let then = typing(alloc, setting, pairs, then)?;
+            let asked = Asked { condition, then };
+            let otherwise = typing(alloc, setting, pairs, otherwise)?;
+            let Asked { condition, then } = asked;
+            let branches = Branches { then, otherwise };
+            conditional(alloc, setting.lineage(), condition, branches)
+        }
+        Expression::Assignment {
+            target,
+            operator,
+            value,
+        } => {
+            let target = typing(alloc, setting, pairs, target)?;
+            let value = typing(alloc, setting, pairs, value)?;
+            assignment(alloc, setting.lineage(), target, operator.kind, value)
+        }
+    }
+}
