@@ -1,8 +1,8 @@
 -- Parts that were judged.
-use Rattle.std.proofs.Common.{◌≡◌, ◌<◌, ◌+◌, refl, ap, sym, ◌∙◌, ℕ, List, [], ◌∷◌, ◌++◌, append_assoc, append-nil, length, get_or, take, subst, Option, Some, None, option_to_list, map as list_map}
+use Rattle.std.proofs.Common.{◌≡◌, ◌<◌, ◌≤◌, ◌+◌, refl, ap, sym, ◌∙◌, ℕ, List, [], ◌∷◌, ◌++◌, append_assoc, append-nil, length, get_or, take, subst, Option, Some, None, option_to_list, map as list_map}
 use Rattle.std.specs.List.{filter_map, cons_option, flat_map}
 use Rattle.std.proofs.lemmas.Grind.{flat_map-append}
-use Rattle.std.proofs.lemmas.List.{map-append, take_more}
+use Rattle.std.proofs.lemmas.List.{map-append, take_more, take_all}
 use Rattle.ang_registry.specs.Registration.{RegistrationList}
 use Rattle.ang_lex.specs.declared.token.Token.{Token}
 use Rattle.ang_tree.specs.declared.type_name.TypeName.{TypeName}
@@ -170,3 +170,9 @@ module _ (V : RegistrationList) (names : Names) where
       → Judges V names a c (list_map part (list_map v (take (i + 1) ss)))
   judges_next part v ss i s a b c f lt is g =
       subst (λ ps. Judges V names a c ps) (sym (map_turn part v ss i s lt is)) (judges_more a b c _ _ f g)
+
+  -- all items, where none is left
+  pub judges_all : {A S : Type 0} (parts : A → List Part) (v : S → A) (ss : List S) (i : ℕ) (a b : Found)
+      → Judges V names a b (flat_map parts (list_map v (take i ss))) → length ss ≤ i → Judges V names a b (flat_map parts (list_map v ss))
+  judges_all parts v ss i a b f le =
+      subst (λ ps. Judges V names a b ps) (ap (λ xs. flat_map parts (list_map v xs)) (take_all i ss le)) f

@@ -1,5 +1,5 @@
 -- What a loop has so far, in front of what is left.
-use Rattle.std.proofs.Common.{Bool, ◌≡◌, ◌<◌, ◌≤◌, ◌+◌, refl, ap, sym, ◌∙◌, ℕ, suc, List, [], ◌∷◌, ◌++◌, append_assoc, append-nil, length, get_or, drop, take, drop-cons, add-one, arith, Ok, Err, map as list_map}
+use Rattle.std.proofs.Common.{Bool, ◌≡◌, ◌<◌, ◌≤◌, ◌+◌, refl, ap, sym, ◌∙◌, ℕ, suc, List, [], ◌∷◌, ◌++◌, append_assoc, append-nil, length, get_or, drop, take, drop-cons, add-one, arith, Result, Ok, Err, map as list_map}
 use Rattle.std.proofs.lemmas.List.{length-append, take-take, drop_all}
 use Rattle.std.proofs.Math.Seq.{take-length, take-append_seam}
 use Rattle.ang_tree.specs.Stmt as s
@@ -11,9 +11,13 @@ use Rattle.ang_types.specs.declared.arg_type.ArgType.{ArgType}
 use Rattle.ang_typed.specs.Typed as t
 use Rattle.ang_typing.specs.declared.scope.Pair.{Pair}
 use Rattle.ang_operators.specs.declared.refusal.Refusal.{Refusal}
-use Rattle.ang_operators.specs.Refusals.{Judged, ◌>>=◌}
+use Rattle.ang_operators.specs.declared.refusal.Stop.{Stop}
+use Rattle.ang_operators.specs.declared.refusal.Stop.TheVariants as stop
+use Rattle.ang_operators.specs.Refusals.{Judged, ◌>>=◌, Gives}
+use Rattle.ang_typed.specs.View.{view_stmt}
+use Rattle.ang_typed.specs.declared.statement.Statement as typed
 use Rattle.ang_check.specs.declared.frame.Frame.{Frame}
-use Rattle.ang_check.specs.Statements.{Keeps, stmt_typing, stmts_typing, local_typing, each_local}
+use Rattle.ang_check.specs.Statements.{Keeps, with_same, stmt_typing, stmts_typing, local_typing, each_local}
 
 -- ---- lists
 
@@ -41,6 +45,13 @@ keeps_on a b c f g = record {
 pub ruleset keeps = (keeps_same, keeps_pushed, keeps_on)
 
 -- ---- statements
+
+-- a statement behind which the same pairs are alive
+pub gives_same : (ps : List Pair) (r : Result typed.Statement Stop) (j : Judged t.Stmt) → Gives view_stmt r j
+    → Gives (λ x. (ps, view_stmt x)) r (with_same ps j)
+gives_same ps (Ok x) j h = ap (λ k. with_same ps k) h
+gives_same ps (Err stop.Memory) j h = tt
+gives_same ps (Err (stop.Refused r)) j h = ap (λ k. with_same ps k) h
 
 -- statements in front of others
 abbrev pub in_front : List t.Stmt → t.Stmts → t.Stmts

@@ -212,12 +212,17 @@ alone x = do
   Ok (t.then y.1 t.end)
 
 -- An `if` of a condition and two branches, and loops, each refused as the first of its parts that is, in the order of the text.
-abbrev pub either_of : Judged t.Expr → Judged t.Stmts → Judged t.Stmts → Judged t.Stmt
-either_of c s u = do
+abbrev pub tested_of : Judged t.Expr → Judged t.Stmts → Judged (t.Expr × t.Stmts)
+tested_of c s = do
   x ← c
   ss ← s
+  Ok ((x, ss))
+
+abbrev pub either_of : Judged (t.Expr × t.Stmts) → Judged t.Stmts → Judged t.Stmt
+either_of c u = do
+  x ← c
   us ← u
-  Ok (t.either x ss us)
+  Ok (t.either x.0 x.1 us)
 
 abbrev pub while_of : Judged t.Expr → Judged t.Stmts → Judged t.Stmt
 while_of c s = do
@@ -252,9 +257,9 @@ module _ (f : Frame) where
     stmt_typing loop start ps (continue word semicolon) = with_same ps (jump loop word t.continue)
     stmt_typing loop start ps (return word e semicolon) = with_same ps (return_typing f ps word e)
     stmt_typing loop start ps (when word left c right s) =
-        with_same ps (either_of (condition_typing f.setting ps c) (alone (stmt_typing loop (length ps) ps s)) (Ok t.end))
+        with_same ps (either_of (tested_of (condition_typing f.setting ps c) (alone (stmt_typing loop (length ps) ps s))) (Ok t.end))
     stmt_typing loop start ps (either word left c right s otherwise u) =
-        with_same ps (either_of (condition_typing f.setting ps c) (alone (stmt_typing loop (length ps) ps s)) (alone (stmt_typing loop (length ps) ps u)))
+        with_same ps (either_of (tested_of (condition_typing f.setting ps c) (alone (stmt_typing loop (length ps) ps s))) (alone (stmt_typing loop (length ps) ps u)))
     stmt_typing loop start ps (while word left c right s) =
         with_same ps (while_of (condition_typing f.setting ps c) (alone (stmt_typing true (length ps) ps s)))
     stmt_typing loop start ps (do_while word s again left c right semicolon) =
@@ -276,14 +281,9 @@ module _ (f : Frame) where
   abbrev pub branch_typing : Bool → List Pair → Stmt → Judged t.Stmts
   branch_typing loop ps s = alone (stmt_typing loop (length ps) ps s)
 
-  -- the other branch of an `if`, which is empty where none is written
-  abbrev pub else_typing : Bool → List Pair → Option Stmt → Judged t.Stmts
-  else_typing loop ps None = Ok t.end
-  else_typing loop ps (Some u) = branch_typing loop ps u
-
-  -- an `if`, with its other branch or without
-  abbrev pub if_typing : Bool → List Pair → Tree → Stmt → Option Stmt → Judged t.Stmt
-  if_typing loop ps c s u = either_of (condition_typing f.setting ps c) (branch_typing loop ps s) (else_typing loop ps u)
+  -- the condition of an `if` and its first branch
+  abbrev pub tested_typing : Bool → List Pair → Tree → Stmt → Judged (t.Expr × t.Stmts)
+  tested_typing loop ps c s = tested_of (condition_typing f.setting ps c) (branch_typing loop ps s)
 
   -- a `for`, whose locals end with it
   abbrev pub for_typing : List Pair → Start → Option Tree → Trees → Stmt → Judged (List Pair × t.Stmt)

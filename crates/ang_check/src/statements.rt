@@ -1,5 +1,5 @@
 //! The typing of statements.
-ghost use Rattle.std.specs.Prelude.{◌≡◌, ◌≤◌, ◌++◌, ◌∷◌, [], length, option_map, map as list_map, IfOk, OnOk};
+ghost use Rattle.std.specs.Prelude.{◌≡◌, ◌≤◌, ◌++◌, ◌∷◌, [], true, length, map as list_map, IfOk, OnOk};
 ghost use Rattle.ang_tree.specs.View as trees;
 ghost use Rattle.ang_typed.specs.Typed as tree;
 ghost use Rattle.ang_typed.specs.View.{view_block, view_expr, view_option, view_stmt};
@@ -14,7 +14,7 @@ use ang_kinds::ErrorKind;
 use ang_lex::Token;
 use ang_operators::{Stop, refused};
 use ang_tree as written;
-use ang_tree::{Argument, Else, ForStart, Statement as Written};
+use ang_tree::{Argument, ForStart, Statement as Written};
 use ang_typed::{Block, Expression, Statement};
 use ang_typing::Pair;
 use std::alloc::{AllocError, Global};
@@ -159,49 +159,24 @@ fn block_statement<'a>(
     Ok(Statement::Block(found))
 }
 
-/// What runs where the condition of an `if` is false.
+/// The condition of an `if`, and what runs where it is true.
 #[cycle(statement)]
-fn other_branch<'a>(
+fn first_branch<'a>(
     alloc: Global,
     frame: &Frame<'a>,
     in_loop: bool,
     pairs: &mut Vec<Pair<'a>>,
-    written: &Option<Else>,
-) -> Result<Block, Stop>
-    requires parameters { frame.now.parameters ≤ length pairs.old.items }
-    ensures exact { Gives view_block result
-        (spec.else_typing frame.now in_loop pairs.old.items (option_map (λ u. (trees.view_else u).1) written.now)) }
-    ensures same { OnOk result (pairs.new.items ≡ pairs.old.items) }
-{
-    match written {
-        None => Ok(empty_block(alloc)),
-        Some(otherwise) => branch(alloc, frame, in_loop, pairs, &otherwise.branch),
-    }
-}
-
-/// An `if`: its condition, then its branches.
-#[cycle(statement)]
-#[tactic(auto, using(crate::proofs::SoFar::keeps))]
-fn if_statement<'a>(
-    alloc: Global,
-    frame: &Frame<'a>,
-    in_loop: bool,
-    pairs: &mut Vec<Pair<'a>>,
-    test: &written::Expression,
     then: &Written,
-    otherwise: &Option<Else>,
-) -> Result<Statement, Stop>
+    test: &written::Expression,
+) -> Result<Tested, Stop>
     requires parameters { frame.now.parameters ≤ length pairs.old.items }
-    ensures exact { Gives (λ x. (pairs.new.items, view_stmt x)) result
-        (spec.with_same pairs.old.items (spec.if_typing frame.now in_loop pairs.old.items (trees.view_expr test.now) (trees.view_stmt «then».now)
-        (option_map (λ u. (trees.view_else u).1) otherwise.now))) }
-    ensures kept { OnOk result (spec.Keeps pairs.old.items pairs.new.items) }
+    ensures exact { Gives (λ x. (view_expr x.condition, view_block x.«then»)) result
+        (spec.tested_typing frame.now in_loop pairs.old.items (trees.view_expr test.now) (trees.view_stmt «then».now)) }
+    ensures same { OnOk result (pairs.new.items ≡ pairs.old.items) }
 {
     let condition = condition(alloc, &frame.setting, pairs.as_slice(), test)?;
     let then = branch(alloc, frame, in_loop, pairs, then)?;
-    let tested = Tested { condition, then };
-    let otherwise = other_branch(alloc, frame, in_loop, pairs, otherwise)?;
-    Ok(either_of(tested, otherwise))
+    Ok(Tested { condition, then })
 }
 
 /// A `while`: its condition, then its body.
@@ -211,8 +186,8 @@ fn while_statement<'a>(
     alloc: Global,
     frame: &Frame<'a>,
     pairs: &mut Vec<Pair<'a>>,
-    test: &written::Expression,
     body: &Written,
+    test: &written::Expression,
 ) -> Result<Statement, Stop>
     requires parameters { frame.now.parameters ≤ length pairs.old.items }
     ensures exact { Gives (λ x. (pairs.new.items, view_stmt x)) result
@@ -252,16 +227,16 @@ fn for_body<'a>(
     alloc: Global,
     frame: &Frame<'a>,
     pairs: &mut Vec<Pair<'a>>,
+    passed: &Written,
     head: LoopHead,
-    repeated: &Written,
 ) -> Result<Statement, Stop>
     requires parameters { frame.now.parameters ≤ length pairs.old.items }
     ensures exact { Gives view_stmt result
         (spec.for_of (view_stmt head.start, view_option head.condition, list_map view_expr head.steps.items)
-        (spec.branch_typing frame.now true pairs.old.items (trees.view_stmt repeated.now))) }
+        (spec.branch_typing frame.now true pairs.old.items (trees.view_stmt passed.now))) }
     ensures same { OnOk result (pairs.new.items ≡ pairs.old.items) }
 {
-    let body = branch(alloc, frame, true, pairs, repeated)?;
+    let body = branch(alloc, frame, true, pairs, passed)?;
     let found = for_of(alloc, head, body)?;
     Ok(found)
 }
@@ -273,19 +248,19 @@ fn for_statement<'a>(
     alloc: Global,
     frame: &Frame<'a>,
     pairs: &mut Vec<Pair<'a>>,
+    passed: &Written,
     first: &ForStart,
     test: &Option<written::Expression>,
     steps: &[Argument],
-    repeated: &Written,
 ) -> Result<Statement, Stop>
     requires parameters { frame.now.parameters ≤ length pairs.old.items }
     ensures exact { Gives (λ x. (pairs.new.items, view_stmt x)) result
-        (spec.for_typing frame.now pairs.old.items (trees.view_start first.now) (trees.view_option test.now) (trees.view_items steps.now) (trees.view_stmt repeated.now)) }
+        (spec.for_typing frame.now pairs.old.items (trees.view_start first.now) (trees.view_option test.now) (trees.view_items steps.now) (trees.view_stmt passed.now)) }
     ensures kept { OnOk result (spec.Keeps pairs.old.items pairs.new.items) }
 {
     let outside = pairs.len();
     let head = loop_head(alloc, frame, pairs, first, test, steps)?;
-    let found = for_body(alloc, frame, pairs, head, repeated)?;
+    let found = for_body(alloc, frame, pairs, passed, head)?;
     pairs.truncate(outside);
     Ok(found)
 }
@@ -311,26 +286,29 @@ fn statement<'a>(
         Written::Block(inner) => block_statement(alloc, frame, in_loop, pairs, inner),
         Written::Variables(variables) => locals_statement(alloc, frame, start, pairs, variables),
         Written::Expression { value, .. } => expression_statement(alloc, frame, pairs, value),
-        Written::Break { word, .. } => {
-            let found = jump(in_loop, word, Statement::Break)?;
-            Ok(found)
-        }
-        Written::Continue { word, .. } => {
-            let found = jump(in_loop, word, Statement::Continue)?;
-            Ok(found)
-        }
+        Written::Break { word, .. } => jump(in_loop, word, Statement::Break),
+        Written::Continue { word, .. } => jump(in_loop, word, Statement::Continue),
         Written::Return { word, value, .. } => returned(alloc, frame, pairs, word, value),
         Written::If {
             condition,
             then,
             otherwise,
             ..
-        } => if_statement(alloc, frame, in_loop, pairs, condition, then, otherwise),
+        } => {
+            let tested = first_branch(alloc, frame, in_loop, pairs, then, condition)?;
+            match otherwise {
+                None => Ok(either_of(tested, empty_block(alloc))),
+                Some(other) => {
+                    let other = branch(alloc, frame, in_loop, pairs, &other.branch)?;
+                    Ok(either_of(tested, other))
+                }
+            }
+        }
         Written::While {
             condition,
             body,
             ..
-        } => while_statement(alloc, frame, pairs, condition, body),
+        } => while_statement(alloc, frame, pairs, body, condition),
         Written::DoWhile {
             body,
             condition,
@@ -342,6 +320,6 @@ fn statement<'a>(
             steps,
             body,
             ..
-        } => for_statement(alloc, frame, pairs, start, condition, steps, body),
+        } => for_statement(alloc, frame, pairs, body, start, condition, steps),
     }
 }
