@@ -1,0 +1,14 @@
+//! What is the same for all statements of a function.
+use ang_types::ArgType;
+use ang_typing::Setting;
+
+/// What is the same for all statements of a function.
+#[derive(Drop)]
+pub struct Frame<'a> {
+    /// What the function's names are looked up in.
+    pub setting: Setting<'a>,
+    /// The type of its result.
+    pub result: ArgType,
+    /// How many parameters it has.
+    pub parameters: usize,
+}

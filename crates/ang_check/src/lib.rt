@@ -1,0 +1,13 @@
+//! The checker: bodies and initializers of a build, judged one by one, as a resolved tree or their errors.
+#![tactic(auto)]
+
+mod bodies;
+mod checking;
+mod found;
+mod frame;
+mod locals;
+mod loops;
+mod statements;
+mod values;
+
+pub use checking::check;

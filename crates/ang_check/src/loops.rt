@@ -1,0 +1,93 @@
+//! What stands in the parentheses of a `for`.
+ghost use Rattle.std.specs.Prelude.{◌≡◌, ◌≤◌, length, map as list_map, IfOk, OnOk};
+ghost use Rattle.ang_tree.specs.View as trees;
+ghost use Rattle.ang_typed.specs.Typed as tree;
+ghost use Rattle.ang_typed.specs.View.{view_block, view_expr, view_option, view_stmt};
+ghost use Rattle.ang_operators.specs.Refusals.{Gives};
+ghost use Rattle.ang_check.specs.Statements as spec;
+
+use crate::frame::Frame;
+use crate::locals::locals_statement;
+use crate::values::{expression_statement, optional_condition, steps};
+use ang_operators::Stop;
+use ang_tree as written;
+use ang_tree::{Argument, ForStart};
+use ang_typed::{Block, Expression, Statement};
+use ang_typing::Pair;
+use std::alloc::{AllocError, Global};
+
+/// What stands in the parentheses of a `for`.
+#[derive(Drop)]
+pub struct LoopHead {
+    /// What runs first.
+    pub start: Statement,
+    /// The condition of a pass, where one is written.
+    pub condition: Option<Expression>,
+    /// What runs behind the body.
+    pub steps: Vec<Expression>,
+}
+
+/// What a `for` begins with, in the block that begins there.
+fn loop_start<'a>(
+    alloc: Global,
+    frame: &Frame<'a>,
+    pairs: &mut Vec<Pair<'a>>,
+    written: &ForStart,
+) -> Result<Statement, Stop>
+    requires parameters { frame.now.parameters ≤ length pairs.old.items }
+    ensures exact { Gives (λ x. (pairs.new.items, view_stmt x)) result (spec.start_typing frame.now pairs.old.items (trees.view_start written.now)) }
+    ensures kept { OnOk result (spec.Keeps pairs.old.items pairs.new.items) }
+{
+    match written {
+        ForStart::Variables(variables) => {
+            let start = pairs.len();
+            locals_statement(alloc, frame, start, pairs, variables)
+        }
+        ForStart::Expression { value, .. } => { expression_statement(alloc, frame, pairs, value) }
+    }
+}
+
+/// What stands in the parentheses of a `for`, in the order of the text. The pairs are those of its body.
+#[tactic(auto, using(crate::proofs::SoFar::keeps))]
+pub fn loop_head<'a>(
+    alloc: Global,
+    frame: &Frame<'a>,
+    pairs: &mut Vec<Pair<'a>>,
+    first: &ForStart,
+    test: &Option<written::Expression>,
+    items: &[Argument],
+) -> Result<LoopHead, Stop>
+    requires parameters { frame.now.parameters ≤ length pairs.old.items }
+    ensures exact { Gives (λ h. (pairs.new.items, view_stmt h.start, view_option h.condition, list_map view_expr h.steps.items)) result
+        (spec.head_typing frame.now pairs.old.items (trees.view_start first.now) (trees.view_option test.now) (trees.view_items items.now)) }
+    ensures kept { OnOk result (spec.Keeps pairs.old.items pairs.new.items) }
+{
+    let start = loop_start(alloc, frame, pairs, first)?;
+    let condition = optional_condition(alloc, &frame.setting, pairs.as_slice(), test)?;
+    let steps = steps(alloc, &frame.setting, pairs.as_slice(), items)?;
+    Ok(LoopHead {
+        start,
+        condition,
+        steps,
+    })
+}
+
+/// A `for` of these parts.
+pub fn for_of(alloc: Global, head: LoopHead, body: Block) -> Result<Statement, AllocError>
+    ensures exact { IfOk result (λ s. view_stmt s
+        ≡ tree.for (tree.«then» (view_stmt head.start) tree.end) (view_option head.condition) (list_map view_expr head.steps.items) (view_block body)) }
+{
+    let LoopHead {
+        start,
+        condition,
+        steps,
+    } = head;
+    let mut first = Vec::new(alloc);
+    first.push(start)?;
+    Ok(Statement::For {
+        start: first,
+        condition,
+        steps,
+        body,
+    })
+}
