@@ -328,7 +328,10 @@ const SECTIONS: [(&str, &str); 20] = [
         "int f(int n) { if (n <= 1) return 1; return f(n - 1) + 1; }",
         "error NotYet 0:1:1 -\n",
     ),
-    ("void w() { limit = 4; } int w;", "error Duplicate 0:1:29 w\n"),
+    (
+        "void w() { limit = 4; } int w;",
+        "error Duplicate 0:1:29 w\n",
+    ),
     (
         "int m(){return ((((((((((((((((((((((((((((((((((((((((((((((((((((((((((((((((1))))))))))))))))))))))))))))))))))))))))))))))))))))))))))))))));}",
         "error TooDeep 0:1:79 -\n",
