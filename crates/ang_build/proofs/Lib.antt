@@ -1,6 +1,5 @@
 pub mod Items
 pub mod Searching
-pub mod Building
 pub mod Trees
 pub mod Listing
 pub mod SeenCalls

@@ -1,6 +1,6 @@
 -- What a module sees of the host under a name (docs/LANGUAGE.md, "What is built so far").
-use Rattle.std.specs.Prelude.{ℕ, ◌==◌, Bool, true, false, not, ◌&&◌, List, length, Option, Some, None, bytes_eq}
-use Rattle.std.specs.List.{list_all}
+use Rattle.std.specs.Prelude.{ℕ, ◌==◌, Bool, true, false, not, ◌&&◌, if◌then◌else◌, List, length, Option, Some, None, bytes_eq}
+use Rattle.std.specs.List.{list_all, list_any}
 use Rattle.ang_kinds.specs.declared.primitive.Primitive.{Primitive}
 use Rattle.ang_kinds.specs.declared.primitive.Primitive.TheVariants.{I32}
 use Rattle.ang_kinds.specs.declared.types.Signature.{Signature}
@@ -9,6 +9,7 @@ use Rattle.ang_kinds.specs.declared.types.TypeRef.TheVariants.{Void, Plain, Obje
 use Rattle.ang_registry.specs.declared.entry.Entry.{Entry}
 use Rattle.ang_registry.specs.declared.entry.EntryKind.{EntryKind}
 use Rattle.ang_registry.specs.declared.entry.EntryKind.TheVariants.{HostType, Factory, Method, Property, Function, Global}
+use Rattle.ang_registry.specs.Registration.{RegistrationList, function_named}
 
 abbrev pub is_i32 : Primitive → Bool
 is_i32 I32 = true
@@ -41,3 +42,7 @@ is_beyond Global s = false
 abbrev pub is_beyond_named : List ℕ → Option Entry → Bool
 is_beyond_named name None = false
 is_beyond_named name (Some x) = bytes_eq x.signature.name name && is_beyond x.kind x.signature
+
+-- the number of the function whose calls by this name are built, where the view has nothing else to call by it
+abbrev pub callee_named : RegistrationList → List ℕ → Option ℕ
+callee_named V name = if list_any (is_beyond_named name) V then None else function_named V name

@@ -10,7 +10,7 @@ use Rattle.ang_tree.specs.declared.declaration.Script.{Script}
 use Rattle.ang_build.specs.declared.stop.Stop.{Stop}
 use Rattle.ang_build.specs.declared.stop.Stop.TheVariants.{Fault, Memory}
 use Rattle.ang_written.specs.Sources.{Source, source_of}
-use Rattle.ang_build.specs.declared.script.Declaration.{Declaration}
+use Rattle.ang_build.specs.declared.program.Function.{Function}
 use Rattle.ang_build.specs.Script.{lexical_error, grammar_error}
 use Rattle.ang_build.specs.Thin.{Functions}
 
@@ -42,11 +42,11 @@ StopsAt (Fault e) found = found ≡ Err e
 StopsAt Memory found = Unit {0}
 
 -- the functions of all declarations, or why there are none
-abbrev pub AreFunctions : Result (Vec Declaration Global) Stop → Functions → Type 0
-AreFunctions (Ok ds) found = found ≡ Ok ds.items
+abbrev pub AreFunctions : Result (Vec Function Global) Stop → Functions → Type 0
+AreFunctions (Ok fs) found = found ≡ Ok fs.items
 AreFunctions (Err why) found = StopsAt why found
 
 -- the same of a list that grew
-abbrev pub AreListed : {U : Type 0} → Result U Stop → List Declaration → Functions → Type 0
-AreListed (Ok u) ds found = found ≡ Ok ds
-AreListed (Err why) ds found = StopsAt why found
+abbrev pub AreListed : {U : Type 0} → Result U Stop → List Function → Functions → Type 0
+AreListed (Ok u) fs found = found ≡ Ok fs
+AreListed (Err why) fs found = StopsAt why found

@@ -1,4 +1,5 @@
--- The part of the language that is built so far, read off a script's trees (docs/LANGUAGE.md, "What is built so far").
+-- The part of the language that is built so far, read off a script's trees over what the module sees of the host
+-- (docs/LANGUAGE.md, "What is built so far"): functions without parameters and result, whose statements call host functions.
 use Rattle.std.specs.Prelude.{ℕ, ◌^◌, ℤ, pos, ◌+ℤ◌, ◌-ℤ◌, nat_lt, Bool, true, false, if◌then◌else◌, List, [], ◌∷◌, ◌++◌, Option, Some, None, Result, Ok, Err}
 use Rattle.std.specs.Int.{int_wrap, w32}
 use Rattle.ang_kinds.specs.declared.error.Error.{Error}
@@ -15,14 +16,13 @@ use Rattle.ang_tree.specs.Tree.{Tree, Trees, literal, call, group, binary, argum
 use Rattle.ang_tree.specs.Stmt.{Stmt, Stmts, Body, expression, body}
 use Rattle.ang_tree.specs.Stmt as stmt
 use Rattle.ang_tree.specs.Declarations.{Params, Decl, class, interface, import, function, globals, empty}
-use Rattle.ang_build.specs.declared.script.Name.{Name}
-use Rattle.ang_build.specs.declared.script.Statement.{Statement}
-use Rattle.ang_build.specs.declared.script.Declaration.{Declaration}
+use Rattle.ang_registry.specs.declared.entry.Entry.{Entry}
+use Rattle.ang_registry.specs.Registration.{RegistrationList, entry_at}
+use Rattle.ang_build.specs.declared.program.HostCall.{HostCall}
+use Rattle.ang_build.specs.declared.program.Function.{Function}
 use Rattle.ang_written.specs.Sources.{Source, text_of}
 use Rattle.ang_written.specs.NotYet.{beyond}
-
-abbrev pub name_of : List ℕ → Token → Name
-name_of text t = record { text = text_of text t; place = t.place }
+use Rattle.ang_build.specs.Host.{callee_named}
 
 -- ---- sums
 
@@ -64,31 +64,41 @@ abbrev pub argument_of : List ℕ → Trees → Option ℤ
 argument_of text (more comma e none) = sum_of text e
 argument_of text _ = None
 
-abbrev pub statement : Name → Option ℤ → Option Statement
-statement callee None = None
-statement callee (Some z) = Some (record { callee = callee; argument = z })
+-- a call of the function that an entry is, by its number
+abbrev pub entry_call : ℤ → ℕ → Option Entry → Option HostCall
+entry_call argument number None = None
+entry_call argument number (Some x) = Some (record { entity = record { 0 = number }; driver = x.driver; f = x.f; argument = argument })
+
+abbrev pub host_call : RegistrationList → ℤ → Option ℕ → Option HostCall
+host_call V argument None = None
+host_call V argument (Some number) = entry_call argument number (entry_at V number)
+
+-- a call by a name, where there is an argument
+unfoldable pub named_call : RegistrationList → List ℕ → Option ℤ → Option HostCall
+named_call V name None = None
+named_call V name (Some argument) = host_call V argument (callee_named V name)
 
 -- NAME ( sum )
-abbrev pub call_of : List ℕ → Tree → Option Statement
-call_of text (call x (arguments left es right)) = statement (name_of text x) (argument_of text es)
-call_of text _ = None
+abbrev pub call_of : RegistrationList → List ℕ → Tree → Option HostCall
+call_of V text (call x (arguments left es right)) = named_call V (text_of text x) (argument_of text es)
+call_of V text _ = None
 
 -- NAME ( sum ) ;
-abbrev pub statement_of : List ℕ → Stmt → Option Statement
-statement_of text (expression (Some e) semicolon) = call_of text e
-statement_of text _ = None
+abbrev pub statement_of : RegistrationList → List ℕ → Stmt → Option HostCall
+statement_of V text (expression (Some e) semicolon) = call_of V text e
+statement_of V text _ = None
 
-abbrev pub in_front : Option Statement → Option (List Statement) → Option (List Statement)
-in_front None ss = None
-in_front (Some s) None = None
-in_front (Some s) (Some ss) = Some (s ∷ ss)
+abbrev pub in_front : Option HostCall → Option (List HostCall) → Option (List HostCall)
+in_front None cs = None
+in_front (Some c) None = None
+in_front (Some c) (Some cs) = Some (c ∷ cs)
 
-abbrev pub statements_of : List ℕ → Stmts → Option (List Statement)
-statements_of text stmt.end = Some []
-statements_of text (stmt.then s ss) = in_front (statement_of text s) (statements_of text ss)
+abbrev pub statements_of : RegistrationList → List ℕ → Stmts → Option (List HostCall)
+statements_of V text stmt.end = Some []
+statements_of V text (stmt.then s ss) = in_front (statement_of V text s) (statements_of V text ss)
 
-abbrev pub body_of : List ℕ → Body → Option (List Statement)
-body_of text (body left ss right) = statements_of text ss
+abbrev pub body_of : RegistrationList → List ℕ → Body → Option (List HostCall)
+body_of V text (body left ss right) = statements_of V text ss
 
 -- ---- functions
 
@@ -102,43 +112,43 @@ abbrev pub is_empty : List Parameter → Bool
 is_empty [] = true
 is_empty (p ∷ ps) = false
 
-abbrev pub declaration : Name → Option (List Statement) → Option Declaration
-declaration name None = None
-declaration name (Some ss) = Some (record { name = name; body = ss })
+abbrev pub function_with : List ℕ → Option (List HostCall) → Option Function
+function_with name None = None
+function_with name (Some cs) = Some (record { name = name; body = cs })
 
 -- void NAME ( ) { statements }
-abbrev pub function_of : List ℕ → TypeName → Token → Params → Body → Option Declaration
-function_of text y x ps b =
+abbrev pub function_of : RegistrationList → List ℕ → TypeName → Token → Params → Body → Option Function
+function_of V text y x ps b =
     if is_void y.constant y.name.kind y.handle
-    then (if is_empty ps.items then declaration (name_of text x) (body_of text b) else None)
+    then (if is_empty ps.items then function_with (text_of text x) (body_of V text b) else None)
     else None
 
 -- ---- declarations
 
 -- the functions of what is built, or the error of the first declaration that is not
 abbrev pub Functions : Type 0
-Functions = Result (List Declaration) Error
+Functions = Result (List Function) Error
 
-abbrev pub or_beyond : Option Declaration → Decl → Functions
+abbrev pub or_beyond : Option Function → Decl → Functions
 or_beyond None d = Err (beyond d)
 or_beyond (Some f) d = Ok (f ∷ [])
 
 -- A function of the form above is built, and any other declaration is `NotYet` at its first token. A `;` alone declares nothing.
-abbrev pub functions_of : List ℕ → Decl → Functions
-functions_of text (class final word x bases left members right) = Err (beyond (class final word x bases left members right))
-functions_of text (interface word x bases left methods right) = Err (beyond (interface word x bases left methods right))
-functions_of text (import word y x ps from module_name semicolon) = Err (beyond (import word y x ps from module_name semicolon))
-functions_of text (function y x ps b) = or_beyond (function_of text y x ps b) (function y x ps b)
-functions_of text (globals vs) = Err (beyond (globals vs))
-functions_of text (empty semicolon) = Ok []
+abbrev pub functions_of : RegistrationList → List ℕ → Decl → Functions
+functions_of V text (class final word x bases left members right) = Err (beyond (class final word x bases left members right))
+functions_of V text (interface word x bases left methods right) = Err (beyond (interface word x bases left methods right))
+functions_of V text (import word y x ps from module_name semicolon) = Err (beyond (import word y x ps from module_name semicolon))
+functions_of V text (function y x ps b) = or_beyond (function_of V text y x ps b) (function y x ps b)
+functions_of V text (globals vs) = Err (beyond (globals vs))
+functions_of V text (empty semicolon) = Ok []
 
 -- ---- scripts
 
 -- those of both
 abbrev pub functions_joined : Functions → Functions → Functions
 functions_joined (Err e) rest = Err e
-functions_joined (Ok ds) (Err e) = Err e
-functions_joined (Ok ds) (Ok others) = Ok (ds ++ others)
+functions_joined (Ok fs) (Err e) = Err e
+functions_joined (Ok fs) (Ok others) = Ok (fs ++ others)
 
 -- those of each item, in order
 abbrev pub functions_of_each : {A : Type 0} → (A → Functions) → List A → Functions
@@ -146,9 +156,9 @@ functions_of_each f [] = Ok []
 functions_of_each f (x ∷ xs) = functions_joined (f x) (functions_of_each f xs)
 
 -- those of a section
-abbrev pub functions_in : Source → Functions
-functions_in s = functions_of_each (functions_of s.text) s.declarations
+abbrev pub functions_in : RegistrationList → Source → Functions
+functions_in V s = functions_of_each (functions_of V s.text) s.declarations
 
 -- those of all sections
-abbrev pub all_functions : List Source → Functions
-all_functions ss = functions_of_each functions_in ss
+abbrev pub all_functions : RegistrationList → List Source → Functions
+all_functions V ss = functions_of_each (functions_in V) ss

@@ -1,4 +1,4 @@
-//! The functions that scripts declare.
+//! The functions that scripts declare, over what their module sees of the host.
 ghost use Rattle.std.specs.Prelude.{◌≡◌, Ok, map as list_map};
 ghost use Rattle.ang_tree.specs.View.{view_decl};
 ghost use Rattle.ang_written.specs.NotYet as written;
@@ -7,12 +7,13 @@ ghost use Rattle.ang_build.specs.Reading.{AreFunctions, AreListed};
 ghost use Rattle.ang_build.specs.Thin as spec;
 ghost use Rattle.ang_build.specs.Thin.{functions_joined};
 
-use crate::script::Declaration;
+use crate::program::Function;
 use crate::section::nameless;
 use crate::stop::Stop;
 use crate::thin::built_function;
 use ang_kinds::{Error, ErrorKind};
 use ang_lex::Token;
+use ang_registry::View;
 use ang_tree as tree;
 use ang_tree::{Script, TypeName};
 use std::alloc::Global;
@@ -45,16 +46,17 @@ fn not_yet(alloc: Global, declaration: &tree::Declaration) -> Error
 }
 
 /// Adds the function that a declaration is. A `;` alone is none.
-fn list_function<'a>(
+fn list_function(
     alloc: Global,
-    text: &'a [u8],
+    view: &View,
+    text: &[u8],
     declaration: &tree::Declaration,
-    functions: &mut Vec<Declaration<'a>>,
+    functions: &mut Vec<Function>,
 ) -> Result<(), Stop>
-    ensures { AreListed result functions.new.items (functions_joined (Ok functions.old.items) (spec.functions_of text.now (view_decl declaration.now))) }
+    ensures { AreListed result functions.new.items (functions_joined (Ok functions.old.items) (spec.functions_of view.now text.now (view_decl declaration.now))) }
 {
     let function = match declaration {
-        tree::Declaration::Function(function) => built_function(alloc, text, function)?,
+        tree::Declaration::Function(function) => built_function(alloc, view, text, function)?,
         tree::Declaration::Empty(_) => return Ok(()),
         tree::Declaration::Class(_)
         | tree::Declaration::Interface(_)
@@ -69,27 +71,32 @@ fn list_function<'a>(
 }
 
 /// Adds the functions of one section.
-fn list_functions<'a>(
+fn list_functions(
     alloc: Global,
-    script: &'a Script,
-    functions: &mut Vec<Declaration<'a>>,
+    view: &View,
+    script: &Script,
+    functions: &mut Vec<Function>,
 ) -> Result<(), Stop>
-    ensures { AreListed result functions.new.items (functions_joined (Ok functions.old.items) (spec.functions_in (source_of script.now))) }
+    ensures { AreListed result functions.new.items (functions_joined (Ok functions.old.items) (spec.functions_in view.now (source_of script.now))) }
 {
     let text = script.source.as_slice();
     for declaration in &script.declarations {
-        list_function(alloc, text, declaration, functions)?;
+        list_function(alloc, view, text, declaration, functions)?;
     }
     Ok(())
 }
 
 /// The functions of all sections, in order, or the error of the first declaration that is not built yet.
-pub fn declared_functions(alloc: Global, scripts: &[Script]) -> Result<Vec<Declaration<'_>>, Stop>
-    ensures { AreFunctions result (spec.all_functions (list_map source_of scripts.now)) }
+pub fn declared_functions(
+    alloc: Global,
+    view: &View,
+    scripts: &[Script],
+) -> Result<Vec<Function>, Stop>
+    ensures { AreFunctions result (spec.all_functions view.now (list_map source_of scripts.now)) }
 {
     let mut functions = Vec::new(alloc);
     for script in scripts {
-        list_functions(alloc, script, &mut functions)?;
+        list_functions(alloc, view, script, &mut functions)?;
     }
     Ok(functions)
 }

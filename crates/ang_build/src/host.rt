@@ -77,7 +77,7 @@ fn is_function_at(view: &View, number: u32, name: &[u8]) -> bool
 }
 
 /// Whether a call by the name is not built yet, for something that is seen under it.
-pub fn is_beyond_built(view: &View, name: &[u8]) -> bool
+fn is_beyond_built(view: &View, name: &[u8]) -> bool
     ensures { result ≡ list_any (spec.is_beyond_named name.now) view.now }
 {
     for number in 0..view.len() as u32 {
@@ -89,7 +89,7 @@ pub fn is_beyond_built(view: &View, name: &[u8]) -> bool
 }
 
 /// The number of the first function of the name that is seen.
-pub fn seen_function(view: &View, name: &[u8]) -> Option<EntityNo>
+fn seen_function(view: &View, name: &[u8]) -> Option<EntityNo>
     ensures { option_map (λ number. number.0) result ≡ function_named view.now name.now }
 {
     for number in 0..view.len() as u32 {
@@ -98,4 +98,15 @@ pub fn seen_function(view: &View, name: &[u8]) -> Option<EntityNo>
         }
     }
     None
+}
+
+/// The number of the function whose calls by the name are built, where nothing else that is seen is called by it.
+pub fn callee(view: &View, name: &[u8]) -> Option<EntityNo>
+    ensures { option_map (λ number. number.0) result ≡ spec.callee_named view.now name.now }
+{
+    if is_beyond_built(view, name) {
+        None
+    } else {
+        seen_function(view, name)
+    }
 }

@@ -6,7 +6,6 @@ mod build;
 mod declared;
 mod host;
 mod program;
-mod script;
 mod section;
 mod stop;
 mod thin;

@@ -1,24 +1,17 @@
-//! The part of the language that is built so far, read off a script's trees.
+//! The part of the language that is built so far, read off a script's trees over what the module sees of the host.
 ghost use Rattle.std.specs.Prelude.{◌≡◌, IfOk};
 ghost use Rattle.ang_tree.specs.View.{view_expr, view_items, view_stmt, view_stmts, view_params, view_body};
 ghost use Rattle.ang_build.specs.Thin as spec;
 
-use crate::script::{Declaration, Name, Statement};
+use crate::host::callee;
+use crate::program::{Function, HostCall};
 use ang_kinds::{List, Prim};
 use ang_lex::{Number, Token, TokenKind, number};
+use ang_registry::View;
 use ang_tree as tree;
 use ang_tree::{Argument, Expression, TypeName};
-use ang_written::{Text, text_at};
+use ang_written::{copy_at, text_at};
 use std::alloc::{AllocError, Global};
-
-fn name_at<'a>(text: &'a [u8], token: &Token) -> Name<'a>
-    ensures { result ≡ spec.name_of text.now token.now }
-{
-    Name {
-        text: Text::new(text_at(text, token)),
-        place: token.place,
-    }
-}
 
 fn int(number: Number) -> Option<i32>
     ensures { result ≡ spec.int_of number.ty number.value }
@@ -90,17 +83,30 @@ fn argument(text: &[u8], items: &[Argument]) -> Option<i32>
     }
 }
 
+/// The call by a name, where the argument is a sum and calls by that name are built.
+#[tactic(auto, unfolding(crate::specs::Thin::named_call))]
+fn named_call(view: &View, name: &[u8], argument: Option<i32>) -> Option<HostCall>
+    ensures { result ≡ spec.named_call view.now name.now argument }
+{
+    let argument = argument?;
+    let entity = callee(view, name)?;
+    let entry = view.get(entity)?;
+    Some(HostCall {
+        entity,
+        driver: entry.driver,
+        f: entry.f,
+        argument,
+    })
+}
+
 /// The call that an expression is.
-fn call<'a>(text: &'a [u8], expression: &Expression) -> Option<Statement<'a>>
-    ensures { result ≡ spec.call_of text.now (view_expr expression.now) }
+fn call(view: &View, text: &[u8], expression: &Expression) -> Option<HostCall>
+    ensures { result ≡ spec.call_of view.now text.now (view_expr expression.now) }
 {
     match expression {
         Expression::Call { name, arguments } => {
-            let argument = argument(text, arguments.items.as_slice())?;
-            Some(Statement {
-                callee: name_at(text, name),
-                argument,
-            })
+            let argument = argument(text, arguments.items.as_slice());
+            named_call(view, text_at(text, name), argument)
         }
         Expression::Literal(_)
         | Expression::Name(_)
@@ -119,29 +125,30 @@ fn call<'a>(text: &'a [u8], expression: &Expression) -> Option<Statement<'a>>
 }
 
 /// The call that a statement is.
-fn call_statement<'a>(text: &'a [u8], statement: &tree::Statement) -> Option<Statement<'a>>
-    ensures { result ≡ spec.statement_of text.now (view_stmt statement.now) }
+fn call_statement(view: &View, text: &[u8], statement: &tree::Statement) -> Option<HostCall>
+    ensures { result ≡ spec.statement_of view.now text.now (view_stmt statement.now) }
 {
     match statement {
         tree::Statement::Expression {
             value: Some(value),
             ..
-        } => call(text, value),
+        } => call(view, text, value),
         _ => None,
     }
 }
 
-/// The statements of a body, if all of them are calls.
-fn calls<'a>(
+/// The calls that statements are, if all of them are calls.
+fn calls(
     alloc: Global,
-    text: &'a [u8],
+    view: &View,
+    text: &[u8],
     statements: &[tree::Statement],
-) -> Result<Option<List<Statement<'a>>>, AllocError>
-    ensures { IfOk result (λ o. o ≡ spec.statements_of text.now (view_stmts statements.now)) }
+) -> Result<Option<List<HostCall>>, AllocError>
+    ensures { IfOk result (λ o. o ≡ spec.statements_of view.now text.now (view_stmts statements.now)) }
 {
     let mut found = Vec::new(alloc);
     for statement in statements {
-        let Some(call) = call_statement(text, statement) else {
+        let Some(call) = call_statement(view, text, statement) else {
             return Ok(None)
         };
         found.push(call)?;
@@ -149,15 +156,16 @@ fn calls<'a>(
     Ok(Some(List::from_vec(found)))
 }
 
-/// The statements of a block, if all of them are calls.
-fn body<'a>(
+/// The calls that the statements of a block are, if all of them are calls.
+fn body(
     alloc: Global,
-    text: &'a [u8],
+    view: &View,
+    text: &[u8],
     block: &tree::Block,
-) -> Result<Option<List<Statement<'a>>>, AllocError>
-    ensures { IfOk result (λ o. o ≡ spec.body_of text.now (view_body block.now)) }
+) -> Result<Option<List<HostCall>>, AllocError>
+    ensures { IfOk result (λ o. o ≡ spec.body_of view.now text.now (view_body block.now)) }
 {
-    calls(alloc, text, block.statements.as_slice())
+    calls(alloc, view, text, block.statements.as_slice())
 }
 
 /// Whether the type is the word `void` alone.
@@ -170,21 +178,20 @@ fn is_void(declared: &TypeName) -> bool
 }
 
 /// The function, if it is of the part of the language that is built.
-pub fn built_function<'a>(
+pub fn built_function(
     alloc: Global,
-    text: &'a [u8],
+    view: &View,
+    text: &[u8],
     function: &tree::Function,
-) -> Result<Option<Declaration<'a>>, AllocError>
-    ensures { IfOk result (λ o. o ≡ spec.function_of text.now function.now.result function.now.name (view_params function.now.parameters) (view_body function.now.body)) }
+) -> Result<Option<Function>, AllocError>
+    ensures { IfOk result (λ o. o ≡ spec.function_of view.now text.now function.now.result function.now.name (view_params function.now.parameters) (view_body function.now.body)) }
 {
     if !is_void(&function.result) || !function.parameters.items.is_empty() {
         return Ok(None);
     }
-    let Some(body) = body(alloc, text, &function.body)? else {
+    let Some(body) = body(alloc, view, text, &function.body)? else {
         return Ok(None)
     };
-    Ok(Some(Declaration {
-        name: name_at(text, &function.name),
-        body,
-    }))
+    let name = copy_at(alloc, text, &function.name)?;
+    Ok(Some(Function { name, body }))
 }

@@ -5,3 +5,4 @@ pub mod FirstRow
 pub mod Declared
 pub mod Tables
 pub mod ViewTypes
+pub mod Values

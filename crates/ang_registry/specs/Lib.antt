@@ -4,3 +4,4 @@ pub mod Declarations
 pub mod Overloads
 pub mod Types
 pub mod Refusals
+pub mod Values

@@ -3,6 +3,7 @@ ghost use Rattle.std.specs.Prelude.{◌≡◌, ◌≢◌, ◌≤◌, ◌<◌, []
 ghost use Rattle.std.specs.Option.{option_copied};
 ghost use Rattle.ang_registry.specs.Registration.{entry_at, seen, function_named, SeesFunction};
 ghost use Rattle.ang_registry.specs.Types.{type_named};
+ghost use Rattle.ang_registry.specs.Values.{AreValues, DeclaresValues, EntryTakesValues, TakesValues};
 ghost use Rattle.ang_registry.specs.Declarations as spec;
 ghost use Rattle.ang_registry.specs.Refusals.{refusal_of_type, with_type, refusal_of_factory, with_factory, refusal_of_method, with_method, refusal_of_property, with_property, refusal_of_function, with_function, refusal_of_global, with_global, refusal_of_blank, with_blank, refusal_of_own, with_own, refusal_of_member, with_member, refusal_of_entry, with_entry, with_last};
 
@@ -30,12 +31,13 @@ pub struct Registry {
 impl Model for Registry {
     ghost use Rattle.std.specs.Prelude.{◌≤◌, length};
     ghost use Rattle.ang_registry.specs.Registration.{Registrations};
+    ghost use Rattle.ang_registry.specs.Values.{TakesValues};
 
     ghost Value = { Registrations };
 
     ghost view = { λ r. record { default_mask = r.default_mask; entries = r.entries.items } };
 
-    ghost invariant = { λ r. length r.entries.items ≤ 1024 };
+    ghost invariant = { λ r. (length r.entries.items ≤ 1024) × TakesValues r.entries.items };
 }
 
 impl Registry {
@@ -69,6 +71,7 @@ impl Registry {
     /// mask is 0, `BadDeclaration` where the name is no identifier, `WrongDriver` where `driver` is above 63 or
     /// has a type already, and `Duplicate` where a type, a function or a global property has the name. `Memory`
     /// may come in the place of any answer. After a refusal the registry is as it was.
+    #[tactic(auto, using(crate::proofs::Values::type_values))]
     pub fn type_(&mut self, name: &[u8], driver: u32) -> Result<EntityNo, RegError>
         ensures accepted { OnOk result
             (refusal_of_type self.old driver (spec.declared_type name.now) ≡ None) }
@@ -93,6 +96,7 @@ impl Registry {
     /// `WrongDriver` where a parameter names a type of another driver, and `Duplicate` where the type has a
     /// factory with the same parameters. `Memory` may come in the place of any answer. After a refusal the
     /// registry is as it was.
+    #[tactic(auto, using(crate::proofs::Values::factory_values))]
     pub fn factory(&mut self, type_name: &[u8], f: u32, decl: &[u8]) -> Result<EntityNo, RegError>
         ensures accepted { OnOk result
             (refusal_of_factory self.old type_name.now (spec.declared_factory decl.now) ≡ None) }
@@ -113,6 +117,7 @@ impl Registry {
     ///
     /// Refused as `factory` is, but that the method may give any type that a function may; `Duplicate` comes
     /// where the type has a property of the name, or a method of the name with the same parameters and `const`.
+    #[tactic(auto, using(crate::proofs::Values::method_values))]
     pub fn method(&mut self, type_name: &[u8], f: u32, decl: &[u8]) -> Result<EntityNo, RegError>
         ensures accepted { OnOk result
             (refusal_of_method self.old type_name.now (spec.declared_method decl.now) ≡ None) }
@@ -133,6 +138,7 @@ impl Registry {
     /// can't write the property.
     ///
     /// Refused as `factory` is; `Duplicate` comes where the type has a method or a property of the name.
+    #[tactic(auto, using(crate::proofs::Values::property_values))]
     pub fn property(&mut self, type_name: &[u8], f: u32, decl: &[u8]) -> Result<EntityNo, RegError>
         ensures accepted { OnOk result
             (refusal_of_property self.old type_name.now (spec.declared_property decl.now) ≡ None) }
@@ -156,6 +162,7 @@ impl Registry {
     /// 63 or the text names a type of another driver, and `Duplicate` where a type or a global property has the
     /// name, or a function with the same parameters. `Memory` may come in the place of any answer. After a
     /// refusal the registry is as it was.
+    #[tactic(auto, using(crate::proofs::Values::function_values))]
     pub fn function(&mut self, driver: u32, f: u32, decl: &[u8]) -> Result<EntityNo, RegError>
         ensures accepted { OnOk result
             (refusal_of_function self.old driver (spec.declared_function decl.now) ≡ None) }
@@ -176,6 +183,7 @@ impl Registry {
     /// can't write the property.
     ///
     /// Refused as `function` is; `Duplicate` comes where a type, a function or a global property has the name.
+    #[tactic(auto, using(crate::proofs::Values::property_values))]
     pub fn global_property(
         &mut self,
         driver: u32,
@@ -224,6 +232,7 @@ impl Registry {
         f: u32,
         declared: Option<Signature>,
     ) -> Result<EntityNo, RegError>
+        requires values { DeclaresValues declared }
         ensures accepted { OnOk result (refusal_of_own kind self.old driver declared ≡ None) }
         ensures number { IfOk result (λ number. number.0 ≡ length self.old.entries) }
         ensures added { OnOk result (self.new ≡ with_own kind self.old driver f declared) }
@@ -246,6 +255,7 @@ impl Registry {
         f: u32,
         declared: Option<Signature>,
     ) -> Result<EntityNo, RegError>
+        requires values { DeclaresValues declared }
         ensures accepted { OnOk result
             (refusal_of_member kind self.old type_name.now declared ≡ None) }
         ensures number { IfOk result (λ number. number.0 ≡ length self.old.entries) }
@@ -277,7 +287,8 @@ impl Registry {
         f: u32,
         signature: Signature,
     ) -> Result<EntityNo, RegError>
-        requires { length self.old.entries < 1024 }
+        requires room { length self.old.entries < 1024 }
+        requires values { AreValues signature.params }
         ensures accepted { OnOk result
             (refusal_of_entry self.old.entries kind owner driver signature ≡ None) }
         ensures number { IfOk result (λ number. number.0 ≡ length self.old.entries) }
@@ -309,7 +320,8 @@ impl Registry {
 
     /// Puts an entry or a blank last.
     fn push(&mut self, entry: Option<Entry>) -> Result<EntityNo, RegError>
-        requires { length self.old.entries < 1024 }
+        requires room { length self.old.entries < 1024 }
+        requires values { EntryTakesValues entry }
         ensures number { IfOk result (λ number. number.0 ≡ length self.old.entries) }
         ensures added { OnOk result (self.new ≡ with_last self.old entry) }
         ensures memory { IfErr result (λ why. why ≡ RegError.Memory) }
@@ -320,11 +332,12 @@ impl Registry {
         Ok(number)
     }
 
-    /// What a module of the mask sees of the list.
+    /// What a module of the mask sees of the list. No declaration in it has an `&out` parameter.
     ///
     /// The only error is want of memory.
     pub fn seen(&self, alloc: Global, mask: Mask) -> Result<View, AllocError>
         ensures exact { IfOk result (λ view. view ≡ seen self.now.entries mask.0) }
+        ensures values { IfOk result (λ view. TakesValues view) }
     {
         view_of(alloc, &self.entries, mask)
     }

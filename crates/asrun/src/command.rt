@@ -1,7 +1,7 @@
 //! The options of the command line.
-ghost use Rattle.std.specs.Prelude.{◌≡◌, ◌≤◌, Some, IfOk, IfSome, codes, option_map, string_bytes};
+ghost use Rattle.std.specs.Prelude.{◌≡◌, ◌≤◌, Some, IfOk, IfSome, codes, is_some, option_map, string_bytes};
 ghost use Rattle.clap.specs.Words.{app_of, first_value, found_of};
-ghost use Rattle.asrun.specs.Options.{program, budget_given};
+ghost use Rattle.asrun.specs.Options.{program, budget_given, is_complete};
 
 use ang_session::decimal;
 use clap::{Arg, ArgMatches, Command};
@@ -62,6 +62,7 @@ pub fn chosen(alloc: Global, matches: &ArgMatches<'_>) -> Result<Option<Options>
     ensures budget { IfOk result (λ r. IfSome r (λ o. budget_given (first_value (found_of matches.now) (codes "budget")) ≡ Some o.budget)) }
     ensures least { IfOk result (λ r. IfSome r (λ o. 1 ≤ o.budget)) }
     ensures most { IfOk result (λ r. IfSome r (λ o. o.budget ≤ 2147483647)) }
+    ensures complete { IfOk result (λ r. is_some r ≡ is_complete (first_value (found_of matches.now) (codes "profile")) (first_value (found_of matches.now) (codes "session")) (budget_given (first_value (found_of matches.now) (codes "budget")))) }
 {
     let Some(budget) = budget_of(matches.get_str("budget")) else {
         return Ok(None);

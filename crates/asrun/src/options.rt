@@ -1,6 +1,8 @@
 //! Reading the command line.
-ghost use Rattle.std.specs.Prelude.{◌≡◌, ◌≤◌, Some, IfOk, codes, map, string_bytes};
-ghost use Rattle.asrun.specs.Options.{given, budget_given};
+ghost use Rattle.std.specs.Prelude.{◌≡◌, ◌≤◌, true, Some, IfOk, IfErr, codes, map, string_bytes};
+ghost use Rattle.clap.specs.Words.{kind_of};
+ghost use Rattle.clap.specs.declared.error.kind.ErrorKind.TheVariants.{OutOfMemory};
+ghost use Rattle.asrun.specs.Options.{given, budget_given, is_right};
 
 use crate::command;
 use crate::command::{chosen, command_line};
@@ -19,6 +21,7 @@ pub fn options<'a>(alloc: Global, words: &'a [&'a str]) -> Result<command::Optio
     ensures budget { IfOk result (λ o. budget_given (given (codes "budget") (map (λ w. w.now) words.now)) ≡ Some o.budget) }
     ensures most { IfOk result (λ o. o.budget ≤ 2147483647) }
     ensures least { IfOk result (λ o. 1 ≤ o.budget) }
+    ensures refused { IfErr result (λ e. is_right (map (λ w. w.now) words.now) ≡ true → kind_of e ≡ OutOfMemory) }
 {
     let mut command = command_line(alloc)?;
     let matches = command.try_get_matches_from_mut(words)?;

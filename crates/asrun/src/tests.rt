@@ -185,7 +185,7 @@ const RUNS: [(&str, &str, &str, Status); 23] = [
     (
         ALL_KINDS,
         "module a 00000001\nbuild a\nsection a 1\nvoid m(){ print(1); }\nbuild a\n",
-        "ok\nok\nok\nerror NotYet 0:1:11 -\nrefused BuildErrors\n",
+        "ok\nok\nok\nerror NotYet 0:1:1 -\nrefused BuildErrors\n",
         Status::SomeRefused,
     ),
     (
@@ -293,58 +293,121 @@ fn whole_runs(rt: HostRuntime) -> Result<(), Fail> {
     Ok(())
 }
 
-/// A section, and the errors of its build.
-const SECTIONS: [(&str, &str); 20] = [
-    ("/* cut", "error OpenComment 0:1:1 -\n"),
-    ("int a; # b", "error BadByte 0:1:8 -\n"),
-    ("void m(){ 1x; }", "error BadNumber 0:1:11 -\n"),
-    ("void m() { return }", "error Syntax 0:1:19 }\n"),
-    ("int f(", "error Syntax 0:1:7 -\n"),
-    ("int a, b; class C {}", "error NotYet 0:1:11 -\n"),
-    ("int a; int a; class C {}", "error NotYet 0:1:15 -\n"),
-    ("int a; int a;", "error Duplicate 0:1:12 a\n"),
+/// A profile, a section, and the errors of its build.
+const SECTIONS: [(&str, &str, &str); 28] = [
+    (PROFILE, "/* cut", "error OpenComment 0:1:1 -\n"),
+    (PROFILE, "int a; # b", "error BadByte 0:1:8 -\n"),
+    (PROFILE, "void m(){ 1x; }", "error BadNumber 0:1:11 -\n"),
+    (PROFILE, "void m() { return }", "error Syntax 0:1:19 }\n"),
+    (PROFILE, "int f(", "error Syntax 0:1:7 -\n"),
+    (PROFILE, "int a, b; class C {}", "error NotYet 0:1:11 -\n"),
     (
+        PROFILE,
+        "int a; int a; class C {}",
+        "error NotYet 0:1:15 -\n",
+    ),
+    (PROFILE, "int a; int a;", "error Duplicate 0:1:12 a\n"),
+    (
+        PROFILE,
         "void f(int a) {} void f(int32 b) {}",
         "error Duplicate 0:1:23 f\n",
     ),
-    ("void print(int x) {}", "error Duplicate 0:1:6 print\n"),
-    ("int print;", "error Duplicate 0:1:5 print\n"),
     (
+        PROFILE,
+        "void print(int x) {}",
+        "error Duplicate 0:1:6 print\n",
+    ),
+    (PROFILE, "int print;", "error Duplicate 0:1:5 print\n"),
+    (
+        PROFILE,
         "Nope a, b;",
         "error UnknownType 0:1:1 Nope\nerror UnknownType 0:1:1 Nope\n",
     ),
-    ("Nope b; int a; int a;", "error Duplicate 0:1:20 a\n"),
-    ("void f(void a) {}", "error BadType 0:1:8 void\n"),
-    ("void f(int &inout a) {}", "error BadType 0:1:8 int\n"),
     (
+        PROFILE,
+        "Nope b; int a; int a;",
+        "error Duplicate 0:1:20 a\n",
+    ),
+    (PROFILE, "void f(void a) {}", "error BadType 0:1:8 void\n"),
+    (
+        PROFILE,
+        "void f(int &inout a) {}",
+        "error BadType 0:1:8 int\n",
+    ),
+    (
+        PROFILE,
         "void f(int64 a, int b) {} void f(int a, int64 b) {}",
         "error NotYet 0:1:1 -\n",
     ),
     (
+        PROFILE,
         "void m() { print(1); } int y = 1; int z;",
         "error NotYet 0:1:24 -\n",
     ),
     (
+        PROFILE,
         "int f(int n) { if (n <= 1) return 1; return f(n - 1) + 1; }",
         "error NotYet 0:1:1 -\n",
     ),
     (
+        PROFILE,
         "void w() { limit = 4; } int w;",
         "error Duplicate 0:1:29 w\n",
     ),
     (
+        PROFILE,
         "int m(){return ((((((((((((((((((((((((((((((((((((((((((((((((((((((((((((((((1))))))))))))))))))))))))))))))))))))))))))))))))))))))))))))))));}",
         "error TooDeep 0:1:79 -\n",
+    ),
+    (
+        ALL_KINDS,
+        "void m() { if (1) {} }",
+        "error NotBool 0:1:16 -\n",
+    ),
+    (
+        ALL_KINDS,
+        "void m() { break; }",
+        "error Jump 0:1:12 break\n",
+    ),
+    (
+        ALL_KINDS,
+        "void o(int &out a) {} void m() { o(1); }",
+        "error BadOut 0:1:36 -\n",
+    ),
+    (
+        ALL_KINDS,
+        "void f(int64 a, int b) {} void f(int a, int64 b) {} void m() { f(1, 2); }",
+        "error Ambiguous 0:1:64 f\n",
+    ),
+    (
+        ALL_KINDS,
+        "void w() { limit = 4; }",
+        "error Const 0:1:12 limit\n",
+    ),
+    (
+        ALL_KINDS,
+        "int m() { while (false) {} }",
+        "error NoReturn 0:1:5 m\n",
+    ),
+    (
+        ALL_KINDS,
+        "void m() { nope(1); } int a;",
+        "error UnknownName 0:1:12 nope\n",
+    ),
+    (
+        ALL_KINDS,
+        "void m() {} ; int f(int n) { if (n <= 1) return 1; return f(n - 1) + 1; } int a;",
+        "error NotYet 0:1:15 -\n",
     ),
 ];
 
 #[test]
 fn sections_with_errors(rt: HostRuntime) -> Result<(), Fail> {
-    for (section, errors) in SECTIONS {
+    for (profile, section, errors) in SECTIONS {
         let text = format!(in rt.alloc(); "module a 00000001\nsection a 1\n{section}\nbuild a\n")?;
         let output = format!(in rt.alloc(); "ok\nok\n{errors}refused BuildErrors\n")?;
         let mut out = Sink::new(rt.alloc(), 4096, 0, false);
-        let mut profile = Pieces::new(PROFILE, 4096, 0);
+        let mut profile = Pieces::new(profile, 4096, 0);
         let mut text = Pieces::new(text.as_str(), 4096, 0);
         let outcome = run(rt.alloc(), &mut profile, &mut text, &mut out)?;
         assert_eq!(rt; outcome, Ok(Status::SomeRefused), "{section}");

@@ -6,5 +6,5 @@ use Rattle.ang_build.proofs.declared.declared_functions.Given as goal
 
 abbrev pub invariant-loop-script : goal.invariant-loop-script
 invariant-loop-script l =
-    all_functions (list_map source_of l.scripts)
-    ≡ functions_joined (Ok l.functions.items) (functions_of_each functions_in (list_map source_of (drop l.script-index l.scripts)))
+    all_functions l.view (list_map source_of l.scripts)
+    ≡ functions_joined (Ok l.functions.items) (functions_of_each (functions_in l.view) (list_map source_of (drop l.script-index l.scripts)))

@@ -6,4 +6,4 @@ use Rattle.ang_build.proofs.thin.calls.Given as goal
 
 abbrev pub invariant-loop-statement : goal.invariant-loop-statement
 invariant-loop-statement l =
-    statements_of l.text (view_stmts l.statements) ≡ all_in_front l.found.items (statements_of l.text (view_stmts (drop l.statement-index l.statements)))
+    statements_of l.view l.text (view_stmts l.statements) ≡ all_in_front l.found.items (statements_of l.view l.text (view_stmts (drop l.statement-index l.statements)))

@@ -1,6 +1,6 @@
 use Rattle.std.proofs.Common.{◌∙◌, ap, sym, codes}
 use Rattle.asrun.specs.Options.{budget_given}
-use Rattle.asrun.proofs.CommandLine.{value_given}
+use Rattle.asrun.proofs.CommandLine.{value_given, refused_right, not_right}
 use Rattle.asrun.proofs.options.options.Goals as goal
 
 pub returns-in-Some-clause-profile : goal.returns-in-Some-clause-profile
@@ -17,3 +17,11 @@ pub returns-in-Some-clause-budget : goal.returns-in-Some-clause-budget
 returns-in-Some-clause-budget c =
     ap budget_given (sym (value_given _ _ c.in_ok-matches.matches (codes "budget") c.in_ok-command.ensures.exact c.in_ok-matches.ensures.ok.2))
     ∙ (rw c.in-Some.is at c.in_ok-options.ensures.budget)
+
+pub returns-in_err-matches-clause-refused : goal.returns-in_err-matches-clause-refused
+returns-in_err-matches-clause-refused c =
+    refused_right _ _ _ _ c.from_residual-in_err-matches.ensures.1 c.in_ok-command.ensures.exact c.in_err-matches.ensures.passes
+
+pub returns-clause-refused : goal.returns-clause-refused
+returns-clause-refused c =
+    λ right. absurd (not_right _ _ c.in_ok-matches.matches _ c.in_ok-command.ensures.exact c.in_ok-matches.ensures.ok.2 c.in-None.is c.in_ok-options.ensures.complete right)

@@ -1,0 +1,11 @@
+use Rattle.std.proofs.Common.{length, arith, length-append, ◌∷◌, [], ap}
+use Rattle.ang_registry.specs.Registration.{Registrations}
+use Rattle.ang_registry.proofs.Values.{last_takes}
+use Rattle.ang_registry.proofs.registry.Registry.push.Goals as goal
+
+pub invariant_of-self-2 : goal.invariant_of-self-2
+invariant_of-self-2 c =
+    let same = ap (λ (r : Registrations). length r.entries) c.self.view_is in (
+      rw c.in_ok-push.ensures.items (omega (arith, same, c.requires.room, length-append c.self.inside.entries.items (c.args.entry ∷ []))),
+      rw c.in_ok-push.ensures.items (last_takes _ _ c.self.invariant.1 c.requires.values),
+    )

@@ -1,0 +1,42 @@
+-- What holds of each item of a list, and of a value that is there or not.
+use Rattle.std.specs.Prelude.{◌≡◌, ℕ, zero, suc, Bool, true, false, ◌&&◌, if◌then◌else◌, List, [], ◌∷◌, ◌++◌, map, option_to_list, Option, Some, None, IfSome, slice_get}
+use Rattle.std.specs.List.{flat_map}
+use Rattle.std.proofs.Common.{refl, subst}
+use Rattle.std.proofs.lemmas.Option.{same_Some}
+use Rattle.ang_tree.specs.Stmt.{Every}
+
+pub every_joined : {A : Type 0} (P : A → Type 0) (xs ys : List A) → Every P xs → Every P ys → Every P (xs ++ ys)
+every_joined P [] ys h k = k
+every_joined P (x ∷ xs) ys h k = (h.0, every_joined P xs ys h.1 k)
+
+pub every_option : {A : Type 0} (P : A → Type 0) (o : Option A) → IfSome o P → Every P (option_to_list o)
+every_option P None h = tt
+every_option P (Some a) h = (h, tt)
+
+pub every_mapped : {A B : Type 0} (P : A → Type 0) (Q : B → Type 0) (f : A → B) (xs : List A) → ((a : A) → P a → Q (f a))
+    → Every P xs → Every Q (map f xs)
+every_mapped P Q f [] g h = tt
+every_mapped P Q f (x ∷ xs) g h = (g x h.0, every_mapped P Q f xs g h.1)
+
+pub every_flat : {A B : Type 0} (P : B → Type 0) (f : A → List B) (xs : List A) → ((a : A) → Every P (f a)) → Every P (flat_map f xs)
+every_flat P f [] g = tt
+every_flat P f (x ∷ xs) g = every_joined P (f x) (flat_map f xs) (g x) (every_flat P f xs g)
+
+-- the item at a place
+pub every_at : {A : Type 0} (P : A → Type 0) (xs : List A) (i : ℕ) (a : A) → Every P xs → slice_get xs i ≡ Some a → P a
+every_at P [] i a h e = cc
+every_at P (x ∷ xs) zero a h e = subst P (same_Some x a e) h.0
+every_at P (x ∷ xs) (suc i) a h e = every_at P xs i a h.1 e
+
+-- where a test passes
+pub tested : {A : Type 0} (P : A → Type 0) (b : Bool) (o : Option A) → (b ≡ true → IfSome o P) → IfSome (if b then o else None) P
+tested P true o h = h refl
+tested P false o h = tt
+
+pub first_true : (a b : Bool) → (a && b) ≡ true → a ≡ true
+first_true true b e = refl
+first_true false b e = e
+
+pub second_true : (a b : Bool) → (a && b) ≡ true → b ≡ true
+second_true true b e = e
+second_true false b e = cc

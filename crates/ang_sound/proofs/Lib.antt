@@ -1,0 +1,12 @@
+pub mod Judged
+pub mod Operators
+pub mod Items
+pub mod Hosts
+pub mod Views
+pub mod Uses
+pub mod Calls
+pub mod Expressions
+pub mod Statements
+pub mod Bodies
+pub mod Parts
+pub mod Program

@@ -1,0 +1,344 @@
+-- What a script means: what an expression, a statement and a body of the resolved tree does, by cases on the tree (docs/MEANING.md, "What a script means";
+-- the AngelScript manual, "Expressions", "Statements" and "Functions"). What follows from the ends of a construct's parts is said by the combinators of
+-- `Results`. A local is numbered from the outermost one.
+use Rattle.std.specs.Prelude.{ℕ, zero, suc, ◌-◌, Bool, true, false, List, [], ◌∷◌, length, reverse, map, ◌++◌, Option, Some, None, slice_get, slice_index_or}
+use Rattle.ang_kinds.specs.declared.primitive.Primitive.{Primitive}
+use Rattle.ang_kinds.specs.declared.primitive.Primitive.TheVariants.{I8, I16, I32, I64, U8, U16, U32, U64, Bool as Truth}
+use Rattle.ang_kinds.specs.declared.fault.Fault.TheVariants.{Null, Budget, Memory}
+use Rattle.ang_kinds.specs.declared.types.Pass.{Pass}
+use Rattle.ang_kinds.specs.declared.types.Pass.TheVariants as pass
+use Rattle.ang_kinds.specs.declared.mask.EntityNo.{EntityNo}
+use Rattle.ang_types.specs.declared.arg_type.ArgType.{ArgType}
+use Rattle.ang_types.specs.declared.arg_type.ArgType.TheVariants as type
+use Rattle.ang_typed.specs.declared.expression.Variable.{Variable}
+use Rattle.ang_typed.specs.declared.expression.Variable.TheVariants as variable
+use Rattle.ang_typed.specs.declared.expression.Operator.{Operator}
+use Rattle.ang_typed.specs.declared.expression.Operator.TheVariants as operator
+use Rattle.ang_typed.specs.declared.expression.Comparison.{Comparison}
+use Rattle.ang_typed.specs.declared.expression.Comparison.TheVariants as comparison
+use Rattle.ang_typed.specs.declared.expression.StepKind.{StepKind}
+use Rattle.ang_typed.specs.declared.expression.StepKind.TheVariants as kind
+use Rattle.ang_typed.specs.declared.program.Parameter.{Parameter}
+use Rattle.ang_typed.specs.Typed as t
+use Rattle.ang_meaning.specs.declared.slot.Slot.{Slot}
+use Rattle.ang_meaning.specs.declared.slot.Slot.TheVariants.{Bits}
+use Rattle.ang_meaning.specs.declared.operation.Arithmetic.{Arithmetic}
+use Rattle.ang_meaning.specs.declared.operation.Arithmetic.TheVariants as work
+use Rattle.ang_meaning.specs.declared.operation.Comparison as compared
+use Rattle.ang_meaning.specs.declared.operation.Comparison.TheVariants as holds
+use Rattle.ang_meaning.specs.declared.operation.Change.{Change}
+use Rattle.ang_meaning.specs.declared.operation.Operation.{Operation}
+use Rattle.ang_meaning.specs.declared.operation.Operation.TheVariants.{Work, Compare, Convert, Negate, Complement, Not, GlobalGet, GlobalSet, GlobalChange, Ask, Read, Write, Alter}
+use Rattle.ang_meaning.specs.declared.routine.Routine.{Routine}
+use Rattle.ang_meaning.specs.declared.routine.Callee.{Callee}
+use Rattle.ang_meaning.specs.declared.routine.Callee.TheVariants.{Own}
+use Rattle.ang_meaning.specs.declared.routine.Passing.{Passing}
+use Rattle.ang_meaning.specs.declared.routine.Passing.TheVariants.{In, Out}
+use Rattle.ang_meaning.specs.declared.routine.Spot.{Spot}
+use Rattle.ang_meaning.specs.declared.routine.Spot.TheVariants as spot
+use Rattle.ang_meaning.specs.declared.routine.Target.{Target}
+use Rattle.ang_meaning.specs.Numbers.{truth, is_signed}
+use Rattle.ang_meaning.specs.World.{World, give, give_all, memory_step}
+use Rattle.ang_meaning.specs.Setting.{Setting, params_of}
+use Rattle.ang_meaning.specs.Perform.{perform}
+use Rattle.ang_meaning.specs.Results.{Evaluated, Gave, Failed, Gathered, Ready, Ran, Went, Returned, Halted, Broken, Continued, Reply, Yields, Raises, Calls, local_at, on_test, ticked, or_else, loaded, applied, assigned, altered, chosen, then_rest, called, leave, with_value, then_run, caught, finished, enter}
+
+-- ---- operators
+
+abbrev pub work_of : Operator → Arithmetic
+work_of operator.Add = work.Add
+work_of operator.Subtract = work.Subtract
+work_of operator.Multiply = work.Multiply
+work_of operator.Divide = work.Divide
+work_of operator.Remainder = work.Remainder
+work_of operator.BitAnd = work.And
+work_of operator.BitOr = work.Or
+work_of operator.BitXor = work.Xor
+work_of operator.ShiftLeft = work.ShiftLeft
+work_of operator.ShiftRight = work.ShiftRight
+work_of operator.ShiftRightArithmetic = work.ShiftSigned
+
+abbrev pub test_of : Comparison → compared.Comparison
+test_of comparison.Equal = holds.Equal
+test_of comparison.NotEqual = holds.Unequal
+test_of comparison.Less = holds.Less
+test_of comparison.LessEqual = holds.LessEqual
+test_of comparison.Greater = holds.Greater
+test_of comparison.GreaterEqual = holds.GreaterEqual
+
+-- `operator=` of a variable of type `ty`, in the type `at`: the value is what was stored
+abbrev pub compound_of : Primitive → Operator → Primitive → Change
+compound_of ty op at = record { work = work_of op; at = at; to = ty; old = false }
+
+-- `++` and `--` in the variable's type; behind the variable the value is the old one
+abbrev pub step_of : Primitive → StepKind → Change
+step_of ty kind.IncrementBefore = record { work = work.Add; at = ty; to = ty; old = false }
+step_of ty kind.DecrementBefore = record { work = work.Subtract; at = ty; to = ty; old = false }
+step_of ty kind.IncrementAfter = record { work = work.Add; at = ty; to = ty; old = true }
+step_of ty kind.DecrementAfter = record { work = work.Subtract; at = ty; to = ty; old = true }
+
+-- the integer type that a value is brought to, as it moves into a variable of this type
+abbrev pub integer_of : Primitive → Option Primitive
+integer_of I8 = Some I8
+integer_of I16 = Some I16
+integer_of I32 = Some I32
+integer_of I64 = Some I64
+integer_of U8 = Some U8
+integer_of U16 = Some U16
+integer_of U32 = Some U32
+integer_of U64 = Some U64
+integer_of Truth = None
+
+abbrev pub brought_to : ArgType → Option Primitive
+brought_to type.Void = None
+brought_to type.Null = None
+brought_to (type.Plain p) = integer_of p
+brought_to (type.Object n c) = None
+brought_to (type.Handle n c) = None
+
+-- ---- variables
+
+-- the place of local i among those that are alive, counted from the innermost one
+abbrev pub inner : List Slot → ℕ → ℕ
+inner ls i = length ls - suc i
+
+-- one operand, and two, the first one first
+abbrev pub one : Evaluated → Gathered
+one e = then_rest [] e (λ v ls t w. Ready (v ∷ []) ls t w)
+
+abbrev pub two : Evaluated → (List Slot → ℕ → World → Evaluated) → Gathered
+two e go = then_rest [] e (λ v ls t w. then_rest (v ∷ []) (go ls t w) (λ u ls' t' w'. Ready (u ∷ v ∷ []) ls' t' w'))
+
+-- In a module of a setting:
+module _ (z : Setting) (m : ℕ) where
+  abbrev pub read_variable : Variable → List Slot → ℕ → World → Evaluated
+  read_variable (variable.Local i) ls t w = loaded (local_at ls (inner ls i)) ls t w
+  read_variable (variable.Global g) ls t w = applied (perform z m (GlobalGet g)) (Ready [] ls t w)
+  read_variable (variable.Property h) ls t w = applied (perform z m (Read h.entity)) (Ready [] ls t w)
+
+  -- A value is stored, and is the expression's value.
+  abbrev pub stored : Variable → List Slot → Evaluated → Evaluated
+  stored (variable.Local i) ls e = assigned (inner ls i) e
+  stored (variable.Global g) ls e = applied (perform z m (GlobalSet g)) (one e)
+  stored (variable.Property h) ls e = applied (perform z m (Write h.entity)) (one e)
+
+  -- A variable is changed by an operand.
+  abbrev pub changed_by : Variable → List Slot → Change → Evaluated → Evaluated
+  changed_by (variable.Local i) ls c e = altered (inner ls i) c e
+  changed_by (variable.Global g) ls c e = applied (perform z m (GlobalChange g c)) (one e)
+  changed_by (variable.Property h) ls c e = applied (perform z m (Alter h.entity c)) (one e)
+
+-- ---- the targets of a call
+
+-- where a variable stands; no host property is a target
+abbrev pub spot_of : List Slot → Variable → Spot
+spot_of ls (variable.Local i) = spot.Local (inner ls i)
+spot_of ls (variable.Global g) = spot.Global g
+spot_of ls (variable.Property h) = spot.Local 0
+
+-- The variables that the `&out` values move into, behind those that there are; the last one is the first.
+abbrev pub targets_behind : List Slot → t.Args → List Target → List Target
+targets_behind ls t.none found = found
+targets_behind ls (t.more (t.by_value ty e) args) found = targets_behind ls args found
+targets_behind ls (t.more (t.out x from to) args) found =
+    targets_behind ls args (record { spot = spot_of ls x; to = brought_to to } ∷ found)
+
+abbrev pub targets_of : List Slot → t.Args → List Target
+targets_of ls args = targets_behind ls args []
+
+-- ---- expressions
+
+-- the calls that a body makes
+abbrev pub Callees : Type 0
+Callees = Callee → List Slot → ℕ → World → Reply
+
+-- An expression in module m. Operands are evaluated from left to right; in an assignment the value comes first.
+abbrev mutual
+  pub evaluate : Setting → ℕ → Callees → t.Expr → List Slot → ℕ → World → Evaluated
+  evaluate z m c (t.number ty n) ls t w = Gave (Bits n) ls t w
+  evaluate z m c (t.truth b) ls t w = Gave (Bits (truth b)) ls t w
+  evaluate z m c (t.variable x ty) ls t w = read_variable z m x ls t w
+  evaluate z m c (t.convert from to e) ls t w = applied (perform z m (Convert to)) (one (evaluate z m c e ls t w))
+  evaluate z m c (t.negate ty e) ls t w = applied (perform z m (Negate ty)) (one (evaluate z m c e ls t w))
+  evaluate z m c (t.complement ty e) ls t w = applied (perform z m (Complement ty)) (one (evaluate z m c e ls t w))
+  evaluate z m c (t.not e) ls t w = applied (perform z m Not) (one (evaluate z m c e ls t w))
+  evaluate z m c (t.operate op ty l r) ls t w =
+      applied (perform z m (Work (work_of op) ty)) (two (evaluate z m c l ls t w) (evaluate z m c r))
+  evaluate z m c (t.compare op ty l r) ls t w =
+      applied (perform z m (Compare (test_of op) (is_signed ty))) (two (evaluate z m c l ls t w) (evaluate z m c r))
+  evaluate z m c (t.and l r) ls t w = chosen (evaluate z m c l ls t w) (evaluate z m c r) (λ ls' t' w'. Gave (Bits (truth false)) ls' t' w')
+  evaluate z m c (t.or l r) ls t w = chosen (evaluate z m c l ls t w) (λ ls' t' w'. Gave (Bits (truth true)) ls' t' w') (evaluate z m c r)
+  evaluate z m c (t.choose a l r) ls t w = chosen (evaluate z m c a ls t w) (evaluate z m c l) (evaluate z m c r)
+  evaluate z m c (t.assign x ty e) ls t w = stored z m x ls (evaluate z m c e ls t w)
+  evaluate z m c (t.compound x ty op at e) ls t w = changed_by z m x ls (compound_of ty op at) (evaluate z m c e ls t w)
+  evaluate z m c (t.step x ty kind) ls t w = changed_by z m x ls (step_of ty kind) (Gave (Bits 1) ls t w)
+  evaluate z m c (t.call f ty args) ls t w = called m (c (Own f)) (targets_of ls args) (evaluate_all z m c args [] ls t w)
+  evaluate z m c (t.host_call h ty args) ls t w = applied (perform z m (Ask h.entity)) (evaluate_all z m c args [] ls t w)
+
+  -- the arguments of a call, behind those that there are; an `&out` parameter begins as 0 or false
+  pub evaluate_all : Setting → ℕ → Callees → t.Args → List Slot → List Slot → ℕ → World → Gathered
+  evaluate_all z m c t.none vs ls t w = Ready vs ls t w
+  evaluate_all z m c (t.more a args) vs ls t w =
+      then_rest vs (evaluate_argument z m c a ls t w) (λ v ls' t' w'. evaluate_all z m c args (v ∷ vs) ls' t' w')
+
+  pub evaluate_argument : Setting → ℕ → Callees → t.Arg → List Slot → ℕ → World → Evaluated
+  evaluate_argument z m c (t.by_value ty e) ls t w = evaluate z m c e ls t w
+  evaluate_argument z m c (t.out x from to) ls t w = Gave (Bits 0) ls t w
+
+-- ---- statements
+
+-- one pass of a loop, its tick taken: the condition, the body and the steps; a condition that is not written is true
+abbrev pub Passes : Type 0
+Passes = Option t.Expr → t.Stmts → List t.Expr → List Slot → ℕ → World → Ran
+
+-- a value or a condition that is written or not
+abbrev pub evaluate_or : Setting → ℕ → Callees → ℕ → Option t.Expr → List Slot → ℕ → World → Evaluated
+evaluate_or z m c n None ls t w = Gave (Bits n) ls t w
+evaluate_or z m c n (Some e) ls t w = evaluate z m c e ls t w
+
+-- an expression whose value nobody takes
+abbrev pub discarded : Evaluated → Ran
+discarded e = with_value e (λ v ls t w. Went ls t (give v w))
+
+-- a choice between two statements by a test
+abbrev pub branched : Evaluated → (List Slot → ℕ → World → Ran) → (List Slot → ℕ → World → Ran) → Ran
+branched e go other = with_value e (λ v ls t w. on_test v (Halted Null ls (give v w)) (other ls t w) (go ls t w))
+
+-- each new local begins with its initializer's value, or as 0 or false
+abbrev pub run_locals : Setting → ℕ → Callees → List t.Local → List Slot → ℕ → World → Ran
+run_locals z m c [] ls t w = Went ls t w
+run_locals z m c (l ∷ rest) ls t w =
+    with_value (evaluate_or z m c 0 l.initializer ls t w) (λ v ls' t' w'. run_locals z m c rest (v ∷ ls') t' w')
+
+-- the steps of a `for`
+abbrev pub run_steps : Setting → ℕ → Callees → List t.Expr → List Slot → ℕ → World → Ran
+run_steps z m c [] ls t w = Went ls t w
+run_steps z m c (e ∷ es) ls t w = then_run (discarded (evaluate z m c e ls t w)) (run_steps z m c es)
+
+-- statements in a block of their own
+abbrev pub in_block : (List Slot → ℕ → World → Ran) → List Slot → ℕ → World → Ran
+in_block go ls t w = leave (length ls) (go ls t w)
+
+-- the tick in front of a test
+abbrev pub tested : (List Slot → ℕ → World → Ran) → List Slot → ℕ → World → Ran
+tested go ls t w = ticked t (Halted Budget ls w) (λ t'. go ls t' w)
+
+abbrev mutual
+  pub run : Setting → ℕ → Callees → Passes → t.Stmt → List Slot → ℕ → World → Ran
+  run z m c p (t.block ss) ls t w = in_block (run_all z m c p ss) ls t w
+  run z m c p (t.locals locals) ls t w = run_locals z m c locals ls t w
+  run z m c p (t.expression None) ls t w = Went ls t w
+  run z m c p (t.expression (Some e)) ls t w = discarded (evaluate z m c e ls t w)
+  run z m c p t.break ls t w = Broken ls t w
+  run z m c p t.continue ls t w = Continued ls t w
+  run z m c p (t.return e) ls t w = with_value (evaluate_or z m c 0 e ls t w) (λ v ls' t' w'. Returned v ls' t' w')
+  run z m c p (t.either e ss otherwise) ls t w =
+      branched (evaluate z m c e ls t w) (in_block (run_all z m c p ss)) (in_block (run_all z m c p otherwise))
+  run z m c p (t.while e ss) ls t w = tested (p (Some e) ss []) ls t w
+  run z m c p (t.do_while ss e) ls t w = caught (length ls) (run_all z m c p ss ls t w) (tested (p (Some e) ss []))
+  run z m c p (t.for start e steps ss) ls t w =
+      in_block (λ ls' t' w'. then_run (run_all z m c p start ls' t' w') (tested (p e ss steps))) ls t w
+
+  pub run_all : Setting → ℕ → Callees → Passes → t.Stmts → List Slot → ℕ → World → Ran
+  run_all z m c p t.end ls t w = Went ls t w
+  run_all z m c p (t.then s ss) ls t w = then_run (run z m c p s ls t w) (run_all z m c p ss)
+
+-- one pass of a loop: where the condition is true the body, which a `continue` ends, the steps, and the next pass
+abbrev pub pass_of : Setting → ℕ → Callees → Passes → Passes
+pass_of z m c p e ss steps ls t w =
+    branched (evaluate_or z m c 1 e ls t w)
+    (λ ls' t' w'. caught (length ls') (run_all z m c p ss ls' t' w')
+    (λ l2 t2 w2. then_run (run_steps z m c steps l2 t2 w2) (tested (p e ss steps))))
+    (λ ls' t' w'. Went ls' t' w')
+
+-- ---- bodies
+
+-- A body: that of a function, or an initializer, whose value is stored into its global.
+pub data Code : Type 0 where
+  of_function : t.Stmts → Code
+  of_global : ℕ → t.Expr → Code
+
+-- what a whole body does
+abbrev pub run_code : Setting → ℕ → Callees → Passes → Code → List Slot → ℕ → World → Ran
+run_code z m c p (of_function ss) ls t w = in_block (run_all z m c p ss) ls t w
+run_code z m c p (of_global g e) ls t w = discarded (stored z m (variable.Global g) ls (evaluate z m c e ls t w))
+
+-- the body of each routine
+abbrev pub Codes : Type 0
+Codes = Routine → Code
+
+-- Bodies and loops where fewer than n ticks are left; d counts the callers of the body. With no n left a run has used up its ticks before.
+abbrev mutual
+  pub body_at : Setting → Codes → ℕ → ℕ → Calls
+  body_at z codes zero d g vs t w = Raises Budget w
+  body_at z codes (suc n) d g vs t w =
+      finished (params_of z g) (run_code z g.home (enter z (body_at z codes n (suc d)) d g.home) (pass_at z codes n d g.home) (codes g) vs t w)
+
+  pub pass_at : Setting → Codes → ℕ → ℕ → ℕ → Passes
+  pass_at z codes zero d m e ss steps ls t w = Halted Budget ls w
+  pass_at z codes (suc n) d m e ss steps ls t w =
+      pass_of z m (enter z (body_at z codes n (suc d)) d m) (pass_at z codes n d m) e ss steps ls t w
+
+-- the entry of a body that wants memory for its frame
+abbrev pub begun : Setting → Codes → Routine → List Slot → ℕ → World → Reply
+begun z codes g vs t w = or_else (memory_step w) (λ w'. Raises Memory (give_all vs w')) (λ w'. body_at z codes (suc t) 0 g vs t w')
+
+-- A command's call of a function with a budget of ticks: its entry takes one.
+abbrev pub called_with : Setting → Codes → ℕ → Routine → List Slot → World → Reply
+called_with z codes budget g vs w = ticked budget (Raises Budget (give_all vs w)) (λ t. begun z codes g vs t w)
+
+-- An initializer's run, with so many ticks left: its entry takes none.
+abbrev pub initialized : Setting → Codes → ℕ → Routine → World → Reply
+initialized z codes t g w = begun z codes g [] t w
+
+-- what follows an initializer
+abbrev pub then_initialized : Reply → (ℕ → World → Reply) → Reply
+then_initialized (Yields v outs t w) go = go t (give v w)
+then_initialized (Raises f w) go = Raises f w
+
+-- A build's initializers in order of declaration, on one budget: a fault ends them.
+abbrev pub initialized_all : Setting → Codes → List Routine → ℕ → World → Reply
+initialized_all z codes [] t w = Yields (Bits 0) [] t w
+initialized_all z codes (g ∷ gs) t w = then_initialized (initialized z codes t g w) (λ t' w'. initialized_all z codes gs t' w')
+
+-- ---- a module's bodies
+
+-- how a parameter takes its argument
+abbrev pub passing_of : Pass → Passing
+passing_of pass.Value = In
+passing_of pass.RefIn = In
+passing_of pass.RefOut = Out
+passing_of pass.RefInOut = In
+
+-- how a function's parameters take their arguments, the last one first
+abbrev pub passings_of : List Parameter → List Passing
+passings_of ps = reverse (map (λ p. passing_of p.pass) ps)
+
+-- the initializers of globals, counted from this number on
+abbrev pub initializer_of : ℕ → Option t.Expr → List Code
+initializer_of g None = []
+initializer_of g (Some e) = of_global g e ∷ []
+
+abbrev pub initializers_from : ℕ → List t.Global → List Code
+initializers_from g [] = []
+initializers_from g (x ∷ xs) = initializer_of g x.initializer ++ initializers_from (suc g) xs
+
+-- The bodies of a module by number: the functions' first, and then the initializers', each in the order of declaration.
+abbrev pub codes_of : t.Program → List Code
+codes_of p = map (λ f. of_function f.body) p.functions ++ initializers_from 0 p.globals
+
+-- how the parameters of each body take their arguments; an initializer has none
+abbrev pub passings_in : t.Program → List (List Passing)
+passings_in p = map (λ f. passings_of f.parameters) p.functions ++ map (λ c. []) (initializers_from 0 p.globals)
+
+-- the empty body stands where there is none
+abbrev pub code_or : Option Code → Code
+code_or None = of_function t.end
+code_or (Some c) = c
+
+abbrev pub nothing : t.Program
+nothing = record { functions = []; globals = [] }
+
+-- the bodies of modules, by their numbers
+abbrev pub codes_in : List t.Program → Codes
+codes_in ps g = code_or (slice_get (codes_of (slice_index_or ps g.home nothing)) g.number)
