@@ -1,0 +1,9 @@
+pub mod Rows
+pub mod PlainMeaning
+pub mod Ends
+pub mod Values
+pub mod Turns
+pub mod Follows
+pub mod PlainSound
+pub mod Sounds
+pub mod Modules

@@ -1,0 +1,291 @@
+-- Lowered code of a sound tree keeps what the generator wants of it.
+use Rattle.std.proofs.Common.{◌≡◌, ◌≢◌, ℕ, suc, ◌+◌, ◌<◌, List, [], ◌∷◌, ◌++◌, length, refl, sym, ap, ◌∙◌, subst, arith, Option, Some, None, map}
+use Rattle.std.specs.Prelude.{Bool, true, false, slice_get, reverse}
+use Rattle.std.proofs.lemmas.List.{length-map}
+use Rattle.std.proofs.lemmas.Grind.{reverse_onto}
+use Rattle.ang_kinds.specs.declared.types.Pass.{Pass}
+use Rattle.ang_kinds.specs.declared.types.Pass.TheVariants as pass
+use Rattle.ang_registry.specs.declared.entry.EntryKind.{EntryKind}
+use Rattle.ang_registry.specs.declared.entry.EntryKind.TheVariants as kind
+use Rattle.ang_typed.specs.declared.expression.HostEntity.{HostEntity}
+use Rattle.ang_typed.specs.declared.expression.Variable.{Variable}
+use Rattle.ang_typed.specs.declared.expression.Variable.TheVariants as variable
+use Rattle.ang_typed.specs.declared.program.Parameter.{Parameter}
+use Rattle.ang_typed.specs.Typed as tree
+use Rattle.ang_meaning.specs.declared.operation.Change.{Change}
+use Rattle.ang_meaning.specs.declared.operation.Operation.{Operation}
+use Rattle.ang_meaning.specs.declared.operation.Operation.TheVariants.{Work, Compare, Convert, Negate, Complement, Not, GlobalGet, GlobalSet, GlobalChange, Ask, Read, Write, Alter}
+use Rattle.ang_meaning.specs.declared.routine.Callee.TheVariants.{Own}
+use Rattle.ang_meaning.specs.declared.routine.Passing.{Passing}
+use Rattle.ang_meaning.specs.declared.routine.Passing.TheVariants.{In, Out, Object}
+use Rattle.ang_meaning.specs.declared.routine.Target.{Target}
+use Rattle.ang_meaning.specs.Numbers.{is_signed}
+use Rattle.ang_meaning.specs.Setting.{Setting, host_in, is_fit, is_called_by, is_property, may_call, may_access}
+use Rattle.ang_meaning.specs.Perform.{operands, member_count}
+use Rattle.ang_core.specs.Sound.{out_count, Fits, AreSpots}
+use Rattle.ang_source.specs.Meaning.{Code, of_function, of_global, passing_of, passings_of, work_of, test_of, compound_of, step_of}
+use Rattle.ang_source.specs.Sound.{Module, IsEntity, IsHostFunction, IsVariable, Sound, SoundArguments, SoundOption, SoundEach, SoundLocals, SoundStatement, SoundStatements, argument_count, declared, declared_by}
+use Rattle.ang_lower.specs.Tree as c
+use Rattle.ang_lower.specs.Lowered as low
+use Rattle.ang_lower.specs.Hosts.{host_type_of, is_member, role_in, use_of, HasView}
+use Rattle.ang_lower.specs.Same.{SoundCode, HasFunctions}
+use Rattle.ang_lower.proofs.PlainSound.{operand_count, IsSound, AreSoundArgs, leaves, leaves_all, IsSoundStmt, AreSoundStmts}
+use Rattle.ang_lower.proofs.Values.{EachSound, each_argument, each_value, as_many}
+use Rattle.ang_lower.proofs.Follows.{passings_count}
+
+-- ---- `&out` parameters and the targets of a call
+
+out_more : (a b : List Passing) → out_count (a ++ b) ≡ out_count a + out_count b
+out_more [] b = omega arith
+out_more (In ∷ a) b = out_more a b
+out_more (Object ∷ a) b = out_more a b
+out_more (Out ∷ a) b = ap suc (out_more a b) ∙ omega arith
+
+out_turned : (a : List Passing) → out_count (reverse a) ≡ out_count a
+out_turned [] = refl
+out_turned (p ∷ a) =
+    let e = out_more (reverse a) (p ∷ []) in
+    let rest = out_turned a in
+    let front = out_more (p ∷ []) a in
+    ap out_count (reverse_onto a p []) ∙ omega (arith, e, rest, front)
+
+-- how many arguments are variables that an `&out` value moves into
+abbrev pub outs_in : tree.Args → ℕ
+outs_in tree.none = 0
+outs_in (tree.more (tree.by_value ty e) args) = outs_in args
+outs_in (tree.more (tree.out x from to) args) = suc (outs_in args)
+
+target_count : (n : ℕ) (args : tree.Args) (found : List Target) → length (low.targets_behind n args found) ≡ outs_in args + length found
+target_count n tree.none found = omega arith
+target_count n (tree.more (tree.by_value ty e) args) found = target_count n args found
+target_count n (tree.more (tree.out x from to) args) found = let rest = target_count n args (low.with_target n (tree.out x from to) found) in omega (arith, rest)
+
+takes_in : (p : Pass) → (p ≢ pass.RefOut) → passing_of p ≡ In
+takes_in pass.Value h = refl
+takes_in pass.RefIn h = refl
+takes_in pass.RefOut h = absurd (h refl)
+takes_in pass.RefInOut h = refl
+
+outs_are : (M : Module) (n : ℕ) (ps : List Parameter) (args : tree.Args) → SoundArguments M n ps args → out_count (map (λ p. passing_of p.pass) ps) ≡ outs_in args
+outs_are M n [] tree.none h = refl
+outs_are M n [] (tree.more a args) h = absurd h
+outs_are M n (p ∷ ps) tree.none h = absurd h
+outs_are M n (p ∷ ps) (tree.more (tree.by_value ty e) args) h = ap (λ q. out_count (q ∷ map (λ x. passing_of x.pass) ps)) (takes_in p.pass h.0.0) ∙ outs_are M n ps args h.1
+outs_are M n (p ∷ ps) (tree.more (tree.out x from to) args) h = ap (λ q. out_count (passing_of q ∷ map (λ y. passing_of y.pass) ps)) h.0.0 ∙ ap suc (outs_are M n ps args h.1)
+
+spots_are : (M : Module) (n : ℕ) (ps : List Parameter) (args : tree.Args) (found : List Target) → SoundArguments M n ps args → AreSpots n found → AreSpots n (low.targets_behind n args found)
+spots_are M n [] tree.none found h ok = ok
+spots_are M n [] (tree.more a args) found h ok = absurd h
+spots_are M n (p ∷ ps) tree.none found h ok = absurd h
+spots_are M n (p ∷ ps) (tree.more (tree.by_value ty e) args) found h ok = spots_are M n ps args found h.1 ok
+spots_are M n (p ∷ ps) (tree.more (tree.out (variable.Local i) from to) args) found h ok =
+    let lt : i < n = h.0.1 in
+    spots_are M n ps args (low.with_target n (tree.out (variable.Local i) from to) found) h.1 (omega arith, ok)
+spots_are M n (p ∷ ps) (tree.more (tree.out (variable.Global g) from to) args) found h ok = spots_are M n ps args (low.with_target n (tree.out (variable.Global g) from to) found) h.1 (tt, ok)
+spots_are M n (p ∷ ps) (tree.more (tree.out (variable.Property x) from to) args) found h ok = absurd h.0.1
+
+-- ---- operations
+
+lowered_count : (n : ℕ) (args : tree.Args) → operand_count (c.exprs (low.lowered_args n args)) ≡ argument_count args
+lowered_count n tree.none = refl
+lowered_count n (tree.more a args) = ap suc (lowered_count n args)
+
+module _ (z : Setting) (m : ℕ) (M : Module) (functions : HasFunctions z m M) (view : HasView z M.view) where
+  -- the host's entity is what the view has
+  found : (kind : EntryKind) (h : HostEntity) (e : IsEntity M.view kind h) → z.host h.entity.0 ≡ Some (use_of e.entry)
+  found kind h e = view.each h.entity.0 e.entry e.in_view
+
+  may_read : (h : HostEntity) → IsEntity M.view kind.Global h → may_access (z.host h.entity.0) ≡ true
+  may_read h e = ap may_access (found kind.Global h e) ∙ ap (λ kd. is_property (role_in kd e.entry.f)) e.same_kind
+
+  no_member : (k : EntryKind) (h : HostEntity) (e : IsEntity M.view k h) → is_member k ≡ false → member_count (host_in (z.host h.entity.0)).member ≡ 0
+  no_member k h e away = ap (λ o. member_count (host_in o).member) (found k h e) ∙ ap (λ kd. member_count (is_member kd)) e.same_kind ∙ ap member_count away
+
+  read_fits : (h : HostEntity) → IsEntity M.view kind.Global h → (0 ≡ operands z (Read h.entity)) × (is_fit z (Read h.entity) ≡ true)
+  unfolding operands is_fit
+  read_fits h e = (sym (no_member kind.Global h e refl), may_read h e)
+
+  write_fits : (h : HostEntity) → IsEntity M.view kind.Global h → (1 ≡ operands z (Write h.entity)) × (is_fit z (Write h.entity) ≡ true)
+  unfolding operands is_fit
+  write_fits h e = let alone = no_member kind.Global h e refl in (omega (arith, alone), may_read h e)
+
+  alter_fits : (h : HostEntity) (by : Change) → IsEntity M.view kind.Global h → (1 ≡ operands z (Alter h.entity by)) × (is_fit z (Alter h.entity by) ≡ true)
+  unfolding operands is_fit
+  alter_fits h by e = let alone = no_member kind.Global h e refl in (omega (arith, alone), may_read h e)
+
+  ask_fits : (h : HostEntity) (count : ℕ) → IsHostFunction M.view h count → (count ≡ operands z (Ask h.entity)) × (is_fit z (Ask h.entity) ≡ true)
+  unfolding operands is_fit
+  ask_fits h count f =
+      let e = f.entity in
+      let x = e.entry in
+      let alone = no_member kind.Function h e refl in
+      let many : length (host_in (z.host h.entity.0)).params ≡ count = ap (λ o. length (host_in o).params) (found kind.Function h e) ∙ length-map x.signature.params (λ p. host_type_of p.ty) ∙ f.params in
+      (omega (arith, alone, many), ap may_call (found kind.Function h e) ∙ ap (λ kd. is_called_by (role_in kd x.f) (is_member kd) (host_type_of x.signature.result)) e.same_kind)
+
+  -- ---- expressions
+
+  nullary_sound : (n : ℕ) (o : Operation) → (0 ≡ operands z o) × (is_fit z o ≡ true) → IsSound z m n (c.apply o c.none)
+  nullary_sound n o f = (f.0, f.1, tt)
+
+  unary_sound : (n : ℕ) (o : Operation) (e : c.Expr) → (1 ≡ operands z o) × (is_fit z o ≡ true) → IsSound z m n e → IsSound z m n (low.unary o e)
+  unary_sound n o e f h = (f.0, f.1, (h, tt))
+
+  binary_sound : (n : ℕ) (o : Operation) (a b : c.Expr) → (2 ≡ operands z o) × (is_fit z o ≡ true) → IsSound z m n a → IsSound z m n b → IsSound z m n (low.binary o a b)
+  binary_sound n o a b f h i = (f.0, f.1, (h, (i, tt)))
+
+  read_sound : (n : ℕ) (x : Variable) → IsVariable M n x → IsSound z m n (low.read n x)
+  unfolding operands is_fit
+  read_sound n (variable.Local i) h = omega arith
+  read_sound n (variable.Global g) h = nullary_sound n (GlobalGet g) (refl, refl)
+  read_sound n (variable.Property p) h = nullary_sound n (Read p.entity) (read_fits p h)
+
+  stored_sound : (n : ℕ) (x : Variable) (e : c.Expr) → IsVariable M n x → IsSound z m n e → IsSound z m n (low.stored n x e)
+  unfolding operands is_fit
+  stored_sound n (variable.Local i) e h s = (omega arith, s)
+  stored_sound n (variable.Global g) e h s = unary_sound n (GlobalSet g) e (refl, refl) s
+  stored_sound n (variable.Property p) e h s = unary_sound n (Write p.entity) e (write_fits p h) s
+
+  changed_sound : (n : ℕ) (x : Variable) (by : Change) (e : c.Expr) → IsVariable M n x → IsSound z m n e → IsSound z m n (low.changed n x by e)
+  unfolding operands is_fit
+  changed_sound n (variable.Local i) by e h s = (omega arith, s)
+  changed_sound n (variable.Global g) by e h s = unary_sound n (GlobalChange g by) e (refl, refl) s
+  changed_sound n (variable.Property p) by e h s = unary_sound n (Alter p.entity by) e (alter_fits p by h) s
+
+  call_fits : (n f : ℕ) (ps : List Parameter) (args : tree.Args) → slice_get M.parameters f ≡ Some ps → SoundArguments M n ps args
+      → Fits z m (Own f) (operand_count (c.exprs (low.lowered_args n args))) (length (low.targets_of n args))
+  call_fits n f ps args at h = record {
+    params = passings_of ps;
+    known = functions.each f ps at;
+    count = passings_count ps ∙ sym (as_many M n ps args h) ∙ sym (lowered_count n args);
+    given =
+        let turned = out_turned (map (λ p. passing_of p.pass) ps) in
+        let outs = outs_are M n ps args h in
+        let many = target_count n args [] in
+        omega (arith, turned, outs, many);
+  }
+
+  mutual
+    unfolding operands is_fit
+
+    pub lowered_sound : (e : tree.Expr) (n : ℕ) → Sound M n e → IsSound z m n (low.lowered n e)
+    lowered_sound (tree.number ty x) n h = tt
+    lowered_sound (tree.truth b) n h = tt
+    lowered_sound (tree.variable x ty) n h = read_sound n x h
+    lowered_sound (tree.convert from to e) n h = unary_sound n (Convert to) (low.lowered n e) (refl, refl) (lowered_sound e n h)
+    lowered_sound (tree.negate ty e) n h = unary_sound n (Negate ty) (low.lowered n e) (refl, refl) (lowered_sound e n h)
+    lowered_sound (tree.complement ty e) n h = unary_sound n (Complement ty) (low.lowered n e) (refl, refl) (lowered_sound e n h)
+    lowered_sound (tree.not e) n h = unary_sound n Not (low.lowered n e) (refl, refl) (lowered_sound e n h)
+    lowered_sound (tree.operate op ty a b) n h = binary_sound n (Work (work_of op) ty) (low.lowered n a) (low.lowered n b) (refl, refl) (lowered_sound a n h.0) (lowered_sound b n h.1)
+    lowered_sound (tree.compare op ty a b) n h = binary_sound n (Compare (test_of op) (is_signed ty)) (low.lowered n a) (low.lowered n b) (refl, refl) (lowered_sound a n h.0) (lowered_sound b n h.1)
+    lowered_sound (tree.and a b) n h = (lowered_sound a n h.0, lowered_sound b n h.1, tt)
+    lowered_sound (tree.or a b) n h = (lowered_sound a n h.0, tt, lowered_sound b n h.1)
+    lowered_sound (tree.choose a b d) n h = (lowered_sound a n h.0, lowered_sound b n h.1, lowered_sound d n h.2)
+    lowered_sound (tree.assign x ty e) n h = stored_sound n x (low.lowered n e) h.0 (lowered_sound e n h.1)
+    lowered_sound (tree.compound x ty op at e) n h = changed_sound n x (compound_of ty op at) (low.lowered n e) h.0 (lowered_sound e n h.1)
+    lowered_sound (tree.step x ty kd) n h = changed_sound n x (step_of ty kd) (c.number 1) h tt
+    lowered_sound (tree.call f ty args) n h = (call_fits n f h.0 args h.1 h.2, spots_are M n h.0 args [] h.2 tt, args_sound args n (each_argument M n h.0 args h.2))
+    lowered_sound (tree.host_call p ty args) n h =
+        let f = ask_fits p (argument_count args) h.0 in
+        (lowered_count n args ∙ f.0, f.1, args_sound args n (each_value M n args h.1))
+
+    args_sound : (args : tree.Args) (n : ℕ) → EachSound M n args → AreSoundArgs z m n (c.exprs (low.lowered_args n args))
+    args_sound tree.none n h = tt
+    args_sound (tree.more (tree.by_value ty e) args) n h = (lowered_sound e n h.0, args_sound args n h.1)
+    args_sound (tree.more (tree.out x from to) args) n h = (tt, args_sound args n h)
+
+  or_sound : (e : Option tree.Expr) (x n : ℕ) → SoundOption M n e → IsSound z m n (low.lowered_or n x e)
+  or_sound None x n h = tt
+  or_sound (Some e) x n h = lowered_sound e n h
+
+  -- ---- statements
+
+  append_sound : (loop : Bool) (n : ℕ) (a b : List c.Stmt) → AreSoundStmts z m loop n (c.stmts a) → AreSoundStmts z m loop (leaves_all (c.stmts a) + n) (c.stmts b) → AreSoundStmts z m loop n (c.stmts (a ++ b))
+  append_sound loop n [] b h i = let e : 0 + n ≡ n = omega arith in subst (λ j. AreSoundStmts z m loop j (c.stmts b)) e i
+  append_sound loop n (s ∷ a) b h i =
+      let e : leaves_all (c.stmts a) + leaves s + n ≡ leaves_all (c.stmts a) + (leaves s + n) = omega arith in
+      (h.0, append_sound loop (leaves s + n) a b h.1 (subst (λ j. AreSoundStmts z m loop j (c.stmts b)) e i))
+
+  leaves_append : (a b : List c.Stmt) → leaves_all (c.stmts (a ++ b)) ≡ leaves_all (c.stmts b) + leaves_all (c.stmts a)
+  leaves_append [] b = omega arith
+  leaves_append (s ∷ a) b = let rest = leaves_append a b in omega (arith, rest)
+
+  locals_leave : (xs : List tree.Local) (n : ℕ) → leaves_all (c.stmts (low.lowered_locals n xs)) ≡ length xs
+  locals_leave [] n = refl
+  locals_leave (x ∷ xs) n = let rest = locals_leave xs (suc n) in omega (arith, rest)
+
+  simple_leaves : (e : Option tree.Expr) (n : ℕ) → leaves (low.lowered_simple n e) ≡ 0
+  simple_leaves None n = refl
+  simple_leaves (Some e) n = refl
+
+  mutual
+    statement_leaves : (s : tree.Stmt) (n : ℕ) → leaves_all (c.stmts (low.lowered_stmt n s)) ≡ declared s
+    statement_leaves (tree.block ss) n = refl
+    statement_leaves (tree.locals xs) n = locals_leave xs n
+    statement_leaves (tree.expression e) n = let z0 = simple_leaves e n in omega (arith, z0)
+    statement_leaves tree.break n = refl
+    statement_leaves tree.continue n = refl
+    statement_leaves (tree.return e) n = refl
+    statement_leaves (tree.either e ss otherwise) n = refl
+    statement_leaves (tree.while e ss) n = refl
+    statement_leaves (tree.do_while ss e) n = refl
+    statement_leaves (tree.for start e steps ss) n = refl
+
+    statements_leave : (ss : tree.Stmts) (n : ℕ) → leaves_all (c.stmts (low.lowered_all n ss)) ≡ declared_by ss
+    statements_leave tree.end n = refl
+    statements_leave (tree.«then» s ss) n =
+        let both = leaves_append (low.lowered_stmt n s) (low.lowered_all (declared s + n) ss) in
+        let one = statement_leaves s n in
+        let rest = statements_leave ss (declared s + n) in
+        omega (arith, both, one, rest)
+
+  locals_sound : (loop : Bool) (xs : List tree.Local) (n : ℕ) → SoundLocals M n xs → AreSoundStmts z m loop n (c.stmts (low.lowered_locals n xs))
+  locals_sound loop [] n h = tt
+  locals_sound loop (x ∷ xs) n h =
+      let e : suc n ≡ 1 + n = omega arith in
+      (or_sound x.initializer 0 n h.0, subst (λ i. AreSoundStmts z m loop i (c.stmts (low.lowered_locals (suc n) xs))) e (locals_sound loop xs (suc n) h.1))
+
+  simple_sound : (loop : Bool) (e : Option tree.Expr) (n : ℕ) → SoundOption M n e → IsSoundStmt z m loop n (low.lowered_simple n e)
+  simple_sound loop None n h = tt
+  simple_sound loop (Some e) n h = lowered_sound e n h
+
+  each_sound : (loop : Bool) (es : List tree.Expr) (n : ℕ) → SoundEach M n es → AreSoundStmts z m loop n (c.stmts (low.lowered_each n es))
+  each_sound loop [] n h = tt
+  each_sound loop (e ∷ es) n h =
+      let i : n ≡ 0 + n = omega arith in
+      (lowered_sound e n h.0, subst (λ j. AreSoundStmts z m loop j (c.stmts (low.lowered_each n es))) i (each_sound loop es n h.1))
+
+  steps_sound : (loop : Bool) (es : List tree.Expr) (n : ℕ) → SoundEach M n es → IsSoundStmt z m loop n (low.lowered_steps n es)
+  steps_sound loop [] n h = tt
+  steps_sound loop (e ∷ es) n h = each_sound loop (e ∷ es) n h
+
+  mutual
+    pub statement_sound : (s : tree.Stmt) (loop : Bool) (n : ℕ) → SoundStatement M loop n s → AreSoundStmts z m loop n (c.stmts (low.lowered_stmt n s))
+    statement_sound (tree.block ss) loop n h = (statements_sound ss loop n h, tt)
+    statement_sound (tree.locals xs) loop n h = locals_sound loop xs n h
+    statement_sound (tree.expression e) loop n h = (simple_sound loop e n h, tt)
+    statement_sound tree.break loop n h = (h, tt)
+    statement_sound tree.continue loop n h = (h, tt)
+    statement_sound (tree.return e) loop n h = (or_sound e 0 n h, tt)
+    statement_sound (tree.either e ss otherwise) loop n h = ((lowered_sound e n h.0, statements_sound ss loop n h.1, statements_sound otherwise loop n h.2), tt)
+    statement_sound (tree.while e ss) loop n h = ((lowered_sound e n h.0, statements_sound ss true n h.1, tt), tt)
+    statement_sound (tree.do_while ss e) loop n h = ((lowered_sound e n h.1, statements_sound ss true n h.0), tt)
+    statement_sound (tree.for start e steps ss) loop n h =
+        let n1 = declared_by start + n in
+        let a = low.lowered_all n start in
+        let b = low.lowered_loop n1 e steps (low.lowered_all n1 ss) in
+        let i : declared_by start + n ≡ leaves_all (c.stmts a) + n = ap (λ j. j + n) (sym (statements_leave start n)) in
+        let whole : AreSoundStmts z m loop n1 (c.stmts (b ∷ [])) = ((or_sound e 1 n1 h.1, statements_sound ss true n1 h.3, steps_sound false steps n1 h.2), tt) in
+        (append_sound loop n a (b ∷ []) (statements_sound start loop n h.0) (subst (λ j. AreSoundStmts z m loop j (c.stmts (b ∷ []))) i whole), tt)
+
+    pub statements_sound : (ss : tree.Stmts) (loop : Bool) (n : ℕ) → SoundStatements M loop n ss → AreSoundStmts z m loop n (c.stmts (low.lowered_all n ss))
+    statements_sound tree.end loop n h = tt
+    statements_sound (tree.«then» s ss) loop n h =
+        let n1 = declared s + n in
+        let a = low.lowered_stmt n s in
+        let b = low.lowered_all n1 ss in
+        let i : declared s + n ≡ leaves_all (c.stmts a) + n = ap (λ j. j + n) (sym (statement_leaves s n)) in
+        append_sound loop n a b (statement_sound s loop n h.0) (subst (λ j. AreSoundStmts z m loop j (c.stmts b)) i (statements_sound ss loop n1 h.1))
+
+  pub code_sound : (x : Code) (n : ℕ) → SoundCode M n x → IsSoundStmt z m false n (low.lowered_code n x)
+  code_sound (of_function ss) n h = statements_sound ss false n h
+  code_sound (of_global g e) n h = stored_sound n (variable.Global g) (low.lowered n e) h.0 (lowered_sound e n h.1)

@@ -1,0 +1,175 @@
+-- A lowered expression does what its source does, with as many locals as there were.
+use Rattle.std.proofs.Common.{◌≡◌, ℕ, suc, ◌+◌, ◌-◌, List, [], ◌∷◌, length, refl, sym, ap, ◌∙◌, arith, Option, Some, None}
+use Rattle.std.specs.Prelude.{slice_get, true, false}
+use Rattle.ang_typed.specs.declared.expression.Variable.{Variable}
+use Rattle.ang_typed.specs.declared.expression.Variable.TheVariants as variable
+use Rattle.ang_typed.specs.declared.program.Parameter.{Parameter}
+use Rattle.ang_typed.specs.Typed as t
+use Rattle.ang_meaning.specs.declared.slot.Slot.{Slot}
+use Rattle.ang_meaning.specs.declared.slot.Slot.TheVariants.{Bits}
+use Rattle.ang_meaning.specs.declared.operation.Change.{Change}
+use Rattle.ang_meaning.specs.declared.operation.Operation.{Operation}
+use Rattle.ang_meaning.specs.declared.operation.Operation.TheVariants.{Work, Compare, Convert, Negate, Complement, Not, GlobalGet, GlobalSet, GlobalChange, Ask, Read, Write, Alter}
+use Rattle.ang_meaning.specs.declared.routine.Callee.TheVariants.{Own}
+use Rattle.ang_meaning.specs.declared.routine.Target.{Target}
+use Rattle.ang_meaning.specs.Numbers.{truth, is_signed}
+use Rattle.ang_meaning.specs.World.{World}
+use Rattle.ang_meaning.specs.Setting.{Setting}
+use Rattle.ang_meaning.specs.Perform.{perform}
+use Rattle.ang_meaning.specs.Results.{Evaluated, Gave, Ready, local_at, loaded, applied, assigned, altered}
+use Rattle.ang_source.specs.Meaning.{Callees, one, two, read_variable, stored, changed_by, evaluate, evaluate_all, evaluate_argument, evaluate_or, work_of, test_of, compound_of, step_of, brought_to}
+use Rattle.ang_source.specs.Meaning as source
+use Rattle.ang_source.specs.Sound.{Module, Sound, SoundArguments, SoundValues, SoundOption, argument_count}
+use Rattle.ang_lower.specs.Tree as c
+use Rattle.ang_lower.specs.Lowered as low
+use Rattle.ang_lower.proofs.PlainMeaning.{eval, eval_all}
+use Rattle.ang_lower.proofs.Ends.{SameEval, SameAll, SameFrom, loaded_keeps, applied_keeps, applied_same, assigned_keeps, altered_keeps, chosen_same, then_rest_same, called_same}
+
+-- ---- the targets of a call
+
+spot_is : (ls : List Slot) (x : Variable) → low.spot_of (length ls) x ≡ source.spot_of ls x
+spot_is ls (variable.Local i) = refl
+spot_is ls (variable.Global g) = refl
+spot_is ls (variable.Property h) = refl
+
+targets_are : (ls : List Slot) (args : t.Args) (found : List Target) → low.targets_behind (length ls) args found ≡ source.targets_behind ls args found
+targets_are ls t.none found = refl
+targets_are ls (t.more (t.by_value ty e) args) found = targets_are ls args found
+targets_are ls (t.more (t.out x from to) args) found =
+    ap (λ s. low.targets_behind (length ls) args (record { spot = s; to = brought_to to } ∷ found)) (spot_is ls x)
+    ∙ targets_are ls args (record { spot = source.spot_of ls x; to = brought_to to } ∷ found)
+
+targets_at : (n : ℕ) (ls : List Slot) (args : t.Args) → length ls ≡ n → low.targets_of n args ≡ source.targets_of ls args
+targets_at n ls args l = ap (λ i. low.targets_of i args) (sym l) ∙ targets_are ls args []
+
+-- ---- arguments
+
+-- each value among the arguments is sound
+abbrev pub EachSound : Module → ℕ → t.Args → Type 0
+EachSound M n t.none = Unit {0}
+EachSound M n (t.more (t.by_value ty e) args) = Sound M n e × EachSound M n args
+EachSound M n (t.more (t.out x from to) args) = EachSound M n args
+
+pub each_argument : (M : Module) (n : ℕ) (ps : List Parameter) (args : t.Args) → SoundArguments M n ps args → EachSound M n args
+each_argument M n [] t.none h = tt
+each_argument M n [] (t.more a args) h = absurd h
+each_argument M n (p ∷ ps) t.none h = absurd h
+each_argument M n (p ∷ ps) (t.more (t.by_value ty e) args) h = (h.0.1, each_argument M n ps args h.1)
+each_argument M n (p ∷ ps) (t.more (t.out x from to) args) h = each_argument M n ps args h.1
+
+pub each_value : (M : Module) (n : ℕ) (args : t.Args) → SoundValues M n args → EachSound M n args
+each_value M n t.none h = tt
+each_value M n (t.more (t.by_value ty e) args) h = (h.0, each_value M n args h.1)
+each_value M n (t.more (t.out x from to) args) h = absurd h.0
+
+pub as_many : (M : Module) (n : ℕ) (ps : List Parameter) (args : t.Args) → SoundArguments M n ps args → argument_count args ≡ length ps
+as_many M n [] t.none h = refl
+as_many M n [] (t.more a args) h = absurd h
+as_many M n (p ∷ ps) t.none h = absurd h
+as_many M n (p ∷ ps) (t.more a args) h = ap suc (as_many M n ps args h.1)
+
+-- ---- operands
+
+one_same : (n : ℕ) (x y : Evaluated) → SameEval n x y → SameAll n 1 (one x) (one y)
+one_same n x y h = then_rest_same n 1 [] x y (λ v ls t w. Ready (v ∷ []) ls t w) (λ v ls t w. Ready (v ∷ []) ls t w) h (λ v ls t w l. record { same = refl; keeps = (l, refl) })
+
+two_same : (n : ℕ) (x y : Evaluated) (go go' : List Slot → ℕ → World → Evaluated) → SameEval n x y → SameFrom n go go' → SameAll n 2 (two x go) (two y go')
+two_same n x y go go' h a =
+    then_rest_same n 2 [] x y _ _ h
+    (λ v ls t w l. then_rest_same n 2 (v ∷ []) (go ls t w) (go' ls t w) (λ u ls' t' w'. Ready (u ∷ v ∷ []) ls' t' w') (λ u ls' t' w'. Ready (u ∷ v ∷ []) ls' t' w') (a ls t w l)
+    (λ u ls' t' w' l'. record { same = refl; keeps = (l', refl) }))
+
+-- ---- variables
+
+module _ (z : Setting) (m : ℕ) (k k' : Callees) where
+  read_same : (n : ℕ) (x : Variable) (ls : List Slot) (t : ℕ) (w : World) → length ls ≡ n → SameEval n (eval z m k (low.read n x) ls t w) (read_variable z m x ls t w)
+  read_same n (variable.Local i) ls t w l = record {
+    same = ap (λ j. loaded (local_at ls (j - suc i)) ls t w) (sym l);
+    keeps = loaded_keeps n (local_at ls (length ls - suc i)) ls t w l;
+  }
+  read_same n (variable.Global g) ls t w l = record { same = refl; keeps = applied_keeps n 0 (perform z m (GlobalGet g)) (Ready [] ls t w) (l, refl) }
+  read_same n (variable.Property h) ls t w l = record { same = refl; keeps = applied_keeps n 0 (perform z m (Read h.entity)) (Ready [] ls t w) (l, refl) }
+
+  unary_same : (n : ℕ) (o : Operation) (e : c.Expr) (y : Evaluated) (ls : List Slot) (t : ℕ) (w : World) → SameEval n (eval z m k e ls t w) y
+      → SameEval n (eval z m k (low.unary o e) ls t w) (applied (perform z m o) (one y))
+  unary_same n o e y ls t w h = applied_same n 1 (perform z m o) (one (eval z m k e ls t w)) (one y) (one_same n (eval z m k e ls t w) y h)
+
+  pub stored_same : (n : ℕ) (x : Variable) (e : c.Expr) (y : Evaluated) (ls : List Slot) (t : ℕ) (w : World) → length ls ≡ n → SameEval n (eval z m k e ls t w) y
+      → SameEval n (eval z m k (low.stored n x e) ls t w) (stored z m x ls y)
+  stored_same n (variable.Local i) e y ls t w l h = record {
+    same = ap (λ j. assigned (j - suc i) (eval z m k e ls t w)) (sym l) ∙ ap (λ a. assigned (length ls - suc i) a) h.same;
+    keeps = assigned_keeps n (length ls - suc i) y h.keeps;
+  }
+  stored_same n (variable.Global g) e y ls t w l h = unary_same n (GlobalSet g) e y ls t w h
+  stored_same n (variable.Property p) e y ls t w l h = unary_same n (Write p.entity) e y ls t w h
+
+  changed_same : (n : ℕ) (x : Variable) (by : Change) (e : c.Expr) (y : Evaluated) (ls : List Slot) (t : ℕ) (w : World) → length ls ≡ n → SameEval n (eval z m k e ls t w) y
+      → SameEval n (eval z m k (low.changed n x by e) ls t w) (changed_by z m x ls by y)
+  changed_same n (variable.Local i) by e y ls t w l h = record {
+    same = ap (λ j. altered (j - suc i) by (eval z m k e ls t w)) (sym l) ∙ ap (λ a. altered (length ls - suc i) by a) h.same;
+    keeps = altered_keeps n (length ls - suc i) by y h.keeps;
+  }
+  changed_same n (variable.Global g) by e y ls t w l h = unary_same n (GlobalChange g by) e y ls t w h
+  changed_same n (variable.Property p) by e y ls t w l h = unary_same n (Alter p.entity by) e y ls t w h
+
+-- calls of the module's functions are the same, where they have an argument for each parameter
+abbrev pub CalleesAgree : Module → Callees → Callees → Type 0
+CalleesAgree M k k' = (f : ℕ) (ps : List Parameter) (vs : List Slot) (t : ℕ) (w : World) → slice_get M.parameters f ≡ Some ps → length vs ≡ length ps → k (Own f) vs t w ≡ k' (Own f) vs t w
+
+gave : (n x : ℕ) (ls : List Slot) (t : ℕ) (w : World) → length ls ≡ n → SameEval n (Gave (Bits x) ls t w) (Gave (Bits x) ls t w)
+gave n x ls t w l = record { same = refl; keeps = l }
+
+module _ (z : Setting) (m : ℕ) (M : Module) (k k' : Callees) (callees : CalleesAgree M k k') where
+  mutual
+    pub value_same : (e : t.Expr) (n : ℕ) (ls : List Slot) (t : ℕ) (w : World) → length ls ≡ n → Sound M n e → SameEval n (eval z m k (low.lowered n e) ls t w) (evaluate z m k' e ls t w)
+    value_same (t.number ty x) n ls t w l h = record { same = refl; keeps = l }
+    value_same (t.truth b) n ls t w l h = record { same = refl; keeps = l }
+    value_same (t.variable x ty) n ls t w l h = read_same z m k k' n x ls t w l
+    value_same (t.convert from to e) n ls t w l h = unary_same z m k k' n (Convert to) (low.lowered n e) (evaluate z m k' e ls t w) ls t w (value_same e n ls t w l h)
+    value_same (t.negate ty e) n ls t w l h = unary_same z m k k' n (Negate ty) (low.lowered n e) (evaluate z m k' e ls t w) ls t w (value_same e n ls t w l h)
+    value_same (t.complement ty e) n ls t w l h = unary_same z m k k' n (Complement ty) (low.lowered n e) (evaluate z m k' e ls t w) ls t w (value_same e n ls t w l h)
+    value_same (t.not e) n ls t w l h = unary_same z m k k' n Not (low.lowered n e) (evaluate z m k' e ls t w) ls t w (value_same e n ls t w l h)
+    value_same (t.operate op ty a b) n ls t w l h =
+        applied_same n 2 (perform z m (Work (work_of op) ty)) _ _
+        (two_same n (eval z m k (low.lowered n a) ls t w) (evaluate z m k' a ls t w) (eval z m k (low.lowered n b)) (evaluate z m k' b) (value_same a n ls t w l h.0)
+        (λ ls' t' w' l'. value_same b n ls' t' w' l' h.1))
+    value_same (t.compare op ty a b) n ls t w l h =
+        applied_same n 2 (perform z m (Compare (test_of op) (is_signed ty))) _ _
+        (two_same n (eval z m k (low.lowered n a) ls t w) (evaluate z m k' a ls t w) (eval z m k (low.lowered n b)) (evaluate z m k' b) (value_same a n ls t w l h.0)
+        (λ ls' t' w' l'. value_same b n ls' t' w' l' h.1))
+    value_same (t.and a b) n ls t w l h =
+        chosen_same n (eval z m k (low.lowered n a) ls t w) (evaluate z m k' a ls t w) (eval z m k (low.lowered n b)) (eval z m k (c.number 0)) (evaluate z m k' b) (λ ls' t' w'. Gave (Bits (truth false)) ls' t' w')
+        (value_same a n ls t w l h.0) (λ ls' t' w' l'. value_same b n ls' t' w' l' h.1) (λ ls' t' w' l'. gave n 0 ls' t' w' l')
+    value_same (t.or a b) n ls t w l h =
+        chosen_same n (eval z m k (low.lowered n a) ls t w) (evaluate z m k' a ls t w) (eval z m k (c.number 1)) (eval z m k (low.lowered n b)) (λ ls' t' w'. Gave (Bits (truth true)) ls' t' w') (evaluate z m k' b)
+        (value_same a n ls t w l h.0) (λ ls' t' w' l'. gave n 1 ls' t' w' l') (λ ls' t' w' l'. value_same b n ls' t' w' l' h.1)
+    value_same (t.choose a b d) n ls t w l h =
+        chosen_same n (eval z m k (low.lowered n a) ls t w) (evaluate z m k' a ls t w) (eval z m k (low.lowered n b)) (eval z m k (low.lowered n d)) (evaluate z m k' b) (evaluate z m k' d)
+        (value_same a n ls t w l h.0) (λ ls' t' w' l'. value_same b n ls' t' w' l' h.1) (λ ls' t' w' l'. value_same d n ls' t' w' l' h.2)
+    value_same (t.assign x ty e) n ls t w l h = stored_same z m k k' n x (low.lowered n e) (evaluate z m k' e ls t w) ls t w l (value_same e n ls t w l h.1)
+    value_same (t.compound x ty op at e) n ls t w l h = changed_same z m k k' n x (compound_of ty op at) (low.lowered n e) (evaluate z m k' e ls t w) ls t w l (value_same e n ls t w l h.1)
+    value_same (t.step x ty kind) n ls t w l h = changed_same z m k k' n x (step_of ty kind) (c.number 1) (Gave (Bits 1) ls t w) ls t w l (gave n 1 ls t w l)
+    value_same (t.call f ty args) n ls t w l h =
+        let count : argument_count args ≡ length h.0 = as_many M n h.0 args h.2 in
+        let i = argument_count args in
+        let e : i ≡ argument_count args + 0 = omega arith in
+        called_same n i m (k (Own f)) (k' (Own f)) (low.targets_of n args) (source.targets_of ls args) _ (evaluate_all z m k' args [] ls t w) (targets_at n ls args l)
+        (values_same args n i [] ls t w l e (each_argument M n h.0 args h.2))
+        (λ vs t' w' v. callees f h.0 vs t' w' h.1 (v ∙ count))
+    value_same (t.host_call p ty args) n ls t w l h =
+        let e : argument_count args ≡ argument_count args + 0 = omega arith in
+        applied_same n (argument_count args) (perform z m (Ask p.entity)) _ (evaluate_all z m k' args [] ls t w)
+        (values_same args n (argument_count args) [] ls t w l e (each_value M n args h.1))
+
+    pub values_same : (args : t.Args) (n i : ℕ) (vs ls : List Slot) (t : ℕ) (w : World) → length ls ≡ n → i ≡ argument_count args + length vs → EachSound M n args
+        → SameAll n i (eval_all z m k (c.exprs (low.lowered_args n args)) vs ls t w) (evaluate_all z m k' args vs ls t w)
+    values_same t.none n i vs ls t w l e h = record { same = refl; keeps = (l, omega (arith, e)) }
+    values_same (t.more (t.by_value ty x) args) n i vs ls t w l e h =
+        then_rest_same n i vs (eval z m k (low.lowered n x) ls t w) (evaluate z m k' x ls t w) _ _ (value_same x n ls t w l h.0)
+        (λ v ls' t' w' l'. values_same args n i (v ∷ vs) ls' t' w' l' (omega (arith, e)) h.1)
+    values_same (t.more (t.out x from to) args) n i vs ls t w l e h =
+        values_same args n i (Bits 0 ∷ vs) ls t w l (omega (arith, e)) h
+
+  pub or_same : (e : Option t.Expr) (x n : ℕ) (ls : List Slot) (t : ℕ) (w : World) → length ls ≡ n → SoundOption M n e → SameEval n (eval z m k (low.lowered_or n x e) ls t w) (evaluate_or z m k' x e ls t w)
+  or_same None x n ls t w l h = record { same = refl; keeps = l }
+  or_same (Some e) x n ls t w l h = value_same e n ls t w l h

@@ -1,0 +1,51 @@
+-- Registered entities as code asks them (docs/MEANING.md, "Operations"; docs/EMBEDDING.md, "Drivers").
+use Rattle.std.specs.Prelude.{◌≡◌, ℕ, Bool, true, false, map, Some}
+use Rattle.ang_kinds.specs.declared.types.TypeRef.{TypeRef}
+use Rattle.ang_kinds.specs.declared.types.TypeRef.TheVariants.{Void, Plain as PlainType, Object}
+use Rattle.ang_registry.specs.declared.entry.Entry.{Entry}
+use Rattle.ang_registry.specs.declared.entry.EntryKind.{EntryKind}
+use Rattle.ang_registry.specs.declared.entry.EntryKind.TheVariants.{HostType as TypeKind, Factory, Method, Property, Function, Global}
+use Rattle.ang_host.specs.declared.event.Role.{Role}
+use Rattle.ang_host.specs.declared.event.Role.TheVariants.{Making, Calling, Property as Reading}
+use Rattle.ang_registry.specs.Registration.{RegistrationList, entry_at}
+use Rattle.ang_meaning.specs.declared.host.HostType.{HostType}
+use Rattle.ang_meaning.specs.declared.host.HostType.TheVariants.{Nothing, Plain, Handle}
+use Rattle.ang_meaning.specs.declared.host.HostUse.{HostUse}
+use Rattle.ang_meaning.specs.Setting.{Setting}
+
+-- a declared type, as its values pass; every object passes as a handle
+abbrev pub host_type_of : TypeRef → HostType
+host_type_of Void = Nothing
+host_type_of (PlainType p) = Plain p
+host_type_of (Object name shape const_object const_handle) = Handle
+
+-- a method or a type's property is asked of an object
+abbrev pub is_member : EntryKind → Bool
+is_member TypeKind = false
+is_member Factory = false
+is_member Method = true
+is_member Property = true
+is_member Function = false
+is_member Global = false
+
+-- Which method of its driver answers. A type is asked by nobody.
+abbrev pub role_in : EntryKind → ℕ → Role
+role_in TypeKind f = Making f
+role_in Factory f = Making f
+role_in Method f = Calling f
+role_in Property f = Reading f
+role_in Function f = Calling f
+role_in Global f = Reading f
+
+abbrev pub use_of : Entry → HostUse
+use_of x = record {
+  driver = x.driver;
+  role = role_in x.kind x.f;
+  member = is_member x.kind;
+  params = map (λ p. host_type_of p.ty) x.signature.params;
+  result = host_type_of x.signature.result;
+}
+
+-- the setting's entities are those of the view
+pub record HasView (z : Setting) (V : RegistrationList) : Type 0 where
+  pub each : (e : ℕ) (x : Entry) → entry_at V e ≡ Some x → z.host e ≡ Some (use_of x)

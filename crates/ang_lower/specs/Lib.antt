@@ -1,0 +1,5 @@
+pub mod Tree
+pub mod Plain
+pub mod Lowered
+pub mod Hosts
+pub mod Same

@@ -1,0 +1,173 @@
+-- The core tree of a resolved tree (docs/MEANING.md, "What a script means" and "What a body does"), where n locals are alive. A local of the resolved
+-- tree is numbered from the outermost one, and one of the core tree from the innermost one.
+use Rattle.std.specs.Prelude.{◌≡◌, ℕ, suc, ◌+◌, ◌-◌, List, [], ◌∷◌, ◌++◌, length, map, Option, Some, None}
+use Rattle.ang_typed.specs.declared.expression.Variable.{Variable}
+use Rattle.ang_typed.specs.declared.expression.Variable.TheVariants as variable
+use Rattle.ang_typed.specs.Typed as t
+use Rattle.ang_meaning.specs.declared.operation.Change.{Change}
+use Rattle.ang_meaning.specs.declared.operation.Operation.{Operation}
+use Rattle.ang_meaning.specs.declared.operation.Operation.TheVariants.{Work, Compare, Convert, Negate, Complement, Not, GlobalGet, GlobalSet, GlobalChange, Ask, Read, Write, Alter}
+use Rattle.ang_meaning.specs.declared.routine.Callee.TheVariants.{Own}
+use Rattle.ang_meaning.specs.declared.routine.Spot.{Spot}
+use Rattle.ang_meaning.specs.declared.routine.Spot.TheVariants as spot
+use Rattle.ang_meaning.specs.declared.routine.Target.{Target}
+use Rattle.ang_meaning.specs.Numbers.{truth, is_signed}
+use Rattle.ang_core.specs.declared.tree.Statement.{Statement}
+use Rattle.ang_source.specs.Meaning.{Code, of_function, of_global, work_of, test_of, compound_of, step_of, brought_to, passings_of}
+use Rattle.ang_source.specs.Sound.{declared, declared_by}
+use Rattle.ang_lower.specs.Tree as c
+use Rattle.ang_lower.specs.Plain.{plain_stmt}
+
+-- ---- operations
+
+abbrev pub unary : Operation → c.Expr → c.Expr
+unary o e = c.apply o (c.more e c.none)
+
+abbrev pub binary : Operation → c.Expr → c.Expr → c.Expr
+binary o l r = c.apply o (c.more l (c.more r c.none))
+
+-- ---- variables
+
+abbrev pub read : ℕ → Variable → c.Expr
+read n (variable.Local i) = c.local (n - suc i)
+read n (variable.Global g) = c.apply (GlobalGet g) c.none
+read n (variable.Property h) = c.apply (Read h.entity) c.none
+
+abbrev pub stored : ℕ → Variable → c.Expr → c.Expr
+stored n (variable.Local i) e = c.assign (n - suc i) e
+stored n (variable.Global g) e = unary (GlobalSet g) e
+stored n (variable.Property h) e = unary (Write h.entity) e
+
+abbrev pub changed : ℕ → Variable → Change → c.Expr → c.Expr
+changed n (variable.Local i) by e = c.change (n - suc i) by e
+changed n (variable.Global g) by e = unary (GlobalChange g by) e
+changed n (variable.Property h) by e = unary (Alter h.entity by) e
+
+-- where a variable stands that an `&out` value moves into; no host property is one
+abbrev pub spot_of : ℕ → Variable → Spot
+spot_of n (variable.Local i) = spot.Local (n - suc i)
+spot_of n (variable.Global g) = spot.Global g
+spot_of n (variable.Property h) = spot.Local 0
+
+-- in front of the targets that there are
+abbrev pub with_target : ℕ → t.Arg → List Target → List Target
+with_target n (t.by_value ty e) found = found
+with_target n (t.out x from to) found = record { spot = spot_of n x; to = brought_to to } ∷ found
+
+abbrev pub targets_behind : ℕ → t.Args → List Target → List Target
+targets_behind n t.none found = found
+targets_behind n (t.more a args) found = targets_behind n args (with_target n a found)
+
+-- The variables that the `&out` values of a call move into; the last one is the first.
+abbrev pub targets_of : ℕ → t.Args → List Target
+targets_of n args = targets_behind n args []
+
+-- ---- expressions
+
+abbrev mutual
+  pub lowered : ℕ → t.Expr → c.Expr
+  lowered n (t.number ty x) = c.number x
+  lowered n (t.truth b) = c.number (truth b)
+  lowered n (t.variable x ty) = read n x
+  lowered n (t.convert from to e) = unary (Convert to) (lowered n e)
+  lowered n (t.negate ty e) = unary (Negate ty) (lowered n e)
+  lowered n (t.complement ty e) = unary (Complement ty) (lowered n e)
+  lowered n (t.not e) = unary Not (lowered n e)
+  lowered n (t.operate op ty l r) = binary (Work (work_of op) ty) (lowered n l) (lowered n r)
+  lowered n (t.compare op ty l r) = binary (Compare (test_of op) (is_signed ty)) (lowered n l) (lowered n r)
+  lowered n (t.and l r) = c.choose (lowered n l) (lowered n r) (c.number 0)
+  lowered n (t.or l r) = c.choose (lowered n l) (c.number 1) (lowered n r)
+  lowered n (t.choose a l r) = c.choose (lowered n a) (lowered n l) (lowered n r)
+  lowered n (t.assign x ty e) = stored n x (lowered n e)
+  lowered n (t.compound x ty op at e) = changed n x (compound_of ty op at) (lowered n e)
+  lowered n (t.step x ty kind) = changed n x (step_of ty kind) (c.number 1)
+  lowered n (t.call f ty args) = c.call (Own f) (c.exprs (lowered_args n args)) (targets_of n args)
+  lowered n (t.host_call h ty args) = c.apply (Ask h.entity) (c.exprs (lowered_args n args))
+
+  pub lowered_args : ℕ → t.Args → List c.Expr
+  lowered_args n t.none = []
+  lowered_args n (t.more a args) = lowered_arg n a ∷ lowered_args n args
+
+  pub lowered_arg : ℕ → t.Arg → c.Expr
+  lowered_arg n (t.by_value ty e) = lowered n e
+  lowered_arg n (t.out x from to) = c.number 0
+
+-- this number where nothing is written
+abbrev pub lowered_or : ℕ → ℕ → Option t.Expr → c.Expr
+lowered_or n x None = c.number x
+lowered_or n x (Some e) = lowered n e
+
+-- ---- statements
+
+-- each local is a statement of its own
+abbrev pub lowered_locals : ℕ → List t.Local → List c.Stmt
+lowered_locals n [] = []
+lowered_locals n (l ∷ ls) = c.declare (lowered_or n 0 l.initializer) ∷ lowered_locals (suc n) ls
+
+abbrev pub lowered_simple : ℕ → Option t.Expr → c.Stmt
+lowered_simple n None = c.skip
+lowered_simple n (Some e) = c.evaluate (lowered n e)
+
+-- the steps of a `for`
+abbrev pub lowered_each : ℕ → List t.Expr → List c.Stmt
+lowered_each n es = map (λ e. c.evaluate (lowered n e)) es
+
+abbrev pub lowered_steps : ℕ → List t.Expr → c.Stmt
+lowered_steps n [] = c.skip
+lowered_steps n (e ∷ es) = c.block (c.stmts (lowered_each n (e ∷ es)))
+
+-- statements in a block of their own
+abbrev pub lowered_block : List c.Stmt → c.Stmt
+lowered_block ss = c.block (c.stmts ss)
+
+-- a loop with its body's statements; a condition that is not written is true
+abbrev pub lowered_loop : ℕ → Option t.Expr → List t.Expr → List c.Stmt → c.Stmt
+lowered_loop n e steps ss = c.while (lowered_or n 1 e) (lowered_block ss) (lowered_steps n steps)
+
+abbrev mutual
+  -- the statements that stand for one
+  pub lowered_stmt : ℕ → t.Stmt → List c.Stmt
+  lowered_stmt n (t.block ss) = lowered_block (lowered_all n ss) ∷ []
+  lowered_stmt n (t.locals ls) = lowered_locals n ls
+  lowered_stmt n (t.expression e) = lowered_simple n e ∷ []
+  lowered_stmt n t.break = c.break ∷ []
+  lowered_stmt n t.continue = c.continue ∷ []
+  lowered_stmt n (t.return e) = c.return (lowered_or n 0 e) ∷ []
+  lowered_stmt n (t.either e ss otherwise) =
+      c.either (lowered n e) (lowered_block (lowered_all n ss)) (lowered_block (lowered_all n otherwise)) ∷ []
+  lowered_stmt n (t.while e ss) = lowered_loop n (Some e) [] (lowered_all n ss) ∷ []
+  lowered_stmt n (t.do_while ss e) = c.do_while (lowered n e) (lowered_block (lowered_all n ss)) ∷ []
+  lowered_stmt n (t.for start e steps ss) =
+      lowered_block (lowered_all n start ++ lowered_loop (declared_by start + n) e steps (lowered_all (declared_by start + n) ss) ∷ []) ∷ []
+
+  -- statements in turn
+  pub lowered_all : ℕ → t.Stmts → List c.Stmt
+  lowered_all n t.end = []
+  lowered_all n (t.«then» s ss) = lowered_stmt n s ++ lowered_all (declared s + n) ss
+
+-- ---- bodies
+
+-- a whole body with n parameters
+abbrev pub lowered_code : ℕ → Code → c.Stmt
+lowered_code n (of_function ss) = lowered_block (lowered_all n ss)
+lowered_code n (of_global g e) = c.evaluate (stored n (variable.Global g) (lowered n e))
+
+-- the statement is that body's
+pub record IsLowered (n : ℕ) (k : Code) (s : Statement) : Type 0 where
+  pub same : plain_stmt s ≡ lowered_code n k
+
+abbrev pub lowered_function : t.Function → c.Whole
+lowered_function f = record { params = passings_of f.parameters; statement = lowered_code (length f.parameters) (of_function f.body) }
+
+-- the initializers of globals, counted from this number on
+abbrev pub lowered_initializer : ℕ → Option t.Expr → List c.Whole
+lowered_initializer g None = []
+lowered_initializer g (Some e) = record { params = []; statement = lowered_code 0 (of_global g e) } ∷ []
+
+abbrev pub lowered_globals : ℕ → List t.Global → List c.Whole
+lowered_globals g [] = []
+lowered_globals g (x ∷ xs) = lowered_initializer g x.initializer ++ lowered_globals (suc g) xs
+
+-- The bodies of a module by number: the functions' first, and then the initializers'.
+abbrev pub lowered_module : t.Program → List c.Whole
+lowered_module p = map lowered_function p.functions ++ lowered_globals 0 p.globals

@@ -1,0 +1,55 @@
+-- The core tree without where it lies in memory (docs/MEANING.md, "What a body does").
+use Rattle.std.specs.Prelude.{ℕ, List, [], ◌∷◌}
+use Rattle.ang_meaning.specs.declared.operation.Change.{Change}
+use Rattle.ang_meaning.specs.declared.operation.Operation.{Operation}
+use Rattle.ang_meaning.specs.declared.routine.Callee.{Callee}
+use Rattle.ang_meaning.specs.declared.routine.Passing.{Passing}
+use Rattle.ang_meaning.specs.declared.routine.Target.{Target}
+
+mutual
+  pub data Expr : Type 0 where
+    number : ℕ → Expr
+    null : Expr
+    no_key : ℕ → Expr
+    local : ℕ → Expr
+    assign : ℕ → Expr → Expr
+    change : ℕ → Change → Expr → Expr
+    apply : Operation → Exprs → Expr
+    call : Callee → Exprs → List Target → Expr
+    choose : Expr → Expr → Expr → Expr
+
+  -- operands
+  pub data Exprs : Type 0 where
+    none : Exprs
+    more : Expr → Exprs → Exprs
+
+abbrev pub exprs : List Expr → Exprs
+exprs [] = none
+exprs (e ∷ es) = more e (exprs es)
+
+mutual
+  pub data Stmt : Type 0 where
+    skip : Stmt
+    evaluate : Expr → Stmt
+    declare : Expr → Stmt
+    block : Stmts → Stmt
+    either : Expr → Stmt → Stmt → Stmt
+    while : Expr → Stmt → Stmt → Stmt
+    do_while : Expr → Stmt → Stmt
+    return : Expr → Stmt
+    break : Stmt
+    continue : Stmt
+
+  -- statements in turn
+  pub data Stmts : Type 0 where
+    end : Stmts
+    then : Stmt → Stmts → Stmts
+
+abbrev pub stmts : List Stmt → Stmts
+stmts [] = end
+stmts (s ∷ ss) = then s (stmts ss)
+
+-- a function's body or an initializer's: how each parameter takes its argument, the last one first, and what it does
+pub record Whole : Type 0 where
+  pub params : List Passing
+  pub statement : Stmt

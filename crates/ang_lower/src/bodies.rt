@@ -1,0 +1,143 @@
+//! The bodies of a module.
+ghost use Rattle.std.specs.Prelude.{◌≡◌, ◌+◌, ◌++◌, ◌∷◌, [], suc, reverse, IfOk, OnOk, map as list_map};
+ghost use Rattle.ang_typed.specs.View.{view_block, view_expr, view_function, view_global, view_typed};
+ghost use Rattle.ang_source.specs.Meaning.{passing_of, passings_of, passings_in, of_global};
+ghost use Rattle.ang_lower.specs.Plain.{plain_body, plain_stmt};
+ghost use Rattle.ang_lower.specs.Lowered as spec;
+ghost use Rattle.ang_lower.specs.Same.{MeansProgram, KeepsSound};
+
+use crate::expressions::lower_expression;
+use crate::statements::lower_block;
+use crate::variables::store;
+use ang_core::{Body, Statement};
+use ang_kinds::Pass;
+use ang_meaning::Passing;
+use ang_typed::{Expression, Function, Global as GlobalVariable, Parameter, Typed, Variable};
+use std::alloc::{AllocError, Global};
+
+fn passing(pass: Pass) -> Passing
+    ensures same { result ≡ passing_of pass }
+{
+    match pass {
+        Pass::Value | Pass::RefIn | Pass::RefInOut => Passing::In,
+        Pass::RefOut => Passing::Out,
+    }
+}
+
+/// How parameters take their arguments, in order.
+fn each_passing(alloc: Global, parameters: &[Parameter]) -> Result<Vec<Passing>, AllocError>
+    ensures exact { IfOk result (λ v. v.items ≡ list_map (λ p. passing_of p.pass) parameters.now) }
+{
+    parameters
+        .iter()
+        .map(|parameter| passing(parameter.pass))
+        .collect(alloc)
+}
+
+/// How parameters take their arguments, the last one first.
+fn passings(alloc: Global, parameters: &[Parameter]) -> Result<Vec<Passing>, AllocError>
+    ensures exact { IfOk result (λ v. v.items ≡ passings_of parameters.now) }
+{
+    let mut found = each_passing(alloc, parameters)?;
+    found.reverse();
+    Ok(found)
+}
+
+fn function_body(alloc: Global, function: &Function) -> Result<Body, AllocError>
+    ensures exact { IfOk result (λ b. plain_body b ≡ spec.lowered_function (view_function function.now)) }
+{
+    let parameters = function.parameters.as_slice();
+    let params = passings(alloc, parameters)?;
+    let statement = lower_block(alloc, parameters.len(), &function.body)?;
+    Ok(Body { params, statement })
+}
+
+/// The body that stores the value into the global of that number.
+fn initializer_body(alloc: Global, number: usize, value: &Expression) -> Result<Body, AllocError>
+    ensures params { IfOk result (λ b. b.params.items ≡ []) }
+    ensures statement { IfOk result (λ b. plain_stmt b.statement ≡ spec.lowered_code 0 (of_global number (view_expr value.now))) }
+{
+    let value = lower_expression(alloc, 0, value)?;
+    let whole = store(alloc, 0, &Variable::Global(number), value)?;
+    Ok(Body {
+        params: Vec::new(alloc),
+        statement: Statement::Evaluate(whole),
+    })
+}
+
+fn add_functions(
+    alloc: Global,
+    functions: &[Function],
+    bodies: &mut Vec<Body>,
+) -> Result<(), AllocError>
+    ensures exact { OnOk result (list_map plain_body bodies.new.items
+        ≡ list_map plain_body bodies.old.items ++ list_map spec.lowered_function (list_map view_function functions.now)) }
+{
+    for function in functions {
+        let body = function_body(alloc, function)?;
+        bodies.push(body)?;
+    }
+    Ok(())
+}
+
+/// The initializer of one global, if it has one.
+fn add_global(
+    alloc: Global,
+    number: usize,
+    global: &GlobalVariable,
+    bodies: &mut Vec<Body>,
+) -> Result<(), AllocError>
+    ensures exact { OnOk result (list_map plain_body bodies.new.items
+        ≡ list_map plain_body bodies.old.items ++ spec.lowered_initializer number (view_global global.now).initializer) }
+{
+    match &global.initializer {
+        Some(value) => {
+            let body = initializer_body(alloc, number, value)?;
+            bodies.push(body)?;
+            Ok(())
+        }
+        None => Ok(()),
+    }
+}
+
+fn add_globals(
+    alloc: Global,
+    globals: &[GlobalVariable],
+    bodies: &mut Vec<Body>,
+) -> Result<(), AllocError>
+    ensures exact { OnOk result (list_map plain_body bodies.new.items
+        ≡ list_map plain_body bodies.old.items ++ spec.lowered_globals 0 (list_map view_global globals.now)) }
+{
+    for (number, global) in globals.iter().enumerate() {
+        add_global(alloc, number, global, bodies)?;
+    }
+    Ok(())
+}
+
+fn bodies_of(alloc: Global, program: &Typed) -> Result<Vec<Body>, AllocError>
+    ensures exact { IfOk result (λ bodies. list_map plain_body bodies.items ≡ spec.lowered_module (view_typed program.now)) }
+{
+    let mut bodies = Vec::new(alloc);
+    add_functions(alloc, program.functions.as_slice(), &mut bodies)?;
+    add_globals(alloc, program.globals.as_slice(), &mut bodies)?;
+    Ok(bodies)
+}
+
+/// The bodies of a module by number: the functions', and then the initializers', each in the order of
+/// declaration.
+///
+/// Wherever they are the bodies of a module whose tree is sound, each of them means what its source means,
+/// and keeps what the generator wants of it.
+///
+/// # Errors
+/// Want of memory. It is also answered where a local is not alive, a host property is passed for `&out`, or
+/// a number of a function or a global has more than 32 bits, which no checked module has.
+pub fn lower(alloc: Global, program: &Typed) -> Result<Vec<Body>, AllocError>
+    ensures exact { IfOk result (λ bodies. list_map plain_body bodies.items ≡ spec.lowered_module (view_typed program.now)) }
+    ensures params { IfOk result (λ bodies. list_map (λ b. b.params.items) bodies.items ≡ passings_in (view_typed program.now)) }
+    ensures means { IfOk result (λ bodies. MeansProgram (view_typed program.now) bodies.items) }
+    ensures sound { IfOk result (λ bodies. KeepsSound (view_typed program.now) bodies.items) }
+{
+    let bodies = bodies_of(alloc, program)?;
+    Ok(bodies)
+}

@@ -1,0 +1,143 @@
+//! Core trees made of their parts.
+ghost use Rattle.std.specs.Prelude.{◌≡◌, ◌++◌, ◌∷◌, [], map as list_map, IfOk, OnOk};
+ghost use Rattle.ang_lower.specs.Tree as tree;
+ghost use Rattle.ang_lower.specs.Plain.{plain_expr, plain_stmt};
+ghost use Rattle.ang_lower.specs.Lowered as spec;
+
+use ang_core::{Expression, Statement};
+use ang_meaning::{Callee, Operation, Target};
+use std::alloc::{AllocError, Global};
+
+/// An operation on these operands.
+pub fn apply(operation: Operation, operands: Vec<Expression>) -> Expression
+    ensures exact { plain_expr result ≡ tree.apply operation (tree.exprs (list_map plain_expr operands.items)) }
+{
+    Expression::Apply(operation, operands)
+}
+
+/// A call with these arguments and targets.
+pub fn call(callee: Callee, arguments: Vec<Expression>, targets: Vec<Target>) -> Expression
+    ensures exact { plain_expr result ≡ tree.call callee (tree.exprs (list_map plain_expr arguments.items)) targets.items }
+{
+    Expression::Call(callee, arguments, targets)
+}
+
+/// The list with one more operand at its end.
+pub fn with_operand(
+    first: Vec<Expression>,
+    operand: Expression,
+) -> Result<Vec<Expression>, AllocError>
+    ensures exact { IfOk result (λ v. list_map plain_expr v.items ≡ list_map plain_expr first.items ++ (plain_expr operand ∷ [])) }
+{
+    let mut found = first;
+    found.push(operand)?;
+    Ok(found)
+}
+
+/// An operation without operands.
+pub fn nullary(alloc: Global, operation: Operation) -> Expression
+    ensures exact { plain_expr result ≡ tree.apply operation tree.none }
+{
+    apply(operation, Vec::new(alloc))
+}
+
+/// An operation on one operand.
+pub fn unary(
+    alloc: Global,
+    operation: Operation,
+    operand: Expression,
+) -> Result<Expression, AllocError>
+    ensures exact { IfOk result (λ x. plain_expr x ≡ spec.unary operation (plain_expr operand)) }
+{
+    let operands = with_operand(Vec::new(alloc), operand)?;
+    Ok(apply(operation, operands))
+}
+
+/// Two operands.
+#[derive(Drop)]
+pub struct Pair {
+    pub left: Expression,
+    pub right: Expression,
+}
+
+/// An operation on two operands.
+pub fn binary(alloc: Global, operation: Operation, pair: Pair) -> Result<Expression, AllocError>
+    ensures exact { IfOk result (λ x. plain_expr x ≡ spec.binary operation (plain_expr pair.left) (plain_expr pair.right)) }
+{
+    let Pair { left, right } = pair;
+    let first = with_operand(Vec::new(alloc), left)?;
+    let operands = with_operand(first, right)?;
+    Ok(apply(operation, operands))
+}
+
+/// A choice by a test: the left one where it is true.
+pub fn choice(alloc: Global, test: Expression, pair: Pair) -> Result<Expression, AllocError>
+    ensures exact { IfOk result (λ x. plain_expr x ≡ tree.choose (plain_expr test) (plain_expr pair.left) (plain_expr pair.right)) }
+{
+    let Pair { left, right } = pair;
+    let test = Box::new(alloc, test)?;
+    let left = Box::new(alloc, left)?;
+    let right = Box::new(alloc, right)?;
+    Ok(Expression::Choose(test, left, right))
+}
+
+/// Statements in a block of their own.
+pub fn block(statements: Vec<Statement>) -> Statement
+    ensures exact { plain_stmt result ≡ spec.lowered_block (list_map plain_stmt statements.items) }
+{
+    Statement::Block(statements)
+}
+
+/// A test, and the statement where it is true.
+#[derive(Drop)]
+pub struct Tested {
+    pub test: Expression,
+    pub then: Statement,
+}
+
+/// A choice between two statements.
+pub fn either(alloc: Global, tested: Tested, otherwise: Statement) -> Result<Statement, AllocError>
+    ensures exact { IfOk result (λ s. plain_stmt s ≡ tree.either (plain_expr tested.test) (plain_stmt tested.«then») (plain_stmt otherwise)) }
+{
+    let Tested { test, then } = tested;
+    let then = Box::new(alloc, then)?;
+    let otherwise = Box::new(alloc, otherwise)?;
+    Ok(Statement::If(test, then, otherwise))
+}
+
+/// A loop's test, and its step.
+#[derive(Drop)]
+pub struct LoopHead {
+    pub test: Expression,
+    pub step: Statement,
+}
+
+/// A loop.
+pub fn loop_of(alloc: Global, head: LoopHead, body: Statement) -> Result<Statement, AllocError>
+    ensures exact { IfOk result (λ s. plain_stmt s ≡ tree.while (plain_expr head.test) (plain_stmt body) (plain_stmt head.step)) }
+{
+    let LoopHead { test, step } = head;
+    let body = Box::new(alloc, body)?;
+    let step = Box::new(alloc, step)?;
+    Ok(Statement::While(test, body, step))
+}
+
+/// A loop whose body runs before the first test.
+pub fn late_loop_of(
+    alloc: Global,
+    test: Expression,
+    body: Statement,
+) -> Result<Statement, AllocError>
+    ensures exact { IfOk result (λ s. plain_stmt s ≡ tree.do_while (plain_expr test) (plain_stmt body)) }
+{
+    let body = Box::new(alloc, body)?;
+    Ok(Statement::DoWhile(test, body))
+}
+
+/// One more statement at the end.
+pub fn add(found: &mut Vec<Statement>, statement: Statement) -> Result<(), AllocError>
+    ensures exact { OnOk result (list_map plain_stmt found.new.items ≡ list_map plain_stmt found.old.items ++ (plain_stmt statement ∷ [])) }
+{
+    found.push(statement)?;
+    Ok(())
+}

@@ -1,0 +1,185 @@
+//! The core trees of expressions.
+ghost use Rattle.std.specs.Prelude.{◌≡◌, IfOk, map as list_map};
+ghost use Rattle.ang_typed.specs.View.{view_expr, view_arg, view_args, view_option};
+ghost use Rattle.ang_lower.specs.Plain.{plain_expr};
+ghost use Rattle.ang_lower.specs.Lowered as spec;
+
+use crate::build::{Pair, apply, binary, call, choice, unary, with_operand};
+use crate::operators::{arithmetic, compound, is_signed, step, test};
+use crate::variables::{change, read, small, store, targets};
+use ang_core::Expression;
+use ang_meaning::{Callee, Operation};
+use ang_typed as typed;
+use ang_typed::Argument;
+use std::alloc::{AllocError, Global};
+
+/// The core tree of an expression, where so many locals are alive.
+///
+/// # Errors
+/// Want of memory, which is also answered where a local is not alive or a number has more than 32 bits.
+#[cycle(expression)]
+pub fn lower_expression(
+    alloc: Global,
+    alive: usize,
+    e: &typed::Expression,
+) -> Result<Expression, AllocError>
+    ensures exact { IfOk result (λ x. plain_expr x ≡ spec.lowered alive (view_expr e.now)) }
+{
+    match e {
+        typed::Expression::Number { value, .. } => Ok(Expression::Number(*value)),
+        typed::Expression::Truth(b) => Ok(Expression::Number(u64::from(*b))),
+        typed::Expression::Variable { variable, .. } => read(alloc, alive, variable),
+        typed::Expression::Convert { to, operand, .. } => {
+            let operand = lower_expression(alloc, alive, operand)?;
+            unary(alloc, Operation::Convert(*to), operand)
+        }
+        typed::Expression::Negate { ty, operand } => {
+            let operand = lower_expression(alloc, alive, operand)?;
+            unary(alloc, Operation::Negate(*ty), operand)
+        }
+        typed::Expression::Complement { ty, operand } => {
+            let operand = lower_expression(alloc, alive, operand)?;
+            unary(alloc, Operation::Complement(*ty), operand)
+        }
+        typed::Expression::Not { operand } => {
+            let operand = lower_expression(alloc, alive, operand)?;
+            unary(alloc, Operation::Not, operand)
+        }
+        typed::Expression::Operate {
+            operator,
+            ty,
+            left,
+            right,
+        } => {
+            let left = lower_expression(alloc, alive, left)?;
+            let right = lower_expression(alloc, alive, right)?;
+            let operation = Operation::Work(arithmetic(*operator), *ty);
+            binary(alloc, operation, Pair { left, right })
+        }
+        typed::Expression::Compare {
+            comparison,
+            ty,
+            left,
+            right,
+        } => {
+            let left = lower_expression(alloc, alive, left)?;
+            let right = lower_expression(alloc, alive, right)?;
+            let operation = Operation::Compare(test(*comparison), is_signed(*ty));
+            binary(alloc, operation, Pair { left, right })
+        }
+        typed::Expression::And { left, right } => {
+            let test = lower_expression(alloc, alive, left)?;
+            let left = lower_expression(alloc, alive, right)?;
+            let right = Expression::Number(0);
+            choice(alloc, test, Pair { left, right })
+        }
+        typed::Expression::Or { left, right } => {
+            let test = lower_expression(alloc, alive, left)?;
+            let right = lower_expression(alloc, alive, right)?;
+            let left = Expression::Number(1);
+            choice(alloc, test, Pair { left, right })
+        }
+        typed::Expression::Choose {
+            condition,
+            then,
+            otherwise,
+        } => {
+            let left = lower_expression(alloc, alive, then)?;
+            let right = lower_expression(alloc, alive, otherwise)?;
+            let pair = Pair { left, right };
+            let test = lower_expression(alloc, alive, condition)?;
+            choice(alloc, test, pair)
+        }
+        typed::Expression::Assign {
+            variable,
+            value,
+            ..
+        } => {
+            let value = lower_expression(alloc, alive, value)?;
+            store(alloc, alive, variable, value)
+        }
+        typed::Expression::Compound {
+            variable,
+            ty,
+            operator,
+            operating,
+            value,
+        } => {
+            let value = lower_expression(alloc, alive, value)?;
+            let by = compound(*ty, *operator, *operating);
+            change(alloc, alive, variable, by, value)
+        }
+        typed::Expression::Step {
+            variable,
+            ty,
+            step: kind,
+        } => {
+            let by = step(*ty, *kind);
+            change(alloc, alive, variable, by, Expression::Number(1))
+        }
+        typed::Expression::Call {
+            function,
+            arguments,
+            ..
+        } => {
+            let number = small(*function)?;
+            let values = lower_arguments(alloc, alive, arguments.as_slice())?;
+            let targets = targets(alloc, alive, arguments.as_slice())?;
+            Ok(call(Callee::Own(number), values, targets))
+        }
+        typed::Expression::HostCall {
+            host,
+            arguments,
+            ..
+        } => {
+            let values = lower_arguments(alloc, alive, arguments.as_slice())?;
+            Ok(apply(Operation::Ask(host.entity), values))
+        }
+    }
+}
+
+/// The arguments of a call in order; an `&out` parameter begins as 0 or false.
+#[cycle(expression)]
+fn lower_arguments(
+    alloc: Global,
+    alive: usize,
+    arguments: &[Argument],
+) -> Result<Vec<Expression>, AllocError>
+    ensures exact { IfOk result (λ v. list_map plain_expr v.items ≡ spec.lowered_args alive (view_args arguments.now)) }
+{
+    let mut found = Vec::new(alloc);
+    for argument in arguments {
+        let value = lower_argument(alloc, alive, argument)?;
+        found = with_operand(found, value)?;
+    }
+    Ok(found)
+}
+
+#[cycle(expression)]
+fn lower_argument(
+    alloc: Global,
+    alive: usize,
+    argument: &Argument,
+) -> Result<Expression, AllocError>
+    ensures exact { IfOk result (λ x. plain_expr x ≡ spec.lowered_arg alive (view_arg argument.now)) }
+{
+    match argument {
+        Argument::Value { value, .. } => lower_expression(alloc, alive, value),
+        Argument::Out { .. } => Ok(Expression::Number(0)),
+    }
+}
+
+/// The core tree of what may be written, and this number where it is not.
+pub fn lower_or(
+    alloc: Global,
+    alive: usize,
+    number: u64,
+    e: &Option<typed::Expression>,
+) -> Result<Expression, AllocError>
+    ensures exact { IfOk result (λ x. plain_expr x ≡ spec.lowered_or alive number (view_option e.now)) }
+{
+    match e {
+        Some(e) => lower_expression(alloc, alive, e),
+        None => Ok(Expression::Number(number)),
+    }
+}

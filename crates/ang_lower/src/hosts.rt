@@ -1,0 +1,65 @@
+//! Registered entities as code asks them.
+ghost use Rattle.std.specs.Prelude.{◌≡◌, IfOk, map as list_map};
+ghost use Rattle.ang_lower.specs.Hosts as spec;
+
+use ang_host::Role;
+use ang_kinds::{List, Param, TypeRef};
+use ang_meaning::{HostType, HostUse};
+use ang_registry::{Entry, EntryKind};
+use std::alloc::{AllocError, Global};
+
+fn host_type(ty: &TypeRef) -> HostType
+    ensures same { result ≡ spec.host_type_of ty.now }
+{
+    match ty {
+        TypeRef::Void => HostType::Nothing,
+        TypeRef::Plain(primitive) => HostType::Plain(*primitive),
+        TypeRef::Object { .. } => HostType::Handle,
+    }
+}
+
+fn is_member(kind: EntryKind) -> bool
+    ensures same { result ≡ spec.is_member kind }
+{
+    match kind {
+        EntryKind::Method | EntryKind::Property => true,
+        EntryKind::HostType | EntryKind::Factory | EntryKind::Function | EntryKind::Global => false,
+    }
+}
+
+/// Which method of its driver answers.
+fn role(kind: EntryKind, f: u32) -> Role
+    ensures same { result ≡ spec.role_in kind f }
+{
+    match kind {
+        EntryKind::HostType | EntryKind::Factory => Role::Making(f),
+        EntryKind::Method | EntryKind::Function => Role::Calling(f),
+        EntryKind::Property | EntryKind::Global => Role::Property(f),
+    }
+}
+
+fn host_types(alloc: Global, params: &[Param]) -> Result<Vec<HostType>, AllocError>
+    ensures exact { IfOk result (λ v. v.items ≡ list_map (λ p. spec.host_type_of p.ty) params.now) }
+{
+    params
+        .iter()
+        .map(|param| host_type(&param.ty))
+        .collect(alloc)
+}
+
+/// What code has to know of a registered entity to ask it.
+///
+/// # Errors
+/// Want of memory.
+pub fn host_use(alloc: Global, entry: &Entry) -> Result<HostUse, AllocError>
+    ensures exact { IfOk result (λ u. u ≡ spec.use_of entry.now) }
+{
+    let params = host_types(alloc, entry.signature.params.as_slice())?;
+    Ok(HostUse {
+        driver: entry.driver,
+        role: role(entry.kind, entry.f),
+        member: is_member(entry.kind),
+        params: List::from_vec(params),
+        result: host_type(&entry.signature.result),
+    })
+}

@@ -1,0 +1,67 @@
+//! What holds of lowered bodies, whatever made them.
+ghost use Rattle.std.specs.Prelude.{◌≡◌, ℕ, List, Some, slice_get};
+ghost use Rattle.ang_typed.specs.Typed.{Program};
+ghost use Rattle.ang_meaning.specs.declared.routine.Routine.{Routine};
+ghost use Rattle.ang_meaning.specs.World.{World};
+ghost use Rattle.ang_meaning.specs.Setting.{Setting};
+ghost use Rattle.ang_core.specs.Meaning.{Bodies};
+ghost use Rattle.ang_core.specs.Meaning as core;
+ghost use Rattle.ang_core.specs.Sound.{LinksFit, AreSound};
+ghost use Rattle.ang_source.specs.Meaning.{Codes, codes_in};
+ghost use Rattle.ang_source.specs.Meaning as source;
+ghost use Rattle.ang_source.specs.Sound.{Module};
+ghost use Rattle.ang_lower.specs.Hosts.{HasView};
+ghost use Rattle.ang_lower.specs.Same.{routine, AreLowered, AreSoundIn, AreCodes, MeansSame, AllMeanSame, TakeNothing};
+
+/// Where the bodies of a module are lowered from sound code, each of them ends as its source says: for
+/// every budget, arguments and world, called by a command or run as an initializer.
+#[tactic(auto, using(crate::proofs::Follows::means_same))]
+pub fn means_same()
+    ensures same { (z : Setting) (m : ℕ) (M : Module) (bodies : Bodies) (codes : Codes)
+        → AreLowered z m M bodies codes
+        → (k : ℕ) → MeansSame z bodies codes (routine m k) }
+{}
+
+/// A build's initializers in turn end as their sources say, if each of them does.
+#[tactic(auto, using(crate::proofs::Follows::all_same))]
+pub fn initializers_same()
+    ensures same { (z : Setting) (bodies : Bodies) (codes : Codes) (gs : List Routine) (t : ℕ) (w : World)
+        → AllMeanSame z bodies codes gs
+        → core.initialized_all z bodies gs t w ≡ source.initialized_all z codes gs t w }
+{}
+
+/// Where the bodies of all modules are lowered from sound code, every body ends as its source says, and so do
+/// initializers in turn.
+pub fn everywhere_same()
+    ensures each { (z : Setting) (M : ℕ → Module) (bodies : Bodies) (codes : Codes)
+        → ((m : ℕ) → AreLowered z m (M m) bodies codes)
+        → (g : Routine) → MeansSame z bodies codes g }
+    ensures initializers { (z : Setting) (M : ℕ → Module) (bodies : Bodies) (codes : Codes)
+        → ((m : ℕ) → AreLowered z m (M m) bodies codes)
+        → (gs : List Routine) (t : ℕ) (w : World) → TakeNothing z gs
+        → core.initialized_all z bodies gs t w ≡ source.initialized_all z codes gs t w }
+{}
+
+/// Where the bodies of a module are lowered from sound code, and the setting's entities are those of its
+/// view, each body keeps what the generator wants of it.
+pub fn sound_in_module()
+    ensures sound { (z : Setting) (m : ℕ) (M : Module) (bodies : Bodies) (codes : Codes)
+        → AreLowered z m M bodies codes
+        → HasView z M.view
+        → AreSoundIn z m bodies }
+{}
+
+/// Where the bodies of each module keep what the generator wants of them, and imports lead where they may,
+/// all bodies do.
+pub fn sound_together()
+    ensures sound { (z : Setting) (bodies : Bodies)
+        → ((m : ℕ) → AreSoundIn z m bodies)
+        → LinksFit z
+        → AreSound z bodies }
+{}
+
+/// The code of several modules has each of them under its number.
+#[tactic(auto, using(crate::proofs::Modules::codes_there))]
+pub fn codes_there()
+    ensures there { (ps : List Program) (m : ℕ) (p : Program) → slice_get ps m ≡ Some p → AreCodes m p (codes_in ps) }
+{}
