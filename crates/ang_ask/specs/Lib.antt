@@ -1,0 +1,4 @@
+pub mod Asking
+pub mod Fitting
+pub mod Plain
+pub mod Replies

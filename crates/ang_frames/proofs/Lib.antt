@@ -1,0 +1,5 @@
+pub mod Weighing
+pub mod Calling
+pub mod Leaving
+pub mod Running
+pub mod Resuming

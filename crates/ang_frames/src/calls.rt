@@ -1,0 +1,165 @@
+//! Calls: what stands before a body, and room for its frame.
+ghost use Rattle.std.specs.Prelude.{◌≡◌, ℕ, ◌+◌, ◌<◌, ◌≤◌, ◌^◌, List, length, reverse, IfOk, IfSome};
+ghost use Rattle.ang_meaning.specs.World.{World, with_inputs};
+ghost use Rattle.ang_meaning.specs.Setting.{has_objects, target};
+ghost use Rattle.ang_meaning.specs.Told.{Told};
+ghost use Rattle.ang_code.specs.declared.instruction.Frame.{Frame};
+ghost use Rattle.ang_code.specs.Machine.{begins, enters, found_enters};
+ghost use Rattle.ang_steps.specs.Stacks.{values};
+ghost use Rattle.ang_steps.specs.Tables.{setting_of, texts_of};
+ghost use Rattle.ang_frames.specs.Legs.{Fits, begun, caller_at, misses};
+
+use ang_code::Frame;
+use ang_kinds::Fault;
+use ang_meaning::{Callee, Passing, Routine, Slot};
+use ang_steps::handles::is_null;
+use ang_steps::place::{Place, Standing};
+use ang_steps::stack::peek;
+use ang_steps::stop::Stop;
+use ang_steps::table::{Table, callee_of, height_at, params_at};
+
+/// Whether a parameter misses its object.
+#[inline(always)]
+fn misses_object(passing: Passing, value: Slot) -> bool
+    ensures exact { result ≡ misses passing value }
+{
+    match passing {
+        Passing::In => false,
+        Passing::Out => false,
+        Passing::Object => is_null(value),
+    }
+}
+
+/// Whether each parameter that wants an object has one among the top values, of which there are enough.
+pub fn have_objects(params: &[Passing], stack: &[Slot], top: usize) -> bool
+    requires enough { length params.now ≤ top }
+    requires within { top ≤ length stack.now }
+    ensures exact { result ≡ has_objects params.now (values stack.now top) }
+{
+    for (i, passing) in params.iter().enumerate() {
+        let value = peek(stack, top - i, 0);
+        if misses_object(*passing, value) {
+            return false;
+        }
+    }
+    true
+}
+
+/// Room above the values in use for so many more; none where there is no memory for it.
+fn reserve(stack: &mut Vec<Slot>, top: usize, height: usize) -> Option<usize>
+    requires within { top ≤ length stack.old.items }
+    ensures exact { IfSome result (λ room. (room ≡ top + height) × (room ≤ length stack.new.items)) }
+    ensures same { values stack.new.items top ≡ values stack.old.items top }
+    ensures grows { length stack.old.items ≤ length stack.new.items }
+{
+    let room = top.checked_add(height)?;
+    if room <= stack.len() {
+        return Some(room);
+    }
+    match stack.resize(room, Slot::Bits(0)) {
+        Ok(()) => Some(room),
+        Err(_) => None,
+    }
+}
+
+/// A body begins, where there is memory for its frame.
+///
+/// # Errors
+/// `Memory` where there is none.
+pub fn begin(
+    table: &Table,
+    body: Routine,
+    stack: &mut Vec<Slot>,
+    top: usize,
+    ticks: u64,
+) -> Result<Standing, Stop>
+    requires within { top ≤ length stack.old.items }
+    ensures told { (frames : List Frame) (w : World)
+        → Told (λ is. begins (texts_of table.now) body (values stack.old.items top) frames ticks (with_inputs is w))
+        (λ is. begun result top stack.new.items frames (with_inputs is w)) }
+    ensures in_room { IfOk result (λ s. (s.place.top ≤ s.room) × (s.room ≤ length stack.new.items)) }
+    ensures grows { length stack.old.items ≤ length stack.new.items }
+{
+    match reserve(stack, top, height_at(table, body)) {
+        Some(room) => Ok(Standing {
+            body,
+            room,
+            place: Place { at: 0, top, ticks },
+        }),
+        None => Err(Stop::Fails(Fault::Memory)),
+    }
+}
+
+/// A function is entered, with its arguments on top.
+///
+/// # Errors
+/// `Null`, `Depth`, `Budget` and `Memory`, the first of them that applies.
+pub fn enter_body(
+    table: &Table,
+    nesting: usize,
+    stack: &mut Vec<Slot>,
+    frames: &mut Vec<Frame>,
+    from: Standing,
+    body: Routine,
+) -> Result<Standing, Stop>
+    requires fits { Fits from stack.old.items frames.old.items }
+    requires inside { from.place.at + 1 < 2 ^ 64 }
+    ensures told { (w : World)
+        → Told (λ is. enters (setting_of table.now nesting) (texts_of table.now) body (values stack.old.items from.place.top)
+        (reverse frames.old.items) (caller_at from) from.place.ticks (with_inputs is w))
+        (λ is. begun result from.place.top stack.new.items (reverse frames.new.items) (with_inputs is w)) }
+    ensures fits { IfOk result (λ s. Fits s stack.new.items frames.new.items) }
+    ensures grows { length stack.old.items ≤ length stack.new.items }
+{
+    let top = from.place.top;
+    let params = params_at(table, body);
+    if params.len() > top {
+        return Err(Stop::Lost);
+    }
+    if !have_objects(params, stack.as_slice(), top) {
+        return Err(Stop::Fails(Fault::Null));
+    }
+    if frames.len() + 1 >= nesting {
+        return Err(Stop::Fails(Fault::Depth));
+    }
+    if from.place.ticks == 0 {
+        return Err(Stop::Fails(Fault::Budget));
+    }
+    let caller = Frame {
+        of: from.body,
+        at: from.place.at + 1,
+        room: from.room,
+    };
+    match frames.push(caller) {
+        Ok(()) => begin(table, body, stack, top, from.place.ticks - 1),
+        Err(_) => Err(Stop::Fails(Fault::Memory)),
+    }
+}
+
+/// `Enter`: the function that a call names is entered.
+///
+/// # Errors
+/// `Unbound`, `Null`, `Depth`, `Budget` and `Memory`, the first of them that applies.
+pub fn enter(
+    table: &Table,
+    nesting: usize,
+    stack: &mut Vec<Slot>,
+    frames: &mut Vec<Frame>,
+    from: Standing,
+    callee: Callee,
+) -> Result<Standing, Stop>
+    requires fits { Fits from stack.old.items frames.old.items }
+    requires inside { from.place.at + 1 < 2 ^ 64 }
+    ensures told { (w : World)
+        → Told (λ is. found_enters (setting_of table.now nesting) (texts_of table.now)
+        (target (setting_of table.now nesting) from.body.home callee (values stack.old.items from.place.top) (with_inputs is w))
+        (values stack.old.items from.place.top) (reverse frames.old.items) (caller_at from) from.place.ticks (with_inputs is w))
+        (λ is. begun result from.place.top stack.new.items (reverse frames.new.items) (with_inputs is w)) }
+    ensures fits { IfOk result (λ s. Fits s stack.new.items frames.new.items) }
+    ensures grows { length stack.old.items ≤ length stack.new.items }
+{
+    match callee_of(table, from.body.home, callee) {
+        Ok(body) => enter_body(table, nesting, stack, frames, from, body),
+        Err(fault) => Err(Stop::Fails(fault)),
+    }
+}

@@ -1,0 +1,10 @@
+pub mod Values
+pub mod Tests
+pub mod Parts
+pub mod Operators
+pub mod SeveralGiven
+pub mod TopValues
+pub mod Paths
+pub mod Turning
+pub mod Trading
+pub mod StoreOperations

@@ -1,0 +1,5 @@
+pub mod Stacks
+pub mod Tables
+pub mod Arms
+pub mod Asking
+pub mod Turns

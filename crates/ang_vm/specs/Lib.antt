@@ -1,0 +1,5 @@
+pub mod Worlds
+pub mod Machines
+pub mod Legs
+pub mod Endings
+pub mod Plainness
