@@ -1,0 +1,6 @@
+pub mod Found
+pub mod Lengths
+pub mod OneHeading
+pub mod SameHeading
+pub mod SoFar
+pub mod Spelled

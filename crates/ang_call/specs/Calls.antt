@@ -1,0 +1,79 @@
+-- What a call from outside hands to a function and gets from it (docs/EMBEDDING.md, "Commands"; the AngelScript manual, "Calling a
+-- script function"; that only primitives by value pass is this profile's own).
+use Rattle.std.specs.Prelude.{◌≡◌, Bool, true, false, ◌&&◌, ◌||◌, is_some, List, [], ◌∷◌, Option, Some, None, option_map, Vec}
+use Rattle.std.specs.List.{list_all}
+use Rattle.std.specs.declared.alloc.Global.{Global}
+use Rattle.ang_kinds.specs.declared.primitive.Primitive.{Primitive}
+use Rattle.ang_kinds.specs.declared.types.Pass.{Pass}
+use Rattle.ang_kinds.specs.declared.types.Pass.TheVariants as pass
+use Rattle.ang_kinds.specs.declared.value.Value.{Value}
+use Rattle.ang_meaning.specs.declared.slot.Slot.{Slot}
+use Rattle.ang_meaning.specs.declared.host.HostType.TheVariants.{Plain as PlainType}
+use Rattle.ang_meaning.specs.Hosts.{slot_of, value_of}
+use Rattle.ang_types.specs.declared.arg_type.ArgType.{ArgType}
+use Rattle.ang_types.specs.declared.arg_type.ArgType.TheVariants.{Void, Null, Plain, Object, Handle}
+use Rattle.ang_names.specs.declared.names.ScriptFunction.{ScriptFunction}
+use Rattle.ang_names.specs.declared.names.ScriptParameter.{ScriptParameter}
+
+-- the primitive type that it is, if it is one
+abbrev pub primitive_of : ArgType → Option Primitive
+primitive_of Void = None
+primitive_of Null = None
+primitive_of (Plain p) = Some p
+primitive_of (Object n r) = None
+primitive_of (Handle n r) = None
+
+abbrev pub is_void : ArgType → Bool
+is_void Void = true
+is_void Null = false
+is_void (Plain p) = false
+is_void (Object n r) = false
+is_void (Handle n r) = false
+
+abbrev pub is_by_value : Pass → Bool
+is_by_value pass.Value = true
+is_by_value pass.RefIn = false
+is_by_value pass.RefOut = false
+is_by_value pass.RefInOut = false
+
+-- a primitive by value
+abbrev pub is_plain_parameter : ScriptParameter → Bool
+is_plain_parameter p = is_by_value p.pass && is_some (primitive_of p.ty)
+
+-- Whether it can be called from outside: each parameter is a primitive by value, and the result is a primitive or `void`.
+unfoldable pub is_callable : ScriptFunction → Bool
+is_callable f = list_all is_plain_parameter f.params && (is_void f.result || is_some (primitive_of f.result))
+
+-- ---- values, which are those of no driver: for a primitive type a driver's number plays no part
+
+abbrev pub plain_slot : Option Primitive → Value → Option Slot
+plain_slot None v = None
+plain_slot (Some p) v = slot_of 0 (PlainType p) v
+
+-- the slot of a value for a parameter, if the value is of its type and in its range
+abbrev pub argument_of : ScriptParameter → Value → Option Slot
+argument_of p v = plain_slot (primitive_of p.ty) v
+
+abbrev pub in_front : Option Slot → Option (List Slot) → Option (List Slot)
+in_front None rest = None
+in_front (Some x) None = None
+in_front (Some x) (Some xs) = Some (x ∷ xs)
+
+abbrev pub arguments_for : List ScriptParameter → List Value → Option (List Slot)
+arguments_for [] [] = Some []
+arguments_for [] (v ∷ vs) = None
+arguments_for (p ∷ ps) [] = None
+arguments_for (p ∷ ps) (v ∷ vs) = in_front (argument_of p v) (arguments_for ps vs)
+
+-- the arguments of a call with these values, in order: a value for each parameter, each of its type and in its range
+unfoldable pub arguments_of : ScriptFunction → List Value → Option (List Slot)
+arguments_of f vs = arguments_for f.params vs
+
+-- the slots that are found for a call: these, or none where the values don't fit
+abbrev pub AreArguments : Option (Vec Slot Global) → Option (List Slot) → Type 0
+AreArguments None found = found ≡ None
+AreArguments (Some slots) found = found ≡ Some slots.items
+
+-- the value of a function's result, where its type is a primitive one
+unfoldable pub result_of : ScriptFunction → Slot → Option Value
+result_of f x = option_map (λ p. value_of 0 (PlainType p) x) (primitive_of f.result)

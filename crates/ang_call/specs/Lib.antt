@@ -1,0 +1,4 @@
+pub mod Declaration
+pub mod Headings
+pub mod Named
+pub mod Calls

@@ -1,0 +1,19 @@
+//! Calls of a script's functions from outside: which function a text names, whether it can be called, and
+//! what values it takes and gives (docs/EMBEDDING.md, "Commands").
+//!
+//! A text names a function by its declaration without the body. Only primitives by value pass between a
+//! caller and a function.
+#![tactic(auto)]
+
+mod argument_slots;
+mod callable;
+mod declaration;
+mod finding;
+mod heading;
+pub mod laws;
+mod results;
+
+pub use argument_slots::arguments;
+pub use callable::is_callable;
+pub use finding::find_function;
+pub use results::result_value;
