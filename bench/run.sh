@@ -1,12 +1,14 @@
 #!/bin/sh
-# Lexes and parses each section of bench/sections.py many times, and prints bytes a second.
+# Lexes and parses each section of bench/sections.py many times, builds the one of 4,096 functions a few times, and prints bytes
+# a second.
 #
-#     bench/run.sh [TURNS]
+#     bench/run.sh [TURNS [BUILDS]]
 #
-# Proves and builds the program first (some minutes in a fresh clone).
+# Proves and builds both programs first (some minutes in a fresh clone).
 set -eu
 cd "$(dirname "$0")/.."
 turns=${1:-200}
+builds=${2:-5}
 folder=$(mktemp -d)
 trap 'rm -rf "$folder"' EXIT
 python3 bench/sections.py "$folder"
@@ -15,3 +17,6 @@ rt run -- "$folder/ordinary.as" 1 > "$folder/built" 2>&1 || { cat "$folder/built
 for section in "$folder"/*.as; do
     out/parse_speed "$section" "$turns"
 done
+cd ../build_speed
+rt run > "$folder/built" 2>&1 || { cat "$folder/built" >&2; exit 1; }
+out/build_speed "$folder/functions.as" "$builds"

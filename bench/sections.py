@@ -9,6 +9,7 @@ operators   256 operators in each statement, the most that there may be
 names       one list of names as long as the section
 groups      what may be parameters or arguments up to its last parenthesis
 nested      statements in one another, as deep as they may lie
+functions   4,096 functions, the most of a module, of which the first ones call a host function each
 """
 
 import os
@@ -58,6 +59,14 @@ def nested(n):
     return "void f%d()" % n + "{ if (b) { while (c) " * (deep // 2) + "{ x = (1); }" + " } }" * (deep // 2) + "\n"
 
 
+def functions():
+    """4,096 functions with names of three letters: `void NAME(){}`, and as many calls `put(1);` as there is room for."""
+    signs = "ABCDEFGHIJKLMNOP"
+    names = [a + b + c for a in signs for b in signs for c in signs]
+    calls = (MOST - len(names) * len("void abc(){}\n")) // len("put(1);")
+    return "".join("void %s(){%s}\n" % (name, "put(1);" if n < calls else "") for n, name in enumerate(names))
+
+
 SECTIONS = {
     "ordinary": filled("", lambda n: ORDINARY.replace("%d", str(n)), ""),
     "parens": filled("void f() {\n", lambda n: "x = " + "(" * 62 + "1" + ")" * 62 + ";\n", "}\n"),
@@ -65,6 +74,7 @@ SECTIONS = {
     "names": filled("int a", lambda n: ", a%d" % n, ";\n"),
     "groups": filled("", lambda n: "T f%d(A%s);\n" % (n, ", B & C" * 60), ""),
     "nested": filled("", nested, ""),
+    "functions": functions(),
 }
 
 
