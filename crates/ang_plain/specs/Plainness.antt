@@ -1,5 +1,5 @@
 -- The part of a view by which no objects pass, and whether a resolved tree asks the host for nothing else (docs/EMBEDDING.md, "Drivers").
-use Rattle.std.specs.Prelude.{◌≡◌, ℕ, Bool, true, false, ◌&&◌, if◌then◌else◌, is_some, List, map, Option, Some, None}
+use Rattle.std.specs.Prelude.{Bool, true, ◌&&◌, if◌then◌else◌, is_some, map, Option, Some, None}
 use Rattle.std.specs.List.{list_all}
 use Rattle.ang_registry.specs.declared.entry.Entry.{Entry}
 use Rattle.ang_registry.specs.Registration.{RegistrationList, entry_at}

@@ -1,5 +1,5 @@
 //! Entries of the registration list by which no objects pass.
-ghost use Rattle.std.specs.Prelude.{◌≡◌};
+ghost use Rattle.std.specs.Prelude.{◌≡◌, map as list_map};
 ghost use Rattle.std.specs.List.{list_any};
 ghost use Rattle.ang_meaning.specs.Setting.{is_handle};
 ghost use Rattle.ang_ask.specs.Plain.{is_primitive};
@@ -31,24 +31,23 @@ fn is_primitive(ty: &TypeRef) -> bool
 
 /// Whether some parameter takes an object.
 fn takes_object(params: &[Param]) -> bool
-    ensures exact { result ≡ list_any (λ p. is_handle (host_type_of p.ty)) params.now }
+    ensures exact { result ≡ list_any is_handle (list_map (λ p. host_type_of p.ty) params.now) }
 {
     params.iter().any(|param| is_object(&param.ty))
 }
 
 /// Whether an entry is asked of no object and no object passes by it: a function whose parameters and result
 /// are primitives, or whose result is `void`, or a global property of a primitive type.
-#[tactic(auto, using(crate::proofs::Lists::any_of_map))]
 pub fn is_plain_entry(entry: &Entry) -> bool
     ensures exact { result ≡ spec.is_plain_entry entry.now }
 {
-    let gives_plain = match entry.kind {
-        EntryKind::Function => !is_object(&entry.signature.result),
-        EntryKind::Global => is_primitive(&entry.signature.result),
+    let takes_object = takes_object(entry.signature.params.as_slice());
+    match entry.kind {
         EntryKind::HostType | EntryKind::Factory => false,
         EntryKind::Method | EntryKind::Property => false,
-    };
-    gives_plain && !takes_object(entry.signature.params.as_slice())
+        EntryKind::Function => !is_object(&entry.signature.result) && !takes_object,
+        EntryKind::Global => is_primitive(&entry.signature.result) && !takes_object,
+    }
 }
 
 /// Whether the view has a plain entry under the number of an entity.

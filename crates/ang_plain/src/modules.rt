@@ -21,7 +21,6 @@ fn global_asks_plain(view: &View, global: &Global) -> bool
     option_asks_plain(view, &global.initializer)
 }
 
-#[tactic(auto, using(crate::proofs::Lists::all_of_map))]
 fn functions_ask_plain(view: &View, functions: &[Function]) -> bool
     ensures exact { result ≡ list_all (spec.function_asks_plain view.now) (list_map view_function functions.now) }
 {
@@ -30,7 +29,6 @@ fn functions_ask_plain(view: &View, functions: &[Function]) -> bool
         .all(|function| function_asks_plain(view, function))
 }
 
-#[tactic(auto, using(crate::proofs::Lists::all_of_map))]
 fn globals_ask_plain(view: &View, globals: &[Global]) -> bool
     ensures exact { result ≡ list_all (spec.global_asks_plain view.now) (list_map view_global globals.now) }
 {

@@ -14,14 +14,12 @@ fn local_asks_plain(view: &View, local: &Local) -> bool
     option_asks_plain(view, &local.initializer)
 }
 
-#[tactic(auto, using(crate::proofs::Lists::all_of_map))]
 fn locals_ask_plain(view: &View, locals: &[Local]) -> bool
     ensures exact { result ≡ list_all (spec.local_asks_plain view.now) (list_map view_local locals.now) }
 {
     locals.iter().all(|local| local_asks_plain(view, local))
 }
 
-#[tactic(auto, using(crate::proofs::Lists::all_of_map))]
 fn each_asks_plain(view: &View, items: &[Expression]) -> bool
     ensures exact { result ≡ list_all (spec.expr_asks_plain view.now) (list_map view_expr items.now) }
 {
