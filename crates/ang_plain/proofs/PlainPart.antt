@@ -1,5 +1,6 @@
 -- What stands where in the plain part of a view.
-use Rattle.std.proofs.Common.{◌≡◌, ℕ, zero, suc, Bool, true, false, cond, [], ◌∷◌, Option, Some, None, refl, sym, ap, ◌∙◌}
+use Rattle.std.proofs.Common.{◌≡◌, ℕ, zero, suc, Bool, true, false, cond, [], ◌∷◌, length, Option, Some, None, refl, sym, ap, ◌∙◌}
+use Rattle.std.proofs.lemmas.List.{length-map}
 use Rattle.std.specs.Prelude.{is_some}
 use Rattle.ang_registry.specs.declared.entry.Entry.{Entry}
 use Rattle.ang_registry.specs.Registration.{RegistrationList, entry_at}
@@ -13,6 +14,11 @@ unfolding plain_part
 entry_at_part [] n = refl
 entry_at_part (x ∷ xs) zero = refl
 entry_at_part (x ∷ xs) (suc n) = entry_at_part xs n
+
+-- and it has as many numbers
+pub length_part : (V : RegistrationList) → length (plain_part V) ≡ length V
+unfolding plain_part
+length_part V = length-map V plain_entry
 
 -- a blank is not plain
 abbrev pub is_plain_here : Option Entry → Bool

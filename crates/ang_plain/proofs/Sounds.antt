@@ -29,6 +29,13 @@ three_stay a b c h e f g k =
     let y = and_parts b c x.1 in
     (f h.0 x.0, g h.1 y.0, k h.2 y.1)
 
+four_stay : {P Q R S T U W X : Type 0} (a b c d : Bool) → P × Q × R × S → (a && (b && (c && d))) ≡ true
+    → (P → a ≡ true → T) → (Q → b ≡ true → U) → (R → c ≡ true → W) → (S → d ≡ true → X) → T × U × W × X
+four_stay a b c d h e f g k l =
+    let x = and_parts a (b && (c && d)) e in
+    let others = three_stay b c d (h.1, h.2, h.3) x.1 g k l in
+    (f h.0 x.0, others.0, others.1, others.2)
+
 pub entity_stays : (V : RegistrationList) (kind : EntryKind) (h : HostEntity) → IsEntity V kind h → is_plain_entity V h ≡ true → IsEntity (plain_part V) kind h
 entity_stays V kind h is a =
     record { entry = is.entry; in_view = stays V h.entity.0 is.entry is.in_view a; same_kind = is.same_kind; driver = is.driver; number = is.number }
@@ -126,10 +133,7 @@ module _ (M : Module) where
     stmt_stays loop n (t.do_while ss c) h a = two_stay _ _ h a (λ y k. stmts_stay true n ss y k) (λ y k. expr_stays n c y k)
     stmt_stays loop n (t.for start c steps ss) h a =
         let here = declared_by start + n in
-        let k = and_parts (stmts_ask_plain V start) (option_asks_plain V c && (list_all (expr_asks_plain V) steps && stmts_ask_plain V ss)) a in
-        let rest =
-        three_stay _ _ _ (h.1, h.2, h.3) k.1 (λ y m. option_stays here c y m) (λ y m. each_stays here steps y m) (λ y m. stmts_stay true here ss y m) in
-        (stmts_stay loop n start h.0 k.0, rest.0, rest.1, rest.2)
+        four_stay _ _ _ _ h a (λ y k. stmts_stay loop n start y k) (λ y k. option_stays here c y k) (λ y k. each_stays here steps y k) (λ y k. stmts_stay true here ss y k)
 
     stmts_stay : (loop : Bool) (n : ℕ) (ss : t.Stmts) → SoundStatements M loop n ss → stmts_ask_plain M.view ss ≡ true → SoundStatements (plain_module M) loop n ss
     stmts_stay loop n t.end h a = tt

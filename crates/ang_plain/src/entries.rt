@@ -41,12 +41,12 @@ fn takes_object(params: &[Param]) -> bool
 pub fn is_plain_entry(entry: &Entry) -> bool
     ensures exact { result ≡ spec.is_plain_entry entry.now }
 {
-    let takes_object = takes_object(entry.signature.params.as_slice());
+    let object_taken = takes_object(entry.signature.params.as_slice());
     match entry.kind {
         EntryKind::HostType | EntryKind::Factory => false,
         EntryKind::Method | EntryKind::Property => false,
-        EntryKind::Function => !is_object(&entry.signature.result) && !takes_object,
-        EntryKind::Global => is_primitive(&entry.signature.result) && !takes_object,
+        EntryKind::Function => !is_object(&entry.signature.result) && !object_taken,
+        EntryKind::Global => is_primitive(&entry.signature.result) && !object_taken,
     }
 }
 

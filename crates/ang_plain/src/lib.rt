@@ -10,6 +10,8 @@ mod expressions;
 pub mod laws;
 mod modules;
 mod statements;
+#[cfg(test)]
+mod tests;
 
 pub use entries::is_plain_entry;
 pub use modules::asks_plain;
