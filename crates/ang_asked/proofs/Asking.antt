@@ -1,5 +1,5 @@
 -- Each step of a run asks for the module that runs alone.
-use Rattle.std.proofs.Common.{◌≡◌, ℕ, zero, suc, ◌+◌, List, [], ◌∷◌, ◌++◌, length, Option, Some, None, refl, sym, ◌∙◌, subst}
+use Rattle.std.proofs.Common.{◌≡◌, ℕ, zero, suc, ◌+◌, List, [], ◌∷◌, ◌++◌, length, Option, Some, None, refl, subst}
 use Rattle.std.specs.Prelude.{Bool, true, false, cond, ltb, leb, slice_get}
 use Rattle.ang_kinds.specs.declared.fault.Fault.{Fault}
 use Rattle.ang_kinds.specs.declared.fault.Fault.TheVariants.{Null as NullFault, Budget, Depth, Memory, Tally}
@@ -19,7 +19,7 @@ use Rattle.ang_meaning.proofs.Moving.{give_moves, give_all_moves, give_some_move
 use Rattle.ang_code.specs.declared.instruction.Frame.{Frame}
 use Rattle.ang_code.specs.declared.instruction.Instruction.{Instruction}
 use Rattle.ang_code.specs.declared.instruction.Instruction.TheVariants.{PushBits, PushNull, PushNoKey, Load, Store, Change, Do, Drop, Leave, SkipIfFalse, GoOn, Tick, Back, Enter, Swap, SwapGlobal, DropUnder, Return}
-use Rattle.ang_code.specs.Machine.{Texts, Config, At, Over, Outcome, Finished, Faulted, Stuck, fault, roomy, within, enough, on_top, did, changed_into, back, begins, found_enters, act, step, steps, take_some, call_begins, initializer_begins}
+use Rattle.ang_code.specs.Machine.{Texts, Config, At, Over, Stuck, fault, roomy, within, enough, on_top, did, changed_into, back, begins, found_enters, act, step, steps, take_some, call_begins, initializer_begins}
 use Rattle.ang_asked.specs.Asked.{Asks, AreAtHome, AsksFrom, HasNoLinks, CallsAsk, InitializersAsk}
 use Rattle.ang_asked.proofs.Events.{asks_then, nothing, untold, TriedAsks, memory_asks, hold_asks}
 use Rattle.ang_asked.proofs.Performing.{DoneAsks, perform_asks}

@@ -1,5 +1,5 @@
 -- A run has one end.
-use Rattle.std.proofs.Common.{◌≡◌, ap}
+use Rattle.std.proofs.Common.{ap}
 use Rattle.ang_code.specs.Machine.{Config, At, Over, Outcome, Stuck}
 use Rattle.ang_code.proofs.Steps.{one_end}
 use Rattle.ang_asked.specs.Determined.{HasOneEnd}

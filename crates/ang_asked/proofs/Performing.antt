@@ -3,7 +3,6 @@ use Rattle.std.proofs.Common.{◌≡◌, ℕ, inl, inr, List, [], ◌∷◌, ◌
 use Rattle.std.specs.Prelude.{Bool, true, false, cond, reverse}
 use Rattle.ang_kinds.specs.declared.mask.EntityNo.{EntityNo}
 use Rattle.ang_kinds.specs.declared.value.Value.{Value}
-use Rattle.ang_kinds.specs.declared.fault.Fault.{Fault}
 use Rattle.ang_kinds.specs.declared.fault.Fault.TheVariants.{BadAnswer}
 use Rattle.ang_host.specs.declared.answer.Made.TheVariants.{Key as MadeKey, Nothing as MadeNothing, Fault as MadeFault, Memory as MadeMemory, Full as MadeFull}
 use Rattle.ang_host.specs.declared.answer.Answer.TheVariants.{Void, Gave, Fault as SaidFault, Memory as SaidMemory, Full}
@@ -18,13 +17,13 @@ use Rattle.ang_meaning.specs.declared.operation.Change.{Change}
 use Rattle.ang_meaning.specs.declared.operation.Operation.{Operation}
 use Rattle.ang_meaning.specs.declared.operation.Operation.TheVariants.{Work, Compare, Convert, Negate, Complement, Not, Same, GlobalGet, GlobalSet, GlobalChange, Ask, Read, Write, Alter}
 use Rattle.ang_meaning.specs.Numbers.{Worked, Is, Cannot, Changed, Into, Never, worked}
-use Rattle.ang_meaning.specs.World.{World, Input, Room, Said, Counted, Fresh, Tried, Yes, No, memory_step, one_more, hold, give, give_all}
+use Rattle.ang_meaning.specs.World.{World, Input, Room, Said, Counted, Fresh, Tried, Yes, No, memory_step, hold, give, give_all}
 use Rattle.ang_meaning.specs.Setting.{Setting, use_at, is_fit}
 use Rattle.ang_meaning.specs.Hosts.{Done, Fine, Fails, holding, accepted, is_void, slot_of, replied_by, asked_from, asked_told, asked, value_of, values_of}
 use Rattle.ang_meaning.specs.Perform.{work_done, change_of, global_or, global_put, stored_global, changed_global, Receiver, Of, Missing, receiver_of, arguments_of, gives_up, called_of, read_of, write_of, in_place_of, altered_to, altered_of, perform}
 use Rattle.ang_meaning.proofs.Moving.{give_moves, give_all_moves, put_moves}
 use Rattle.ang_asked.specs.Asked.{MayBeAsked, Asks}
-use Rattle.ang_asked.proofs.Events.{asks_then, quiet, nothing, untold, TriedAsks, memory_asks, more_asks, hold_asks}
+use Rattle.ang_asked.proofs.Events.{asks_then, nothing, untold, TriedAsks, memory_asks, more_asks, hold_asks}
 
 module _ (z : Setting) (m : ℕ) where
   abbrev pub DoneAsks : World → Done → Type 0

@@ -2,7 +2,7 @@
 use Rattle.std.proofs.Common.{ℕ, List, [], ◌++◌, subst}
 use Rattle.ang_meaning.specs.World.{World, Input, with_inputs}
 use Rattle.ang_meaning.specs.Setting.{Setting}
-use Rattle.ang_code.specs.Machine.{Over, call_begins, initializer_begins}
+use Rattle.ang_code.specs.Machine.{Over}
 use Rattle.ang_code.specs.Runs.{Ending, Gives, Stops, ended}
 use Rattle.ang_asked.specs.Asked.{Asks, AsksFrom, CallRunsAsk, InitializerRunsAsk}
 use Rattle.ang_asked.proofs.Asking.{calls_ask, initializers_ask}

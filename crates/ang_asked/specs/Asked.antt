@@ -1,5 +1,5 @@
 -- What a run asks of the host, and for which module.
-use Rattle.std.specs.Prelude.{◌≡◌, ◌⊎◌, ℕ, true, List, ◌++◌, Option, None}
+use Rattle.std.specs.Prelude.{◌≡◌, ◌⊎◌, ℕ, true, List, ◌++◌, None}
 use Rattle.std.specs.List.{AllByRecursion}
 use Rattle.ang_kinds.specs.declared.mask.EntityNo.{EntityNo}
 use Rattle.ang_host.specs.declared.event.HostEvent.{HostEvent}

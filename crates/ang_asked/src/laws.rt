@@ -11,7 +11,6 @@ pub fn each_run_asks()
 {}
 
 /// The same of a whole run, told by the inputs that it takes.
-#[tactic(auto, using(crate::proofs::Whole::call_runs_ask, crate::proofs::Whole::initializer_runs_ask))]
 pub fn of_runs()
     ensures calls { CallRunsAsk }
     ensures initializers { InitializerRunsAsk }
