@@ -1,0 +1,5 @@
+pub mod Events
+pub mod Performing
+pub mod Asking
+pub mod Whole
+pub mod Determined
