@@ -1,5 +1,6 @@
 pub mod Values
 pub mod Tests
+pub mod TableLists
 pub mod Parts
 pub mod Operators
 pub mod SeveralGiven

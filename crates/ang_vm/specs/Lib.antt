@@ -2,4 +2,3 @@ pub mod Worlds
 pub mod Machines
 pub mod Legs
 pub mod Endings
-pub mod Plainness

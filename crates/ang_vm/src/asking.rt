@@ -13,7 +13,7 @@ ghost use Rattle.ang_steps.specs.Turns.{Leads};
 ghost use Rattle.ang_frames.specs.Legs.{Fits, standing, left};
 ghost use Rattle.ang_frames.specs.Halts.{IsReady, IsAsking, operand_values, remaining};
 ghost use Rattle.ang_vm.specs.Worlds.{values_in, world_of};
-ghost use Rattle.ang_vm.specs.Machines.{AsksPlain, DriversMove};
+ghost use Rattle.ang_vm.specs.Machines.{HasPlainEntities, DriversMove};
 
 use crate::outside::Outside;
 use ang_ask::{ask, entity_of};
@@ -54,7 +54,7 @@ fn answer(
     stack: &Vec<Slot>,
     asking: Asking,
 ) -> Result<Slot, Fault>
-    requires plain { AsksPlain table.now (length (members drivers.old)) }
+    requires plain { HasPlainEntities table.now (length (members drivers.old)) }
     requires asking { IsAsking table.now asking }
     requires ready { IsReady asking stack.now.items }
     ensures told { (nesting : ℕ) → Told (λ is. perform (setting_of table.now nesting) asking.at.body.home asking.operation (operand_values asking stack.now.items)
@@ -91,7 +91,7 @@ pub fn ask_on(
     stack: &mut Vec<Slot>,
     asking: Asking,
 ) -> Result<Standing, Ending>
-    requires plain { AsksPlain table.now (length (members drivers.old)) }
+    requires plain { HasPlainEntities table.now (length (members drivers.old)) }
     requires asking { IsAsking table.now asking }
     requires ready { IsReady asking stack.old.items }
     ensures leads { (nesting : ℕ) (frames : List Frame) → Leads (setting_of table.now nesting) (texts_of table.now)

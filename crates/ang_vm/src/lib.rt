@@ -8,9 +8,7 @@
 mod asking;
 mod machines;
 mod outside;
-mod plain;
 mod runs;
 
 pub use machines::{Machine, run, run_initializer};
 pub use outside::Globals;
-pub use plain::asks_plain;

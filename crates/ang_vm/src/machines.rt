@@ -11,7 +11,7 @@ ghost use Rattle.ang_code.specs.Runs.{Gives, Stops};
 ghost use Rattle.ang_steps.specs.Tables.{setting_of, texts_of};
 ghost use Rattle.ang_vm.specs.Worlds.{values_in, world_of};
 ghost use Rattle.ang_vm.specs.Endings.{value_of, ticks_of};
-ghost use Rattle.ang_vm.specs.Machines.{AsksPlain, HaveRoles, HasRun, HasInitialized};
+ghost use Rattle.ang_vm.specs.Machines.{HasPlainEntities, HaveRoles, HasRun, HasInitialized};
 
 use crate::outside::{Globals, Outside};
 use crate::runs::{initialize, run_call};
@@ -72,7 +72,7 @@ pub fn run(
     budget: u64,
     events: &mut Vec<HostEvent>,
 ) -> Result<Slot, Fault>
-    requires plain { AsksPlain table.now (length (members machine.old.drivers)) }
+    requires plain { HasPlainEntities table.now (length (members machine.old.drivers)) }
     ensures told { HasRun (setting_of table.now 200) (texts_of table.now)
         (λ is. call_begins (setting_of table.now 200) (texts_of table.now) budget entry (reverse args.now) (with_inputs is (world_of (values_in machine.old.globals) events.old.items)))
         result (world_of (values_in machine.new.globals) events.new.items) }
@@ -110,7 +110,7 @@ pub fn run_initializer(
     ticks: u64,
     events: &mut Vec<HostEvent>,
 ) -> Result<u64, Fault>
-    requires plain { AsksPlain table.now (length (members machine.old.drivers)) }
+    requires plain { HasPlainEntities table.now (length (members machine.old.drivers)) }
     ensures told { HasInitialized (setting_of table.now 201) (texts_of table.now)
         (λ is. initializer_begins (setting_of table.now 201) (texts_of table.now) ticks entry (with_inputs is (world_of (values_in machine.old.globals) events.old.items)))
         result (world_of (values_in machine.new.globals) events.new.items) }

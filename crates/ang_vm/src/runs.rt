@@ -8,7 +8,7 @@ ghost use Rattle.ang_steps.specs.Tables.{setting_of, texts_of};
 ghost use Rattle.ang_steps.specs.Turns.{Reaches};
 ghost use Rattle.ang_frames.specs.Legs.{Fits, Ends, standing, outcome};
 ghost use Rattle.ang_vm.specs.Worlds.{values_in, world_of};
-ghost use Rattle.ang_vm.specs.Machines.{AsksPlain, DriversMove};
+ghost use Rattle.ang_vm.specs.Machines.{HasPlainEntities, DriversMove};
 ghost use Rattle.ang_vm.specs.Legs.{Went};
 
 use crate::asking::ask_on;
@@ -39,7 +39,7 @@ fn leg(
     frames: &mut Vec<Frame>,
     from: Standing,
 ) -> Result<Standing, Ending>
-    requires plain { AsksPlain table.now (length (members drivers.old)) }
+    requires plain { HasPlainEntities table.now (length (members drivers.old)) }
     requires fits { Fits from stack.old.items frames.old.items }
     ensures went { Went table.now nesting from stack.old.items frames.old.items (world_of (values_in outside.old.globals) outside.old.events.items)
         result stack.new.items frames.new.items (world_of (values_in outside.new.globals) outside.new.events.items) }
@@ -64,7 +64,7 @@ fn finish(
     frames: &mut Vec<Frame>,
     from: Standing,
 ) -> Ending
-    requires plain { AsksPlain table.now (length (members drivers.old)) }
+    requires plain { HasPlainEntities table.now (length (members drivers.old)) }
     requires fits { Fits from stack.old.items frames.old.items }
     ensures ends { Reaches (setting_of table.now nesting) (texts_of table.now)
         (λ is. standing from stack.old.items (reverse frames.old.items) (with_inputs is (world_of (values_in outside.old.globals) outside.old.events.items)))
@@ -104,7 +104,7 @@ pub fn run_call(
     args: &[Slot],
     budget: u64,
 ) -> Ending
-    requires plain { AsksPlain table.now (length (members drivers.old)) }
+    requires plain { HasPlainEntities table.now (length (members drivers.old)) }
     ensures ends { Ends (setting_of table.now 200) (texts_of table.now)
         (λ is. call_begins (setting_of table.now 200) (texts_of table.now) budget entry (reverse args.now) (with_inputs is (world_of (values_in outside.old.globals) outside.old.events.items)))
         result (world_of (values_in outside.new.globals) outside.new.events.items) }
@@ -140,7 +140,7 @@ pub fn initialize(
     entry: Routine,
     ticks: u64,
 ) -> Ending
-    requires plain { AsksPlain table.now (length (members drivers.old)) }
+    requires plain { HasPlainEntities table.now (length (members drivers.old)) }
     ensures ends { Ends (setting_of table.now 201) (texts_of table.now)
         (λ is. initializer_begins (setting_of table.now 201) (texts_of table.now) ticks entry (with_inputs is (world_of (values_in outside.old.globals) outside.old.events.items)))
         result (world_of (values_in outside.new.globals) outside.new.events.items) }

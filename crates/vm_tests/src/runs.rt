@@ -1,6 +1,10 @@
-ghost use Rattle.std.specs.Prelude.{◌≡◌, ◌<◌, length};
+ghost use Rattle.std.specs.Prelude.{◌≡◌, ◌<◌, ◌&&◌, ltb, length, IsTrue};
+ghost use Rattle.std.specs.List.{list_all};
 ghost use Rattle.ang_host.specs.Boxes.{members};
+ghost use Rattle.ang_ask.specs.Plain.{is_plain};
+ghost use Rattle.ang_vm.specs.Machines.{HasPlainEntities};
 
+use ang_ask::is_plain;
 use ang_code::{Instruction, RoutineCode};
 use ang_drivers::Console;
 use ang_host::{Answer, Driver, Drivers, HostEvent, HostReply, Role};
@@ -9,7 +13,7 @@ use ang_meaning::{
     Arithmetic, Callee, Change, Comparison, HostType, HostUse, Operation, Passing, Routine, Slot,
 };
 use ang_steps::table::{ModuleCode, Table};
-use ang_vm::{Globals, Machine, asks_plain, run, run_initializer};
+use ang_vm::{Globals, Machine, run, run_initializer};
 use std::alloc::{AllocError, Global};
 use std::test::Fail;
 
@@ -92,7 +96,27 @@ fn globals_of(alloc: Global) -> Result<Globals, AllocError> {
     Ok(Globals { modules })
 }
 
-/// A call of the first body; nothing where the table's code asks other entities.
+/// Whether an entity is one of the only driver, by which no objects pass.
+fn is_plain_use(host: &HostUse) -> bool
+    ensures exact { result ≡ (is_plain host.now && ltb host.now.driver 1) }
+{
+    is_plain(host) && host.driver < 1
+}
+
+fn are_plain(entities: &[HostUse]) -> bool
+    ensures exact { result ≡ list_all (λ u. is_plain u && ltb u.driver 1) entities.now }
+{
+    entities.iter().all(|host| is_plain_use(host))
+}
+
+/// Whether each entity of a table is such a one.
+fn has_plain_entities(table: &Table) -> bool
+    ensures plain { IsTrue result → HasPlainEntities table.now 1 }
+{
+    are_plain(table.entities.as_slice())
+}
+
+/// A call of a body; nothing where the table has other entities than plain ones.
 fn call(
     table: &Table,
     machine: &mut Machine,
@@ -104,7 +128,7 @@ fn call(
     requires { length (members machine.old.drivers) ≡ 1 }
     ensures { length (members machine.new.drivers) ≡ 1 }
 {
-    if !asks_plain(table, 1) {
+    if !has_plain_entities(table) {
         return None;
     }
     let entry = Routine { home: 0, number };
@@ -353,7 +377,7 @@ fn initializers_run(rt: HostRuntime) -> Result<(), Fail> {
     };
     let mut machine = Machine { drivers, globals };
     let mut events = Vec::new(alloc);
-    if !asks_plain(&table, 1) {
+    if !has_plain_entities(&table) {
         panic!(rt; "a plain table was refused")
     }
     let first = Routine { home: 0, number: 0 };

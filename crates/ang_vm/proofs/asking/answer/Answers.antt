@@ -1,11 +1,11 @@
-use Rattle.std.proofs.Common.{refl, sym, ap}
+use Rattle.std.proofs.Common.{length, refl, sym, ap}
 use Rattle.ang_host.specs.Boxes.{members}
 use Rattle.ang_meaning.specs.World.{with_inputs}
 use Rattle.ang_meaning.specs.Perform.{perform}
 use Rattle.ang_meaning.proofs.Telling.{told_same, told_then}
 use Rattle.ang_steps.specs.Tables.{setting_of}
 use Rattle.ang_vm.specs.Worlds.{values_in, world_of}
-use Rattle.ang_vm.proofs.Asked.{entity_asked, none_unfit, done_same}
+use Rattle.ang_vm.proofs.Asked.{entity_asked, none_unfit, asked_plain, done_same}
 use Rattle.ang_vm.proofs.Moves.{moves_asked}
 use Rattle.ang_vm.proofs.asking.answer.Goals as goal
 
@@ -14,10 +14,8 @@ ask-requires g c =
     let a = c.args.asking in
     let e = entity_asked a.operation c.requires.asking.asks in
     let there = c.in-Some.ensures.exact e.0 e.1 in
-    record {
-      plain = c.requires.plain.plain a.at.body a.at.place.at a.operation e.0 c.in-Some.host.now c.requires.asking.there e.1 there;
-      in_list = c.requires.plain.in_list a.at.body a.at.place.at a.operation e.0 c.in-Some.host.now c.requires.asking.there e.1 there;
-    }
+    let plain = asked_plain c.args.table.now (length (members c.args.drivers.now)) c.requires.plain a.operation e.0 c.in-Some.host.now e.1 there (c.requires.asking.fit 0) in
+    record { plain = plain.0; in_list = plain.1 }
 
 pub returns-in-Some-clause-told : goal.returns-in-Some-clause-told
 returns-in-Some-clause-told g c = λ nesting.
@@ -34,9 +32,9 @@ returns-in-Some-clause-moved g c =
     let a = c.args.asking in
     let e = entity_asked a.operation c.requires.asking.asks in
     let there = c.in-Some.ensures.exact e.0 e.1 in
-    let plain = c.requires.plain.plain a.at.body a.at.place.at a.operation e.0 c.in-Some.host.now c.requires.asking.there e.1 there in
+    let plain = asked_plain c.args.table.now (length (members c.args.drivers.now)) c.requires.plain a.operation e.0 c.in-Some.host.now e.1 there (c.requires.asking.fit 0) in
     moves_asked (λ v. (g.dyn-1.0.entry v).1.meaning) c.args.table.now c.args.asking.operation e.0 c.in-Some.host.now c.args.outside.now.events.items c.ask.new.events.items (members c.args.drivers.now) (members c.ask.new.drivers)
-    e.1 there plain c.ask.ensures.follow c.ask.ensures.kinds c.ask.ensures.idle
+    e.1 there plain.0 c.ask.ensures.follow c.ask.ensures.kinds c.ask.ensures.idle
 
 pub returns-in-None : goal.returns-in-None
 returns-in-None g c =

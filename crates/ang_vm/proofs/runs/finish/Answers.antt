@@ -2,7 +2,7 @@ use Rattle.std.proofs.Common.{refl, sym, ◌∙◌, subst}
 use Rattle.ang_host.specs.Boxes.{members}
 use Rattle.ang_steps.specs.Tables.{setting_of, texts_of}
 use Rattle.ang_steps.proofs.Paths.{reach_same, reach_then}
-use Rattle.ang_vm.specs.Machines.{AsksPlain}
+use Rattle.ang_vm.specs.Machines.{HasPlainEntities}
 use Rattle.ang_vm.proofs.Moves.{moves_none, moves_then}
 use Rattle.ang_vm.proofs.runs.finish.Goals as goal
 
@@ -16,7 +16,7 @@ loop-next-init g c = record {
 
 pub leg-requires : goal.leg-requires
 leg-requires g c = record {
-  plain = subst (AsksPlain c.args.table.now) (sym c.loop-next.invariant.same) c.requires.plain;
+  plain = subst (HasPlainEntities c.args.table.now) (sym c.loop-next.invariant.same) c.requires.plain;
   fits = c.loop-next.invariant.fits;
 }
 
