@@ -1,6 +1,2 @@
-pub mod Items
-pub mod Searching
-pub mod Trees
-pub mod Listing
-pub mod SeenCalls
 pub mod SoFar
+pub mod Programs

@@ -5,11 +5,11 @@ use Rattle.ang_kinds.specs.declared.error.Unbuilt.TheVariants as unbuilt
 use Rattle.ang_build.specs.declared.program.Program.{Program}
 use Rattle.ang_build.specs.declared.stop.Stop.{Stop}
 use Rattle.ang_build.specs.declared.stop.Stop.TheVariants as stop
-use Rattle.ang_build.specs.Build.{Built, Errors, Compiled}
+use Rattle.ang_build.specs.Build.{Built, Errors, Compiled, resolved_of}
 
 -- the program or the errors, unless memory was refused
 abbrev pub IsBuilt : Result Program Unbuilt → Built → Type 0
-IsBuilt (Ok p) built = built ≡ Compiled p
+IsBuilt (Ok p) built = built ≡ Compiled (resolved_of p)
 IsBuilt (Err (unbuilt.Errors es)) built = built ≡ Errors es
 IsBuilt (Err unbuilt.Memory) built = Unit {0}
 

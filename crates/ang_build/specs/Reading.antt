@@ -1,4 +1,4 @@
--- What the readers of sections and of declarations answer.
+-- What the reader of sections answers.
 use Rattle.std.specs.Prelude.{◌≡◌, ◌≢◌, List, Vec, Result, Ok, Err, map as list_map}
 use Rattle.std.specs.declared.alloc.Global.{Global}
 use Rattle.ang_kinds.specs.declared.error.Error.{Error}
@@ -10,9 +10,7 @@ use Rattle.ang_tree.specs.declared.declaration.Script.{Script}
 use Rattle.ang_build.specs.declared.stop.Stop.{Stop}
 use Rattle.ang_build.specs.declared.stop.Stop.TheVariants.{Fault, Memory}
 use Rattle.ang_written.specs.Sources.{Source, source_of}
-use Rattle.ang_build.specs.declared.program.Function.{Function}
 use Rattle.ang_build.specs.Script.{lexical_error, grammar_error}
-use Rattle.ang_build.specs.Thin.{Functions}
 
 -- a section's declarations or its error, unless memory was refused
 abbrev pub IsSource : Result Script Stop → Result Source Error → Type 0
@@ -35,18 +33,3 @@ IsFault Memory fault = Unit {0}
 abbrev pub IsUnparsed : Stop → ParseError → Type 0
 IsUnparsed (Fault e) fault = (e ≡ grammar_error fault) × (fault ≢ parse.Memory)
 IsUnparsed Memory fault = Unit {0}
-
--- the error at which the build stops, unless memory was refused
-abbrev pub StopsAt : Stop → Functions → Type 0
-StopsAt (Fault e) found = found ≡ Err e
-StopsAt Memory found = Unit {0}
-
--- the functions of all declarations, or why there are none
-abbrev pub AreFunctions : Result (Vec Function Global) Stop → Functions → Type 0
-AreFunctions (Ok fs) found = found ≡ Ok fs.items
-AreFunctions (Err why) found = StopsAt why found
-
--- the same of a list that grew
-abbrev pub AreListed : {U : Type 0} → Result U Stop → List Function → Functions → Type 0
-AreListed (Ok u) fs found = found ≡ Ok fs
-AreListed (Err why) fs found = StopsAt why found

@@ -1,14 +1,13 @@
 //! Builds a module's program: from sections of text, over what the module's mask sees of a registration
-//! list, to the program or the errors (docs/LANGUAGE.md, "What is built so far").
+//! list, to the names that they declare with their resolved tree, or to the errors (docs/MEANING.md,
+//! "A build"). `laws` has what holds of each program that is built.
 #![tactic(auto)]
 
 mod build;
-mod declared;
-mod host;
+pub mod laws;
 mod program;
 mod section;
 mod stop;
-mod thin;
 
 pub use build::build_sections;
-pub use program::{Function, HostCall, Program};
+pub use program::Program;

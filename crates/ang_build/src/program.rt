@@ -1,27 +1,16 @@
-//! A built program: the scripts' functions, with each use as what it resolved to.
-use ang_kinds::{EntityNo, List};
+//! What a build gives.
+use ang_names::Names;
+use ang_typed::Typed;
 
-/// A call of a host function, resolved.
-#[derive(Drop, Debug)]
-pub struct HostCall {
-    /// The entry of the function in the registration list.
-    pub entity: EntityNo,
-    /// The driver that the entry names, and the function's number there.
-    pub driver: u32,
-    pub f: u32,
-    /// The argument.
-    pub argument: i32,
-}
-
-/// A script function without parameters and result.
-#[derive(Drop, Debug)]
-pub struct Function {
-    pub name: List<u8>,
-    pub body: List<HostCall>,
-}
-
-/// The functions of a module, in order of sections and text.
+/// What a build gives: the names that the scripts declare, and their resolved tree.
+///
+/// The functions and globals of the tree are those of the names, each at its number
+/// ([`crate::laws::programs_have_their_names`]). The tree is sound over the plain part of the view that it was
+/// built over ([`crate::laws::programs_are_sound`]).
 #[derive(Drop, Debug)]
 pub struct Program {
-    pub functions: List<Function>,
+    /// What the scripts declare, with what its types mean.
+    pub names: Names,
+    /// The bodies of the functions and the initializers of the globals, with each name as what it stands for.
+    pub tree: Typed,
 }

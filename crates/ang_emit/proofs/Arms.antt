@@ -7,8 +7,8 @@ use Rattle.ang_core.specs.declared.tree.Statement.{Statement}
 use Rattle.ang_core.specs.declared.tree.Statement.TheVariants.{Block}
 use Rattle.ang_core.specs.Sound.{declared}
 use Rattle.ang_code.specs.declared.instruction.Instruction.{Instruction}
-use Rattle.ang_code.specs.declared.instruction.Instruction.TheVariants.{SkipIfFalse, GoOn, Back}
-use Rattle.ang_gen.specs.Code.{expr_code, if_code, leave_code, block_code, stmt_code}
+use Rattle.ang_code.specs.declared.instruction.Instruction.TheVariants.{SkipIfFalse, Back}
+use Rattle.ang_gen.specs.Code.{expr_code, past_code, either_code, leave_code, block_code, stmt_code}
 use Rattle.ang_emit.specs.Rows.{statements_code, declared_in}
 use Rattle.ang_emit.proofs.Lists.{block_row}
 use Rattle.ang_emit.proofs.Shapes.{choice, behind_more}
@@ -24,10 +24,11 @@ block_at q n j b c s = block_code (stmt_code q n j (b + ending s) (c + ending s)
 abbrev pub if_text : ℕ → ℕ → ℕ → ℕ → ℕ → Expression → Statement → Statement → List Instruction
 if_text q n j b c e s r =
     let other = block_at q n j b c r in
-    if_code (expr_code 0 e) (block_at q n j (b + length other + 1) (c + length other + 1) s) other
+    let past = past_code (length other) in
+    either_code (expr_code 0 e) (block_at q n j (b + length other + length past) (c + length other + length past) s) other
 
 pub if_arm : (t0 t1 t2 t3 : List Instruction) (q n j exit again m k : ℕ) (e : Expression) (s r : Statement) → exit ≤ length t0 → again ≤ length t0 →
-    t1 ≡ block_at q n j (length t0 - exit) (length t0 - again) r ++ t0 → k ≡ length t0 → m ≡ length t1 → t2 ≡ GoOn (m - k) ∷ t1 →
+    t1 ≡ block_at q n j (length t0 - exit) (length t0 - again) r ++ t0 → k ≡ length t0 → m ≡ length t1 → t2 ≡ past_code (m - k) ++ t1 →
     t3 ≡ block_at q n j (length t2 - exit) (length t2 - again) s ++ t2 →
     expr_code 0 e ++ (SkipIfFalse (length t3 - m) ∷ t3) ≡ if_text q n j (length t0 - exit) (length t0 - again) e s r ++ t0
 if_arm t0 t1 t2 t3 q n j exit again m k e s r exit_in again_in e1 k_is m_is e2 e3 =
@@ -35,12 +36,14 @@ if_arm t0 t1 t2 t3 q n j exit again m k e s r exit_in again_in e1 k_is m_is e2 e
     let c = length t0 - again in
     let other = block_at q n j b c r in
     let l1 : length t1 ≡ length other + length t0 = ap length e1 ∙ length-append other t0 in
-    let l2 : length t2 ≡ suc (length t1) = ap length e2 in
-    let b_is : length t2 - exit ≡ b + length other + 1 = omega arith in
-    let c_is : length t2 - again ≡ c + length other + 1 = omega arith in
+    let past = past_code (length other) in
+    let far : m - k ≡ length other = omega arith in
+    let l2 : length t2 ≡ length past + length t1 = ap length (e2 ∙ ap (λ i. past_code i ++ t1) far) ∙ length-append past t1 in
+    let b_is : length t2 - exit ≡ b + length other + length past = omega arith in
+    let c_is : length t2 - again ≡ c + length other + length past = omega arith in
     choice t0 t1 t2 t3 (expr_code 0 e ++ (SkipIfFalse (length t3 - m) ∷ t3)) (expr_code 0 e) (block_at q n j (length t2 - exit) (length t2 - again) s) other m k e1 e2 m_is k_is e3 refl
-    ∙ ap (λ z. if_code (expr_code 0 e) (block_at q n j z (length t2 - again) s) other ++ t0) b_is
-    ∙ ap (λ z. if_code (expr_code 0 e) (block_at q n j (b + length other + 1) z s) other ++ t0) c_is
+    ∙ ap (λ z. either_code (expr_code 0 e) (block_at q n j z (length t2 - again) s) other ++ t0) b_is
+    ∙ ap (λ z. either_code (expr_code 0 e) (block_at q n j (b + length other + length past) z s) other ++ t0) c_is
 
 -- a loop's body where n locals are alive, and so many instructions stand between it and the loop's exit
 abbrev pub body_at : ℕ → ℕ → ℕ → Statement → List Instruction

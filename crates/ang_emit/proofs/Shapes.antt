@@ -4,23 +4,25 @@ use Rattle.std.proofs.Math.Seq.{split_at}
 use Rattle.ang_core.specs.declared.tree.Statement.{Statement}
 use Rattle.ang_core.specs.Sound.{declared}
 use Rattle.ang_code.specs.declared.instruction.Instruction.{Instruction}
-use Rattle.ang_code.specs.declared.instruction.Instruction.TheVariants.{SkipIfFalse, GoOn, Tick, Back}
-use Rattle.ang_gen.specs.Code.{if_code, while_code, leave_code, block_code, stmt_code}
+use Rattle.ang_code.specs.declared.instruction.Instruction.TheVariants.{SkipIfFalse, Tick, Back}
+use Rattle.ang_gen.specs.Code.{past_code, either_code, while_code, leave_code, block_code, stmt_code}
 
 -- a choice, where m and k are the places behind its first and its second side
-pub choice : (t0 t1 t2 t3 t4 test one two : List Instruction) (m k : ℕ) → t1 ≡ two ++ t0 → t2 ≡ GoOn (m - k) ∷ t1 → m ≡ length t1 → k ≡ length t0 → t3 ≡ one ++ t2 →
-    t4 ≡ test ++ (SkipIfFalse (length t3 - m) ∷ t3) → t4 ≡ if_code test one two ++ t0
+pub choice : (t0 t1 t2 t3 t4 test one two : List Instruction) (m k : ℕ) → t1 ≡ two ++ t0 → t2 ≡ past_code (m - k) ++ t1 → m ≡ length t1 → k ≡ length t0 → t3 ≡ one ++ t2 →
+    t4 ≡ test ++ (SkipIfFalse (length t3 - m) ∷ t3) → t4 ≡ either_code test one two ++ t0
 choice t0 t1 t2 t3 t4 test one two m k e1 e2 m_is k_is e3 e4 =
+    let past = past_code (length two) in
     let l1 : length t1 ≡ length two + length t0 = ap length e1 ∙ length-append two t0 in
-    let l2 : length t2 ≡ suc (length t1) = ap length e2 in
+    let far : m - k ≡ length two = omega arith in
+    let e2' : t2 ≡ past ++ t1 = e2 ∙ ap (λ n. past_code n ++ t1) far in
+    let l2 : length t2 ≡ length past + length t1 = ap length e2' ∙ length-append past t1 in
     let l3 : length t3 ≡ length one + length t2 = ap length e3 ∙ length-append one t2 in
-    let skip : length t3 - m ≡ length one + 1 = omega arith in
-    let pass : m - k ≡ length two = omega arith in
+    let skip : length t3 - m ≡ length one + length past = omega arith in
     e4
     ∙ ap (λ n. test ++ (SkipIfFalse n ∷ t3)) skip
-    ∙ ap (λ l. test ++ (SkipIfFalse (length one + 1) ∷ l)) (e3 ∙ ap (λ l. one ++ l) (e2 ∙ ap (λ n. GoOn n ∷ t1) pass ∙ ap (λ l. GoOn (length two) ∷ l) e1))
-    ∙ ap (λ l. test ++ (SkipIfFalse (length one + 1) ∷ l)) (sym (append_assoc one (GoOn (length two) ∷ two) t0))
-    ∙ sym (append_assoc test (SkipIfFalse (length one + 1) ∷ (one ++ (GoOn (length two) ∷ two))) t0)
+    ∙ ap (λ l. test ++ (SkipIfFalse (length one + length past) ∷ l)) (e3 ∙ ap (λ l. one ++ l) (e2' ∙ ap (λ l. past ++ l) e1 ∙ sym (append_assoc past two t0)))
+    ∙ ap (λ l. test ++ (SkipIfFalse (length one + length past) ∷ l)) (sym (append_assoc one (past ++ two) t0))
+    ∙ sym (append_assoc test (SkipIfFalse (length one + length past) ∷ (one ++ (past ++ two))) t0)
 
 -- the text of a loop in front of its jump back
 abbrev pub before_back : List Instruction → List Instruction → List Instruction → ℕ → List Instruction

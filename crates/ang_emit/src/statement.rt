@@ -3,7 +3,7 @@ ghost use Rattle.std.specs.Prelude.{◌≡◌, ◌+◌, ◌-◌, ◌≤◌, ◌<
 ghost use Rattle.ang_code.specs.declared.instruction.Instruction.{Instruction};
 ghost use Rattle.ang_code.specs.declared.instruction.Instruction.TheVariants.{Back as BackBy, GoOn as GoOnBy, SkipIfFalse as SkipBy};
 ghost use Rattle.ang_core.specs.Sound.{declared};
-ghost use Rattle.ang_gen.specs.Code.{expr_code, leave_code, block_code, stmt_code, while_code};
+ghost use Rattle.ang_gen.specs.Code.{expr_code, past_code, leave_code, block_code, stmt_code, while_code};
 ghost use Rattle.ang_emit.specs.Rows.{statements_code, declared_in};
 
 use crate::expression::{sum, write_expression};
@@ -62,6 +62,16 @@ fn write_leave(text: &mut Text, n: usize) -> Result<(), AllocError>
 {
     if n > 0 {
         text.put(Instruction::Leave(n))?;
+    }
+    Ok(())
+}
+
+// A jump past so many instructions, where there are any.
+fn write_past(text: &mut Text, n: usize) -> Result<(), AllocError>
+    ensures { OnOk result (text.new ≡ past_code n ++ text.old) }
+{
+    if n > 0 {
+        text.put(Instruction::GoOn(n))?;
     }
     Ok(())
 }
@@ -232,7 +242,7 @@ pub fn write_statement(
             let end = text.len();
             write_block(text, exits, locals, two)?;
             let second = text.len();
-            text.put(Instruction::GoOn(second - end))?;
+            write_past(text, second - end)?;
             write_block(text, exits, locals, one)?;
             write_test(text, second, test)
         }

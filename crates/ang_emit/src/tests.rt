@@ -31,6 +31,16 @@ fn looping(alloc: Global) -> Result<Body, AllocError> {
     })
 }
 
+// `if (b) return 7;` with the parameter b.
+fn returning(alloc: Global) -> Result<Body, AllocError> {
+    let back = Box::new(alloc, Statement::Return(Expression::Number(7)))?;
+    let nothing = Box::new(alloc, Statement::Block(vec![in alloc]?))?;
+    Ok(Body {
+        params: vec![in alloc; Passing::In]?,
+        statement: Statement::If(Expression::Local(0), back, nothing),
+    })
+}
+
 // `do { } while (true);`
 fn repeating(alloc: Global) -> Result<Body, AllocError> {
     let body = Box::new(alloc, Statement::Skip)?;
@@ -106,6 +116,21 @@ fn a_loop(rt: HostRuntime) -> Result<(), AllocError> {
         Instruction::Return(0),
     ];
     assert!(rt; is_code(&code, 2, &want));
+    Ok(())
+}
+
+#[test]
+fn a_choice_without_else(rt: HostRuntime) -> Result<(), AllocError> {
+    let code = code_of(rt.alloc(), returning(rt.alloc())?)?;
+    let want = [
+        Instruction::Load(0),
+        Instruction::SkipIfFalse(2),
+        Instruction::PushBits(7),
+        Instruction::Return(0),
+        Instruction::PushBits(0),
+        Instruction::Return(0),
+    ];
+    assert!(rt; is_code(&code, 1, &want));
     Ok(())
 }
 

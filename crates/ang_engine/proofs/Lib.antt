@@ -1,9 +1,10 @@
-pub mod Running
-pub mod Stepping
 pub mod Worlds
-pub mod OnModule
-pub mod Soundness
 pub mod States
-pub mod Calling
-pub mod Applying
-pub mod Naming
+pub mod Entries
+pub mod Finding
+pub mod Leading
+pub mod Builds
+pub mod Calls
+pub mod Asking
+pub mod Named
+pub mod Whole

@@ -1,9 +1,8 @@
--- What one command does to an engine.
+-- What one command does to the world of an engine and to its drivers.
 use Rattle.std.specs.Prelude.{List, All}
 use Rattle.std.specs.declared.alloc.Global.{Global}
 use Rattle.std.specs.declared.dyn_box.DynBox.{DynBox}
 use Rattle.ang_host.specs.Laws.{Meaning}
-use Rattle.ang_host.specs.Members.{states_of}
 use Rattle.ang_host.specs.Events.{DriversFollow}
 use Rattle.ang_registry.specs.Registration.{RegistrationList}
 use Rattle.ang_registry.specs.Roles.{roles_of}
@@ -11,12 +10,10 @@ use Rattle.ang_engine.specs.declared.command.Command.{Command}
 use Rattle.ang_engine.specs.declared.reply.Reply.{Reply}
 use Rattle.ang_engine.specs.World.{World}
 use Rattle.ang_engine.specs.Step.{Takes, IsEntitled}
-use Rattle.ang_engine.specs.Sound.{IsSound}
 
--- It takes the modules from w to v, its host calls are entitled, the drivers follow them, and the engine stays sound.
+-- It takes the modules from w to v, its host calls are entitled, and the drivers follow them.
 pub record Applied {V : Type 0} {P : V → Type 0} (m : (v : V) → Meaning (P v)) (R : RegistrationList) (w : World) (xs : List (DynBox V Global P))
     (c : Command) (reply : Reply) (v : World) (ys : List (DynBox V Global P)) : Type 0 where
   pub takes : Takes R w c reply v
   pub entitled : All (IsEntitled R v) reply.events
   pub follow : DriversFollow m (roles_of R) xs reply.events ys
-  pub sound : IsSound R v (states_of m ys)

@@ -1,9 +1,7 @@
-pub mod Functions
 pub mod World
-pub mod Meaning
-pub mod Asking
 pub mod Step
 pub mod Outcomes
-pub mod Sound
 pub mod Engines
+pub mod Sound
+pub mod Asked
 pub mod Applied

@@ -1,24 +1,30 @@
 -- What one command does: the reply, and the modules after it (docs/MEANING.md, "A command").
-use Rattle.std.specs.Prelude.{ℕ, ◌≡◌, ◌⊎◌, Bool, true, false, ◌&&◌, nat_le, if◌then◌else◌, List, [], ◌∷◌, ◌++◌, length, slice_set, Option, Some, None, option_map, IsSome}
+use Rattle.std.specs.Prelude.{ℕ, ◌≡◌, ◌⊎◌, Bool, true, false, ◌&&◌, nat_le, if◌then◌else◌, List, [], ◌∷◌, ◌++◌, length, slice_get, slice_set, Option, Some, None, IsSome, Result, Ok, Err}
 use Rattle.ang_kinds.specs.declared.error.Error.{Error}
+use Rattle.ang_kinds.specs.declared.fault.Fault.{Fault}
 use Rattle.ang_kinds.specs.declared.value.Value.{Value}
 use Rattle.ang_host.specs.declared.event.HostEvent.{HostEvent}
-use Rattle.ang_host.specs.declared.event.HostEvent.TheVariants.{Called, Ended}
+use Rattle.ang_host.specs.declared.event.HostEvent.TheVariants.{Called, Ended as ObjectEnded}
 use Rattle.ang_lex.specs.Spelling.{is_identifier}
 use Rattle.ang_registry.specs.Registration.{RegistrationList, seen, entry_at}
+use Rattle.ang_names.specs.declared.names.Names.{Names}
+use Rattle.ang_names.specs.declared.names.ScriptFunction.{ScriptFunction}
+use Rattle.ang_meaning.specs.declared.slot.Slot.{Slot}
+use Rattle.ang_meaning.specs.World.{Input, Room, World as RunWorld}
+use Rattle.ang_meaning.specs.Told.{has_room, stopped_by}
+use Rattle.ang_build.specs.Build.{Resolved, Built, Errors, Compiled, build_of}
+use Rattle.ang_call.specs.Named.{function_named_by}
+use Rattle.ang_call.specs.Calls.{is_callable, arguments_of, result_of}
+use Rattle.ang_means.specs.Executed.{first_globals, call_of, initialization_of}
+use Rattle.ang_means.specs.Ends.{Ended, end_of}
 use Rattle.ang_engine.specs.declared.command.Command.{Command}
 use Rattle.ang_engine.specs.declared.command.Command.TheVariants.{NewModule, AddSection, Build, Call}
 use Rattle.ang_engine.specs.declared.reply.Reply.{Reply}
 use Rattle.ang_engine.specs.declared.reply.Outcome.{Outcome}
-use Rattle.ang_engine.specs.declared.reply.Outcome.TheVariants.{Done, Refused}
+use Rattle.ang_engine.specs.declared.reply.Outcome.TheVariants.{Done, Failed, Refused}
 use Rattle.ang_engine.specs.declared.reply.Refusal.{Refusal}
-use Rattle.ang_engine.specs.declared.reply.Refusal.TheVariants.{BadName, ModuleExists, Limit, NoModule, NotBuilt, BadBudget, BuildMemory, BuildErrors, NoFunction, BadArguments, Memory}
-use Rattle.ang_build.specs.declared.program.Program.{Program}
-use Rattle.ang_build.specs.declared.program.Function.{Function}
-use Rattle.ang_engine.specs.World.{ModuleState, World, module_named, module_at}
-use Rattle.ang_engine.specs.Meaning.{Input, Room, Run, entered, has_room, is_stopped}
-use Rattle.ang_build.specs.Build.{Built, Errors, Compiled, build_of}
-use Rattle.ang_engine.specs.Functions.{function_of}
+use Rattle.ang_engine.specs.declared.reply.Refusal.TheVariants.{BadName, ModuleExists, Limit, NoModule, NotBuilt, BadBudget, BuildMemory, BuildErrors, InitFailed, NoFunction, NotCallable, BadArguments, Memory}
+use Rattle.ang_engine.specs.World.{ModuleState, World, module_named, module_at, with_module}
 
 -- the modules of one engine: one, until a later version takes more
 abbrev pub most_modules : ℕ
@@ -48,16 +54,24 @@ answered outcome world left = Some (record { reply = reply_of outcome [] []; wor
 abbrev pub refused : Refusal → World → List Input → Option Stepped
 refused why = answered (Refused why)
 
+-- the reply after a run, with these modules and globals
+abbrev pub after_run : Outcome → List ModuleState → List (List Slot) → RunWorld → Stepped
+after_run outcome modules globals after = record { reply = reply_of outcome after.events []; world = record { modules = modules; globals = globals }; left = after.inputs }
+
 -- ---- NewModule
 
 abbrev pub fresh_module : List ℕ → ℕ → ModuleState
 fresh_module name mask = record { name = name; mask = mask; built_mask = mask; sections = []; program = None }
 
+-- the module stands last, without globals
+abbrev pub with_new_module : List ℕ → ℕ → World → World
+with_new_module name mask w = record { modules = w.modules ++ fresh_module name mask ∷ []; globals = w.globals ++ [] ∷ [] }
+
 abbrev pub where_free : Option ℕ → List ℕ → ℕ → World → List Input → Option Stepped
 where_free (Some i) name mask w inputs = refused ModuleExists w inputs
 where_free None name mask w inputs =
-    if nat_le most_modules (length w) then refused Limit w inputs
-    else answered (Done None) (w ++ fresh_module name mask ∷ []) inputs
+    if nat_le most_modules (length w.modules) then refused Limit w inputs
+    else answered (Done None) (with_new_module name mask w) inputs
 
 abbrev pub added_module : List ℕ → ℕ → World → List Input → Option Stepped
 added_module name mask w inputs =
@@ -73,7 +87,7 @@ section_added text m =
 
 abbrev pub or_limit : Option ModuleState → World → ℕ → List Input → Option Stepped
 or_limit None w i inputs = refused Limit w inputs
-or_limit (Some m) w i inputs = answered (Done None) (slice_set w i m) inputs
+or_limit (Some m) w i inputs = answered (Done None) (with_module w i m) inputs
 
 abbrev pub add_section : List ℕ → World → ℕ → ModuleState → List Input → Option Stepped
 add_section text w i m inputs = or_limit (section_added text m) w i inputs
@@ -84,33 +98,81 @@ add_section text w i m inputs = or_limit (section_added text m) w i inputs
 abbrev pub emptied : ModuleState → ModuleState
 emptied m = record m { built_mask = m.mask; sections = []; program = None }
 
-abbrev pub after_build : Built → World → ℕ → ModuleState → List Input → Option Stepped
-after_build (Errors es) w i m inputs = Some (record { reply = reply_of (Refused BuildErrors) [] es; world = slice_set w i (emptied m); left = inputs })
-after_build (Compiled p) w i m inputs = answered (Done None) (slice_set w i (record (emptied m) { program = Some p })) inputs
+-- its globals are gone too
+abbrev pub world_emptied : World → ℕ → ModuleState → World
+world_emptied w i m = record { modules = slice_set w.modules i (emptied m); globals = slice_set w.globals i [] }
 
-abbrev pub build : RegistrationList → World → ℕ → ModuleState → List Input → Option Stepped
-build R w i m (Room true ∷ inputs) = after_build (build_of (seen R m.mask) m.sections) w i m inputs
-build R w i m (Room false ∷ inputs) = answered (Refused BuildMemory) (slice_set w i (emptied m)) inputs
-build R w i m _ = None
+-- The initializers have ended: the module is built, with the globals that they left; or their fault leaves it unbuilt, without globals.
+abbrev pub initialized : Result Slot Fault → RunWorld → World → ℕ → ModuleState → Resolved → Stepped
+initialized (Ok v) after w i m r = after_run (Done None) (slice_set w.modules i (record (emptied m) { program = Some r })) after.globals after
+initialized (Err f) after w i m r = after_run (Refused (InitFailed f)) (slice_set w.modules i (emptied m)) (slice_set after.globals i []) after
+
+abbrev pub started : Ended → World → ℕ → ModuleState → Resolved → Stepped
+started e w i m r = initialized e.result e.world w i m r
+
+-- what the module's initializers do, one after the other, within the budget
+abbrev pub initializers_end : RegistrationList → World → ℕ → ModuleState → Resolved → ℕ → List Input → Ended
+initializers_end V w i m r budget inputs = end_of (initialization_of m.name V r.tree budget (slice_set w.globals i (first_globals r.tree)) inputs)
+
+abbrev pub after_build : RegistrationList → Built → World → ℕ → ModuleState → ℕ → List Input → Option Stepped
+after_build V (Errors es) w i m budget inputs = Some (record { reply = reply_of (Refused BuildErrors) [] es; world = world_emptied w i m; left = inputs })
+after_build V (Compiled r) w i m budget inputs = Some (started (initializers_end V w i m r budget inputs) w i m r)
+
+abbrev pub build : RegistrationList → World → ℕ → ModuleState → ℕ → List Input → Option Stepped
+build R w i m budget (Room true ∷ inputs) = after_build (seen R m.mask) (build_of (seen R m.mask) m.sections) w i m budget inputs
+build R w i m budget (Room false ∷ inputs) = answered (Refused BuildMemory) (world_emptied w i m) inputs
+build R w i m budget _ = None
 
 abbrev pub build_within : ℕ → RegistrationList → World → ℕ → ModuleState → List Input → Option Stepped
-build_within budget R w i m inputs = if is_budget budget then build R w i m inputs else refused BadBudget w inputs
+build_within budget R w i m inputs = if is_budget budget then build R w i m budget inputs else refused BadBudget w inputs
 
 -- ---- Call
 
-abbrev pub ran : World → Run → Stepped
-ran w run = record { reply = reply_of run.outcome run.events []; world = w; left = run.left }
+-- the function that a call runs, with its number and its arguments, or why there is none
+pub data Choice : Type 0 where
+  Chosen : ℕ → ScriptFunction → List Slot → Choice
+  Not : Refusal → Choice
 
-abbrev pub call_function : Option Function → List Value → ℕ → World → ModuleState → List Input → Option Stepped
-call_function None args budget w m inputs = refused NoFunction w inputs
-call_function (Some f) [] budget w m inputs = option_map (ran w) (entered m.name f budget inputs)
-call_function (Some f) (v ∷ vs) budget w m inputs = refused BadArguments w inputs
+abbrev pub with_arguments : ℕ → ScriptFunction → Option (List Slot) → Choice
+with_arguments n f None = Not BadArguments
+with_arguments n f (Some slots) = Chosen n f slots
 
-abbrev pub call_program : Option Program → List ℕ → List Value → ℕ → World → ModuleState → List Input → Option Stepped
-call_program None decl args budget w m inputs = refused NotBuilt w inputs
-call_program (Some p) decl args budget w m inputs =
-    if is_budget budget then call_function (function_of p decl) args budget w m inputs
+abbrev pub of_function : ℕ → Option ScriptFunction → List Value → Choice
+of_function n None args = Not NoFunction
+of_function n (Some f) args = if is_callable f then with_arguments n f (arguments_of f args) else Not NotCallable
+
+abbrev pub of_number : Option ℕ → List ScriptFunction → List Value → Choice
+of_number None fs args = Not NoFunction
+of_number (Some n) fs args = of_function n (slice_get fs n) args
+
+-- of the functions of a module with these names, which sees this
+abbrev pub choice_of : RegistrationList → Names → List ℕ → List Value → Choice
+choice_of V names decl args = of_number (function_named_by V names decl) names.functions args
+
+-- The call has ended: with the function's value, or with a fault. What it changed stands either way.
+abbrev pub called : Result Slot Fault → RunWorld → World → ScriptFunction → Stepped
+called (Ok v) after w f = after_run (Done (result_of f v)) w.modules after.globals after
+called (Err fault) after w f = after_run (Failed fault) w.modules after.globals after
+
+abbrev pub call_ended : Ended → World → ScriptFunction → Stepped
+call_ended e w f = called e.result e.world w f
+
+-- what the function of a module does that sees this, within the budget
+abbrev pub call_end : RegistrationList → World → ModuleState → Resolved → ℕ → ℕ → List Slot → List Input → Ended
+call_end V w m r budget n slots inputs = end_of (call_of m.name V r.tree budget n slots w.globals inputs)
+
+abbrev pub call_chosen : RegistrationList → Choice → World → ModuleState → Resolved → ℕ → List Input → Option Stepped
+call_chosen V (Not why) w m r budget inputs = refused why w inputs
+call_chosen V (Chosen n f slots) w m r budget inputs = Some (call_ended (call_end V w m r budget n slots inputs) w f)
+
+abbrev pub call_program : RegistrationList → Option Resolved → List ℕ → List Value → ℕ → World → ModuleState → List Input → Option Stepped
+call_program R None decl args budget w m inputs = refused NotBuilt w inputs
+call_program R (Some r) decl args budget w m inputs =
+    if is_budget budget then call_chosen (seen R m.built_mask) (choice_of (seen R m.built_mask) r.names decl args) w m r budget inputs
     else refused BadBudget w inputs
+
+abbrev pub call : List ℕ → List Value → ℕ → RegistrationList → World → ℕ → ModuleState → List Input → Option Stepped
+call decl args budget R w i m inputs = call_program R m.program decl args budget w m inputs
 
 -- ---- a command
 
@@ -122,7 +184,7 @@ abbrev pub judged : RegistrationList → World → Command → List Input → Op
 judged R w (NewModule name mask) inputs = added_module name mask.0 w inputs
 judged R w (AddSection name text) inputs = on_module (module_named name w) w inputs (add_section text w)
 judged R w (Build name budget) inputs = on_module (module_named name w) w inputs (build_within budget R w)
-judged R w (Call name decl args budget) inputs = on_module (module_named name w) w inputs (λ i m. call_program m.program decl args budget w m)
+judged R w (Call name decl args budget) inputs = on_module (module_named name w) w inputs (call decl args budget R w)
 
 -- One command over a registration list: each of these may be refused for want of memory before it changes anything. There is no
 -- step with other inputs than those that are asked for.
@@ -133,12 +195,16 @@ step R w c _ = None
 
 -- ---- relations
 
--- The command takes the modules from `before` to `after` with this reply, told what it asked for and nothing else: with memory each
--- time, or cut short by want of it.
-pub record Takes (R : RegistrationList) (before : World) (c : Command) (reply : Reply) (after : World) : Type 0 where
-  pub inputs : List Input
-  pub meaning : step R before c inputs ≡ Some (record { reply = reply; world = after; left = [] })
-  pub told : (has_room inputs ≡ true) ⊎ (is_stopped inputs ≡ true)
+-- Told these inputs, and whatever further ones it leaves, it gives this reply and leaves these modules. There was memory and room each time, or the last
+-- input alone refused it.
+pub record Leads (go : List Input → Option Stepped) (reply : Reply) (after : World) : Type 0 where
+  pub used : List Input
+  pub tells : (rest : List Input) → go (used ++ rest) ≡ Some (record { reply = reply; world = after; left = rest })
+  pub told : (has_room used ≡ true) ⊎ IsSome (stopped_by used)
+
+-- The command takes the modules from `before` to `after` with this reply, told what it asked for and nothing else.
+abbrev pub Takes : RegistrationList → World → Command → Reply → World → Type 0
+Takes R before c reply after = Leads (step R before c) reply after
 
 -- a list of commands in turn, with the reply to each
 abbrev pub Runs : RegistrationList → World → List Command → List Reply → World → Type 0
@@ -151,4 +217,4 @@ Runs R w (c ∷ cs) (r ∷ rs) after = (m : World) × Takes R w c r m × Runs R 
 abbrev pub IsEntitled : RegistrationList → World → HostEvent → Type 0
 IsEntitled R w (Called caller entity driver object args reply) =
     (i : ℕ) × (module_named caller w ≡ Some i) × IsSome (entry_at (seen R (module_at w i).built_mask) entity.0)
-IsEntitled R w (Ended driver key) = Unit {0}
+IsEntitled R w (ObjectEnded driver key) = Unit {0}

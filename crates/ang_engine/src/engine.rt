@@ -7,19 +7,21 @@ ghost use Rattle.ang_host.specs.Counts.{IsBalanced};
 ghost use Rattle.ang_host.specs.Events.{DriversFollow};
 ghost use Rattle.ang_registry.specs.Roles.{roles_of};
 ghost use Rattle.ang_engine.specs.declared.command.Command.TheVariants.{NewModule, AddSection, Build, Call};
+ghost use Rattle.ang_engine.specs.World.{no_modules};
 ghost use Rattle.ang_engine.specs.Step.{Takes, IsEntitled};
 ghost use Rattle.ang_engine.specs.Sound.{IsSound, HaveDrivers};
 
+use crate::building::build;
+use crate::calling::{Called, call_program};
 use crate::command::Command;
-use crate::commands::{
-    MOST_MODULES, add_module, add_section, answer, build, build_reply, called, ended, reply,
-};
-use crate::module::Module;
-use crate::reply::{NewError, NewRefused, Outcome, Reply};
-use crate::run::run_body;
+use crate::module::{MOST_MODULES, Module};
+use crate::modules::{add_module, add_section, find, may_run};
+use crate::replies::{answer, build_reply, call_reply, ended};
+use crate::reply::{NewError, NewRefused, Refusal, Reply};
 use ang_host::{Driver, Drivers};
 use ang_kinds::{EntityNo, List, Mask, Value};
 use ang_registry::Registry;
+use ang_vm::{Globals, Machine};
 use std::alloc::Global;
 
 /// Modules of scripts over one registration list and the drivers that answer for it
@@ -29,7 +31,7 @@ use std::alloc::Global;
 pub struct Engine {
     alloc: Global,
     registry: Registry,
-    drivers: Drivers,
+    machine: Machine,
     modules: Vec<Module>,
 }
 
@@ -47,9 +49,24 @@ fn have_drivers(registry: &Registry, count: usize) -> bool
     true
 }
 
+/// A machine without globals.
+fn machine_of(alloc: Global, drivers: Drivers) -> Machine
+    ensures drivers { result.drivers ≡ drivers }
+    ensures globals { result.globals.modules.items ≡ [] }
+{
+    Machine {
+        drivers,
+        globals: Globals {
+            modules: Vec::new(alloc),
+        },
+    }
+}
+
 impl Engine {
     ghost use Rattle.ang_engine.specs.Applied.{Applied};
-    ghost use Rattle.ang_engine.specs.Engines.{registrations, modules_in, drivers_in};
+    ghost use Rattle.ang_engine.specs.Asked.{HasAsked};
+    ghost use Rattle.ang_engine.specs.Outcomes.{IsCalled, calling, reply_to_call};
+    ghost use Rattle.ang_engine.specs.Engines.{registrations, world_in, drivers_in};
 
     /// An engine without modules.
     ///
@@ -59,9 +76,9 @@ impl Engine {
     pub fn new(alloc: Global, registry: Registry, drivers: Drivers) -> Result<Engine, NewRefused>
         requires fresh { AreFresh (states_of (λ v. (⟦<dyn Driver as Driver>⟧ v).meaning) (members drivers)) }
         ensures registrations { IfOk result (λ e. registrations e ≡ registry.entries) }
-        ensures no_modules { IfOk result (λ e. modules_in e ≡ []) }
+        ensures world { IfOk result (λ e. world_in e ≡ no_modules) }
         ensures drivers { IfOk result (λ e. drivers_in e ≡ members drivers) }
-        ensures sound { IfOk result (λ e. IsSound (registrations e) (modules_in e) (states_of (λ v. (⟦<dyn Driver as Driver>⟧ v).meaning) (drivers_in e))) }
+        ensures sound { IfOk result (λ e. IsSound (λ v. (⟦<dyn Driver as Driver>⟧ v).meaning) e) }
         ensures registry_back { IfErr result (λ r. r.registry ≡ registry) }
         ensures drivers_back { IfErr result (λ r. members r.drivers ≡ members drivers) }
         ensures why { IfErr result (λ r. r.why ≡ NewError.NoDriver ↔ (HaveDrivers registry.entries (length (members drivers)) → ⊥)) }
@@ -77,7 +94,7 @@ impl Engine {
             Ok(modules) => Ok(Engine {
                 alloc,
                 registry,
-                drivers,
+                machine: machine_of(alloc, drivers),
                 modules,
             }),
             Err(_) => Err(NewRefused {
@@ -94,11 +111,11 @@ impl Engine {
     /// the module's mask meets, told what the drivers answered and whether there was memory. Each host
     /// call is of an entity that its caller saw when it was built, and the drivers follow the events.
     pub fn apply(&mut self, command: Command) -> Reply
-        requires sound { IsSound (registrations self.old) (modules_in self.old) (states_of (λ v. (⟦<dyn Driver as Driver>⟧ v).meaning) (drivers_in self.old)) }
-        ensures takes { Takes (registrations self.old) (modules_in self.old) command result (modules_in self.new) }
-        ensures entitled { All (IsEntitled (registrations self.new) (modules_in self.new)) result.events }
+        requires sound { IsSound (λ v. (⟦<dyn Driver as Driver>⟧ v).meaning) self.old }
+        ensures takes { Takes (registrations self.old) (world_in self.old) command result (world_in self.new) }
+        ensures entitled { All (IsEntitled (registrations self.new) (world_in self.new)) result.events }
         ensures follow { DriversFollow (λ v. (⟦<dyn Driver as Driver>⟧ v).meaning) (roles_of (registrations self.old)) (drivers_in self.old) result.events (drivers_in self.new) }
-        ensures sound { IsSound (registrations self.new) (modules_in self.new) (states_of (λ v. (⟦<dyn Driver as Driver>⟧ v).meaning) (drivers_in self.new)) }
+        ensures sound { IsSound (λ v. (⟦<dyn Driver as Driver>⟧ v).meaning) self.new }
         ensures registrations { registrations self.new ≡ registrations self.old }
     {
         match command {
@@ -115,17 +132,21 @@ impl Engine {
     }
 
     fn new_module(&mut self, name: List<u8>, mask: Mask) -> Reply
-        requires sound { IsSound (registrations self.old) (modules_in self.old) (states_of (λ v. (⟦<dyn Driver as Driver>⟧ v).meaning) (drivers_in self.old)) }
-        ensures applied { Applied (λ v. (⟦<dyn Driver as Driver>⟧ v).meaning) (registrations self.old) (modules_in self.old) (drivers_in self.old) (NewModule name mask) result (modules_in self.new) (drivers_in self.new) }
+        requires sound { IsSound (λ v. (⟦<dyn Driver as Driver>⟧ v).meaning) self.old }
+        ensures applied { Applied (λ v. (⟦<dyn Driver as Driver>⟧ v).meaning) (registrations self.old) (world_in self.old) (drivers_in self.old) (NewModule name mask) result (world_in self.new) (drivers_in self.new) }
+        ensures sound { IsSound (λ v. (⟦<dyn Driver as Driver>⟧ v).meaning) self.new }
         ensures registrations { registrations self.new ≡ registrations self.old }
     {
-        let done = add_module(self.alloc, &mut self.modules, name, mask);
-        answer(self.alloc, ended(done))
+        let alloc = self.alloc;
+        let globals = &mut self.machine.globals;
+        let done = add_module(alloc, &mut self.modules, globals, name, mask);
+        answer(alloc, ended(done))
     }
 
     fn add_section(&mut self, name: List<u8>, text: List<u8>) -> Reply
-        requires sound { IsSound (registrations self.old) (modules_in self.old) (states_of (λ v. (⟦<dyn Driver as Driver>⟧ v).meaning) (drivers_in self.old)) }
-        ensures applied { Applied (λ v. (⟦<dyn Driver as Driver>⟧ v).meaning) (registrations self.old) (modules_in self.old) (drivers_in self.old) (AddSection name text) result (modules_in self.new) (drivers_in self.new) }
+        requires sound { IsSound (λ v. (⟦<dyn Driver as Driver>⟧ v).meaning) self.old }
+        ensures applied { Applied (λ v. (⟦<dyn Driver as Driver>⟧ v).meaning) (registrations self.old) (world_in self.old) (drivers_in self.old) (AddSection name text) result (world_in self.new) (drivers_in self.new) }
+        ensures sound { IsSound (λ v. (⟦<dyn Driver as Driver>⟧ v).meaning) self.new }
         ensures registrations { registrations self.new ≡ registrations self.old }
     {
         let done = add_section(&mut self.modules, name, text);
@@ -133,51 +154,76 @@ impl Engine {
     }
 
     fn build(&mut self, name: List<u8>, budget: u64) -> Reply
-        requires sound { IsSound (registrations self.old) (modules_in self.old) (states_of (λ v. (⟦<dyn Driver as Driver>⟧ v).meaning) (drivers_in self.old)) }
-        ensures applied { Applied (λ v. (⟦<dyn Driver as Driver>⟧ v).meaning) (registrations self.old) (modules_in self.old) (drivers_in self.old) (Build name budget) result (modules_in self.new) (drivers_in self.new) }
+        requires sound { IsSound (λ v. (⟦<dyn Driver as Driver>⟧ v).meaning) self.old }
+        ensures applied { Applied (λ v. (⟦<dyn Driver as Driver>⟧ v).meaning) (registrations self.old) (world_in self.old) (drivers_in self.old) (Build name budget) result (world_in self.new) (drivers_in self.new) }
+        ensures sound { IsSound (λ v. (⟦<dyn Driver as Driver>⟧ v).meaning) self.new }
         ensures registrations { registrations self.new ≡ registrations self.old }
     {
-        let done = build(self.alloc, &self.registry, &mut self.modules, name, budget);
+        let done = build(
+            self.alloc,
+            &self.registry,
+            &mut self.modules,
+            &mut self.machine,
+            name,
+            budget,
+        );
         build_reply(self.alloc, done)
     }
 
+    /// Calls a function of the module of that name.
+    fn call_named(
+        &mut self,
+        name: &[u8],
+        decl: &[u8],
+        args: &[Value],
+        budget: u64,
+    ) -> Result<Called, Refusal>
+        requires sound { IsSound (λ v. (⟦<dyn Driver as Driver>⟧ v).meaning) self.old }
+        ensures done { IsCalled result (calling (registrations self.old) name.now decl.now args.now budget (world_in self.old)) (world_in self.old) (world_in self.new) }
+        ensures asked { HasAsked (λ v. (⟦<dyn Driver as Driver>⟧ v).meaning) (registrations self.old) (world_in self.new) (reply_to_call result).events (drivers_in self.old) (drivers_in self.new) }
+        ensures modules { self.new.modules ≡ self.old.modules }
+        ensures registrations { registrations self.new ≡ registrations self.old }
+    {
+        let Some(i) = find(&self.modules, name) else {
+            return Err(Refusal::NoModule);
+        };
+        let Some(program) = &self.modules[i].program else {
+            return Err(Refusal::NotBuilt);
+        };
+        if !may_run(budget) {
+            return Err(Refusal::BadBudget);
+        }
+        call_program(self.alloc, &mut self.machine, program, decl, args, budget)
+    }
+
     fn call(&mut self, name: List<u8>, decl: List<u8>, args: List<Value>, budget: u64) -> Reply
-        requires sound { IsSound (registrations self.old) (modules_in self.old) (states_of (λ v. (⟦<dyn Driver as Driver>⟧ v).meaning) (drivers_in self.old)) }
-        ensures applied { Applied (λ v. (⟦<dyn Driver as Driver>⟧ v).meaning) (registrations self.old) (modules_in self.old) (drivers_in self.old) (Call name decl args budget) result (modules_in self.new) (drivers_in self.new) }
+        requires sound { IsSound (λ v. (⟦<dyn Driver as Driver>⟧ v).meaning) self.old }
+        ensures applied { Applied (λ v. (⟦<dyn Driver as Driver>⟧ v).meaning) (registrations self.old) (world_in self.old) (drivers_in self.old) (Call name decl args budget) result (world_in self.new) (drivers_in self.new) }
+        ensures sound { IsSound (λ v. (⟦<dyn Driver as Driver>⟧ v).meaning) self.new }
         ensures registrations { registrations self.new ≡ registrations self.old }
     {
         let alloc = self.alloc;
-        let (caller, function) = match called(alloc, &self.modules, name, decl, args, budget) {
-            Ok((caller, function)) => (caller, function),
-            Err(refusal) => return answer(alloc, Outcome::Refused(refusal)),
-        };
-        let ran = run_body(
-            alloc,
-            &mut self.drivers,
-            caller.name.as_slice(),
-            function.body.as_slice(),
-        );
-        reply(
-            alloc,
-            ran.outcome,
-            ran.events,
-            List::from_vec(Vec::new(alloc)),
-        )
+        let done = self.call_named(name.as_slice(), decl.as_slice(), args.as_slice(), budget);
+        call_reply(alloc, done)
     }
 
     /// Ends the engine, and gives its drivers back in their order. It takes no memory, asks no driver
     /// anything, and always succeeds.
     pub fn discard(self) -> Vec<Box<dyn Driver>>
-        requires sound { IsSound (registrations self) (modules_in self) (states_of (λ v. (⟦<dyn Driver as Driver>⟧ v).meaning) (drivers_in self)) }
+        requires sound { IsSound (λ v. (⟦<dyn Driver as Driver>⟧ v).meaning) self }
         ensures same { result.items ≡ drivers_in self }
         ensures balanced { All IsBalanced (states_of (λ v. (⟦<dyn Driver as Driver>⟧ v).meaning) result.items) }
     {
         let Engine {
             alloc: _,
             registry: _,
-            drivers,
+            machine,
             modules: _,
         } = self;
+        let Machine {
+            drivers,
+            globals: _,
+        } = machine;
         drivers.into_boxes()
     }
 }

@@ -1,12 +1,14 @@
 //! The engine: modules of scripts, each of which sees the registrations that its mask meets.
 #![tactic(auto)]
 
+mod building;
+mod calling;
 mod command;
-mod commands;
 mod engine;
 mod module;
+mod modules;
+mod replies;
 mod reply;
-mod run;
 
 pub use ang_written::laws;
 pub use command::Command;

@@ -1,11 +1,24 @@
 //! The modules of an engine.
 ghost use Rattle.std.specs.Prelude.{◌≤◌, length};
 
-use ang_build::Program;
+use ang_execute::Executable;
 use ang_kinds::{List, Mask};
+use ang_names::Names;
+
+/// The modules of one engine.
+pub const MOST_MODULES: usize = 1;
 
 /// The sections that wait in one module.
 pub const MOST_SECTIONS: usize = 64;
+
+/// What a built module has.
+#[derive(Drop)]
+pub struct Loaded {
+    /// What its scripts declare.
+    pub names: Names,
+    /// Its resolved tree, loaded for the machine.
+    pub run: Executable,
+}
 
 /// One module: its name, its masks, the sections that wait, and its program where it is built.
 #[derive(Drop)]
@@ -16,6 +29,6 @@ pub struct Module {
     /// The mask of the last build, a failed one too; before the first it is the mask.
     pub built_mask: Mask,
     pub sections: Vec<List<u8>>,
-    pub program: Option<Program>,
+    pub program: Option<Loaded>,
     ghost few: { length sections.items ≤ 64 },
 }

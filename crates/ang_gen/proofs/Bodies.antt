@@ -20,13 +20,13 @@ use Rattle.ang_code.specs.declared.instruction.Instruction.{Instruction}
 use Rattle.ang_code.specs.declared.instruction.Instruction.TheVariants.{PushBits, Drop, SkipIfFalse, GoOn, Tick, Back, Return}
 use Rattle.ang_code.specs.Machine.{Texts, Config, At, Over, Finished, Faulted, fault, call_begins}
 use Rattle.ang_code.proofs.Steps.{HasAt, has_front, has_back, has_all, Comes, here, comes_to, one_step, then_step, roomy_on}
-use Rattle.ang_gen.specs.Code.{if_code, expr_code, leave_code, block_code, stmt_code, row_code, loop_code, body_code}
+use Rattle.ang_gen.specs.Code.{past_code, either_code, expr_code, leave_code, block_code, stmt_code, row_code, loop_code, body_code}
 use Rattle.ang_gen.specs.Heights.{Below, BelowStatement, BelowRow, BelowBody}
 use Rattle.ang_gen.specs.Behaves.{outcome_of, IsCode, Behaves}
 use Rattle.ang_gen.proofs.Stacks.{give_append, length_drop, length_outs}
 use Rattle.ang_gen.proofs.Relate.{Running, at, Exits, EvalGoes, ReplyGoes, returning, RunGoes}
 use Rattle.ang_gen.proofs.Exprs.{eval_runs}
-use Rattle.ang_gen.proofs.Stmts.{no_true, Stands, after_run, run_ends, block_goes, value_goes, seq_goes, jump_run, branch_run, tick_run, exit_goes, in_no_loop, caught_goes, return_goes}
+use Rattle.ang_gen.proofs.Stmts.{no_true, Stands, after_run, run_ends, block_goes, value_goes, seq_goes, past_run, branch_run, tick_run, exit_goes, in_no_loop, caught_goes, return_goes}
 
 -- no loop: no exits
 abbrev pub no_loop_at : ℕ → Exits
@@ -141,37 +141,42 @@ module _ (z : Setting) (code : Texts) (r : Running) (ps : List Passing) (ps_is :
         let lb = length (leave_code (declared b)) in
         let sb = stmt_code q n x.alive (kb + lb) (kc + lb) b in
         let cb = block_code sb (declared b) in
-        let ka = kb + length cb + 1 + la in let ja = kc + length cb + 1 + la in
+        let cp = past_code (length cb) in
+        let ka = kb + length cb + length cp + la in let ja = kc + length cb + length cp + la in
         let sa = stmt_code q n x.alive ka ja a in
         let ca = block_code sa (declared a) in
         let p = pc + length ce in
-        let p2 = p + 1 + length ca + 1 in
-        let end = pc + length (if_code ce ca cb) in
+        let p1 = p + 1 + length ca in
+        let p2 = p1 + length cp in
+        let end = pc + length (either_code ce ca cb) in
         let h1 = has_back (code.text r.of) pc ce _ st.has in
         let h2 = has_back (code.text r.of) (p + 1) ca _ h1.1 in
-        let len1 = length-append ce (SkipIfFalse (length ca + 1) ∷ (ca ++ GoOn (length cb) ∷ cb)) in
-        let len2 = length-append ca (GoOn (length cb) ∷ cb) in
-        let end_is : p2 + length cb ≡ end = omega (arith, len1, len2) in
+        let at_past = has_front (code.text r.of) p1 cp cb h2 in
+        let at_b = has_back (code.text r.of) p1 cp cb h2 in
+        let len1 = length-append ce (SkipIfFalse (length ca + length cp) ∷ (ca ++ (cp ++ cb))) in
+        let len2 = length-append ca (cp ++ cb) in
+        let len3 = length-append cp cb in
+        let end_is : p2 + length cb ≡ end = omega (arith, len1, len2, len3) in
         let len_a = length-append sa (leave_code (declared a)) in
         let len_b = length-append sb (leave_code (declared b)) in
         let at_a = has_front (code.text r.of) (p + 1) ca _ h1.1 in
         let st_a : Stands code r q sa (p + 1) ka ja n x = record { has = has_front (code.text r.of) (p + 1) sa _ at_a; params = st.params; alive = st.alive; out = omega (arith, st.out, end_is, len_a); again = omega (arith, st.again, end_is, len_a) } in
-        let st_b : Stands code r q sb p2 (kb + lb) (kc + lb) n x = record { has = has_front (code.text r.of) p2 sb _ h2.1; params = st.params; alive = st.alive; out = omega (arith, st.out, end_is, len_b); again = omega (arith, st.again, end_is, len_b) } in
-        let to_else : p2 ≡ p + 1 + (length ca + 1) = omega arith in
+        let st_b : Stands code r q sb p2 (kb + lb) (kc + lb) n x = record { has = has_front (code.text r.of) p2 sb _ at_b; params = st.params; alive = st.alive; out = omega (arith, st.out, end_is, len_b); again = omega (arith, st.again, end_is, len_b) } in
+        let to_else : p2 ≡ p + 1 + (length ca + length cp) = omega arith in
         value_goes z code r ps x _ p end n n (0 + n) t (eval z r.of.home calls e ls t w)
         (λ v ls' t' w'. on_test v (Halted NullFault ls' (give v w')) (leave (length ls') (run z r.of.home calls passes b ls' t' w')) (leave (length ls') (run z r.of.home calls passes a ls' t' w')))
         (expr_runs e pc n ls t w n_is (has_front (code.text r.of) pc ce _ st.has) ok.0 low.0 le)
         (λ v ls' t' w' n2_is lt.
         let one = run z r.of.home calls passes a ls' t' w' in let two = run z r.of.home calls passes b ls' t' w' in
         let b1 = block_goes_from_0 x sa (declared a) _ (p + 1) n t' one st.params st.alive at_a (stmt_runs a x ka ja (p + 1) n ls' t' w' n2_is st_a ok.1 low.1 (omega arith)) in
-        let b2 = block_goes_from_0 x sb (declared b) _ p2 n t' two st.params st.alive h2.1 (stmt_runs b x (kb + lb) (kc + lb) p2 n ls' t' w' n2_is st_b ok.2 low.2 (omega arith)) in
+        let b2 = block_goes_from_0 x sb (declared b) _ p2 n t' two st.params st.alive at_b (stmt_runs b x (kb + lb) (kc + lb) p2 n ls' t' w' n2_is st_b ok.2 low.2 (omega arith)) in
         subst (λ m. RunGoes z code r ps (at r p (v ∷ (ls' ++ r.below)) t' w') end x n (0 + n) t' (on_test v (Halted NullFault ls' (give v w')) (leave m two) (leave m one))) (sym n2_is)
         (branch_run z code r ps x _ end n (0 + n) t' ls' w' v _ _ (leave n two) (leave n one)
-        (one_step z code r.of p r.room (v ∷ (ls' ++ r.below)) r.callers t' w' (SkipIfFalse (length ca + 1)) h1.0)
+        (one_step z code r.of p r.room (v ∷ (ls' ++ r.below)) r.callers t' w' (SkipIfFalse (length ca + length cp)) h1.0)
         (subst (λ j. RunGoes z code r ps (at r j (ls' ++ r.below) t' w') end x n (0 + n) t' (leave n two)) to_else
         (run_ends z code r ps x _ _ _ n (0 + n) t' (leave n two) end_is b2))
         (run_ends z code r ps x _ _ _ n (0 + n) t' (leave n one) end_is
-        (jump_run z code r ps x _ (p + 1 + length ca) (length cb) n (0 + n) t' (leave n one) h2.0 b1))))
+        (past_run z code r ps x _ p1 (length cb) n (0 + n) t' (leave n one) at_past b1))))
     stmt_runs (While' e x1 s x2 step) x kb kc pc n ls t w n_is st ok low le =
         let loop : LoopStands z code r q h e s step pc n = record { has = st.has; params = st.params; sound_test = ok.0; low_test = low.0; sound_body = ok.1; low_body = low.1; sound_step = ok.2; low_step = low.2 } in
         let c = loop_code q n e s step in

@@ -12,7 +12,7 @@ use Rattle.ang_code.specs.declared.instruction.Instruction.{Instruction}
 use Rattle.ang_code.specs.declared.instruction.Instruction.TheVariants.{Leave, GoOn, Return}
 use Rattle.ang_code.specs.Machine.{Texts, Config, Over, Faulted, fault, back, enough}
 use Rattle.ang_code.proofs.Steps.{HasAt, has_front, has_back, Comes, here, comes_on, comes_to, then_step, enough_on}
-use Rattle.ang_gen.specs.Code.{leave_code, block_code}
+use Rattle.ang_gen.specs.Code.{past_code, leave_code, block_code}
 use Rattle.ang_gen.proofs.Stacks.{drop_front, drop_within, give_within, length_drop, give_drop, drop_more, give_more, outs_front, others_front}
 use Rattle.ang_gen.proofs.Relate.{Running, at, Exits, EvalGoes, returning, RunGoes}
 
@@ -116,6 +116,11 @@ module _ (z : Setting) (code : Texts) (r : Running) (ps : List Passing) where
     jump_run start pc k n0 n t (Halted y ls w) has q = q
     jump_run start pc k n0 n t (Broken ls t' w) has q = q
     jump_run start pc k n0 n t (Continued ls t' w) has q = q
+
+    -- past a side of a choice, where it does anything
+    pub past_run : (start : Config) (pc k n0 n t : ℕ) (o : Ran) → HasAt (code.text r.of) pc (past_code k) → RunGoes z code r ps start pc x n0 n t o → RunGoes z code r ps start (pc + length (past_code k) + k) x n0 n t o
+    past_run start pc zero n0 n t o has q = run_ends start pc (pc + 0 + 0) n0 n t o (omega arith) q
+    past_run start pc (suc k) n0 n t o has q = jump_run start pc (suc k) n0 n t o has.0 q
 
     zero_run : (start : Config) (pc' n0 n t y : ℕ) (off_at on_at : Config) (off on : Ran) → Comes z code start (at_zero y off_at on_at) → RunGoes z code r ps off_at pc' x n0 n t off → RunGoes z code r ps on_at pc' x n0 n t on → RunGoes z code r ps start pc' x n0 n t (at_zero y off on)
     zero_run start pc' n0 n t zero off_at on_at off on p q1 q2 = after_run start off_at pc' n0 n0 n n t t off p (omega arith) refl (omega arith) q1

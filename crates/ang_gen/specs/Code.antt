@@ -12,9 +12,18 @@ use Rattle.ang_core.specs.Sound.{declared, row_declared}
 use Rattle.ang_code.specs.declared.instruction.Instruction.{Instruction}
 use Rattle.ang_code.specs.declared.instruction.Instruction.TheVariants.{PushBits, PushNull, PushNoKey, Load, Store, Change, Do, Drop, Leave, SkipIfFalse, GoOn, Tick, Back, Enter, Swap, SwapGlobal, DropUnder, Return}
 
--- a choice: the test, the first side with a jump past the second, and the second side
+-- a choice of values: the test, the first side with a jump past the second, and the second side
 abbrev pub if_code : List Instruction → List Instruction → List Instruction → List Instruction
 if_code test a b = test ++ (SkipIfFalse (length a + 1) ∷ (a ++ (GoOn (length b) ∷ b)))
+
+-- a jump past so many instructions, where there are any
+abbrev pub past_code : ℕ → List Instruction
+past_code zero = []
+past_code (suc n) = GoOn (suc n) ∷ []
+
+-- a choice of statements: the test, the first side, a jump past the second side where that does anything, and the second side
+abbrev pub either_code : List Instruction → List Instruction → List Instruction → List Instruction
+either_code test a b = test ++ (SkipIfFalse (length a + length (past_code (length b))) ∷ (a ++ (past_code (length b) ++ b)))
 
 -- a loop: a tick, the test, a jump past the end, the body, the step, and a jump back to the test with a tick
 abbrev pub while_code : List Instruction → List Instruction → List Instruction → List Instruction
@@ -72,8 +81,9 @@ abbrev mutual
       block_code (row_code q n m (kb + length (leave_code (row_declared row))) (kc + length (leave_code (row_declared row))) row) (row_declared row)
   stmt_code q n m kb kc (If' e x a y b) =
       let cb = block_code (stmt_code q n m (kb + length (leave_code (declared b))) (kc + length (leave_code (declared b))) b) (declared b) in
-      if_code (expr_code 0 e)
-      (block_code (stmt_code q n m (kb + length cb + 1 + length (leave_code (declared a))) (kc + length cb + 1 + length (leave_code (declared a))) a) (declared a))
+      let cp = past_code (length cb) in
+      either_code (expr_code 0 e)
+      (block_code (stmt_code q n m (kb + length cb + length cp + length (leave_code (declared a))) (kc + length cb + length cp + length (leave_code (declared a))) a) (declared a))
       cb
   stmt_code q n m kb kc (While' e x s y step) =
       let cs = block_code (stmt_code q n 0 0 0 step) (declared step) in

@@ -19,7 +19,7 @@ use Rattle.ang_meaning.specs.declared.routine.Callee.TheVariants.{Own}
 use Rattle.ang_meaning.specs.declared.routine.Passing.{Passing}
 use Rattle.ang_meaning.specs.declared.routine.Passing.TheVariants.{In, Out, Object}
 use Rattle.ang_meaning.specs.declared.routine.Target.{Target}
-use Rattle.ang_meaning.specs.Numbers.{is_signed}
+use Rattle.ang_meaning.specs.Numbers.{is_signed, converted, negated, complemented, denied}
 use Rattle.ang_meaning.specs.Setting.{Setting, host_in, is_fit, is_called_by, is_property, may_call, may_access}
 use Rattle.ang_meaning.specs.Perform.{operands, member_count}
 use Rattle.ang_core.specs.Sound.{out_count, Fits, AreSpots}
@@ -130,6 +130,17 @@ module _ (z : Setting) (m : ℕ) (M : Module) (functions : HasFunctions z m M) (
   unary_sound : (n : ℕ) (o : Operation) (e : c.Expr) → (1 ≡ operands z o) × (is_fit z o ≡ true) → IsSound z m n e → IsSound z m n (low.unary o e)
   unary_sound n o e f h = (f.0, f.1, (h, tt))
 
+  folded_sound : (n : ℕ) (f : ℕ → ℕ) (o : Operation) (e : c.Expr) → (1 ≡ operands z o) × (is_fit z o ≡ true) → IsSound z m n e → IsSound z m n (low.folded f o e)
+  folded_sound n f o (c.number x) fit h = tt
+  folded_sound n f o c.null fit h = unary_sound n o c.null fit h
+  folded_sound n f o (c.no_key d) fit h = unary_sound n o (c.no_key d) fit h
+  folded_sound n f o (c.local i) fit h = unary_sound n o (c.local i) fit h
+  folded_sound n f o (c.assign i a) fit h = unary_sound n o (c.assign i a) fit h
+  folded_sound n f o (c.change i by a) fit h = unary_sound n o (c.change i by a) fit h
+  folded_sound n f o (c.apply q args) fit h = unary_sound n o (c.apply q args) fit h
+  folded_sound n f o (c.call q args outs) fit h = unary_sound n o (c.call q args outs) fit h
+  folded_sound n f o (c.choose a b d) fit h = unary_sound n o (c.choose a b d) fit h
+
   binary_sound : (n : ℕ) (o : Operation) (a b : c.Expr) → (2 ≡ operands z o) × (is_fit z o ≡ true) → IsSound z m n a → IsSound z m n b → IsSound z m n (low.binary o a b)
   binary_sound n o a b f h i = (f.0, f.1, (h, (i, tt)))
 
@@ -171,10 +182,10 @@ module _ (z : Setting) (m : ℕ) (M : Module) (functions : HasFunctions z m M) (
     lowered_sound (tree.number ty x) n h = tt
     lowered_sound (tree.truth b) n h = tt
     lowered_sound (tree.variable x ty) n h = read_sound n x h
-    lowered_sound (tree.convert from to e) n h = unary_sound n (Convert to) (low.lowered n e) (refl, refl) (lowered_sound e n h)
-    lowered_sound (tree.negate ty e) n h = unary_sound n (Negate ty) (low.lowered n e) (refl, refl) (lowered_sound e n h)
-    lowered_sound (tree.complement ty e) n h = unary_sound n (Complement ty) (low.lowered n e) (refl, refl) (lowered_sound e n h)
-    lowered_sound (tree.not e) n h = unary_sound n Not (low.lowered n e) (refl, refl) (lowered_sound e n h)
+    lowered_sound (tree.convert from to e) n h = folded_sound n (converted to) (Convert to) (low.lowered n e) (refl, refl) (lowered_sound e n h)
+    lowered_sound (tree.negate ty e) n h = folded_sound n (negated ty) (Negate ty) (low.lowered n e) (refl, refl) (lowered_sound e n h)
+    lowered_sound (tree.complement ty e) n h = folded_sound n (complemented ty) (Complement ty) (low.lowered n e) (refl, refl) (lowered_sound e n h)
+    lowered_sound (tree.not e) n h = folded_sound n denied Not (low.lowered n e) (refl, refl) (lowered_sound e n h)
     lowered_sound (tree.operate op ty a b) n h = binary_sound n (Work (work_of op) ty) (low.lowered n a) (low.lowered n b) (refl, refl) (lowered_sound a n h.0) (lowered_sound b n h.1)
     lowered_sound (tree.compare op ty a b) n h = binary_sound n (Compare (test_of op) (is_signed ty)) (low.lowered n a) (low.lowered n b) (refl, refl) (lowered_sound a n h.0) (lowered_sound b n h.1)
     lowered_sound (tree.and a b) n h = (lowered_sound a n h.0, lowered_sound b n h.1, tt)

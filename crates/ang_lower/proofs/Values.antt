@@ -1,6 +1,7 @@
 -- A lowered expression does what its source does, with as many locals as there were.
 use Rattle.std.proofs.Common.{◌≡◌, ℕ, suc, ◌+◌, ◌-◌, List, [], ◌∷◌, length, refl, sym, ap, ◌∙◌, arith, Option, Some, None}
 use Rattle.std.specs.Prelude.{slice_get, true, false}
+use Rattle.ang_kinds.specs.declared.primitive.Primitive.{Primitive}
 use Rattle.ang_typed.specs.declared.expression.Variable.{Variable}
 use Rattle.ang_typed.specs.declared.expression.Variable.TheVariants as variable
 use Rattle.ang_typed.specs.declared.program.Parameter.{Parameter}
@@ -12,11 +13,12 @@ use Rattle.ang_meaning.specs.declared.operation.Operation.{Operation}
 use Rattle.ang_meaning.specs.declared.operation.Operation.TheVariants.{Work, Compare, Convert, Negate, Complement, Not, GlobalGet, GlobalSet, GlobalChange, Ask, Read, Write, Alter}
 use Rattle.ang_meaning.specs.declared.routine.Callee.TheVariants.{Own}
 use Rattle.ang_meaning.specs.declared.routine.Target.{Target}
-use Rattle.ang_meaning.specs.Numbers.{truth, is_signed}
+use Rattle.ang_meaning.specs.Numbers.{truth, is_signed, converted, negated, complemented, denied}
 use Rattle.ang_meaning.specs.World.{World}
 use Rattle.ang_meaning.specs.Setting.{Setting}
+use Rattle.ang_meaning.specs.Hosts.{Fine}
 use Rattle.ang_meaning.specs.Perform.{perform}
-use Rattle.ang_meaning.specs.Results.{Evaluated, Gave, Ready, local_at, loaded, applied, assigned, altered}
+use Rattle.ang_meaning.specs.Results.{Evaluated, Gave, Ready, local_at, loaded, performed, applied, assigned, altered}
 use Rattle.ang_source.specs.Meaning.{Callees, one, two, read_variable, stored, changed_by, evaluate, evaluate_all, evaluate_argument, evaluate_or, work_of, test_of, compound_of, step_of, brought_to}
 use Rattle.ang_source.specs.Meaning as source
 use Rattle.ang_source.specs.Sound.{Module, Sound, SoundArguments, SoundValues, SoundOption, argument_count}
@@ -79,6 +81,28 @@ two_same n x y go go' h a =
     (λ v ls t w l. then_rest_same n 2 (v ∷ []) (go ls t w) (go' ls t w) (λ u ls' t' w'. Ready (u ∷ v ∷ []) ls' t' w') (λ u ls' t' w'. Ready (u ∷ v ∷ []) ls' t' w') (a ls t w l)
     (λ u ls' t' w' l'. record { same = refl; keeps = (l', refl) }))
 
+-- ---- operations on one number
+
+-- the operation turns each number x into f x
+abbrev Gives : Setting → ℕ → (ℕ → ℕ) → Operation → Type 0
+Gives z m f o = (x : ℕ) (w : World) → perform z m o (Bits x ∷ []) w ≡ Fine (Bits (f x)) w
+
+converts : (z : Setting) (m : ℕ) (to : Primitive) → Gives z m (converted to) (Convert to)
+unfolding perform
+converts z m to x w = refl
+
+negates : (z : Setting) (m : ℕ) (ty : Primitive) → Gives z m (negated ty) (Negate ty)
+unfolding perform
+negates z m ty x w = refl
+
+complements : (z : Setting) (m : ℕ) (ty : Primitive) → Gives z m (complemented ty) (Complement ty)
+unfolding perform
+complements z m ty x w = refl
+
+denies : (z : Setting) (m : ℕ) → Gives z m denied Not
+unfolding perform
+denies z m x w = refl
+
 -- ---- variables
 
 module _ (z : Setting) (m : ℕ) (k k' : Callees) where
@@ -93,6 +117,24 @@ module _ (z : Setting) (m : ℕ) (k k' : Callees) where
   unary_same : (n : ℕ) (o : Operation) (e : c.Expr) (y : Evaluated) (ls : List Slot) (t : ℕ) (w : World) → SameEval n (eval z m k e ls t w) y
       → SameEval n (eval z m k (low.unary o e) ls t w) (applied (perform z m o) (one y))
   unary_same n o e y ls t w h = applied_same n 1 (perform z m o) (one (eval z m k e ls t w)) (one y) (one_same n (eval z m k e ls t w) y h)
+
+  -- an operation on a number is the number that it gives
+  folded_is : (f : ℕ → ℕ) (o : Operation) → Gives z m f o → (e : c.Expr) (ls : List Slot) (t : ℕ) (w : World) → eval z m k (low.folded f o e) ls t w ≡ eval z m k (low.unary o e) ls t w
+  folded_is f o g (c.number x) ls t w = ap (λ d. performed d (Bits x ∷ []) ls t) (sym (g x w))
+  folded_is f o g c.null ls t w = refl
+  folded_is f o g (c.no_key d) ls t w = refl
+  folded_is f o g (c.local i) ls t w = refl
+  folded_is f o g (c.assign i a) ls t w = refl
+  folded_is f o g (c.change i by a) ls t w = refl
+  folded_is f o g (c.apply q args) ls t w = refl
+  folded_is f o g (c.call q args outs) ls t w = refl
+  folded_is f o g (c.choose a b d) ls t w = refl
+
+  folded_same : (n : ℕ) (f : ℕ → ℕ) (o : Operation) → Gives z m f o → (e : c.Expr) (y : Evaluated) (ls : List Slot) (t : ℕ) (w : World) → SameEval n (eval z m k e ls t w) y
+      → SameEval n (eval z m k (low.folded f o e) ls t w) (applied (perform z m o) (one y))
+  folded_same n f o g e y ls t w h =
+      let u = unary_same n o e y ls t w h in
+      record { same = folded_is f o g e ls t w ∙ u.same; keeps = u.keeps }
 
   pub stored_same : (n : ℕ) (x : Variable) (e : c.Expr) (y : Evaluated) (ls : List Slot) (t : ℕ) (w : World) → length ls ≡ n → SameEval n (eval z m k e ls t w) y
       → SameEval n (eval z m k (low.stored n x e) ls t w) (stored z m x ls y)
@@ -125,10 +167,10 @@ module _ (z : Setting) (m : ℕ) (M : Module) (k k' : Callees) (callees : Callee
     value_same (t.number ty x) n ls t w l h = record { same = refl; keeps = l }
     value_same (t.truth b) n ls t w l h = record { same = refl; keeps = l }
     value_same (t.variable x ty) n ls t w l h = read_same z m k k' n x ls t w l
-    value_same (t.convert from to e) n ls t w l h = unary_same z m k k' n (Convert to) (low.lowered n e) (evaluate z m k' e ls t w) ls t w (value_same e n ls t w l h)
-    value_same (t.negate ty e) n ls t w l h = unary_same z m k k' n (Negate ty) (low.lowered n e) (evaluate z m k' e ls t w) ls t w (value_same e n ls t w l h)
-    value_same (t.complement ty e) n ls t w l h = unary_same z m k k' n (Complement ty) (low.lowered n e) (evaluate z m k' e ls t w) ls t w (value_same e n ls t w l h)
-    value_same (t.not e) n ls t w l h = unary_same z m k k' n Not (low.lowered n e) (evaluate z m k' e ls t w) ls t w (value_same e n ls t w l h)
+    value_same (t.convert from to e) n ls t w l h = folded_same z m k k' n (converted to) (Convert to) (converts z m to) (low.lowered n e) (evaluate z m k' e ls t w) ls t w (value_same e n ls t w l h)
+    value_same (t.negate ty e) n ls t w l h = folded_same z m k k' n (negated ty) (Negate ty) (negates z m ty) (low.lowered n e) (evaluate z m k' e ls t w) ls t w (value_same e n ls t w l h)
+    value_same (t.complement ty e) n ls t w l h = folded_same z m k k' n (complemented ty) (Complement ty) (complements z m ty) (low.lowered n e) (evaluate z m k' e ls t w) ls t w (value_same e n ls t w l h)
+    value_same (t.not e) n ls t w l h = folded_same z m k k' n denied Not (denies z m) (low.lowered n e) (evaluate z m k' e ls t w) ls t w (value_same e n ls t w l h)
     value_same (t.operate op ty a b) n ls t w l h =
         applied_same n 2 (perform z m (Work (work_of op) ty)) _ _
         (two_same n (eval z m k (low.lowered n a) ls t w) (evaluate z m k' a ls t w) (eval z m k (low.lowered n b)) (evaluate z m k' b) (value_same a n ls t w l h.0)

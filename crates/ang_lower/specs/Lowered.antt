@@ -1,6 +1,7 @@
 -- The core tree of a resolved tree (docs/MEANING.md, "What a script means" and "What a body does"), where n locals are alive. A local of the resolved
 -- tree is numbered from the outermost one, and one of the core tree from the innermost one.
 use Rattle.std.specs.Prelude.{◌≡◌, ℕ, suc, ◌+◌, ◌-◌, List, [], ◌∷◌, ◌++◌, length, map, Option, Some, None}
+use Rattle.ang_kinds.specs.declared.primitive.Primitive.{Primitive}
 use Rattle.ang_typed.specs.declared.expression.Variable.{Variable}
 use Rattle.ang_typed.specs.declared.expression.Variable.TheVariants as variable
 use Rattle.ang_typed.specs.Typed as t
@@ -11,7 +12,7 @@ use Rattle.ang_meaning.specs.declared.routine.Callee.TheVariants.{Own}
 use Rattle.ang_meaning.specs.declared.routine.Spot.{Spot}
 use Rattle.ang_meaning.specs.declared.routine.Spot.TheVariants as spot
 use Rattle.ang_meaning.specs.declared.routine.Target.{Target}
-use Rattle.ang_meaning.specs.Numbers.{truth, is_signed}
+use Rattle.ang_meaning.specs.Numbers.{truth, is_signed, converted, negated, complemented, denied}
 use Rattle.ang_core.specs.declared.tree.Statement.{Statement}
 use Rattle.ang_source.specs.Meaning.{Code, of_function, of_global, work_of, test_of, compound_of, step_of, brought_to, passings_of}
 use Rattle.ang_source.specs.Sound.{declared, declared_by}
@@ -25,6 +26,39 @@ unary o e = c.apply o (c.more e c.none)
 
 abbrev pub binary : Operation → c.Expr → c.Expr → c.Expr
 binary o l r = c.apply o (c.more l (c.more r c.none))
+
+-- the number that a tree is, where it is one
+abbrev pub number_in : c.Expr → Option ℕ
+number_in (c.number x) = Some x
+number_in c.null = None
+number_in (c.no_key d) = None
+number_in (c.local i) = None
+number_in (c.assign i e) = None
+number_in (c.change i by e) = None
+number_in (c.apply o args) = None
+number_in (c.call f args outs) = None
+number_in (c.choose a b d) = None
+
+-- the operation that turns each number x into f x, on a number that may be known
+abbrev pub folded_to : (ℕ → ℕ) → Operation → c.Expr → Option ℕ → c.Expr
+folded_to f o e (Some x) = c.number (f x)
+folded_to f o e None = unary o e
+
+-- An operation on a number that the script wrote is the number that it gives.
+abbrev pub folded : (ℕ → ℕ) → Operation → c.Expr → c.Expr
+folded f o e = folded_to f o e (number_in e)
+
+abbrev pub conversion : Primitive → c.Expr → c.Expr
+conversion to e = folded (converted to) (Convert to) e
+
+abbrev pub negation : Primitive → c.Expr → c.Expr
+negation ty e = folded (negated ty) (Negate ty) e
+
+abbrev pub complement : Primitive → c.Expr → c.Expr
+complement ty e = folded (complemented ty) (Complement ty) e
+
+abbrev pub denial : c.Expr → c.Expr
+denial e = folded denied Not e
 
 -- ---- variables
 
@@ -69,10 +103,10 @@ abbrev mutual
   lowered n (t.number ty x) = c.number x
   lowered n (t.truth b) = c.number (truth b)
   lowered n (t.variable x ty) = read n x
-  lowered n (t.convert from to e) = unary (Convert to) (lowered n e)
-  lowered n (t.negate ty e) = unary (Negate ty) (lowered n e)
-  lowered n (t.complement ty e) = unary (Complement ty) (lowered n e)
-  lowered n (t.not e) = unary Not (lowered n e)
+  lowered n (t.convert from to e) = conversion to (lowered n e)
+  lowered n (t.negate ty e) = negation ty (lowered n e)
+  lowered n (t.complement ty e) = complement ty (lowered n e)
+  lowered n (t.not e) = denial (lowered n e)
   lowered n (t.operate op ty l r) = binary (Work (work_of op) ty) (lowered n l) (lowered n r)
   lowered n (t.compare op ty l r) = binary (Compare (test_of op) (is_signed ty)) (lowered n l) (lowered n r)
   lowered n (t.and l r) = c.choose (lowered n l) (lowered n r) (c.number 0)

@@ -4,7 +4,8 @@ ghost use Rattle.ang_typed.specs.View.{view_expr, view_arg, view_args, view_opti
 ghost use Rattle.ang_lower.specs.Plain.{plain_expr};
 ghost use Rattle.ang_lower.specs.Lowered as spec;
 
-use crate::build::{Pair, apply, binary, call, choice, unary, with_operand};
+use crate::build::{Pair, apply, binary, call, choice, with_operand};
+use crate::folding::{complement, conversion, denial, negation};
 use crate::operators::{arithmetic, compound, is_signed, step, test};
 use crate::variables::{change, read, small, store, targets};
 use ang_core::Expression;
@@ -31,19 +32,19 @@ pub fn lower_expression(
         typed::Expression::Variable { variable, .. } => read(alloc, alive, variable),
         typed::Expression::Convert { to, operand, .. } => {
             let operand = lower_expression(alloc, alive, operand)?;
-            unary(alloc, Operation::Convert(*to), operand)
+            conversion(alloc, *to, operand)
         }
         typed::Expression::Negate { ty, operand } => {
             let operand = lower_expression(alloc, alive, operand)?;
-            unary(alloc, Operation::Negate(*ty), operand)
+            negation(alloc, *ty, operand)
         }
         typed::Expression::Complement { ty, operand } => {
             let operand = lower_expression(alloc, alive, operand)?;
-            unary(alloc, Operation::Complement(*ty), operand)
+            complement(alloc, *ty, operand)
         }
         typed::Expression::Not { operand } => {
             let operand = lower_expression(alloc, alive, operand)?;
-            unary(alloc, Operation::Not, operand)
+            denial(alloc, operand)
         }
         typed::Expression::Operate {
             operator,

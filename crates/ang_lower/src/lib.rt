@@ -8,6 +8,7 @@
 mod bodies;
 mod build;
 mod expressions;
+mod folding;
 mod hosts;
 pub mod laws;
 mod operators;

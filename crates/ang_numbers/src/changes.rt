@@ -21,6 +21,7 @@ pub struct Altered {
 ///
 /// # Errors
 /// Those of the change's operation: `DivideByZero` and `DivideOverflow`.
+#[inline(always)]
 #[tactic(auto, unfolding(ang_meaning::specs::Numbers::changed))]
 pub fn change(by: Change, x: u64, y: u64) -> Result<Altered, Fault>
     ensures exact { result ≡ altered_of (changed by x y) }

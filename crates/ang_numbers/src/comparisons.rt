@@ -4,6 +4,7 @@ ghost use Rattle.ang_meaning.specs.Numbers.{number, compared, holds_of, denied};
 
 use ang_meaning::Comparison;
 
+#[inline(always)]
 fn less(signed: bool, x: u64, y: u64) -> bool
     ensures exact { result ≡ int_lt (number signed x) (number signed y) }
 {
@@ -14,6 +15,7 @@ fn less(signed: bool, x: u64, y: u64) -> bool
     }
 }
 
+#[inline(always)]
 fn at_most(signed: bool, x: u64, y: u64) -> bool
     ensures exact { result ≡ int_le (number signed x) (number signed y) }
 {
@@ -24,6 +26,7 @@ fn at_most(signed: bool, x: u64, y: u64) -> bool
     }
 }
 
+#[inline(always)]
 fn holds(what: Comparison, signed: bool, x: u64, y: u64) -> bool
     ensures exact { result ≡ compared what (number signed x) (number signed y) x y }
 {
@@ -38,6 +41,7 @@ fn holds(what: Comparison, signed: bool, x: u64, y: u64) -> bool
 }
 
 /// A comparison of two numbers of a signed type, or of an unsigned one: 1 where it holds, and else 0.
+#[inline(always)]
 #[tactic(auto, unfolding(ang_meaning::specs::Numbers::holds_of))]
 pub fn compare(what: Comparison, signed: bool, x: u64, y: u64) -> u64
     ensures exact { result ≡ holds_of what signed x y }
@@ -46,6 +50,7 @@ pub fn compare(what: Comparison, signed: bool, x: u64, y: u64) -> u64
 }
 
 /// `!` of a truth value: 1 at 0, and else 0.
+#[inline(always)]
 #[tactic(auto, unfolding(ang_meaning::specs::Numbers::denied))]
 pub fn deny(bits: u64) -> u64
     ensures exact { result ≡ denied bits }

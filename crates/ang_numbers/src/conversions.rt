@@ -6,6 +6,7 @@ use ang_kinds::Prim;
 
 /// The number brought into the type: its low bits, sign-extended to 64 bits where the type is signed and
 /// zero-extended where it is not.
+#[inline(always)]
 pub fn convert(to: Prim, bits: u64) -> u64
     ensures exact { result ≡ converted to bits }
 {
@@ -22,6 +23,7 @@ pub fn convert(to: Prim, bits: u64) -> u64
 }
 
 /// Unary `-` in the type, which wraps.
+#[inline(always)]
 #[tactic(auto, unfolding(ang_meaning::specs::Numbers::negated), using(crate::proofs::Congruence::negated_bits))]
 pub fn negate(at: Prim, bits: u64) -> u64
     ensures exact { result ≡ negated at bits }
@@ -30,6 +32,7 @@ pub fn negate(at: Prim, bits: u64) -> u64
 }
 
 /// `~` in the type: each bit turned.
+#[inline(always)]
 #[tactic(auto, unfolding(ang_meaning::specs::Numbers::complemented), using(crate::proofs::Congruence::complemented_bits))]
 pub fn complement(at: Prim, bits: u64) -> u64
     ensures exact { result ≡ complemented at bits }
@@ -38,6 +41,7 @@ pub fn complement(at: Prim, bits: u64) -> u64
 }
 
 /// Whether the type has negative numbers.
+#[inline(always)]
 pub(crate) fn is_signed(of: Prim) -> bool
     ensures exact { result ≡ is_signed of }
 {
@@ -48,6 +52,7 @@ pub(crate) fn is_signed(of: Prim) -> bool
 }
 
 /// How many bits the type has.
+#[inline(always)]
 pub(crate) fn width(of: Prim) -> u64
     ensures exact { result ≡ width_of of }
     ensures some { result ≢ 0 }
@@ -63,6 +68,7 @@ pub(crate) fn width(of: Prim) -> u64
 }
 
 /// The least number of the type.
+#[inline(always)]
 pub(crate) fn least(of: Prim) -> i64
     ensures exact { result ≡ least of }
 {

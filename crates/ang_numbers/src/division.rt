@@ -9,6 +9,7 @@ use crate::conversions::{convert, is_signed, least};
 use ang_kinds::{Fault, Prim};
 
 // What speaks against dividing x by y in a signed type, if anything.
+#[inline(always)]
 fn barred(at: Prim, x: i64, y: i64) -> Option<Fault>
     ensures exact { (r : ℤ) → divided at x y r ≡ unless result at r }
     ensures nonzero { IfNone result (IsNonZero w64 y) }
@@ -22,6 +23,7 @@ fn barred(at: Prim, x: i64, y: i64) -> Option<Fault>
     None
 }
 
+#[inline(always)]
 fn quotient_signed(at: Prim, x: i64, y: i64) -> Result<u64, Fault>
     ensures exact { result ≡ answer_of (divided at x y (int_div x y)) }
 {
@@ -31,6 +33,7 @@ fn quotient_signed(at: Prim, x: i64, y: i64) -> Result<u64, Fault>
     }
 }
 
+#[inline(always)]
 fn remainder_signed(at: Prim, x: i64, y: i64) -> Result<u64, Fault>
     ensures exact { result ≡ answer_of (divided at x y (int_rem x y)) }
 {
@@ -40,6 +43,7 @@ fn remainder_signed(at: Prim, x: i64, y: i64) -> Result<u64, Fault>
     }
 }
 
+#[inline(always)]
 fn quotient_unsigned(at: Prim, x: u64, y: u64) -> Result<u64, Fault>
     ensures exact { result ≡ answer_of (divided at (pos x) (pos y) (int_div (pos x) (pos y))) }
 {
@@ -49,6 +53,7 @@ fn quotient_unsigned(at: Prim, x: u64, y: u64) -> Result<u64, Fault>
     Ok(convert(at, x / y))
 }
 
+#[inline(always)]
 fn remainder_unsigned(at: Prim, x: u64, y: u64) -> Result<u64, Fault>
     ensures exact { result ≡ answer_of (divided at (pos x) (pos y) (int_rem (pos x) (pos y))) }
 {
@@ -59,6 +64,7 @@ fn remainder_unsigned(at: Prim, x: u64, y: u64) -> Result<u64, Fault>
 }
 
 /// `/` in the type.
+#[inline(always)]
 #[tactic(auto, unfolding(ang_meaning::specs::Numbers::worked))]
 pub(crate) fn quotient(at: Prim, x: u64, y: u64) -> Result<u64, Fault>
     ensures exact { result ≡ answer_of (worked Divide at x y) }
@@ -71,6 +77,7 @@ pub(crate) fn quotient(at: Prim, x: u64, y: u64) -> Result<u64, Fault>
 }
 
 /// `%` in the type.
+#[inline(always)]
 #[tactic(auto, unfolding(ang_meaning::specs::Numbers::worked))]
 pub(crate) fn remainder(at: Prim, x: u64, y: u64) -> Result<u64, Fault>
     ensures exact { result ≡ answer_of (worked Remainder at x y) }

@@ -9,6 +9,7 @@ use crate::shifts::{shift_left, shift_right, shift_signed};
 use ang_kinds::{Fault, Prim};
 use ang_meaning::Arithmetic;
 
+#[inline(always)]
 #[tactic(auto, using(crate::proofs::Congruence::sum_bits))]
 fn add(at: Prim, x: u64, y: u64) -> u64
     ensures exact { result ≡ bits_of at (number_of at x +ℤ number_of at y) }
@@ -16,6 +17,7 @@ fn add(at: Prim, x: u64, y: u64) -> u64
     convert(at, x.wrapping_add(y))
 }
 
+#[inline(always)]
 #[tactic(auto, using(crate::proofs::Congruence::difference_bits))]
 fn subtract(at: Prim, x: u64, y: u64) -> u64
     ensures exact { result ≡ bits_of at (number_of at x -ℤ number_of at y) }
@@ -23,6 +25,7 @@ fn subtract(at: Prim, x: u64, y: u64) -> u64
     convert(at, x.wrapping_sub(y))
 }
 
+#[inline(always)]
 #[tactic(auto, using(crate::proofs::Congruence::product_bits))]
 fn multiply(at: Prim, x: u64, y: u64) -> u64
     ensures exact { result ≡ bits_of at (number_of at x *ℤ number_of at y) }
@@ -35,6 +38,7 @@ fn multiply(at: Prim, x: u64, y: u64) -> u64
 /// # Errors
 /// `DivideByZero` of `/` and `%` where `y` is 0, and `DivideOverflow` where `y` is -1 and `x` the least
 /// number of the type.
+#[inline(always)]
 #[tactic(auto, unfolding(ang_meaning::specs::Numbers::worked))]
 pub fn work(what: Arithmetic, at: Prim, x: u64, y: u64) -> Result<u64, Fault>
     ensures exact { result ≡ answer_of (worked what at x y) }

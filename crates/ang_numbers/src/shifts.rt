@@ -6,6 +6,7 @@ ghost use Rattle.ang_meaning.specs.Numbers.{bits_of, number_of, width_of};
 use crate::conversions::{convert, is_signed, width};
 use ang_kinds::Prim;
 
+#[inline(always)]
 fn count_in(at: Prim, y: u64) -> u32
     ensures exact { result ≡ y % width_of at }
     ensures small { result < 64 }
@@ -13,6 +14,7 @@ fn count_in(at: Prim, y: u64) -> u32
     (y % width(at)) as u32
 }
 
+#[inline(always)]
 fn low_bits(at: Prim, x: u64) -> u64
     ensures exact { result ≡ x % 2 ^ width_of at }
 {
@@ -26,6 +28,7 @@ fn low_bits(at: Prim, x: u64) -> u64
 }
 
 /// `<<` in the type.
+#[inline(always)]
 pub(crate) fn shift_left(at: Prim, x: u64, y: u64) -> u64
     ensures exact { result ≡ bits_of at (pos (x * 2 ^ (y % width_of at))) }
 {
@@ -33,6 +36,7 @@ pub(crate) fn shift_left(at: Prim, x: u64, y: u64) -> u64
 }
 
 /// `>>` in the type, which fills zeros into its bits.
+#[inline(always)]
 pub(crate) fn shift_right(at: Prim, x: u64, y: u64) -> u64
     ensures exact { result ≡ bits_of at (pos (x % 2 ^ width_of at / 2 ^ (y % width_of at))) }
 {
@@ -40,6 +44,7 @@ pub(crate) fn shift_right(at: Prim, x: u64, y: u64) -> u64
 }
 
 /// `>>>` in the type, which copies the sign.
+#[inline(always)]
 pub(crate) fn shift_signed(at: Prim, x: u64, y: u64) -> u64
     ensures exact { result ≡ bits_of at (int_div_euclid (number_of at x) (pos (2 ^ (y % width_of at)))) }
 {

@@ -4,7 +4,7 @@ use Rattle.std.specs.Io.KnownBytes.{Appends}
 use Rattle.ang_registry.specs.declared.error.RegError.{RegError}
 use Rattle.ang_registry.specs.declared.error.RegError.TheVariants.{Limit, EmptyMask, BadDeclaration, UnknownType, WrongDriver, Duplicate, Memory as NoMemory}
 use Rattle.ang_registry.specs.Registration.{RegistrationList, Registrations}
-use Rattle.ang_engine.specs.World.{World}
+use Rattle.ang_engine.specs.World.{World, no_modules}
 use Rattle.ang_session.specs.Deeds.{IsDone, IsCut}
 use Rattle.ang_session.specs.Lines.{lines_of}
 use Rattle.ang_session.specs.Profile.{loaded}
@@ -66,7 +66,7 @@ IsEngineText text = (text ≡ codes "engine TooMany\n") ⊎ ((text ≡ codes "en
 abbrev pub RunsSession : RegistrationList → List ℕ → ℕ → Option (List ℕ) → Option (List ℕ) → Status → Type 0
 RunsSession R session budget old new status =
     ((most_session < length session) × Appends old new long_session_text × (status ≡ BadInput))
-    ⊎ ((length session ≤ most_session) × (after : World) × IsDone R [] (session_from 1 budget 0 (lines_of session)) old new status after)
+    ⊎ ((length session ≤ most_session) × (after : World) × IsDone R no_modules (session_from 1 budget 0 (lines_of session)) old new status after)
 
 -- A run that came to its end: what it printed is all.
 abbrev pub Ends : Result RegistrationList (List ℕ) → List ℕ → ℕ → Option (List ℕ) → Option (List ℕ) → Status → Type 0
@@ -77,7 +77,7 @@ Ends (Ok R) session budget old new status =
 -- The session was not done to its end.
 abbrev pub StopsSession : RegistrationList → List ℕ → ℕ → Option (List ℕ) → Option (List ℕ) → Type 0
 StopsSession R session budget old new =
-    HasFront old new long_session_text ⊎ ((after : World) × IsCut R [] (session_from 1 budget 0 (lines_of session)) old new after)
+    HasFront old new long_session_text ⊎ ((after : World) × IsCut R no_modules (session_from 1 budget 0 (lines_of session)) old new after)
 
 -- A run that was cut short: what it printed is a front.
 abbrev pub Stops : Result RegistrationList (List ℕ) → List ℕ → ℕ → Option (List ℕ) → Option (List ℕ) → Type 0

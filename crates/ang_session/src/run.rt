@@ -1,8 +1,7 @@
 //! Running what a session says.
 ghost use Rattle.std.specs.Prelude.{◌≡◌, ◌<◌, ◌≤◌, ◌^◌, [], length, Some, IfOk, OnOk, OnErr};
 ghost use Rattle.std.specs.Io.KnownBytes.{Appends};
-ghost use Rattle.ang_host.specs.Members.{states_of};
-ghost use Rattle.ang_engine.specs.Engines.{registrations, modules_in, drivers_in};
+ghost use Rattle.ang_engine.specs.Engines.{registrations, world_in, drivers_in};
 ghost use Rattle.ang_engine.specs.Sound.{IsSound};
 ghost use Rattle.ang_session.specs.Deeds.{IsDone, IsCut, IsPrinted, IsHalfPrinted, bad_line_text, is_done};
 ghost use Rattle.ang_session.specs.Drivers.{kinds_of};
@@ -62,14 +61,12 @@ fn run_command<W: Write>(
     writer: &mut W,
     command: Command,
 ) -> Result<bool, Stop>
-    requires sound { IsSound (registrations engine.old) (modules_in engine.old)
-        (states_of (λ v. (⟦<dyn Driver as Driver>⟧ v).meaning) (drivers_in engine.old)) }
-    ensures sound { IsSound (registrations engine.new) (modules_in engine.new)
-        (states_of (λ v. (⟦<dyn Driver as Driver>⟧ v).meaning) (drivers_in engine.new)) }
+    requires sound { IsSound (λ v. (⟦<dyn Driver as Driver>⟧ v).meaning) engine.old }
+    ensures sound { IsSound (λ v. (⟦<dyn Driver as Driver>⟧ v).meaning) engine.new }
     ensures registrations { registrations engine.new ≡ registrations engine.old }
     ensures order { kinds_of (drivers_in engine.new) ≡ kinds_of (drivers_in engine.old) }
-    ensures done { IfOk result (λ ok. IsPrinted (registrations engine.old) (modules_in engine.old) (action.Command command) (W.contents writer.old) (W.contents writer.new) ok (modules_in engine.new)) }
-    ensures cut { OnErr result (IsHalfPrinted (registrations engine.old) (modules_in engine.old) (action.Command command) (W.contents writer.old) (W.contents writer.new) (modules_in engine.new)) }
+    ensures done { IfOk result (λ ok. IsPrinted (registrations engine.old) (world_in engine.old) (action.Command command) (W.contents writer.old) (W.contents writer.new) ok (world_in engine.new)) }
+    ensures cut { OnErr result (IsHalfPrinted (registrations engine.old) (world_in engine.old) (action.Command command) (W.contents writer.old) (W.contents writer.new) (world_in engine.new)) }
 {
     let reply = engine.apply(command);
     print_reply(alloc, writer, &reply)?;
@@ -84,15 +81,13 @@ fn perform<W: Write>(
     action: Action,
     budget: u64,
 ) -> Result<(bool, u64), Stop>
-    requires sound { IsSound (registrations engine.old) (modules_in engine.old)
-        (states_of (λ v. (⟦<dyn Driver as Driver>⟧ v).meaning) (drivers_in engine.old)) }
-    ensures sound { IsSound (registrations engine.new) (modules_in engine.new)
-        (states_of (λ v. (⟦<dyn Driver as Driver>⟧ v).meaning) (drivers_in engine.new)) }
+    requires sound { IsSound (λ v. (⟦<dyn Driver as Driver>⟧ v).meaning) engine.old }
+    ensures sound { IsSound (λ v. (⟦<dyn Driver as Driver>⟧ v).meaning) engine.new }
     ensures registrations { registrations engine.new ≡ registrations engine.old }
     ensures order { kinds_of (drivers_in engine.new) ≡ kinds_of (drivers_in engine.old) }
     ensures budget { IfOk result (λ x. x.1 ≡ budget_after budget action) }
-    ensures done { IfOk result (λ x. IsPrinted (registrations engine.old) (modules_in engine.old) action (W.contents writer.old) (W.contents writer.new) x.0 (modules_in engine.new)) }
-    ensures cut { OnErr result (IsHalfPrinted (registrations engine.old) (modules_in engine.old) action (W.contents writer.old) (W.contents writer.new) (modules_in engine.new)) }
+    ensures done { IfOk result (λ x. IsPrinted (registrations engine.old) (world_in engine.old) action (W.contents writer.old) (W.contents writer.new) x.0 (world_in engine.new)) }
+    ensures cut { OnErr result (IsHalfPrinted (registrations engine.old) (world_in engine.old) action (W.contents writer.old) (W.contents writer.new) (world_in engine.new)) }
 {
     match action {
         Action::Command(command) => {
@@ -114,15 +109,13 @@ pub fn run_session<W: Write>(
     text: &[u8],
     budget: u64,
 ) -> Result<Status, Stop>
-    requires sound { IsSound (registrations engine.old) (modules_in engine.old)
-        (states_of (λ v. (⟦<dyn Driver as Driver>⟧ v).meaning) (drivers_in engine.old)) }
+    requires sound { IsSound (λ v. (⟦<dyn Driver as Driver>⟧ v).meaning) engine.old }
     requires few { length text.now < 2 ^ 32 }
-    ensures sound { IsSound (registrations engine.new) (modules_in engine.new)
-        (states_of (λ v. (⟦<dyn Driver as Driver>⟧ v).meaning) (drivers_in engine.new)) }
+    ensures sound { IsSound (λ v. (⟦<dyn Driver as Driver>⟧ v).meaning) engine.new }
     ensures registrations { registrations engine.new ≡ registrations engine.old }
     ensures order { kinds_of (drivers_in engine.new) ≡ kinds_of (drivers_in engine.old) }
-    ensures done { IfOk result (λ status. IsDone (registrations engine.old) (modules_in engine.old) (session_from 1 budget 0 (lines_of text.now)) (W.contents writer.old) (W.contents writer.new) status (modules_in engine.new)) }
-    ensures cut { OnErr result (IsCut (registrations engine.old) (modules_in engine.old) (session_from 1 budget 0 (lines_of text.now)) (W.contents writer.old) (W.contents writer.new) (modules_in engine.new)) }
+    ensures done { IfOk result (λ status. IsDone (registrations engine.old) (world_in engine.old) (session_from 1 budget 0 (lines_of text.now)) (W.contents writer.old) (W.contents writer.new) status (world_in engine.new)) }
+    ensures cut { OnErr result (IsCut (registrations engine.old) (world_in engine.old) (session_from 1 budget 0 (lines_of text.now)) (W.contents writer.old) (W.contents writer.new) (world_in engine.new)) }
 {
     let mut rest = text;
     let mut number = 1;

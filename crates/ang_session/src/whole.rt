@@ -4,8 +4,9 @@ ghost use Rattle.std.specs.Io.KnownBytes.{Appends};
 ghost use Rattle.ang_host.specs.Boxes.{members};
 ghost use Rattle.ang_host.specs.Counts.{IsBalanced};
 ghost use Rattle.ang_host.specs.Members.{states_of, AreFresh};
-ghost use Rattle.ang_engine.specs.Engines.{registrations, modules_in, drivers_in};
+ghost use Rattle.ang_engine.specs.Engines.{registrations, world_in, drivers_in};
 ghost use Rattle.ang_engine.specs.Sound.{IsSound};
+ghost use Rattle.ang_engine.specs.World.{no_modules};
 ghost use Rattle.ang_session.specs.Drivers.{kinds_of};
 ghost use Rattle.ang_session.specs.Lines.{lines_of};
 ghost use Rattle.ang_session.specs.Profile.{loaded};
@@ -102,11 +103,9 @@ fn run_text<R: Read, W: Write>(
     engine: &mut Engine,
     budget: u64,
 ) -> Result<Status, Stop>
-    requires sound { IsSound (registrations engine.old) (modules_in engine.old)
-        (states_of (λ v. (⟦<dyn Driver as Driver>⟧ v).meaning) (drivers_in engine.old)) }
-    requires new { modules_in engine.old ≡ [] }
-    ensures sound { IsSound (registrations engine.new) (modules_in engine.new)
-        (states_of (λ v. (⟦<dyn Driver as Driver>⟧ v).meaning) (drivers_in engine.new)) }
+    requires sound { IsSound (λ v. (⟦<dyn Driver as Driver>⟧ v).meaning) engine.old }
+    requires new { world_in engine.old ≡ no_modules }
+    ensures sound { IsSound (λ v. (⟦<dyn Driver as Driver>⟧ v).meaning) engine.new }
     ensures order { kinds_of (drivers_in engine.new) ≡ kinds_of (drivers_in engine.old) }
     ensures done { IfOk result (λ status. IfSome (R.remaining reader.old) (λ text. RunsSession (registrations engine.old) text budget (W.contents writer.old) (W.contents writer.new) status)) }
     ensures cut { OnErr result (IfSome (R.remaining reader.old) (λ text. StopsSession (registrations engine.old) text budget (W.contents writer.old) (W.contents writer.new))) }

@@ -13,6 +13,20 @@ const MOST_TICKS: u64 = 2_147_483_647;
 /// The ticks where `--budget` is not given.
 const DEFAULT_TICKS: u64 = 1_000_000;
 
+/// What the program is for.
+const ABOUT: &str = "Runs a session of scripts over a profile of what a host offers them.";
+
+const PROFILE_HELP: &str = "The file of what the host registers, each under a mask";
+
+const SESSION_HELP: &str = "The file of commands: modules, their scripts, builds and calls";
+
+const BUDGET_HELP: &str =
+    "The ticks that each command may take, from 1 to 2147483647, if not 1000000";
+
+/// Where the formats are described.
+const FORMATS: &str = "Both files are text, one entry or command a line. docs/FORMATS.md has their \
+    lines, what is{n}printed and the exit status; crates/examples/data has files of both.";
+
 /// What the command line says.
 #[derive(Debug, Drop)]
 pub struct Options {
@@ -32,9 +46,11 @@ pub fn command_line<'a>(alloc: Global) -> Result<Command<'a>, AllocError>
     let session = Arg::new(alloc, "session").long("session").required(true);
     let budget = Arg::new(alloc, "budget").long("budget");
     Command::new(alloc, "asrun")
-        .arg(profile)?
-        .arg(session)?
-        .arg(budget)
+        .about(ABOUT)
+        .after_help(FORMATS)
+        .arg(profile.help(PROFILE_HELP))?
+        .arg(session.help(SESSION_HELP))?
+        .arg(budget.help(BUDGET_HELP))
 }
 
 /// The budget that is given, or the one where none is. None where it is no number from 1 to the most.

@@ -117,7 +117,7 @@ fn measure(rt: &HostRuntime, view: &View, name: &str, text: &[u8], turns: u32) -
 fn print_built(rt: &HostRuntime, view: &View, name: &str, text: &[u8]) -> io::Result<u8> {
     match built(rt.alloc(), view, text) {
         Some(program) => {
-            let functions = program.functions.as_slice().len();
+            let functions = program.names.functions.as_slice().len();
             println!(rt; "{name}: {} bytes, {functions} functions", text.len())?;
             Ok(0)
         }

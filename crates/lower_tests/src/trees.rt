@@ -312,9 +312,45 @@ fn choosing(alloc: Global) -> Result<Typed, AllocError> {
 fn choices_and_variables(rt: HostRuntime) -> Result<(), Fail> {
     let want = "[] { { (Write(EntityNo(13))) (GlobalGet(2)); \
         (GlobalChange(2, Change { work: Xor, at: I64, to: U8, old: false })) \
-        [(Not) [[(Compare(Greater, true)) 1 2 ? 1 : 0] ? 1 : 0] ? (Negate(I64)) 1 : \
+        [(Not) [[(Compare(Greater, true)) 1 2 ? 1 : 0] ? 1 : 0] ? 18446744073709551615 : \
         (Complement(I64)) (Read(EntityNo(14)))]; } }";
     assert!(rt; is_lowered(rt.alloc(), choosing(rt.alloc())?, want)?);
+    Ok(())
+}
+
+fn converted(alloc: Global, to: Prim, operand: Expression) -> Result<Expression, AllocError> {
+    Ok(Expression::Convert {
+        from: Prim::I32,
+        to,
+        operand: Box::new(alloc, operand)?,
+    })
+}
+
+/// `{ uint8(300); int8(200); int64(int8(200)); uint64(int8(p)); ~0; !true; }` of a local p, `~` in `uint16`.
+fn literals(alloc: Global) -> Result<Typed, AllocError> {
+    let cut = evaluate(converted(alloc, Prim::U8, number(300))?);
+    let signed = evaluate(converted(alloc, Prim::I8, number(200))?);
+    let twice = converted(alloc, Prim::I8, number(200))?;
+    let twice = evaluate(converted(alloc, Prim::I64, twice)?);
+    let kept = converted(alloc, Prim::I8, local(0))?;
+    let kept = evaluate(converted(alloc, Prim::U64, kept)?);
+    let turned = evaluate(Expression::Complement {
+        ty: Prim::U16,
+        operand: Box::new(alloc, number(0))?,
+    });
+    let denied = evaluate(Expression::Not {
+        operand: Box::new(alloc, Expression::Truth(true))?,
+    });
+    let statements = vec![in alloc; cut, signed, twice, kept, turned, denied]?;
+    let parameters = vec![in alloc; takes(Pass::Value)]?;
+    module_of(alloc, function(parameters, statements))
+}
+
+#[test]
+fn operations_on_literals_are_done(rt: HostRuntime) -> Result<(), Fail> {
+    let want = "[In] { 44; 18446744073709551560; 18446744073709551560; \
+        (Convert(U64)) (Convert(I8)) l0; 65535; 0; }";
+    assert!(rt; is_lowered(rt.alloc(), literals(rt.alloc())?, want)?);
     Ok(())
 }
 

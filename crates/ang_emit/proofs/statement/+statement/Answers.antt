@@ -105,7 +105,7 @@ write_statement-returns-in_ok-write_leave-in-Block t c =
 
 pub write_statement-returns-in_ok-write_block-in-If-2 : goal.write_statement-returns-in_ok-write_block-in-If-2
 write_statement-returns-in_ok-write_block-in-If-2 t c =
-    let t0 = c.args.text.now in let t1 = c.write_block.new.text in let t2 = c.put-in-If.new.self in let t3 = c.write_block-in-If.new.text in
+    let t0 = c.args.text.now in let t1 = c.write_block.new.text in let t2 = c.write_past.new.text in let t3 = c.write_block-in-If.new.text in
     let x = c.args.exits in let q = x.params in let n = c.args.locals in let j = x.alive in
     let e1 : t1 ≡ block_at q n j (length t0 - x.exit) (length t0 - x.again) c.in-If.two.value ++ t0 =
     c.in_ok-write_block-in-If.ensures ∙ ap (λ z. block_at q n j (length t0 - x.exit) (length t0 - x.again) z ++ t0) c.deref-in-If.ensures in
@@ -113,7 +113,7 @@ write_statement-returns-in_ok-write_block-in-If-2 t c =
     c.in_ok-write_block-in-If-2.ensures ∙ ap (λ z. block_at q n j (length t2 - x.exit) (length t2 - x.again) z ++ t2) c.deref-in-If-2.ensures in
     let same : expr_code 0 c.in-If.test ++ (SkipIfFalse (length t3 - c.len-second.result) ∷ t3) ≡ stmt_code q n j (length t0 - x.exit) (length t0 - x.again) c.args.s.now ++ t0 =
     if_arm t0 t1 t2 t3 q n j x.exit x.again c.len-second.result c.len-end.result c.in-If.test c.in-If.one.value c.in-If.two.value c.requires.exit c.requires.again
-    e1 c.len-end.ensures.count c.len-second.ensures.count c.in_ok-put-in-If.ensures.before e3
+    e1 c.len-end.ensures.count c.len-second.ensures.count c.in_ok-write_past-in-If.ensures e3
     ∙ ap (λ z. stmt_code q n j (length t0 - x.exit) (length t0 - x.again) z ++ t0) (sym c.in-If.is) in
     record { code = subst (λ l. OnOk c.write_test.result (c.write_test.new.text ≡ l)) same c.write_test.ensures }
 

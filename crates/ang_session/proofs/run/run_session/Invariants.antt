@@ -1,5 +1,5 @@
-use Rattle.std.proofs.Common.{◌≡◌, ◌+◌, ◌≤◌, length, map as list_map}
-use Rattle.ang_engine.specs.Engines.{registrations, modules_in, drivers_in}
+use Rattle.std.proofs.Common.{◌≡◌, ◌+◌, ◌≤◌, length}
+use Rattle.ang_engine.specs.Engines.{registrations, world_in, drivers_in}
 use Rattle.ang_engine.specs.Sound.{IsSound}
 use Rattle.ang_session.specs.Drivers.{kinds_of}
 use Rattle.ang_session.specs.Lines.{lines_of}
@@ -11,12 +11,12 @@ abbrev pub invariant-loop-line : goal.invariant-loop-line
 invariant-loop-line g l =
     record {
       lines : l.number + length l.rest ≤ length l.text + 1;
-      sound : IsSound (registrations l.engine) (modules_in l.engine) (list_map (λ b. (goal.Driver-dyn g (b.vtable, b.value)).meaning.state b.value) (drivers_in l.engine));
+      sound : IsSound (λ v. (g.dyn-1.0.entry v).1.meaning) l.engine;
       list : registrations l.engine ≡ registrations l.initial.engine;
       order : kinds_of (drivers_in l.engine) ≡ kinds_of (drivers_in l.initial.engine);
-      done : HasDone (registrations l.initial.engine) (modules_in l.initial.engine)
+      done : HasDone (registrations l.initial.engine) (world_in l.initial.engine)
           (session_from 1 l.budget 0 (lines_of l.text)) (session_from l.number l.ticks 0 (lines_of l.rest))
-          (g.W.Write.contents l.initial.writer) (g.W.Write.contents l.writer) l.all_ok (modules_in l.engine);
+          (g.W.Write.contents l.initial.writer) (g.W.Write.contents l.writer) l.all_ok (world_in l.engine);
     }
 
 abbrev pub decreases-loop-line : goal.decreases-loop-line

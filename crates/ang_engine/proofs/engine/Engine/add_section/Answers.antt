@@ -1,13 +1,9 @@
-use Rattle.std.proofs.Common.{ap, ◌∙◌, []}
-use Rattle.ang_engine.specs.declared.reply.Reply.{Reply}
-use Rattle.ang_engine.specs.Step.{reply_of}
-use Rattle.ang_engine.proofs.Applying.{Applied-quiet, Takes-done}
+use Rattle.ang_vm.specs.Worlds.{values_in}
+use Rattle.ang_engine.specs.Engines.{registrations, world_in, drivers_in}
+use Rattle.ang_engine.proofs.Whole.{applied-done}
 use Rattle.ang_engine.proofs.engine.Engine.add_section.Goals as goal
 
 pub returns-clause-applied : goal.returns-clause-applied
 returns-clause-applied g c =
-    let reply = c.answer.ensures ∙ ap (λ o. reply_of o [] []) c.ended.ensures in
-    Applied-quiet _ _ _ _ _ _ _
-    (Takes-done _ _ _ _ c.add_section-done.result _ c.add_section-done.ensures.done reply)
-    (ap (λ (r : Reply). r.events) reply)
-    (c.add_section-done.ensures.sound _ c.requires.sound.modules) c.requires.sound
+    applied-done (λ v. (g.dyn-1.0.entry v).1.meaning) (registrations c.args.self.now) (world_in c.args.self.now) _ (drivers_in c.args.self.now) _ _ c.add_section-done.result c.ended.result
+    c.ended.ensures c.answer.ensures (c.add_section-done.ensures.done (values_in c.args.self.now.machine.globals))

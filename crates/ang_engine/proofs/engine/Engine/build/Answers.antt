@@ -1,9 +1,8 @@
-use Rattle.ang_engine.proofs.Applying.{Applied-quiet, Takes-built}
+use Rattle.ang_engine.specs.Engines.{registrations, world_in, drivers_in}
+use Rattle.ang_engine.proofs.Whole.{applied-build}
 use Rattle.ang_engine.proofs.engine.Engine.build.Goals as goal
 
 pub returns-clause-applied : goal.returns-clause-applied
 returns-clause-applied g c =
-    Applied-quiet _ _ _ _ _ _ _
-    (Takes-built _ _ _ c.args.name c.args.budget c.build-done.result _ c.build-done.ensures.done c.build_reply.ensures.reply)
-    c.build_reply.ensures.quiet
-    (c.build-done.ensures.sound c.requires.sound.modules) c.requires.sound
+    applied-build (λ v. (g.dyn-1.0.entry v).1.meaning) (registrations c.args.self.now) (world_in c.args.self.now) _ (drivers_in c.args.self.now) _ c.args.name c.args.budget _ c.build-done.result
+    c.build_reply.ensures c.build-done.ensures.done c.build-done.ensures.asked

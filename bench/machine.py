@@ -1,0 +1,226 @@
+#!/usr/bin/env python3
+"""Runs the scripts of bench/scripts in the program, and in the original engine where its program is given, and prints a line for
+each: the ticks of the run, how many ticks a second the program makes, the seconds of both, and the original's seconds divided by
+the program's. Above 1 the program is faster. The last line has the geometric mean of the ratios.
+
+    python3 bench/machine.py ASRUN [--original MACHINE] [--modes plain,bare,counted] [--rounds N] [--check] [SCRIPT ...]
+
+ASRUN is the executable of crates/asrun and MACHINE that of bench/original/machine.cpp, whose modes are named there. A round runs
+each once, one behind the other, and the quickest of N rounds counts (5, if left out). Seconds are processor time. Those of the
+program are the time of a session that builds and calls, less that of a session that only builds; those of the original are taken
+around the call. Each answer is compared with the one that the script's head states.
+
+--check measures nothing: it tells whether a script runs with the ticks that its head states, and with one less does not.
+
+Ends with status 1 where a script could not be run, or gave another answer.
+"""
+
+import argparse
+import math
+import os
+import re
+import subprocess
+import sys
+import tempfile
+from dataclasses import dataclass
+from pathlib import Path
+
+HEAD = re.compile(r"// ticks (\d+)\n// answer (-?\d+)\n")
+PROFILE = "mask 00000001\nfunction 0 0 void print(int64)\n"
+MOST_TICKS = 2147483647
+CALL = "call bench () int64 main()\n"
+MODES = ["plain", "bare", "counted"]
+
+
+class Refused(Exception):
+    """A script that could not be run, or gave another answer than it should."""
+
+
+@dataclass
+class Script:
+    name: str
+    path: Path
+    text: str
+    ticks: int
+    answer: int
+
+
+@dataclass
+class Figures:
+    """Seconds of the quickest rounds: of the program, and of the original engine in each mode."""
+
+    ours: float
+    original: dict
+
+
+def script_at(path):
+    text = path.read_text()
+    head = HEAD.match(text)
+    if not head:
+        sys.exit("%s: the head states no ticks and answer" % path)
+    return Script(path.stem, path, text, int(head[1]), int(head[2]))
+
+
+def building(script):
+    """The commands that build a script, and the lines that they print."""
+    lines = script.text.count("\n")
+    commands = "module bench 00000001\nsection bench %d\n%sbuild bench\n" % (lines, script.text)
+    return commands, ["ok"] * 3
+
+
+def called(script, budget, outcome):
+    """The commands that call a script's main with so many ticks, and the lines that they print."""
+    return "budget %d\n%s" % (budget, CALL), ["ok", outcome]
+
+
+def seconds_of(words, output):
+    """The processor time of a command, whose standard output goes to a file."""
+    with open(output, "w") as out:
+        child = subprocess.Popen(words, stdout=out, stderr=subprocess.STDOUT)
+        _, status, used = os.wait4(child.pid, 0)
+        child.returncode = os.waitstatus_to_exitcode(status)
+    return used.ru_utime + used.ru_stime
+
+
+class Program:
+    """The program of this project, on sessions written into a folder."""
+
+    def __init__(self, path, folder):
+        self.path = path
+        self.profile = os.path.join(folder, "bench.profile")
+        self.session = os.path.join(folder, "bench.session")
+        self.output = os.path.join(folder, "bench.output")
+        Path(self.profile).write_text(PROFILE)
+
+    def seconds(self, commands, expected):
+        """The processor time of a session that prints these lines."""
+        Path(self.session).write_text(commands)
+        seconds = seconds_of([self.path, "--profile", self.profile, "--session", self.session], self.output)
+        self.compare(expected)
+        return seconds
+
+    def compare(self, expected):
+        printed = Path(self.output).read_text().splitlines()
+        if printed != expected:
+            differing = [line for line in printed if line != "ok"]
+            raise Refused("it prints " + " / ".join(differing or printed or ["nothing"]))
+
+    def build(self, script):
+        commands, lines = building(script)
+        return self.seconds(commands, lines)
+
+    def build_and_call(self, script, budget, outcome):
+        commands, lines = building(script)
+        more, outcomes = called(script, budget, outcome)
+        return self.seconds(commands + more, lines + outcomes)
+
+
+class Original:
+    """The original engine, by the program of bench/original/machine.cpp."""
+
+    def __init__(self, path):
+        self.path = path
+
+    def seconds(self, script, mode):
+        words = [self.path, str(script.path), str(script.answer), "1", mode]
+        done = subprocess.run(words, capture_output=True, text=True)
+        if done.returncode != 0:
+            raise Refused(done.stderr.strip())
+        return float(done.stdout)
+
+
+def measured(script, program, original, modes, rounds):
+    builds, calls = [], []
+    others = {mode: [] for mode in modes}
+    for _ in range(rounds):
+        builds.append(program.build(script))
+        calls.append(program.build_and_call(script, MOST_TICKS, "ok %d" % script.answer))
+        for mode in modes:
+            others[mode].append(original.seconds(script, mode))
+    return Figures(min(calls) - min(builds), {mode: min(taken) for mode, taken in others.items()})
+
+
+def check(script, program):
+    """The head's ticks are enough, and one less is not."""
+    program.build_and_call(script, script.ticks, "ok %d" % script.answer)
+    program.build_and_call(script, script.ticks - 1, "fault Budget")
+    print("%-12s %12d ticks" % (script.name, script.ticks))
+
+
+def heading(modes):
+    print("%-12s %12s %16s %8s" % ("script", "ticks", "million ticks/s", "seconds"), end="")
+    print("".join(" %8s %6s" % (mode, "ratio") for mode in modes))
+
+
+def line_of(script, figures):
+    if figures.ours <= 0:
+        raise Refused("the call takes no time that could be measured")
+    speed = script.ticks / figures.ours / 1e6
+    line = "%-12s %12d %16.1f %8.3f" % (script.name, script.ticks, speed, figures.ours)
+    return line + "".join(" %8.3f %6.2f" % (taken, taken / figures.ours) for taken in figures.original.values())
+
+
+def geometric_mean(ratios):
+    return math.exp(sum(math.log(ratio) for ratio in ratios) / len(ratios))
+
+
+def last_line(all_figures, modes):
+    means = [geometric_mean([figures.original[mode] / figures.ours for figures in all_figures]) for mode in modes]
+    print("%-51s" % ("geometric mean of %d" % len(all_figures)) + "".join(" %8s %6.2f" % ("", mean) for mean in means))
+
+
+def each_of(scripts, act):
+    """What there is of each script that is not refused, and how many are."""
+    answers, refused = [], 0
+    for script in scripts:
+        try:
+            answers.append(act(script))
+        except Refused as why:
+            print("%-12s %s" % (script.name, why))
+            refused += 1
+        sys.stdout.flush()
+    return answers, refused
+
+
+def measure_all(scripts, program, original, modes, rounds):
+    def measure(script):
+        figures = measured(script, program, original, modes, rounds)
+        print(line_of(script, figures))
+        return figures
+
+    heading(modes)
+    all_figures, refused = each_of(scripts, measure)
+    if all_figures and modes:
+        last_line(all_figures, modes)
+    return refused
+
+
+def options():
+    reader = argparse.ArgumentParser(description=__doc__, formatter_class=argparse.RawDescriptionHelpFormatter)
+    reader.add_argument("asrun")
+    reader.add_argument("--original")
+    reader.add_argument("--modes", default="plain,bare")
+    reader.add_argument("--rounds", type=int, default=5)
+    reader.add_argument("--check", action="store_true")
+    reader.add_argument("scripts", nargs="*", type=Path)
+    chosen = reader.parse_intermixed_args()
+    chosen.modes = chosen.modes.split(",") if chosen.original else []
+    if chosen.rounds < 1 or not set(chosen.modes) <= set(MODES):
+        reader.error("a round at least, and modes of %s" % ", ".join(MODES))
+    return chosen
+
+
+def main():
+    chosen = options()
+    paths = chosen.scripts or sorted((Path(__file__).parent / "scripts").glob("*.as"))
+    scripts = [script_at(path) for path in paths]
+    with tempfile.TemporaryDirectory() as folder:
+        program = Program(chosen.asrun, folder)
+        if chosen.check:
+            _, refused = each_of(scripts, lambda script: check(script, program))
+        else:
+            refused = measure_all(scripts, program, Original(chosen.original), chosen.modes, chosen.rounds)
+    sys.exit(1 if refused else 0)
+
+
+main()

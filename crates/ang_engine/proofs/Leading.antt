@@ -1,0 +1,75 @@
+-- How commands lead to their replies.
+use Rattle.std.proofs.Common.{◌≡◌, refl, ap, sym, ◌∙◌, subst, inl, inr, ◌⊎◌, ⊎_elim, ℕ, true, false, List, [], ◌∷◌, ◌++◌, Option, Some, None}
+use Rattle.std.specs.Prelude.{Result, Ok, Err, IsSome, is_some}
+use Rattle.ang_kinds.specs.declared.fault.Fault.{Fault}
+use Rattle.ang_kinds.specs.declared.error.Error.{Error}
+use Rattle.ang_host.specs.declared.event.HostEvent.{HostEvent}
+use Rattle.ang_registry.specs.Registration.{RegistrationList}
+use Rattle.ang_meaning.specs.declared.slot.Slot.{Slot}
+use Rattle.ang_meaning.specs.World.{Input, Room}
+use Rattle.ang_meaning.specs.Told.{has_room, stopped_by}
+use Rattle.ang_means.specs.Ends.{IsTold}
+use Rattle.ang_engine.specs.declared.command.Command.{Command}
+use Rattle.ang_engine.specs.declared.reply.Reply.{Reply}
+use Rattle.ang_engine.specs.declared.reply.Outcome.{Outcome}
+use Rattle.ang_engine.specs.declared.reply.Outcome.TheVariants.{Done, Refused}
+use Rattle.ang_engine.specs.declared.reply.Refusal.{Refusal}
+use Rattle.ang_engine.specs.declared.reply.Refusal.TheVariants.{Memory}
+use Rattle.ang_engine.specs.declared.calling.Called.{Called}
+use Rattle.ang_engine.specs.World.{World}
+use Rattle.ang_engine.specs.Step.{Stepped, Leads, Takes, judged, step, answered, refused, reply_of}
+use Rattle.ang_engine.specs.Outcomes.{IsDone, IsCalled, outcome_of, reply_to_call}
+
+-- ---- what was told
+
+some_stop : {A : Type 0} (o : Option A) (x : A) → o ≡ Some x → IsSome o
+some_stop o x e = ap is_some e
+
+-- a run that was told enough, or stopped by its last input
+pub told_by : (r : Result Slot Fault) (used : List Input) → IsTold r used → (has_room used ≡ true) ⊎ IsSome (stopped_by used)
+told_by (Ok v) used h = inl h
+told_by (Err f) used (inl h) = inl h
+told_by (Err f) used (inr h) = inr (some_stop (stopped_by used) f h)
+
+-- ---- commands that asked for no more
+
+pub leads-at_once : (go : List Input → Option Stepped) (o : Outcome) (after : World) → ((rest : List Input) → go rest ≡ answered o after rest) → Leads go (reply_of o [] []) after
+leads-at_once go o after h = record { used = []; tells = h; told = inl refl }
+
+-- the same step by other words
+pub leads-same : (go to : List Input → Option Stepped) (reply : Reply) (v w : World) → ((rest : List Input) → to rest ≡ go rest) → v ≡ w → Leads go reply v → Leads to reply w
+leads-same go to reply v w h e l = record {
+  used = l.used;
+  tells = λ rest. h (l.used ++ rest) ∙ l.tells rest ∙ ap (λ x. Some (record { reply = reply; world = x; left = rest })) e;
+  told = l.told;
+}
+
+-- ---- a whole command
+
+-- there was memory, and it was judged
+pub takes-judged : (R : RegistrationList) (w v : World) (c : Command) (reply : Reply) → Leads (judged R w c) reply v → Takes R w c reply v
+takes-judged R w v c reply l = record { used = Room true ∷ l.used; tells = λ rest. l.tells rest; told = l.told }
+
+-- there was none before anything was changed
+pub takes-memory : (R : RegistrationList) (w v : World) (c : Command) → v ≡ w → Takes R w c (reply_of (Refused Memory) [] []) v
+takes-memory R w v c same = record {
+  used = Room false ∷ [];
+  tells = λ rest. ap (λ x. Some (record { reply = reply_of (Refused Memory) [] []; world = x; left = rest })) (sym same);
+  told = inr refl;
+}
+
+refused-takes : (R : RegistrationList) (w v : World) (c : Command) (why : Refusal)
+    → (why ≡ Memory) ⊎ ((rest : List Input) → judged R w c rest ≡ refused why w rest) → v ≡ w → Takes R w c (reply_of (Refused why) [] []) v
+refused-takes R w v c why (inl memory) same = subst (λ x. Takes R w c (reply_of (Refused x) [] []) v) (sym memory) (takes-memory R w v c same)
+refused-takes R w v c why (inr so) same =
+    subst (λ x. Takes R w c (reply_of (Refused why) [] []) x) (sym same) (takes-judged R w w c _ (leads-at_once (judged R w c) (Refused why) w so))
+
+-- it is done or refused
+pub takes-done : {U : Type 0} (R : RegistrationList) (w v : World) (c : Command) (r : Result U Refusal) → IsDone r (judged R w c) w v → Takes R w c (reply_of (outcome_of r) [] []) v
+takes-done R w v c (Ok u) done = takes-judged R w v c _ (leads-at_once (judged R w c) (Done None) v done)
+takes-done R w v c (Err why) done = refused-takes R w v c why done.0 done.1
+
+-- a call was run or refused
+pub takes-called : (R : RegistrationList) (w v : World) (c : Command) (r : Result Called Refusal) → IsCalled r (judged R w c) w v → Takes R w c (reply_to_call r) v
+takes-called R w v c (Ok called) done = takes-judged R w v c _ done
+takes-called R w v c (Err why) done = refused-takes R w v c why done.0 done.1

@@ -1,0 +1,76 @@
+//! The replies to commands.
+ghost use Rattle.std.specs.Prelude.{◌≡◌, []};
+ghost use Rattle.ang_engine.specs.Step.{reply_of};
+ghost use Rattle.ang_engine.specs.Outcomes.{outcome_of, reply_to_build, reply_to_call};
+
+use crate::building::BuildRefused;
+use crate::calling::Called;
+use crate::reply::{Outcome, Refusal, Reply};
+use ang_host::HostEvent;
+use ang_kinds::{Error, List};
+use std::alloc::Global;
+
+/// A reply without denials.
+fn reply(alloc: Global, outcome: Outcome, events: Vec<HostEvent>, errors: List<Error>) -> Reply
+    ensures { result ≡ reply_of outcome events.items errors }
+{
+    Reply {
+        outcome,
+        events: List::from_vec(events),
+        errors,
+        denials: List::from_vec(Vec::new(alloc)),
+    }
+}
+
+/// A reply after a run.
+fn with_events(alloc: Global, outcome: Outcome, events: Vec<HostEvent>) -> Reply
+    ensures { result ≡ reply_of outcome events.items [] }
+{
+    reply(alloc, outcome, events, List::from_vec(Vec::new(alloc)))
+}
+
+/// A reply without events and errors.
+pub fn answer(alloc: Global, outcome: Outcome) -> Reply
+    ensures { result ≡ reply_of outcome [] [] }
+{
+    with_events(alloc, outcome, Vec::new(alloc))
+}
+
+/// How a command without an answer ended.
+pub fn ended(done: Result<(), Refusal>) -> Outcome
+    ensures { result ≡ outcome_of done }
+{
+    match done {
+        Ok(()) => Outcome::Done(None),
+        Err(refusal) => Outcome::Refused(refusal),
+    }
+}
+
+/// The reply to a build.
+pub fn build_reply(alloc: Global, done: Result<Vec<HostEvent>, BuildRefused>) -> Reply
+    ensures { result ≡ reply_to_build done }
+{
+    match done {
+        Ok(events) => with_events(alloc, Outcome::Done(None), events),
+        Err(BuildRefused::Before(refusal)) => answer(alloc, Outcome::Refused(refusal)),
+        Err(BuildRefused::Memory) => answer(alloc, Outcome::Refused(Refusal::BuildMemory)),
+        Err(BuildRefused::Errors(errors)) => {
+            let outcome = Outcome::Refused(Refusal::BuildErrors);
+            reply(alloc, outcome, Vec::new(alloc), errors)
+        }
+        Err(BuildRefused::Initializer(fault, events)) => {
+            let outcome = Outcome::Refused(Refusal::InitFailed(fault));
+            with_events(alloc, outcome, events)
+        }
+    }
+}
+
+/// The reply to a call.
+pub fn call_reply(alloc: Global, done: Result<Called, Refusal>) -> Reply
+    ensures { result ≡ reply_to_call done }
+{
+    match done {
+        Ok(called) => with_events(alloc, called.outcome, called.events),
+        Err(refusal) => answer(alloc, Outcome::Refused(refusal)),
+    }
+}

@@ -1,0 +1,4 @@
+pub mod Uses
+pub mod Numbers
+pub mod Running
+pub mod Loading

@@ -1,0 +1,4 @@
+pub mod Loaded
+pub mod Numbers
+pub mod Entities
+pub mod Started

@@ -1,0 +1,4 @@
+pub mod Executed
+pub mod Ends
+pub mod Modules
+pub mod Initializing

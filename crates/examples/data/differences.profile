@@ -1,0 +1,11 @@
+# A sum and the console's register for all, and what modules of the mask 00000001 don't see.
+mask 00000003
+function 0 1 int64 sum(int64, int64)
+global 0 0 int64 reg
+mask 00000002
+type Cell 2
+function 0 0 void audit(int64)
+global 0 0 int64 level
+# The function's own mask meets the module's. It names a type whose mask doesn't.
+mask 00000001
+function 2 2 Cell@+ pick(Cell@+)
