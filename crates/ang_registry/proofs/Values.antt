@@ -1,26 +1,34 @@
--- Lists that registrations made have no `&out` parameter, and neither has what a mask sees of them.
-use Rattle.std.specs.Prelude.{◌≡◌, ℕ, Bool, true, false, if◌then◌else◌, List, [], ◌∷◌, ◌++◌, map, Option, Some, None, Result, Ok, Err, IfOk}
-use Rattle.std.proofs.Common.{sym, subst}
+-- Lists that registrations made take values alone, and so does what a mask sees of them.
+use Rattle.std.specs.Prelude.{◌≡◌, ℕ, Bool, true, false, not, ◌&&◌, is_none, if◌then◌else◌, List, [], ◌∷◌, ◌++◌, map, Option, Some, None, Result, Ok, Err, IfOk}
+use Rattle.std.proofs.Common.{refl, sym, subst}
 use Rattle.ang_kinds.specs.declared.types.Signature.{Signature}
+use Rattle.ang_kinds.specs.declared.types.TypeRef.{TypeRef}
 use Rattle.ang_lex.specs.declared.token.Token.{Token}
+use Rattle.ang_lex.specs.declared.token.TokenKind.{TokenKind}
+use Rattle.ang_lex.specs.declared.token.TokenKind.TheVariants as k
 use Rattle.ang_lex.specs.declared.error.LexError.{LexError}
 use Rattle.ang_lex.specs.Tokens.{tokens_of}
 use Rattle.ang_lex.specs.Spelling.{is_identifier}
+use Rattle.ang_tree.specs.Kinds.{primitive_kind}
 use Rattle.ang_read.specs.Law.{all_of}
 use Rattle.ang_read.specs.Read.{Outcome, Parser}
 use Rattle.ang_decl.specs.declared.error.DeclError.{DeclError}
 use Rattle.ang_decl.specs.declared.error.DeclError.TheVariants.{Syntax, Unsupported}
 use Rattle.ang_decl.specs.declared.tree.HostParameter.{HostParameter}
+use Rattle.ang_decl.specs.declared.tree.HostProperty.{HostProperty}
+use Rattle.ang_decl.specs.declared.tree.HostType.{HostType}
 use Rattle.ang_decl.specs.Parsed as text
 use Rattle.ang_decl.specs.Parsed.{judged, judged_tokens}
 use Rattle.ang_decl.specs.Read.{a_function, a_property}
-use Rattle.ang_decl.specs.Signatures.{is_function_left_out, is_factory_left_out, is_property_left_out, param_of, function_signature, property_signature}
+use Rattle.ang_decl.specs.Signatures.{is_function_left_out, is_factory_left_out, is_property_left_out, type_by, param_of, function_signature, property_signature}
 use Rattle.ang_registry.specs.declared.entry.Entry.{Entry}
+use Rattle.ang_registry.specs.declared.entry.EntryKind.{EntryKind}
+use Rattle.ang_registry.specs.declared.entry.EntryKind.TheVariants as entry
 use Rattle.ang_registry.specs.Declarations.{signature_in, declared_function, declared_method, declared_factory, declared_property, declared_type, type_signature}
 use Rattle.ang_registry.specs.Registration.{RegistrationList, is_seen, seen_entry, seen}
-use Rattle.ang_registry.specs.Values.{AreValues, DeclaresValues, EntryTakesValues, TakesValues}
+use Rattle.ang_registry.specs.Values.{AreValues, IsPrimitive, IsGivenBy, SignatureTakesValues, DeclaresValues, EntryTakesValues, TakesValues}
 
--- a view has no more parameters than the list
+-- a view has no more declarations than the list
 seen_values : (list : RegistrationList) (m : ℕ) (x : Option Entry) → EntryTakesValues x → EntryTakesValues (seen_entry list m x)
 seen_values list m None h = tt
 seen_values list m (Some x) h = seen_value (is_seen list m x)
@@ -49,73 +57,83 @@ params_values : (text : List ℕ) (ps : List HostParameter) → AreValues (map (
 params_values text [] = tt
 params_values text (p ∷ ps) = ((λ e. cc), params_values text ps)
 
--- what was read and judged has what each signature has
-judged_has : {A : Type 0} (P : Signature → Type 0) (form left_out : A → Bool) (signature : A → Signature) (o : Outcome A) → ((a : A) → P (signature a))
-    → IfOk (judged form left_out signature o) P
+-- what was read and judged has what each signature has that is not left out
+judged_has : {A : Type 0} (P : Signature → Type 0) (form left_out : A → Bool) (signature : A → Signature) (o : Outcome A)
+    → ((a : A) → left_out a ≡ false → P (signature a)) → IfOk (judged form left_out signature o) P
 judged_has P form left_out signature (Err f) g = tt
-judged_has P form left_out signature (Ok p) g = by (form p.0) (left_out p.0)
+judged_has P form left_out signature (Ok p) g = by (form p.0) (left_out p.0) refl
   where
-    by : (b c : Bool) → IfOk (if b then (if c then Err Unsupported else Ok (signature p.0)) else Err Syntax) P
-    by true true = tt
-    by true false = g p.0
-    by false c = tt
+    by : (b c : Bool) → left_out p.0 ≡ c → IfOk (if b then (if c then Err Unsupported else Ok (signature p.0)) else Err Syntax) P
+    by true true e = tt
+    by true false e = g p.0 e
+    by false c e = tt
 
 tokens_have : {A : Type 0} (P : Signature → Type 0) (reader : ℕ → Parser A) (form left_out : A → Bool) (signature : A → Signature)
-    (ts : Result (List Token) LexError) → ((a : A) → P (signature a)) → IfOk (judged_tokens reader form left_out signature ts) P
+    (ts : Result (List Token) LexError) → ((a : A) → left_out a ≡ false → P (signature a)) → IfOk (judged_tokens reader form left_out signature ts) P
 tokens_have P reader form left_out signature (Err e) g = tt
 tokens_have P reader form left_out signature (Ok ts) g = judged_has P form left_out signature (all_of reader ts) g
 
-signature_declares : (s : Result Signature DeclError) → IfOk s (λ x. AreValues x.params) → DeclaresValues (signature_in s)
-signature_declares (Ok s) h = h
-signature_declares (Err e) h = tt
+signature_declares : (kind : EntryKind) (s : Result Signature DeclError) → IfOk s (SignatureTakesValues kind) → DeclaresValues kind (signature_in s)
+signature_declares kind (Ok s) h = h
+signature_declares kind (Err e) h = tt
 
-abbrev TakesOnly : Signature → Type 0
-TakesOnly s = AreValues s.params
-
-function_declares : (decl : List ℕ) → DeclaresValues (declared_function decl)
+function_declares : (decl : List ℕ) → DeclaresValues entry.Function (declared_function decl)
 unfolding text.declared_function
-function_declares decl = signature_declares (text.declared_function decl)
-    (tokens_have TakesOnly a_function text.is_function_form is_function_left_out (function_signature decl) (tokens_of 0 decl)
-    (λ f. params_values decl f.parameters.items))
+function_declares decl = signature_declares entry.Function (text.declared_function decl)
+    (tokens_have (SignatureTakesValues entry.Function) a_function text.is_function_form is_function_left_out (function_signature decl) (tokens_of 0 decl)
+    (λ f e. record { params = params_values decl f.parameters.items; result = tt }))
 
-method_declares : (decl : List ℕ) → DeclaresValues (declared_method decl)
+method_declares : (decl : List ℕ) → DeclaresValues entry.Method (declared_method decl)
 unfolding text.declared_method
-method_declares decl = signature_declares (text.declared_method decl)
-    (tokens_have TakesOnly a_function text.of_any_form is_function_left_out (function_signature decl) (tokens_of 0 decl)
-    (λ f. params_values decl f.parameters.items))
+method_declares decl = signature_declares entry.Method (text.declared_method decl)
+    (tokens_have (SignatureTakesValues entry.Method) a_function text.of_any_form is_function_left_out (function_signature decl) (tokens_of 0 decl)
+    (λ f e. record { params = params_values decl f.parameters.items; result = tt }))
 
-factory_declares : (decl : List ℕ) → DeclaresValues (declared_factory decl)
+factory_declares : (decl : List ℕ) → DeclaresValues entry.Factory (declared_factory decl)
 unfolding text.declared_factory
-factory_declares decl = signature_declares (text.declared_factory decl)
-    (tokens_have TakesOnly a_function text.is_factory_form is_factory_left_out (function_signature decl) (tokens_of 0 decl)
-    (λ f. params_values decl f.parameters.items))
+factory_declares decl = signature_declares entry.Factory (text.declared_factory decl)
+    (tokens_have (SignatureTakesValues entry.Factory) a_function text.is_factory_form is_factory_left_out (function_signature decl) (tokens_of 0 decl)
+    (λ f e. record { params = params_values decl f.parameters.items; result = tt }))
 
-property_declares : (decl : List ℕ) → DeclaresValues (declared_property decl)
+-- a property's type is primitive, as it is not left out
+type_primitive : (text : List ℕ) (y : HostType) (kind : TokenKind) (b : Bool) → not (primitive_kind kind && b) ≡ false → IsPrimitive (type_by text y kind)
+type_primitive text y (k.Primitive p) b e = tt
+type_primitive text y _ b e = cc
+
+property_primitive : (decl : List ℕ) (p : HostProperty) → is_property_left_out p ≡ false → IsPrimitive (property_signature decl p).result
+property_primitive decl p e = type_primitive decl p.declared_type p.declared_type.name.kind (is_none p.declared_type.handle) e
+
+-- both kinds of properties are declared so
+property_declares : (kind : EntryKind) → ((r : TypeRef) → IsPrimitive r → IsGivenBy kind r) → (decl : List ℕ) → DeclaresValues kind (declared_property decl)
 unfolding text.declared_property
-property_declares decl = signature_declares (text.declared_property decl)
-    (tokens_have TakesOnly (λ n. a_property) text.of_any_form is_property_left_out (property_signature decl) (tokens_of 0 decl) (λ p. tt))
+property_declares kind given decl = signature_declares kind (text.declared_property decl)
+    (tokens_have (SignatureTakesValues kind) (λ n. a_property) text.of_any_form is_property_left_out (property_signature decl) (tokens_of 0 decl)
+    (λ p e. record { params = tt; result = given (property_signature decl p).result (property_primitive decl p e) }))
 
-type_declares : (name : List ℕ) → DeclaresValues (declared_type name)
+type_declares : (name : List ℕ) → DeclaresValues entry.HostType (declared_type name)
 type_declares name = by (is_identifier name)
   where
-    by : (b : Bool) → DeclaresValues (if b then Some (type_signature name) else None)
-    by true = tt
+    by : (b : Bool) → DeclaresValues entry.HostType (if b then Some (type_signature name) else None)
+    by true = record { params = tt; result = tt }
     by false = tt
 
-pub function_values : (decl : List ℕ) (d : Option Signature) → d ≡ declared_function decl → DeclaresValues d
-function_values decl d e = subst DeclaresValues (sym e) (function_declares decl)
+pub function_values : (decl : List ℕ) (d : Option Signature) → d ≡ declared_function decl → DeclaresValues entry.Function d
+function_values decl d e = subst (DeclaresValues entry.Function) (sym e) (function_declares decl)
 
-pub method_values : (decl : List ℕ) (d : Option Signature) → d ≡ declared_method decl → DeclaresValues d
-method_values decl d e = subst DeclaresValues (sym e) (method_declares decl)
+pub method_values : (decl : List ℕ) (d : Option Signature) → d ≡ declared_method decl → DeclaresValues entry.Method d
+method_values decl d e = subst (DeclaresValues entry.Method) (sym e) (method_declares decl)
 
-pub factory_values : (decl : List ℕ) (d : Option Signature) → d ≡ declared_factory decl → DeclaresValues d
-factory_values decl d e = subst DeclaresValues (sym e) (factory_declares decl)
+pub factory_values : (decl : List ℕ) (d : Option Signature) → d ≡ declared_factory decl → DeclaresValues entry.Factory d
+factory_values decl d e = subst (DeclaresValues entry.Factory) (sym e) (factory_declares decl)
 
-pub property_values : (decl : List ℕ) (d : Option Signature) → d ≡ declared_property decl → DeclaresValues d
-property_values decl d e = subst DeclaresValues (sym e) (property_declares decl)
+pub property_values : (decl : List ℕ) (d : Option Signature) → d ≡ declared_property decl → DeclaresValues entry.Property d
+property_values decl d e = subst (DeclaresValues entry.Property) (sym e) (property_declares entry.Property (λ r h. h) decl)
 
-pub type_values : (decl : List ℕ) (d : Option Signature) → d ≡ declared_type decl → DeclaresValues d
-type_values decl d e = subst DeclaresValues (sym e) (type_declares decl)
+pub global_values : (decl : List ℕ) (d : Option Signature) → d ≡ declared_property decl → DeclaresValues entry.Global d
+global_values decl d e = subst (DeclaresValues entry.Global) (sym e) (property_declares entry.Global (λ r h. h) decl)
+
+pub type_values : (decl : List ℕ) (d : Option Signature) → d ≡ declared_type decl → DeclaresValues entry.HostType d
+type_values decl d e = subst (DeclaresValues entry.HostType) (sym e) (type_declares decl)
 
 pub view_values : {E : Type 0} (list : RegistrationList) (m : ℕ) (r : Result RegistrationList E) → TakesValues list
     → IfOk r (λ view. view ≡ seen list m) → IfOk r (λ view. TakesValues view)

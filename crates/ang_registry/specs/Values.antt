@@ -1,9 +1,14 @@
--- Hosts whose declarations take values alone (docs/EMBEDDING.md, "Declarations"): no parameter is `&out`.
+-- Hosts whose declarations take values alone (docs/EMBEDDING.md, "Declarations"): no parameter is `&out`, and each property is of a
+-- primitive type.
 use Rattle.std.specs.Prelude.{◌≢◌, List, [], ◌∷◌, Option, Some, None}
 use Rattle.ang_kinds.specs.declared.types.Param.{Param}
 use Rattle.ang_kinds.specs.declared.types.Pass.TheVariants.{RefOut}
 use Rattle.ang_kinds.specs.declared.types.Signature.{Signature}
+use Rattle.ang_kinds.specs.declared.types.TypeRef.{TypeRef}
+use Rattle.ang_kinds.specs.declared.types.TypeRef.TheVariants as ref
 use Rattle.ang_registry.specs.declared.entry.Entry.{Entry}
+use Rattle.ang_registry.specs.declared.entry.EntryKind.{EntryKind}
+use Rattle.ang_registry.specs.declared.entry.EntryKind.TheVariants.{HostType, Factory, Method, Property, Function, Global}
 use Rattle.ang_registry.specs.Registration.{RegistrationList}
 
 -- no parameter is `&out`
@@ -11,16 +16,35 @@ abbrev pub AreValues : List Param → Type 0
 AreValues [] = Unit {0}
 AreValues (p ∷ ps) = (p.pass ≢ RefOut) × AreValues ps
 
+abbrev pub IsPrimitive : TypeRef → Type 0
+IsPrimitive ref.Void = ⊥
+IsPrimitive (ref.Plain p) = Unit {0}
+IsPrimitive (ref.Object name shape const_object const_handle) = ⊥
+
+-- what an entry of this kind may give: a property gives a value of a primitive type
+abbrev pub IsGivenBy : EntryKind → TypeRef → Type 0
+IsGivenBy HostType result = Unit {0}
+IsGivenBy Factory result = Unit {0}
+IsGivenBy Method result = Unit {0}
+IsGivenBy Property result = IsPrimitive result
+IsGivenBy Function result = Unit {0}
+IsGivenBy Global result = IsPrimitive result
+
+-- a declaration of an entry of this kind
+pub record SignatureTakesValues (kind : EntryKind) (s : Signature) : Type 0 where
+  pub params : AreValues s.params
+  pub result : IsGivenBy kind s.result
+
 -- nothing is declared, or values alone are taken
-abbrev pub DeclaresValues : Option Signature → Type 0
-DeclaresValues None = Unit {0}
-DeclaresValues (Some s) = AreValues s.params
+abbrev pub DeclaresValues : EntryKind → Option Signature → Type 0
+DeclaresValues kind None = Unit {0}
+DeclaresValues kind (Some s) = SignatureTakesValues kind s
 
 abbrev pub EntryTakesValues : Option Entry → Type 0
 EntryTakesValues None = Unit {0}
-EntryTakesValues (Some x) = AreValues x.signature.params
+EntryTakesValues (Some x) = SignatureTakesValues x.kind x.signature
 
--- no declaration of the list has an `&out` parameter
+-- each declaration of the list takes values alone
 abbrev pub TakesValues : RegistrationList → Type 0
 TakesValues [] = Unit {0}
 TakesValues (x ∷ list) = EntryTakesValues x × TakesValues list

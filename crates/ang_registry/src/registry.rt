@@ -3,7 +3,7 @@ ghost use Rattle.std.specs.Prelude.{◌≡◌, ◌≢◌, ◌≤◌, ◌<◌, []
 ghost use Rattle.std.specs.Option.{option_copied};
 ghost use Rattle.ang_registry.specs.Registration.{entry_at, seen, function_named, SeesFunction};
 ghost use Rattle.ang_registry.specs.Types.{type_named};
-ghost use Rattle.ang_registry.specs.Values.{AreValues, DeclaresValues, EntryTakesValues, TakesValues};
+ghost use Rattle.ang_registry.specs.Values.{SignatureTakesValues, DeclaresValues, EntryTakesValues, TakesValues};
 ghost use Rattle.ang_registry.specs.Declarations as spec;
 ghost use Rattle.ang_registry.specs.Refusals.{refusal_of_type, with_type, refusal_of_factory, with_factory, refusal_of_method, with_method, refusal_of_property, with_property, refusal_of_function, with_function, refusal_of_global, with_global, refusal_of_blank, with_blank, refusal_of_own, with_own, refusal_of_member, with_member, refusal_of_entry, with_entry, with_last};
 
@@ -183,7 +183,7 @@ impl Registry {
     /// can't write the property.
     ///
     /// Refused as `function` is; `Duplicate` comes where a type, a function or a global property has the name.
-    #[tactic(auto, using(crate::proofs::Values::property_values))]
+    #[tactic(auto, using(crate::proofs::Values::global_values))]
     pub fn global_property(
         &mut self,
         driver: u32,
@@ -232,7 +232,7 @@ impl Registry {
         f: u32,
         declared: Option<Signature>,
     ) -> Result<EntityNo, RegError>
-        requires values { DeclaresValues declared }
+        requires values { DeclaresValues kind declared }
         ensures accepted { OnOk result (refusal_of_own kind self.old driver declared ≡ None) }
         ensures number { IfOk result (λ number. number.0 ≡ length self.old.entries) }
         ensures added { OnOk result (self.new ≡ with_own kind self.old driver f declared) }
@@ -255,7 +255,7 @@ impl Registry {
         f: u32,
         declared: Option<Signature>,
     ) -> Result<EntityNo, RegError>
-        requires values { DeclaresValues declared }
+        requires values { DeclaresValues kind declared }
         ensures accepted { OnOk result
             (refusal_of_member kind self.old type_name.now declared ≡ None) }
         ensures number { IfOk result (λ number. number.0 ≡ length self.old.entries) }
@@ -288,7 +288,7 @@ impl Registry {
         signature: Signature,
     ) -> Result<EntityNo, RegError>
         requires room { length self.old.entries < 1024 }
-        requires values { AreValues signature.params }
+        requires values { SignatureTakesValues kind signature }
         ensures accepted { OnOk result
             (refusal_of_entry self.old.entries kind owner driver signature ≡ None) }
         ensures number { IfOk result (λ number. number.0 ≡ length self.old.entries) }
@@ -332,7 +332,8 @@ impl Registry {
         Ok(number)
     }
 
-    /// What a module of the mask sees of the list. No declaration in it has an `&out` parameter.
+    /// What a module of the mask sees of the list. No declaration in it has an `&out` parameter, and each property
+    /// is of a primitive type.
     ///
     /// The only error is want of memory.
     pub fn seen(&self, alloc: Global, mask: Mask) -> Result<View, AllocError>
