@@ -26,7 +26,7 @@ use Rattle.ang_registry.specs.declared.entry.EntryKind.{EntryKind}
 use Rattle.ang_registry.specs.declared.entry.EntryKind.TheVariants as entry
 use Rattle.ang_registry.specs.Declarations.{signature_in, declared_function, declared_method, declared_factory, declared_property, declared_type, type_signature}
 use Rattle.ang_registry.specs.Registration.{RegistrationList, is_seen, seen_entry, seen}
-use Rattle.ang_registry.specs.Values.{AreValues, IsPrimitive, IsGivenBy, SignatureTakesValues, DeclaresValues, EntryTakesValues, TakesValues}
+use Rattle.ang_registry.specs.Values.{AreValues, IsPrimitive, IsProperty, IsOfKind, SignatureTakesValues, DeclaresValues, EntryTakesValues, TakesValues}
 
 -- a view has no more declarations than the list
 seen_values : (list : RegistrationList) (m : ℕ) (x : Option Entry) → EntryTakesValues x → EntryTakesValues (seen_entry list m x)
@@ -81,19 +81,19 @@ function_declares : (decl : List ℕ) → DeclaresValues entry.Function (declare
 unfolding text.declared_function
 function_declares decl = signature_declares entry.Function (text.declared_function decl)
     (tokens_have (SignatureTakesValues entry.Function) a_function text.is_function_form is_function_left_out (function_signature decl) (tokens_of 0 decl)
-    (λ f e. record { params = params_values decl f.parameters.items; result = tt }))
+    (λ f e. record { params = params_values decl f.parameters.items; of_kind = tt }))
 
 method_declares : (decl : List ℕ) → DeclaresValues entry.Method (declared_method decl)
 unfolding text.declared_method
 method_declares decl = signature_declares entry.Method (text.declared_method decl)
     (tokens_have (SignatureTakesValues entry.Method) a_function text.of_any_form is_function_left_out (function_signature decl) (tokens_of 0 decl)
-    (λ f e. record { params = params_values decl f.parameters.items; result = tt }))
+    (λ f e. record { params = params_values decl f.parameters.items; of_kind = tt }))
 
 factory_declares : (decl : List ℕ) → DeclaresValues entry.Factory (declared_factory decl)
 unfolding text.declared_factory
 factory_declares decl = signature_declares entry.Factory (text.declared_factory decl)
     (tokens_have (SignatureTakesValues entry.Factory) a_function text.is_factory_form is_factory_left_out (function_signature decl) (tokens_of 0 decl)
-    (λ f e. record { params = params_values decl f.parameters.items; result = tt }))
+    (λ f e. record { params = params_values decl f.parameters.items; of_kind = tt }))
 
 -- a property's type is primitive, as it is not left out
 type_primitive : (text : List ℕ) (y : HostType) (kind : TokenKind) (b : Bool) → not (primitive_kind kind && b) ≡ false → IsPrimitive (type_by text y kind)
@@ -103,18 +103,21 @@ type_primitive text y _ b e = cc
 property_primitive : (decl : List ℕ) (p : HostProperty) → is_property_left_out p ≡ false → IsPrimitive (property_signature decl p).result
 property_primitive decl p e = type_primitive decl p.declared_type p.declared_type.name.kind (is_none p.declared_type.handle) e
 
+property_formed : (decl : List ℕ) (p : HostProperty) → is_property_left_out p ≡ false → IsProperty (property_signature decl p)
+property_formed decl p e = record { takes_nothing = refl; primitive = property_primitive decl p e }
+
 -- both kinds of properties are declared so
-property_declares : (kind : EntryKind) → ((r : TypeRef) → IsPrimitive r → IsGivenBy kind r) → (decl : List ℕ) → DeclaresValues kind (declared_property decl)
+property_declares : (kind : EntryKind) → ((s : Signature) → IsProperty s → IsOfKind kind s) → (decl : List ℕ) → DeclaresValues kind (declared_property decl)
 unfolding text.declared_property
-property_declares kind given decl = signature_declares kind (text.declared_property decl)
+property_declares kind formed decl = signature_declares kind (text.declared_property decl)
     (tokens_have (SignatureTakesValues kind) (λ n. a_property) text.of_any_form is_property_left_out (property_signature decl) (tokens_of 0 decl)
-    (λ p e. record { params = tt; result = given (property_signature decl p).result (property_primitive decl p e) }))
+    (λ p e. record { params = tt; of_kind = formed (property_signature decl p) (property_formed decl p e) }))
 
 type_declares : (name : List ℕ) → DeclaresValues entry.HostType (declared_type name)
 type_declares name = by (is_identifier name)
   where
     by : (b : Bool) → DeclaresValues entry.HostType (if b then Some (type_signature name) else None)
-    by true = record { params = tt; result = tt }
+    by true = record { params = tt; of_kind = tt }
     by false = tt
 
 pub function_values : (decl : List ℕ) (d : Option Signature) → d ≡ declared_function decl → DeclaresValues entry.Function d
@@ -127,10 +130,10 @@ pub factory_values : (decl : List ℕ) (d : Option Signature) → d ≡ declared
 factory_values decl d e = subst (DeclaresValues entry.Factory) (sym e) (factory_declares decl)
 
 pub property_values : (decl : List ℕ) (d : Option Signature) → d ≡ declared_property decl → DeclaresValues entry.Property d
-property_values decl d e = subst (DeclaresValues entry.Property) (sym e) (property_declares entry.Property (λ r h. h) decl)
+property_values decl d e = subst (DeclaresValues entry.Property) (sym e) (property_declares entry.Property (λ s h. h) decl)
 
 pub global_values : (decl : List ℕ) (d : Option Signature) → d ≡ declared_property decl → DeclaresValues entry.Global d
-global_values decl d e = subst (DeclaresValues entry.Global) (sym e) (property_declares entry.Global (λ r h. h) decl)
+global_values decl d e = subst (DeclaresValues entry.Global) (sym e) (property_declares entry.Global (λ s h. h) decl)
 
 pub type_values : (decl : List ℕ) (d : Option Signature) → d ≡ declared_type decl → DeclaresValues entry.HostType d
 type_values decl d e = subst (DeclaresValues entry.HostType) (sym e) (type_declares decl)

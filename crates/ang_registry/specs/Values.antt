@@ -1,6 +1,6 @@
 -- Hosts whose declarations take values alone (docs/EMBEDDING.md, "Declarations"): no parameter is `&out`, and each property is of a
 -- primitive type.
-use Rattle.std.specs.Prelude.{◌≢◌, List, [], ◌∷◌, Option, Some, None}
+use Rattle.std.specs.Prelude.{◌≡◌, ◌≢◌, List, [], ◌∷◌, Option, Some, None}
 use Rattle.ang_kinds.specs.declared.types.Param.{Param}
 use Rattle.ang_kinds.specs.declared.types.Pass.TheVariants.{RefOut}
 use Rattle.ang_kinds.specs.declared.types.Signature.{Signature}
@@ -21,19 +21,24 @@ IsPrimitive ref.Void = ⊥
 IsPrimitive (ref.Plain p) = Unit {0}
 IsPrimitive (ref.Object name shape const_object const_handle) = ⊥
 
--- what an entry of this kind may give: a property gives a value of a primitive type
-abbrev pub IsGivenBy : EntryKind → TypeRef → Type 0
-IsGivenBy HostType result = Unit {0}
-IsGivenBy Factory result = Unit {0}
-IsGivenBy Method result = Unit {0}
-IsGivenBy Property result = IsPrimitive result
-IsGivenBy Function result = Unit {0}
-IsGivenBy Global result = IsPrimitive result
+-- a property: it takes nothing, and gives a value of a primitive type
+pub record IsProperty (s : Signature) : Type 0 where
+  pub takes_nothing : s.params ≡ []
+  pub primitive : IsPrimitive s.result
+
+-- what an entry of this kind may declare
+abbrev pub IsOfKind : EntryKind → Signature → Type 0
+IsOfKind HostType s = Unit {0}
+IsOfKind Factory s = Unit {0}
+IsOfKind Method s = Unit {0}
+IsOfKind Property s = IsProperty s
+IsOfKind Function s = Unit {0}
+IsOfKind Global s = IsProperty s
 
 -- a declaration of an entry of this kind
 pub record SignatureTakesValues (kind : EntryKind) (s : Signature) : Type 0 where
   pub params : AreValues s.params
-  pub result : IsGivenBy kind s.result
+  pub of_kind : IsOfKind kind s
 
 -- nothing is declared, or values alone are taken
 abbrev pub DeclaresValues : EntryKind → Option Signature → Type 0
