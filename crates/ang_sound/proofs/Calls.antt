@@ -31,12 +31,14 @@ use Rattle.ang_typing.specs.Uses.{meaning_of_name, meaning_of_call}
 use Rattle.ang_typing.specs.Calls.{named_by, name_typing, is_property, is_out, out_by, value_for, out_for, argument_by, argument, arguments_for, call_of, called, types_of, called_by, call_typing}
 use Rattle.ang_tree.specs.Stmt.{Every}
 use Rattle.ang_source.specs.Sound.{Module, IsVariable, IsTarget, Sound, SoundArguments, SoundArgument, SoundValues, argument_count}
-use Rattle.ang_registry.specs.Values.{TakesValues}
+use Rattle.ang_written.specs.NotYet.{is_object_call}
 use Rattle.ang_check.specs.Bodies.{parameter_of}
-use Rattle.ang_sound.proofs.Judged.{holds}
+use Rattle.ang_sound.proofs.Judged.{holds, both_hold}
 use Rattle.ang_sound.proofs.Items.{second_true}
 use Rattle.ang_sound.proofs.Operators.{SoundOperand, IsNamed, fit_sound}
-use Rattle.ang_sound.proofs.Hosts.{Values}
+use Rattle.ang_sound.specs.PlainNames.{IsPlainType, ArePlainPairs, IsPlainSetting}
+use Rattle.ang_sound.proofs.Conversions.{fit_plain}
+use Rattle.ang_sound.proofs.Hosts.{Values, TakesPlain}
 use Rattle.ang_sound.proofs.Uses.{Here, IsMeant, name_sound, IsCallee, IsCallable, IsMeantCall, call_there}
 
 -- ---- arguments, in a module where n locals are alive
@@ -63,21 +65,28 @@ module _ (M : Module) (n : ℕ) where
   out_sound place None s = tt
   out_sound place (Some x) s = written_there x (is_out x) place refl s
 
-  value_for_sound : (lines : Lines) (way : Pass) (ty : ArgType) (a : Operand) → way ≢ pass.RefOut → SoundOperand M n a
-      → IfOk (value_for lines ty a) (SoundArgument M n way)
-  value_for_sound lines way ty a ne s = holds (Sound M n) (SoundArgument M n way) (fit lines ty a) _ (fit_sound M n lines ty a s) (λ x sx. (ne, sx))
+  -- an argument for a parameter; what is no `&out` takes no object, since no argument is one
+  abbrev FitsOne : Pass → ArgType → t.Arg → Type 0
+  FitsOne way ty x = SoundArgument M n way x × (way ≢ pass.RefOut → IsPlainType ty)
 
-  out_for_sound : (ty : ArgType) (a : Operand) → SoundOperand M n a → IfOk (out_for ty a) (SoundArgument M n pass.RefOut)
-  out_for_sound ty a s = holds (IsTarget M n) (SoundArgument M n pass.RefOut) _ _ (out_sound a.place a.named s.named) (λ x sx. (refl, sx))
+  value_for_sound : (lines : Lines) (way : Pass) (ty : ArgType) (a : Operand) → way ≢ pass.RefOut → SoundOperand M n a
+      → IfOk (value_for lines ty a) (FitsOne way ty)
+  value_for_sound lines way ty a ne s =
+      holds (λ (x : t.Expr). Sound M n x × IsPlainType ty) (FitsOne way ty) (fit lines ty a) _
+      (both_hold (Sound M n) (λ x. IsPlainType ty) (fit lines ty a) (fit_sound M n lines ty a s) (fit_plain lines ty a s.ty))
+      (λ x sx. ((ne, sx.0), λ e. sx.1))
+
+  out_for_sound : (ty : ArgType) (a : Operand) → SoundOperand M n a → IfOk (out_for ty a) (FitsOne pass.RefOut ty)
+  out_for_sound ty a s = holds (IsTarget M n) (FitsOne pass.RefOut ty) _ _ (out_sound a.place a.named s.named) (λ x sx. ((refl, sx), λ ne. absurd (ne refl)))
 
   argument_by_sound : (lines : Lines) (way : Pass) (ty : ArgType) (a : Operand) → SoundOperand M n a
-      → IfOk (argument_by lines way ty a) (SoundArgument M n way)
+      → IfOk (argument_by lines way ty a) (FitsOne way ty)
   argument_by_sound lines pass.Value ty a s = value_for_sound lines pass.Value ty a (λ e. cc) s
   argument_by_sound lines pass.RefIn ty a s = value_for_sound lines pass.RefIn ty a (λ e. cc) s
   argument_by_sound lines pass.RefOut ty a s = out_for_sound ty a s
   argument_by_sound lines pass.RefInOut ty a s = value_for_sound lines pass.RefInOut ty a (λ e. cc) s
 
-  argument_sound : (lines : Lines) (p : ArgType × Pass) (a : Operand) → SoundOperand M n a → IfOk (argument lines p a) (SoundArgument M n p.1)
+  argument_sound : (lines : Lines) (p : ArgType × Pass) (a : Operand) → SoundOperand M n a → IfOk (argument lines p a) (FitsOne p.1 p.0)
   unfolding argument
   argument_sound lines p a s = argument_by_sound lines p.1 p.0 a s
 
@@ -86,7 +95,7 @@ module _ (M : Module) (n : ℕ) where
   Fit [] [] = Unit {0}
   Fit [] (x ∷ xs) = ⊥
   Fit (p ∷ ps) [] = ⊥
-  Fit (p ∷ ps) (x ∷ xs) = SoundArgument M n p.1 x × Fit ps xs
+  Fit (p ∷ ps) (x ∷ xs) = FitsOne p.1 p.0 x × Fit ps xs
 
   arguments_sound : (lines : Lines) (ps : List (ArgType × Pass)) (operands : List Operand) → Every (SoundOperand M n) operands
       → length ps ≡ length operands → IfOk (arguments_for lines ps operands) (Fit ps)
@@ -94,7 +103,7 @@ module _ (M : Module) (n : ℕ) where
   arguments_sound lines [] (a ∷ rest) s e = cc
   arguments_sound lines (p ∷ ps) [] s e = cc
   arguments_sound lines (p ∷ ps) (a ∷ rest) s e =
-      holds (SoundArgument M n p.1) (Fit (p ∷ ps)) (argument lines p a) _ (argument_sound lines p a s.0)
+      holds (FitsOne p.1 p.0) (Fit (p ∷ ps)) (argument lines p a) _ (argument_sound lines p a s.0)
       (λ x sx. holds (Fit ps) (Fit (p ∷ ps)) (arguments_for lines ps rest) _ (arguments_sound lines ps rest s.1 (let same : length ps ≡ length rest = cc in same))
       (λ xs sxs. (sx, sxs)))
 
@@ -102,7 +111,7 @@ module _ (M : Module) (n : ℕ) where
   script_arguments [] [] f = tt
   script_arguments [] (x ∷ xs) f = f
   script_arguments (p ∷ ps) [] f = f
-  script_arguments (p ∷ ps) (x ∷ xs) f = (f.0, script_arguments ps xs f.1)
+  script_arguments (p ∷ ps) (x ∷ xs) f = (f.0.0, script_arguments ps xs f.1)
 
   host_argument : (way : Pass) (x : t.Arg) → way ≢ pass.RefOut → SoundArgument M n way x → SoundValues M n (t.more x t.none)
   host_argument way (t.by_value ty e) ne s = (s.1, tt)
@@ -112,7 +121,13 @@ module _ (M : Module) (n : ℕ) where
   host_arguments [] [] v f = tt
   host_arguments [] (x ∷ xs) v f = absurd f
   host_arguments (p ∷ ps) [] v f = absurd f
-  host_arguments (p ∷ ps) (x ∷ xs) v f = ((host_argument p.1 x v.0 f.0).0, host_arguments ps xs v.1 f.1)
+  host_arguments (p ∷ ps) (x ∷ xs) v f = ((host_argument p.1 x v.0 f.0.0).0, host_arguments ps xs v.1 f.1)
+
+  host_takes : (ps : List (ArgType × Pass)) (xs : List t.Arg) → Values ps → Fit ps xs → TakesPlain ps
+  host_takes [] [] v f = tt
+  host_takes [] (x ∷ xs) v f = absurd f
+  host_takes (p ∷ ps) [] v f = absurd f
+  host_takes (p ∷ ps) (x ∷ xs) v f = (f.0.1 v.0, host_takes ps xs v.1 f.1)
 
   host_count : (ps : List (ArgType × Pass)) (xs : List t.Arg) → Fit ps xs → length ps ≡ argument_count (t.args xs)
   host_count [] [] f = refl
@@ -127,7 +142,7 @@ module _ (s : Setting) (n : ℕ) where
   M = Here s
 
   called_named : (name : Token) (m : Meant) → IsMeant s n m → IfOk (named_by name m) (SoundOperand M n)
-  called_named name (meant.Variable x ty read_only) h = record { tree = h; named = h }
+  called_named name (meant.Variable x ty read_only) h = record { ty = h.1; tree = h.0; named = h.0 }
   called_named name (meant.Call c) h = tt
   called_named name (meant.Type k) h = tt
   called_named name (meant.Refused why) h = tt
@@ -142,14 +157,15 @@ module _ (s : Setting) (n : ℕ) where
         script_arguments M n h.0.params xs fit,
       )
   call_sound (callee.Host h) result ps xs k f =
-      (record { entity = k.0.entity; params = k.0.params ∙ host_count M n ps xs f }, host_arguments M n ps xs k.1 f)
+      let there = k.0 (host_takes M n ps xs k.1 f) in
+      (record { entity = there.entity; params = there.params ∙ host_count M n ps xs f }, host_arguments M n ps xs k.1 f)
 
   called_sound : (place : Place) (c : Callable) (operands : List Operand) → IsCallable s c → length c.candidate.params ≡ length operands
       → Every (SoundOperand M n) operands → IfOk (called s.lines place c operands) (SoundOperand M n)
   called_sound place c operands h count all =
       holds (Fit M n c.candidate.params) (SoundOperand M n) (arguments_for s.lines c.candidate.params operands) _
       (arguments_sound M n s.lines c.candidate.params operands all count)
-      (λ xs sxs. record { tree = call_sound c.callee c.result c.candidate.params xs h sxs; named = tt })
+      (λ xs sxs. record { ty = h.1; tree = call_sound c.callee c.result c.candidate.params xs h.0 sxs; named = tt })
 
   called_by_sound : (name : Token) (operands : List Operand) (m : Meant) → IsMeantCall s (types_of operands) m → Every (SoundOperand M n) operands
       → IfOk (called_by s.lines name operands m) (SoundOperand M n)
@@ -159,12 +175,12 @@ module _ (s : Setting) (n : ℕ) where
   called_by_sound name operands (meant.Type k) h all = tt
   called_by_sound name operands (meant.Refused why) h all = tt
 
-  pub call_typed : (x : Token) (operands : List Operand) → TakesValues s.view → Every (SoundOperand M n) operands
+  pub call_typed : (x : Token) (operands : List Operand) → IsPlainSetting s → is_object_call s.view s.text x ≡ false → Every (SoundOperand M n) operands
       → IfOk (call_typing s x operands) (SoundOperand M n)
-  unfolding call_typing
-  call_typed x operands values all =
-      called_by_sound x operands (meaning_of_call s (text_of s.text x) (types_of operands)) (call_there s (text_of s.text x) (types_of operands) values) all
+  unfolding call_typing is_object_call
+  call_typed x operands plain none all =
+      called_by_sound x operands (meaning_of_call s (text_of s.text x) (types_of operands)) (call_there s plain (text_of s.text x) (types_of operands) none) all
 
-pub name_typed : (s : Setting) (ps : List Pair) (x : Token) → IfOk (name_typing s ps x) (SoundOperand (Here s) (length ps))
+pub name_typed : (s : Setting) (ps : List Pair) (x : Token) → IsPlainSetting s → ArePlainPairs ps → IfOk (name_typing s ps x) (SoundOperand (Here s) (length ps))
 unfolding name_typing
-name_typed s ps x = called_named s (length ps) x (meaning_of_name s ps (text_of s.text x)) (name_sound s ps (text_of s.text x))
+name_typed s ps x plain all = called_named s (length ps) x (meaning_of_name s ps (text_of s.text x)) (name_sound s plain ps (text_of s.text x) all)

@@ -1,5 +1,5 @@
 -- What holds of each item of a list, and of a value that is there or not.
-use Rattle.std.specs.Prelude.{◌≡◌, ℕ, zero, suc, Bool, true, false, ◌&&◌, if◌then◌else◌, List, [], ◌∷◌, ◌++◌, map, option_to_list, Option, Some, None, IfSome, slice_get}
+use Rattle.std.specs.Prelude.{◌≡◌, ℕ, zero, suc, Bool, true, false, ◌&&◌, ◌||◌, if◌then◌else◌, List, [], ◌∷◌, ◌++◌, map, option_to_list, Option, Some, None, IfSome, slice_get}
 use Rattle.std.specs.List.{flat_map}
 use Rattle.std.proofs.Common.{refl, subst}
 use Rattle.std.proofs.lemmas.Option.{same_Some}
@@ -40,3 +40,25 @@ first_true false b e = e
 pub second_true : (a b : Bool) → (a && b) ≡ true → b ≡ true
 second_true true b e = e
 second_true false b e = cc
+
+-- where a test of three parts fails
+pub third_false : (a b c : Bool) → (a && b) ≡ true → (a && b && c) ≡ false → c ≡ false
+third_false true true c e f = f
+third_false true false c e f = cc
+third_false false b c e f = cc
+
+-- none of several tests passes
+pub two_false : (a b : Bool) → (a || b) ≡ false → (a ≡ false) × (b ≡ false)
+two_false true b e = cc
+two_false false b e = (refl, e)
+
+pub three_false : (a b c : Bool) → (a || b || c) ≡ false → (a ≡ false) × (b ≡ false) × (c ≡ false)
+three_false true b c e = cc
+three_false false true c e = cc
+three_false false false c e = (refl, refl, e)
+
+pub four_false : (a b c d : Bool) → (a || b || c || d) ≡ false → (a ≡ false) × (b ≡ false) × (c ≡ false) × (d ≡ false)
+four_false true b c d e = cc
+four_false false true c d e = cc
+four_false false false true d e = cc
+four_false false false false d e = (refl, refl, refl, e)

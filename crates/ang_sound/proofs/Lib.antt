@@ -1,6 +1,7 @@
 pub mod Judged
 pub mod Operators
 pub mod Items
+pub mod Conversions
 pub mod Hosts
 pub mod Views
 pub mod Uses

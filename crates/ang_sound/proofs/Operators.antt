@@ -27,6 +27,7 @@ use Rattle.ang_operators.specs.Forms.{binary_form, compound_work}
 use Rattle.ang_operators.specs.Operands.{Operand, operand, conversion, fit_by, fit, integer, truth_in, truth, target_by, target}
 use Rattle.ang_operators.specs.Operations.{literal_by, literal_typing, raised_type, worked_in, arithmetic, shift, compared_in, order, equality_by, equality, conjunction, disjunction, exclusion, formed, binary_typing, negated, complemented, raised_operand, opposite, stepped, prefix_by, prefix_typing, postfix_by, postfix_typing, converted_by, convert_typing, inside, group_typing, chosen_in, choice_of_integers, choice_by, choice, conditional_typing, assign_in, assigned, compound_in, compound_arithmetic, compound_shift, assignment_by, assignment_typing}
 use Rattle.ang_source.specs.Sound.{Module, IsVariable, Sound}
+use Rattle.ang_sound.specs.PlainNames.{IsPlainType}
 use Rattle.ang_sound.proofs.Judged.{holds, either_holds, any}
 
 -- In a module, where n locals are alive:
@@ -37,12 +38,13 @@ module _ (M : Module) (n : ℕ) where
   IsNamed (Some x) = IsVariable M n x.variable
 
   pub record SoundOperand (a : Operand) : Type 0 where
+    pub ty : IsPlainType a.ty
     pub tree : Sound M n a.tree
     pub named : IsNamed a.named
 
   -- no variable's name
-  pub plain : (place : Place) (ty : ArgType) (e : t.Expr) → Sound M n e → SoundOperand (operand place ty e)
-  plain place ty e s = record { tree = s; named = tt }
+  pub plain : (place : Place) (ty : ArgType) (e : t.Expr) → IsPlainType ty → Sound M n e → SoundOperand (operand place ty e)
+  plain place ty e k s = record { ty = k; tree = s; named = tt }
 
   -- ---- parts of operations
 
@@ -104,9 +106,9 @@ module _ (M : Module) (n : ℕ) where
   -- ---- literals
 
   literal_by_sound : (x : Token) (text : List ℕ) (kind : TokenKind) → IfOk (literal_by x text kind) SoundOperand
-  literal_by_sound x text k.Number = plain _ _ _ tt
-  literal_by_sound x text k.True = plain _ _ _ tt
-  literal_by_sound x text k.False = plain _ _ _ tt
+  literal_by_sound x text k.Number = plain _ _ _ tt tt
+  literal_by_sound x text k.True = plain _ _ _ tt tt
+  literal_by_sound x text k.False = plain _ _ _ tt tt
   literal_by_sound x text _ = tt
 
   pub literal_sound : (x : Token) (text : List ℕ) → IfOk (literal_typing x text) SoundOperand
@@ -118,12 +120,12 @@ module _ (M : Module) (n : ℕ) where
   worked_sound : (lines : Lines) (r : Primitive) (op : Operator) (a b : Operand) → SoundOperand a → SoundOperand b
       → IfOk (worked_in lines r op a b) SoundOperand
   worked_sound lines r op a b sa sb =
-      fit_two lines (type.Plain r) a b (λ x y. Ok (operand a.place (type.Plain r) (t.operate op r x y))) sa sb (λ x y sx sy. plain _ _ _ (sx, sy))
+      fit_two lines (type.Plain r) a b (λ x y. Ok (operand a.place (type.Plain r) (t.operate op r x y))) sa sb (λ x y sx sy. plain _ _ _ tt (sx, sy))
 
   compared_sound : (lines : Lines) (r : Primitive) (c : Comparison) (a b : Operand) → SoundOperand a → SoundOperand b
       → IfOk (compared_in lines r c a b) SoundOperand
   compared_sound lines r c a b sa sb =
-      fit_two lines (type.Plain r) a b (λ x y. Ok (operand a.place (type.Plain p.Bool) (t.compare c r x y))) sa sb (λ x y sx sy. plain _ _ _ (sx, sy))
+      fit_two lines (type.Plain r) a b (λ x y. Ok (operand a.place (type.Plain p.Bool) (t.compare c r x y))) sa sb (λ x y sx sy. plain _ _ _ tt (sx, sy))
 
   arithmetic_sound : (lines : Lines) (op : Operator) (a b : Operand) → SoundOperand a → SoundOperand b → IfOk (arithmetic lines op a b) SoundOperand
   unfolding arithmetic
@@ -152,17 +154,17 @@ module _ (M : Module) (n : ℕ) where
   conjunction_sound : (a b : Operand) → SoundOperand a → SoundOperand b → IfOk (conjunction a b) SoundOperand
   unfolding conjunction
   conjunction_sound a b sa sb =
-      truth_two a b (λ x y. Ok (operand a.place (type.Plain p.Bool) (t.and x y))) sa sb (λ x y sx sy. plain _ _ _ (sx, sy))
+      truth_two a b (λ x y. Ok (operand a.place (type.Plain p.Bool) (t.and x y))) sa sb (λ x y sx sy. plain _ _ _ tt (sx, sy))
 
   disjunction_sound : (a b : Operand) → SoundOperand a → SoundOperand b → IfOk (disjunction a b) SoundOperand
   unfolding disjunction
   disjunction_sound a b sa sb =
-      truth_two a b (λ x y. Ok (operand a.place (type.Plain p.Bool) (t.or x y))) sa sb (λ x y sx sy. plain _ _ _ (sx, sy))
+      truth_two a b (λ x y. Ok (operand a.place (type.Plain p.Bool) (t.or x y))) sa sb (λ x y sx sy. plain _ _ _ tt (sx, sy))
 
   exclusion_sound : (a b : Operand) → SoundOperand a → SoundOperand b → IfOk (exclusion a b) SoundOperand
   unfolding exclusion
   exclusion_sound a b sa sb =
-      truth_two a b (λ x y. Ok (operand a.place (type.Plain p.Bool) (t.compare cmp.NotEqual p.Bool x y))) sa sb (λ x y sx sy. plain _ _ _ (sx, sy))
+      truth_two a b (λ x y. Ok (operand a.place (type.Plain p.Bool) (t.compare cmp.NotEqual p.Bool x y))) sa sb (λ x y sx sy. plain _ _ _ tt (sx, sy))
 
   formed_sound : (lines : Lines) (f : Option Form) (a b : Operand) → SoundOperand a → SoundOperand b → IfOk (formed lines f a b) SoundOperand
   formed_sound lines None a b sa sb = tt
@@ -188,26 +190,26 @@ module _ (M : Module) (n : ℕ) where
   negated_sound : (lines : Lines) (place : Place) (a : Operand) → SoundOperand a → IfOk (negated lines place a) SoundOperand
   unfolding negated
   negated_sound lines place a sa =
-      with_integer SoundOperand a _ (λ q. fit_one lines (type.Plain (raised_type q)) a _ sa (λ x sx. plain _ _ _ sx))
+      with_integer SoundOperand a _ (λ q. fit_one lines (type.Plain (raised_type q)) a _ sa (λ x sx. plain _ _ _ tt sx))
 
   complemented_sound : (lines : Lines) (place : Place) (a : Operand) → SoundOperand a → IfOk (complemented lines place a) SoundOperand
   unfolding complemented
   complemented_sound lines place a sa =
-      with_integer SoundOperand a _ (λ q. fit_one lines (type.Plain (raised_type q)) a _ sa (λ x sx. plain _ _ _ sx))
+      with_integer SoundOperand a _ (λ q. fit_one lines (type.Plain (raised_type q)) a _ sa (λ x sx. plain _ _ _ tt sx))
 
   raised_sound : (lines : Lines) (place : Place) (a : Operand) → SoundOperand a → IfOk (raised_operand lines place a) SoundOperand
   unfolding raised_operand
   raised_sound lines place a sa =
-      with_integer SoundOperand a _ (λ q. fit_one lines (type.Plain (raised_type q)) a _ sa (λ x sx. plain _ _ _ sx))
+      with_integer SoundOperand a _ (λ q. fit_one lines (type.Plain (raised_type q)) a _ sa (λ x sx. plain _ _ _ tt sx))
 
   opposite_sound : (place : Place) (a : Operand) → SoundOperand a → IfOk (opposite place a) SoundOperand
   unfolding opposite
-  opposite_sound place a sa = holds (Sound M n) SoundOperand (truth a) _ (truth_sound a sa) (λ x sx. plain _ _ _ sx)
+  opposite_sound place a sa = holds (Sound M n) SoundOperand (truth a) _ (truth_sound a sa) (λ x sx. plain _ _ _ tt sx)
 
   stepped_sound : (kind : StepKind) (place : Place) (a : Operand) → SoundOperand a → IfOk (stepped kind place a) SoundOperand
   unfolding stepped
   stepped_sound kind place a sa =
-      holds (IsVariable M n) SoundOperand (target a) _ (target_sound a sa) (λ x sx. with_integer SoundOperand a _ (λ q. plain _ _ _ sx))
+      holds (IsVariable M n) SoundOperand (target a) _ (target_sound a sa) (λ x sx. with_integer SoundOperand a _ (λ q. plain _ _ _ sa.ty sx))
 
   prefix_by_sound : (lines : Lines) (op : Token) (kind : TokenKind) (a : Operand) → SoundOperand a → IfOk (prefix_by lines op kind a) SoundOperand
   prefix_by_sound lines op k.Not a sa = opposite_sound op.place a sa
@@ -233,7 +235,7 @@ module _ (M : Module) (n : ℕ) where
 
   converted_by_sound : (lines : Lines) (word : Token) (kind : TokenKind) (a : Operand) → SoundOperand a
       → IfOk (converted_by lines word kind a) SoundOperand
-  converted_by_sound lines word (k.Primitive q) a sa = fit_one lines (type.Plain q) a _ sa (λ x sx. plain _ _ _ sx)
+  converted_by_sound lines word (k.Primitive q) a sa = fit_one lines (type.Plain q) a _ sa (λ x sx. plain _ _ _ tt sx)
   converted_by_sound lines word _ a sa = tt
 
   pub converted_sound : (lines : Lines) (word : Token) (a : Operand) → SoundOperand a → IfOk (convert_typing lines word a) SoundOperand
@@ -245,14 +247,14 @@ module _ (M : Module) (n : ℕ) where
   inside_named (Some x) s = s
 
   pub group_sound : (place : Place) (a : Operand) → SoundOperand a → SoundOperand (group_typing place a)
-  group_sound place a sa = record { tree = sa.tree; named = inside_named a.named sa.named }
+  group_sound place a sa = record { ty = sa.ty; tree = sa.tree; named = inside_named a.named sa.named }
 
   -- ---- `?:`
 
   chosen_sound : (lines : Lines) (r : Primitive) (place : Place) (c : t.Expr) (a b : Operand) → Sound M n c → SoundOperand a → SoundOperand b
       → IfOk (chosen_in lines r place c a b) SoundOperand
   chosen_sound lines r place c a b sc sa sb =
-      fit_two lines (type.Plain r) a b (λ x y. Ok (operand place (type.Plain r) (t.choose c x y))) sa sb (λ x y sx sy. plain _ _ _ (sc, sx, sy))
+      fit_two lines (type.Plain r) a b (λ x y. Ok (operand place (type.Plain r) (t.choose c x y))) sa sb (λ x y sx sy. plain _ _ _ tt (sc, sx, sy))
 
   integers_sound : (lines : Lines) (place : Place) (c : t.Expr) (a b : Operand) → Sound M n c → SoundOperand a → SoundOperand b
       → IfOk (choice_of_integers lines place c a b) SoundOperand
@@ -281,7 +283,7 @@ module _ (M : Module) (n : ℕ) where
 
   assign_in_sound : (lines : Lines) (x : Variable) (a b : Operand) (ty : ArgType) → IsVariable M n x → SoundOperand b
       → IfOk (assign_in lines x a b ty) SoundOperand
-  assign_in_sound lines x a b (type.Plain q) sx sb = fit_one lines (type.Plain q) b _ sb (λ y sy. plain _ _ _ (sx, sy))
+  assign_in_sound lines x a b (type.Plain q) sx sb = fit_one lines (type.Plain q) b _ sb (λ y sy. plain _ _ _ tt (sx, sy))
   assign_in_sound lines x a b _ sx sb = tt
 
   assigned_sound : (lines : Lines) (a b : Operand) → SoundOperand a → SoundOperand b → IfOk (assigned lines a b) SoundOperand
@@ -289,23 +291,23 @@ module _ (M : Module) (n : ℕ) where
   assigned_sound lines a b sa sb =
       holds (IsVariable M n) SoundOperand (target a) _ (target_sound a sa) (λ x sx. assign_in_sound lines x a b a.ty sx sb)
 
-  compound_sound : (lines : Lines) (op : Operator) (x : Variable) (q r : Primitive) (a b : Operand) → IsVariable M n x → SoundOperand b
+  compound_sound : (lines : Lines) (op : Operator) (x : Variable) (q r : Primitive) (a b : Operand) → IsVariable M n x → SoundOperand a → SoundOperand b
       → IfOk (compound_in lines op x q r a b) SoundOperand
-  compound_sound lines op x q r a b sx sb = fit_one lines (type.Plain r) b _ sb (λ y sy. plain _ _ _ (sx, sy))
+  compound_sound lines op x q r a b sx sa sb = fit_one lines (type.Plain r) b _ sb (λ y sy. plain _ _ _ sa.ty (sx, sy))
 
   compound_arithmetic_sound : (lines : Lines) (op : Operator) (a b : Operand) → SoundOperand a → SoundOperand b
       → IfOk (compound_arithmetic lines op a b) SoundOperand
   unfolding compound_arithmetic
   compound_arithmetic_sound lines op a b sa sb =
       holds (IsVariable M n) SoundOperand (target a) _ (target_sound a sa)
-      (λ x sx. with_integer SoundOperand a _ (λ q. with_integer SoundOperand b _ (λ r. compound_sound lines op x q (common_type q r) a b sx sb)))
+      (λ x sx. with_integer SoundOperand a _ (λ q. with_integer SoundOperand b _ (λ r. compound_sound lines op x q (common_type q r) a b sx sa sb)))
 
   compound_shift_sound : (lines : Lines) (op : Operator) (a b : Operand) → SoundOperand a → SoundOperand b
       → IfOk (compound_shift lines op a b) SoundOperand
   unfolding compound_shift
   compound_shift_sound lines op a b sa sb =
       holds (IsVariable M n) SoundOperand (target a) _ (target_sound a sa)
-      (λ x sx. with_integer SoundOperand a _ (λ q. with_integer SoundOperand b _ (λ r. compound_sound lines op x q (raised_type q) a b sx sb)))
+      (λ x sx. with_integer SoundOperand a _ (λ q. with_integer SoundOperand b _ (λ r. compound_sound lines op x q (raised_type q) a b sx sa sb)))
 
   assignment_by_sound : (lines : Lines) (w : Option Work) (a b : Operand) → SoundOperand a → SoundOperand b
       → IfOk (assignment_by lines w a b) SoundOperand

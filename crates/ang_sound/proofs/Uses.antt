@@ -1,5 +1,6 @@
--- A use of a name means a variable or a function that is there.
+-- A use of a name means a variable or a function that is there, and no object is among what is meant.
 use Rattle.std.specs.Prelude.{◌≡◌, ℕ, ◌==◌, Bool, true, false, if◌then◌else◌, is_some, length, List, map, slice_get, option_map, Option, Some, None, IfSome}
+use Rattle.std.specs.List.{list_any}
 use Rattle.std.proofs.Common.{refl, ap, sym, ◌∙◌}
 use Rattle.std.proofs.lemmas.Option.{slice_get_within, slice_get-map}
 use Rattle.ang_kinds.specs.declared.error.ErrorKind.TheVariants as kind
@@ -26,10 +27,11 @@ use Rattle.ang_typing.specs.Scope.{Setting, last_named}
 use Rattle.ang_typing.specs.Uses.{host_meant, global_meant, global_by, local_meant, local_by, global_of_name, meaning_of_name, callable_with, host_callable, script_callable, script_callables, callables, called_at, picked, best_callable, meaning_of_call}
 use Rattle.ang_tree.specs.Stmt.{Every}
 use Rattle.ang_source.specs.Sound.{Module, IsVariable, IsHostFunction}
-use Rattle.ang_registry.specs.Values.{TakesValues}
+use Rattle.ang_written.specs.NotYet.{is_object_function}
 use Rattle.ang_sound.specs.Checked.{module_in}
+use Rattle.ang_sound.specs.PlainNames.{IsPlainType, IsPlainFunction, ArePlainPairs, IsPlainSetting}
 use Rattle.ang_sound.proofs.Items.{every_joined, every_option, every_mapped, every_flat, every_at}
-use Rattle.ang_sound.proofs.Hosts.{Values, IsHost, hosts_named, IsHostProperty, global_host_named}
+use Rattle.ang_sound.proofs.Hosts.{Values, TakesPlain, IsHost, hosts_named, IsHostProperty, global_host_named}
 
 -- In a setting:
 module _ (s : Setting) where
@@ -41,68 +43,76 @@ module _ (s : Setting) where
 
   -- where n locals are alive
   abbrev pub IsMeant : ℕ → Meant → Type 0
-  IsMeant n (meant.Variable x ty read_only) = IsVariable Here n x
+  IsMeant n (meant.Variable x ty read_only) = IsVariable Here n x × IsPlainType ty
   IsMeant n (meant.Call c) = Unit {0}
   IsMeant n (meant.Type k) = Unit {0}
   IsMeant n (meant.Refused why) = Unit {0}
 
   host_there : (n : ℕ) (g : Option HostGlobal) → IfSome g (IsHostProperty s.view) → IsMeant n (host_meant g)
   host_there n None h = tt
-  host_there n (Some g) h = h
+  host_there n (Some g) h = (h.entity, h.ty)
 
-  script_there : (n i : ℕ) (g : Option ScriptGlobal) (host : Option HostGlobal) → slice_get s.names.globals i ≡ g → IfSome host (IsHostProperty s.view)
-      → IsMeant n (global_meant i g host)
-  script_there n i None host e h = host_there n host h
-  script_there n i (Some g) host e h = slice_get_within s.names.globals i g e
+  script_there : IsPlainSetting s → (n i : ℕ) (g : Option ScriptGlobal) (host : Option HostGlobal) → slice_get s.names.globals i ≡ g
+      → IfSome host (IsHostProperty s.view) → IsMeant n (global_meant i g host)
+  script_there plain n i None host e h = host_there n host h
+  script_there plain n i (Some g) host e h =
+      (slice_get_within s.names.globals i g e, every_at (λ (g : ScriptGlobal). IsPlainType g.ty) s.names.globals i g plain.names.globals e)
 
-  global_there : (n : ℕ) (o : Option ℕ) (host : Option HostGlobal) → IfSome host (IsHostProperty s.view) → IsMeant n (global_by s.names.globals o host)
-  global_there n None host h = host_there n host h
-  global_there n (Some i) host h = script_there n i (global_at s.names.globals i) host refl h
+  global_there : IsPlainSetting s → (n : ℕ) (o : Option ℕ) (host : Option HostGlobal) → IfSome host (IsHostProperty s.view)
+      → IsMeant n (global_by s.names.globals o host)
+  global_there plain n None host h = host_there n host h
+  global_there plain n (Some i) host h = script_there plain n i (global_at s.names.globals i) host refl h
 
-  global_sound : (n : ℕ) (name : List ℕ) → IsMeant n (global_of_name s name)
+  global_sound : IsPlainSetting s → (n : ℕ) (name : List ℕ) → IsMeant n (global_of_name s name)
   unfolding global_of_name
-  global_sound n name = global_there n (global_named s.names.globals name) (view_global_named s.view name) (global_host_named s.view name)
+  global_sound plain n name =
+      global_there plain n (global_named s.names.globals name) (view_global_named s.view name) (global_host_named s.view name plain.values)
 
-  pair_there : (ps : List Pair) (i : ℕ) (p : Option Pair) (m : Meant) → slice_get ps i ≡ p → IsMeant (length ps) m → IsMeant (length ps) (local_meant i p m)
-  pair_there ps i None m e h = h
-  pair_there ps i (Some p) m e h = slice_get_within ps i p e
+  pair_there : (ps : List Pair) (i : ℕ) (p : Option Pair) (m : Meant) → slice_get ps i ≡ p → ArePlainPairs ps → IsMeant (length ps) m
+      → IsMeant (length ps) (local_meant i p m)
+  pair_there ps i None m e all h = h
+  pair_there ps i (Some p) m e all h = (slice_get_within ps i p e, every_at (λ (p : Pair). IsPlainType p.ty) ps i p all e)
 
-  local_there : (ps : List Pair) (o : Option ℕ) (m : Meant) → IsMeant (length ps) m → IsMeant (length ps) (local_by ps o m)
-  local_there ps None m h = h
-  local_there ps (Some i) m h = pair_there ps i (slice_get ps i) m refl h
+  local_there : (ps : List Pair) (o : Option ℕ) (m : Meant) → ArePlainPairs ps → IsMeant (length ps) m → IsMeant (length ps) (local_by ps o m)
+  local_there ps None m all h = h
+  local_there ps (Some i) m all h = pair_there ps i (slice_get ps i) m refl all h
 
-  pub name_sound : (ps : List Pair) (name : List ℕ) → IsMeant (length ps) (meaning_of_name s ps name)
+  pub name_sound : IsPlainSetting s → (ps : List Pair) (name : List ℕ) → ArePlainPairs ps → IsMeant (length ps) (meaning_of_name s ps name)
   unfolding meaning_of_name
-  name_sound ps name = local_there ps (last_named name 0 ps) (global_of_name s name) (global_sound (length ps) name)
+  name_sound plain ps name all = local_there ps (last_named name 0 ps) (global_of_name s name) all (global_sound plain (length ps) name)
 
   -- ---- functions
 
   -- what is called with these parameters is there
   abbrev pub IsCallee : Callee → Params → Type 0
   IsCallee (callee.Script i) ps = (f : ScriptFunction) × (slice_get s.names.functions i ≡ Some f) × (ps ≡ map passing_of f.params)
-  IsCallee (callee.Host h) ps = IsHostFunction s.view h (length ps) × Values ps
+  IsCallee (callee.Host h) ps = (TakesPlain ps → IsHostFunction s.view h (length ps)) × Values ps
 
   abbrev pub IsCallable : Callable → Type 0
-  IsCallable c = IsCallee c.callee c.candidate.params
+  IsCallable c = IsCallee c.callee c.candidate.params × IsPlainType c.result
 
-  script_one : (i : ℕ) (f : Option ScriptFunction) → slice_get s.names.functions i ≡ f → IfSome (callable_with i f) IsCallable
+  script_one : IsPlainSetting s → (i : ℕ) (f : Option ScriptFunction) → slice_get s.names.functions i ≡ f → IfSome (callable_with i f) IsCallable
   unfolding candidate_of
-  script_one i None e = tt
-  script_one i (Some f) e = (f, e, refl)
+  script_one plain i None e = tt
+  script_one plain i (Some f) e = ((f, e, refl), (every_at IsPlainFunction s.names.functions i f plain.names.functions e).result)
 
-  scripts_there : (name : List ℕ) → Every IsCallable (script_callables s.names.functions name)
+  scripts_there : IsPlainSetting s → (name : List ℕ) → Every IsCallable (script_callables s.names.functions name)
   unfolding script_callables
-  scripts_there name = every_flat IsCallable (script_callable s.names.functions) (functions_named s.names.functions name)
-      (λ i. every_option IsCallable (callable_with i (function_at s.names.functions i)) (script_one i (function_at s.names.functions i) refl))
+  scripts_there plain name = every_flat IsCallable (script_callable s.names.functions) (functions_named s.names.functions name)
+      (λ i. every_option IsCallable (callable_with i (function_at s.names.functions i)) (script_one plain i (function_at s.names.functions i) refl))
 
   host_one : (f : HostFunction) → IsHost s.view f → IsCallable (host_callable f)
-  host_one f h = (record { entity = h.entity; params = h.count }, h.values)
+  host_one f h = ((h.function, h.values), h.result)
 
-  callables_there : (name : List ℕ) → TakesValues s.view → Every IsCallable (callables s name)
+  -- no host function of this name gives an object
+  abbrev pub GivesPlain : List ℕ → Type 0
+  GivesPlain name = list_any (is_object_function name) s.view ≡ false
+
+  callables_there : IsPlainSetting s → (name : List ℕ) → GivesPlain name → Every IsCallable (callables s name)
   unfolding callables
-  callables_there name values =
-      every_joined IsCallable (script_callables s.names.functions name) (map host_callable (view_functions_named s.view name)) (scripts_there name)
-      (every_mapped (IsHost s.view) IsCallable host_callable (view_functions_named s.view name) host_one (hosts_named s.view name values))
+  callables_there plain name none =
+      every_joined IsCallable (script_callables s.names.functions name) (map host_callable (view_functions_named s.view name)) (scripts_there plain name)
+      (every_mapped (IsHost s.view) IsCallable host_callable (view_functions_named s.view name) host_one (hosts_named s.view name plain.values none))
 
   -- ---- the best of them
 
@@ -135,10 +145,10 @@ module _ (s : Setting) where
       by true = tt
       by false = picked_there cs args (best_of s.lines (map (λ c. c.candidate) cs) args) refl all
 
-  pub call_there : (name : List ℕ) (args : List ArgType) → TakesValues s.view → IsMeantCall args (meaning_of_call s name args)
+  pub call_there : IsPlainSetting s → (name : List ℕ) (args : List ArgType) → GivesPlain name → IsMeantCall args (meaning_of_call s name args)
   unfolding meaning_of_call
-  call_there name args values = by (is_some (type_named s.view name))
+  call_there plain name args none = by (is_some (type_named s.view name))
     where
       by : (b : Bool) → IsMeantCall args (if b then meant.Refused kind.NotYet else best_callable s (callables s name) args)
       by true = tt
-      by false = chosen_there (callables s name) args (callables_there name values)
+      by false = chosen_there (callables s name) args (callables_there plain name none)

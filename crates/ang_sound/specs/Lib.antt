@@ -1,3 +1,4 @@
 pub mod Views
 pub mod Checked
 pub mod Parts
+pub mod PlainNames

@@ -1,12 +1,17 @@
 -- What a checker promises of a resolved tree (docs/MEANING.md, "What a script means"): each local is alive, each global and each function is there, each
--- call has an argument for each parameter, each asking is of an entity that the view has, and `break` and `continue` stand in a loop. It says nothing of types: operations are total.
+-- call has an argument for each parameter, each asking is of an entity that the view has and by which no object passes, and `break` and `continue` stand in a
+-- loop. It says nothing else of types: operations are total.
 use Rattle.std.specs.Prelude.{◌≡◌, ◌≢◌, ℕ, suc, ◌+◌, ◌<◌, Bool, true, false, IsTrue, List, [], ◌∷◌, length, map, Option, Some, None, slice_get}
+use Rattle.ang_kinds.specs.declared.types.Param.{Param}
 use Rattle.ang_kinds.specs.declared.types.Pass.{Pass}
 use Rattle.ang_kinds.specs.declared.types.Pass.TheVariants.{RefOut}
+use Rattle.ang_kinds.specs.declared.types.TypeRef.{TypeRef}
+use Rattle.ang_kinds.specs.declared.types.TypeRef.TheVariants as ref
 use Rattle.ang_registry.specs.declared.entry.Entry.{Entry}
 use Rattle.ang_registry.specs.declared.entry.EntryKind.{EntryKind}
-use Rattle.ang_registry.specs.declared.entry.EntryKind.TheVariants.{Function, Global}
+use Rattle.ang_registry.specs.declared.entry.EntryKind.TheVariants.{HostType, Factory, Method, Property, Function, Global}
 use Rattle.ang_registry.specs.Registration.{RegistrationList, entry_at}
+use Rattle.ang_registry.specs.Values.{IsPrimitive}
 use Rattle.ang_typed.specs.declared.expression.HostEntity.{HostEntity}
 use Rattle.ang_typed.specs.declared.expression.Variable.{Variable}
 use Rattle.ang_typed.specs.declared.expression.Variable.TheVariants as variable
@@ -15,13 +20,38 @@ use Rattle.ang_typed.specs.Typed as t
 
 -- ---- the host's entities
 
--- the view has an entity of this kind under its number, with its driver and the driver's number for it
+-- a primitive type or `void`
+abbrev pub IsNoObject : TypeRef → Type 0
+IsNoObject ref.Void = Unit {0}
+IsNoObject (ref.Plain p) = Unit {0}
+IsNoObject (ref.Object name shape const_object const_handle) = ⊥
+
+abbrev pub AreNoObjects : List Param → Type 0
+AreNoObjects [] = Unit {0}
+AreNoObjects (p ∷ ps) = IsNoObject p.ty × AreNoObjects ps
+
+-- a function of the host gives no object, and a global property is of a primitive type
+abbrev pub GivesNoObject : EntryKind → TypeRef → Type 0
+GivesNoObject HostType result = ⊥
+GivesNoObject Factory result = ⊥
+GivesNoObject Method result = ⊥
+GivesNoObject Property result = ⊥
+GivesNoObject Function result = IsNoObject result
+GivesNoObject Global result = IsPrimitive result
+
+-- a function or a global property by which no object passes
+pub record PassesNoObject (x : Entry) : Type 0 where
+  pub params : AreNoObjects x.signature.params
+  pub result : GivesNoObject x.kind x.signature.result
+
+-- the view has an entity of this kind under its number, with its driver and the driver's number for it, and no object passes by it
 pub record IsEntity (V : RegistrationList) (kind : EntryKind) (h : HostEntity) : Type 0 where
   pub entry : Entry
   pub in_view : entry_at V h.entity.0 ≡ Some entry
   pub same_kind : entry.kind ≡ kind
   pub driver : h.driver ≡ entry.driver
   pub number : h.f ≡ entry.f
+  pub no_object : PassesNoObject entry
 
 -- a function of the host with so many parameters
 pub record IsHostFunction (V : RegistrationList) (h : HostEntity) (count : ℕ) : Type 0 where
