@@ -38,8 +38,8 @@ module _ (s : Setting) (ps : List Pair) (plain : IsPlainSetting s) (all_plain : 
     typed (literal x) b = literal_sound M n x (text_of s.text x)
     typed (name x) b = name_typed s ps x plain all_plain
     typed (call x es) b =
-        let no = three_false (is_host_type V s.text x) (is_object_call V s.text x) (are_args_beyond V s.text es) b in
-        holds (Every Typed) Typed (typing_of_args s ps es) _ (args_typed es no.2) (λ operands all. call_typed s n x operands plain no.1 all)
+        let accepted = three_false (is_host_type V s.text x) (is_object_call V s.text x) (are_args_beyond V s.text es) b in
+        holds (Every Typed) Typed (typing_of_args s ps es) _ (args_typed es accepted.2) (λ operands all. call_typed s n x operands plain accepted.1 all)
     typed (scoped_call c scope x es) b = tt
     typed (cast word less y greater left e right) b = tt
     typed (convert word left e right) b = holds Typed Typed (typing_of s ps e) _ (typed e b) (λ a sa. converted_sound M n s.lines word a sa)
@@ -48,21 +48,21 @@ module _ (s : Setting) (ps : List Pair) (plain : IsPlainSetting s) (all_plain : 
     typed (member e dot x) b = tt
     typed (method_call e dot x es) b = tt
     typed (prefix op e) b =
-        let no = two_false (is_handle_sign op.kind) (is_beyond V s.text e) b in
-        holds Typed Typed (typing_of s ps e) _ (typed e no.1) (λ a sa. prefix_sound M n s.lines op a sa)
+        let accepted = two_false (is_handle_sign op.kind) (is_beyond V s.text e) b in
+        holds Typed Typed (typing_of s ps e) _ (typed e accepted.1) (λ a sa. prefix_sound M n s.lines op a sa)
     typed (binary l op r) b =
-        let no = three_false (is_identity op.kind) (is_beyond V s.text l) (is_beyond V s.text r) b in
-        holds Typed Typed (typing_of s ps l) _ (typed l no.1)
-        (λ x sx. holds Typed Typed (typing_of s ps r) _ (typed r no.2) (λ y sy. binary_sound M n s.lines x op.kind y sx sy))
+        let accepted = three_false (is_identity op.kind) (is_beyond V s.text l) (is_beyond V s.text r) b in
+        holds Typed Typed (typing_of s ps l) _ (typed l accepted.1)
+        (λ x sx. holds Typed Typed (typing_of s ps r) _ (typed r accepted.2) (λ y sy. binary_sound M n s.lines x op.kind y sx sy))
     typed (conditional c question l colon r) b =
-        let no = three_false (is_beyond V s.text c) (is_beyond V s.text l) (is_beyond V s.text r) b in
-        holds Typed Typed (typing_of s ps c) _ (typed c no.0)
-        (λ x sx. holds Typed Typed (typing_of s ps l) _ (typed l no.1)
-        (λ y sy. holds Typed Typed (typing_of s ps r) _ (typed r no.2) (λ z sz. conditional_sound M n s.lines x y z sx sy sz)))
+        let accepted = three_false (is_beyond V s.text c) (is_beyond V s.text l) (is_beyond V s.text r) b in
+        holds Typed Typed (typing_of s ps c) _ (typed c accepted.0)
+        (λ x sx. holds Typed Typed (typing_of s ps l) _ (typed l accepted.1)
+        (λ y sy. holds Typed Typed (typing_of s ps r) _ (typed r accepted.2) (λ z sz. conditional_sound M n s.lines x y z sx sy sz)))
     typed (assignment l op r) b =
-        let no = two_false (is_beyond V s.text l) (is_beyond V s.text r) b in
-        holds Typed Typed (typing_of s ps l) _ (typed l no.0)
-        (λ x sx. holds Typed Typed (typing_of s ps r) _ (typed r no.1) (λ y sy. assignment_sound M n s.lines x op.kind y sx sy))
+        let accepted = two_false (is_beyond V s.text l) (is_beyond V s.text r) b in
+        holds Typed Typed (typing_of s ps l) _ (typed l accepted.0)
+        (λ x sx. holds Typed Typed (typing_of s ps r) _ (typed r accepted.1) (λ y sy. assignment_sound M n s.lines x op.kind y sx sy))
 
     pub args_typed : (es : Args) → are_args_beyond s.view s.text es ≡ false → IfOk (typing_of_args s ps es) (Every (SoundOperand (Here s) (length ps)))
     args_typed (arguments left es right) b = all_typed es b

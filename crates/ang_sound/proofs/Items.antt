@@ -9,6 +9,11 @@ pub every_joined : {A : Type 0} (P : A → Type 0) (xs ys : List A) → Every P 
 every_joined P [] ys h k = k
 every_joined P (x ∷ xs) ys h k = (h.0, every_joined P xs ys h.1 k)
 
+-- nothing is wanted of the items
+pub every_any : {A : Type 0} (xs : List A) → Every (λ a. Unit {0}) xs
+every_any [] = tt
+every_any (x ∷ xs) = (tt, every_any xs)
+
 pub every_option : {A : Type 0} (P : A → Type 0) (o : Option A) → IfSome o P → Every P (option_to_list o)
 every_option P None h = tt
 every_option P (Some a) h = (h, tt)

@@ -9,5 +9,6 @@ pub mod Calls
 pub mod Expressions
 pub mod Statements
 pub mod Bodies
+pub mod Within
 pub mod Parts
 pub mod Program

@@ -6,10 +6,11 @@ use Rattle.std.proofs.lemmas.List.{length-map}
 use Rattle.ang_lex.specs.declared.token.Token.{Token}
 use Rattle.ang_registry.specs.Registration.{RegistrationList}
 use Rattle.ang_tree.specs.declared.type_name.TypeName.{TypeName}
-use Rattle.ang_tree.specs.Stmt.{Init, Body}
+use Rattle.ang_tree.specs.Stmt.{Init, Body, Every}
 use Rattle.ang_typed.specs.declared.program.Parameter.{Parameter}
 use Rattle.ang_typed.specs.Typed as t
 use Rattle.ang_written.specs.Sources.{Source}
+use Rattle.ang_written.specs.NotYet.{not_yet}
 use Rattle.ang_names.specs.declared.names.Names.{Names}
 use Rattle.ang_names.specs.declared.names.ScriptFunction.{ScriptFunction}
 use Rattle.ang_names.specs.declared.names.ScriptGlobal.{ScriptGlobal}
@@ -21,6 +22,9 @@ use Rattle.ang_source.specs.Sound.{Module, module_of, SoundOption, SoundFunction
 use Rattle.ang_registry.specs.Values.{TakesValues}
 use Rattle.ang_sound.specs.Checked.{module_in, HasNames}
 use Rattle.ang_sound.specs.Parts.{Belong}
+use Rattle.ang_sound.specs.PlainNames.{IsPlainFunction, ArePlainNames, IsPlainSetting}
+use Rattle.ang_sound.proofs.Items.{every_any}
+use Rattle.ang_sound.proofs.Within.{names_plain, IsWithin, parts_within}
 use Rattle.ang_sound.proofs.Bodies.{IsFunction, IsGlobal, function_declared, global_declared, function_sound, global_sound}
 use Rattle.ang_sound.proofs.Parts.{all_belong}
 
@@ -34,8 +38,11 @@ Pairwise R (x ∷ xs) (y ∷ ys) = R x y × Pairwise R xs ys
 -- ---- what holds of each judgement holds of what all give
 
 module _ (V : RegistrationList) (names : Names) (P : ScriptFunction → t.Function → Type 0) (Q : ScriptGlobal → t.Global → Type 0)
-    (each_function : (text : List ℕ) (f : ScriptFunction) (x : Token) (b : Body) → IfOk (function_typing (setting_in V names text) f x b) (P f))
-    (each_global : (text : List ℕ) (g : ScriptGlobal) (y : TypeName) (i : Init) → IfOk (global_typing (setting_in V names text) g y i) (Q g)) where
+    (W : Part → Type 0) (F : ScriptFunction → Type 0)
+    (each_function : (text : List ℕ) (f : ScriptFunction) (x : Token) (b : Body) → W (a_body text x b) → F f
+    → IfOk (function_typing (setting_in V names text) f x b) (P f))
+    (each_global : (text : List ℕ) (g : ScriptGlobal) (y : TypeName) (i : Init) → W (an_initializer text y i)
+    → IfOk (global_typing (setting_in V names text) g y i) (Q g)) where
   -- what these judgements give, of these functions and globals
   record Gives (fs : List ScriptFunction) (gs : List ScriptGlobal) (js : List Judgement) : Type 0 where
     functions : Pairwise P fs (filter_map function_in js)
@@ -53,23 +60,23 @@ module _ (V : RegistrationList) (names : Names) (P : ScriptFunction → t.Functi
   first_global text g fs gs (Ok y) js h e rest = let r = rest e in record { functions = r.functions; globals = (h, r.globals) }
   first_global text g fs gs (Err why) js h e rest = cc
 
-  all_given : (parts : List Part) (fs : List ScriptFunction) (gs : List ScriptGlobal) → Belong V parts fs gs
+  all_given : (parts : List Part) (fs : List ScriptFunction) (gs : List ScriptGlobal) → Every W parts → Every F fs → Belong V parts fs gs
       → filter_map refusal_in (judged_from V names fs gs parts) ≡ [] → Gives fs gs (judged_from V names fs gs parts)
-  all_given [] [] [] h e = record { functions = tt; globals = tt }
-  all_given [] [] (g ∷ gs) h e = absurd h
-  all_given [] (f ∷ fs) gs h e = absurd h
-  all_given (a_body text x b ∷ parts) [] gs h e = absurd h
-  all_given (a_body text x b ∷ parts) (f ∷ fs) gs h e =
-      first_function text f fs gs (function_typing (setting_in V names text) f x b) (judged_from V names fs gs parts) (each_function text f x b) e
-      (λ none. all_given parts fs gs h.2 none)
-  all_given (an_initializer text y i ∷ parts) [] [] h e = absurd h
-  all_given (an_initializer text y i ∷ parts) (f ∷ fs) [] h e = absurd h
-  all_given (an_initializer text y i ∷ parts) [] (g ∷ gs) h e =
-      first_global text g [] gs (global_typing (setting_in V names text) g y i) (judged_from V names [] gs parts) (each_global text g y i) e
-      (λ none. all_given parts [] gs h.1 none)
-  all_given (an_initializer text y i ∷ parts) (f ∷ fs) (g ∷ gs) h e =
-      first_global text g (f ∷ fs) gs (global_typing (setting_in V names text) g y i) (judged_from V names (f ∷ fs) gs parts) (each_global text g y i) e
-      (λ none. all_given parts (f ∷ fs) gs h.1 none)
+  all_given [] [] [] w k h e = record { functions = tt; globals = tt }
+  all_given [] [] (g ∷ gs) w k h e = absurd h
+  all_given [] (f ∷ fs) gs w k h e = absurd h
+  all_given (a_body text x b ∷ parts) [] gs w k h e = absurd h
+  all_given (a_body text x b ∷ parts) (f ∷ fs) gs w k h e =
+      first_function text f fs gs (function_typing (setting_in V names text) f x b) (judged_from V names fs gs parts) (each_function text f x b w.0 k.0) e
+      (λ none. all_given parts fs gs w.1 k.1 h.2 none)
+  all_given (an_initializer text y i ∷ parts) [] [] w k h e = absurd h
+  all_given (an_initializer text y i ∷ parts) (f ∷ fs) [] w k h e = absurd h
+  all_given (an_initializer text y i ∷ parts) [] (g ∷ gs) w k h e =
+      first_global text g [] gs (global_typing (setting_in V names text) g y i) (judged_from V names [] gs parts) (each_global text g y i w.0) e
+      (λ none. all_given parts [] gs w.1 k h.1 none)
+  all_given (an_initializer text y i ∷ parts) (f ∷ fs) (g ∷ gs) w k h e =
+      first_global text g (f ∷ fs) gs (global_typing (setting_in V names text) g y i) (judged_from V names (f ∷ fs) gs parts) (each_global text g y i w.0) e
+      (λ none. all_given parts (f ∷ fs) gs w.1 k h.1 none)
 
 -- ---- what the names declare
 
@@ -96,8 +103,9 @@ pub has_names : (V : RegistrationList) (names : Names) (sources : List Source) �
     → body_errors V names sources ≡ [] → HasNames names (program_of V names sources)
 unfolding judgements body_errors program_of
 has_names V names sources e none =
-    let given = all_given V names IsFunction IsGlobal (λ text f x b. function_declared (setting_in V names text) f x b)
-    (λ text g y i. global_declared (setting_in V names text) g y i) (flat_map parts_of sources) names.functions names.globals
+    let given = all_given V names IsFunction IsGlobal (λ (p : Part). Unit {0}) (λ (f : ScriptFunction). Unit {0})
+    (λ text f x b w k. function_declared (setting_in V names text) f x b) (λ text g y i w. global_declared (setting_in V names text) g y i)
+    (flat_map parts_of sources) names.functions names.globals (every_any (flat_map parts_of sources)) (every_any names.functions)
     (all_belong V sources names e) none in
     record {
       parameters = declared_parameters names.functions _ given.functions;
@@ -142,21 +150,24 @@ record SoundOver (M : Module) (p : t.Program) : Type 0 where
   globals : SoundGlobals M p.globals
 
 sound_over : (V : RegistrationList) (names : Names) (sources : List Source) → TakesValues V → names ≡ names_of V (declarations_of sources)
-    → body_errors V names sources ≡ [] → SoundOver (module_in V names) (program_of V names sources)
+    → not_yet V sources ≡ [] → body_errors V names sources ≡ [] → SoundOver (module_in V names) (program_of V names sources)
 unfolding judgements body_errors program_of
-sound_over V names sources values e none =
+sound_over V names sources values e built none =
     let M = module_in V names in
-    let given = all_given V names (IsSound M) (IsSoundGlobal M) (λ text f x b. function_sound (setting_in V names text) values f x b)
-    (λ text g y i. global_sound (setting_in V names text) values g y i) (flat_map parts_of sources) names.functions names.globals
-    (all_belong V sources names e) none in
+    let plain : ArePlainNames names = subst ArePlainNames (sym e) (names_plain V sources built) in
+    let setting : (text : List ℕ) → IsPlainSetting (setting_in V names text) = λ text. record { values = values; names = plain } in
+    let given = all_given V names (IsSound M) (IsSoundGlobal M) (IsWithin V) IsPlainFunction
+    (λ text f x b w k. function_sound (setting_in V names text) (setting text) f x b k w)
+    (λ text g y i w. global_sound (setting_in V names text) (setting text) g y i w) (flat_map parts_of sources) names.functions names.globals
+    (parts_within V sources built) plain.functions (all_belong V sources names e) none in
     record { functions = sound_functions M names.functions _ given.functions; globals = sound_globals M names.globals _ given.globals }
 
 pub program_is_sound : (V : RegistrationList) (names : Names) (sources : List Source) → TakesValues V → names ≡ names_of V (declarations_of sources)
-    → body_errors V names sources ≡ [] → SoundProgram V (program_of V names sources)
-program_is_sound V names sources values e none =
+    → not_yet V sources ≡ [] → body_errors V names sources ≡ [] → SoundProgram V (program_of V names sources)
+program_is_sound V names sources values e built none =
     let p = program_of V names sources in
     let same = same_module V names p (has_names V names sources e none) in
-    let sound = sound_over V names sources values e none in
+    let sound = sound_over V names sources values e built none in
     record {
       functions = subst (λ (N : Module). SoundFunctions N p.functions) same sound.functions;
       globals = subst (λ (N : Module). SoundGlobals N p.globals) same sound.globals;
