@@ -7,8 +7,7 @@ ghost use Rattle.ang_lower.specs.Hosts.{host_type_of};
 ghost use Rattle.ang_plain.specs.Plainness as spec;
 
 use ang_kinds::{Param, TypeRef};
-use ang_registry::{Entry, EntryKind, View};
-use ang_typed::{HostEntity, Variable};
+use ang_registry::{Entry, EntryKind};
 
 /// Whether the values of a declared type are objects.
 fn is_object(ty: &TypeRef) -> bool
@@ -47,25 +46,5 @@ pub fn is_plain_entry(entry: &Entry) -> bool
         EntryKind::Method | EntryKind::Property => false,
         EntryKind::Function => !is_object(&entry.signature.result) && !object_taken,
         EntryKind::Global => is_primitive(&entry.signature.result) && !object_taken,
-    }
-}
-
-/// Whether the view has a plain entry under the number of an entity.
-pub fn is_plain_entity(view: &View, host: &HostEntity) -> bool
-    ensures exact { result ≡ spec.is_plain_entity view.now host.now }
-{
-    match view.get(host.entity) {
-        Some(entry) => is_plain_entry(entry),
-        None => false,
-    }
-}
-
-/// Whether a variable is no host property, or a plain one.
-pub fn variable_asks_plain(view: &View, variable: &Variable) -> bool
-    ensures exact { result ≡ spec.variable_asks_plain view.now variable.now }
-{
-    match variable {
-        Variable::Local(_) | Variable::Global(_) => true,
-        Variable::Property(host) => is_plain_entity(view, host),
     }
 }

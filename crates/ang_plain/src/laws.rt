@@ -6,14 +6,13 @@ ghost use Rattle.ang_typed.specs.Typed.{Program};
 ghost use Rattle.ang_source.specs.Sound.{SoundProgram};
 ghost use Rattle.ang_ask.specs.Plain.{is_plain};
 ghost use Rattle.ang_lower.specs.Hosts.{use_of};
-ghost use Rattle.ang_plain.specs.Plainness.{plain_part, asks_plain};
+ghost use Rattle.ang_plain.specs.Plainness.{plain_part};
 
-/// A sound module that asks plain entities alone is sound over the plain part of its view; and what that part
-/// has under a number the view has there too, and it is plain.
-pub fn plain_programs_are_sound()
+/// A sound module is sound over the plain part of its view, since no object passes by what it asks for; and what
+/// that part has under a number the view has there too, and it is plain.
+pub fn programs_stay_sound()
     ensures sound { (V : RegistrationList) (p : Program)
         → SoundProgram V p
-        → asks_plain V p ≡ true
         → SoundProgram (plain_part V) p }
     ensures part { (V : RegistrationList) (n : ℕ) (x : Entry)
         → entry_at (plain_part V) n ≡ Some x
