@@ -1,58 +1,56 @@
 -- What holds of each program that a build gives.
-use Rattle.std.proofs.Common.{◌≡◌, refl, subst, ℕ, Bool, true, false, if◌then◌else◌, List, [], ◌∷◌}
+use Rattle.std.proofs.Common.{◌≡◌, refl, subst, ℕ, List, [], ◌∷◌}
 use Rattle.std.specs.Prelude.{Result, Ok, Err}
 use Rattle.ang_kinds.specs.declared.error.Error.{Error}
 use Rattle.ang_registry.specs.Registration.{RegistrationList}
 use Rattle.ang_registry.specs.Values.{TakesValues}
 use Rattle.ang_source.specs.Sound.{SoundProgram}
 use Rattle.ang_written.specs.Sources.{Source}
+use Rattle.ang_written.specs.NotYet.{not_yet}
 use Rattle.ang_names.specs.Declarations.{declarations_of}
 use Rattle.ang_names.specs.Phases.{errors_of, errors_or}
 use Rattle.ang_names.specs.Resolved.{names_of}
 use Rattle.ang_check.specs.Bodies.{body_errors, program_of}
-use Rattle.ang_plain.specs.Plainness.{plain_part, asks_plain}
+use Rattle.ang_plain.specs.Plainness.{plain_part}
 use Rattle.ang_plain.proofs.Sounds.{program_stays}
 use Rattle.ang_sound.specs.Checked.{HasNames}
 use Rattle.ang_sound.proofs.Program.{has_names, program_is_sound}
 use Rattle.ang_build.specs.Script.{sources_of}
-use Rattle.ang_build.specs.Build.{Resolved, Built, Errors, Compiled, resolution_of, script_errors, built_from, unless_refused, build_of_scripts, after_reading, build_of}
+use Rattle.ang_build.specs.Build.{Resolved, Compiled, resolution_of, script_errors, unless_refused, build_of_scripts, after_reading, build_of}
 
 -- ---- what a built program is
 
--- These scripts are resolved to it, their bodies and initializers are accepted, and it asks the host for plain entities alone.
+-- These scripts are resolved to it, and each declaration, body and initializer is accepted.
 record IsResolution (V : RegistrationList) (ss : List Source) (r : Resolved) : Type 0 where
+  within : not_yet V ss ≡ []
   accepted : body_errors V (names_of V (declarations_of ss)) ss ≡ []
   is : resolution_of V ss ≡ r
-  plain : asks_plain V (resolution_of V ss).tree ≡ true
 
-none_later : (first later : List Error) → errors_or first later ≡ [] → later ≡ []
-none_later [] later h = h
-none_later (e ∷ es) later h = cc
+none_of_both : (first later : List Error) → errors_or first later ≡ [] → (first ≡ []) × (later ≡ [])
+none_of_both [] later h = (refl, h)
+none_of_both (e ∷ es) later h = cc
 
--- what was compiled, and that nothing was in the way
-taken : (b : Bool) (r s : Resolved) (es : List Error) → (if b then Compiled r else Errors es) ≡ Compiled s → (r ≡ s) × (b ≡ true)
-taken true r s es is =
-    let same : r ≡ s = cc in
-    (same, refl)
-taken false r s es is = cc
+none_beyond : (V : RegistrationList) (ss : List Source) → errors_of V ss ≡ [] → not_yet V ss ≡ []
+unfolding errors_of
+none_beyond V ss h = (none_of_both (not_yet V ss) _ h).0
 
-passed : (es : List Error) (built : Built) (r : Resolved) → unless_refused es built ≡ Compiled r → (es ≡ []) × (built ≡ Compiled r)
-passed [] built r is = (refl, is)
-passed (e ∷ es) built r is = cc
+passed : (es : List Error) (r s : Resolved) → unless_refused es r ≡ Compiled s → (es ≡ []) × (r ≡ s)
+passed [] r s is = (refl, cc)
+passed (e ∷ es) r s is = cc
 
 scripts_resolve : (V : RegistrationList) (ss : List Source) (r : Resolved) → build_of_scripts V ss ≡ Compiled r → IsResolution V ss r
 scripts_resolve V ss r is =
-    let p = passed (script_errors V ss) (built_from V (resolution_of V ss)) r is in
-    let t = taken (asks_plain V (resolution_of V ss).tree) (resolution_of V ss) r _ p.1 in
-    record { accepted = none_later (errors_of V ss) _ p.0; is = t.0; plain = t.1 }
+    let p = passed (script_errors V ss) (resolution_of V ss) r is in
+    let none = none_of_both (errors_of V ss) _ p.0 in
+    record { within = none_beyond V ss none.0; accepted = none.1; is = p.1 }
 
 -- ---- the laws, of scripts
 
 sound_scripts : (V : RegistrationList) (ss : List Source) (r : Resolved) → TakesValues V → IsResolution V ss r → SoundProgram (plain_part V) r.tree
 sound_scripts V ss r values h =
     let names = names_of V (declarations_of ss) in
-    let sound : SoundProgram V (program_of V names ss) = program_is_sound V names ss values refl h.accepted in
-    subst (λ (q : Resolved). SoundProgram (plain_part V) q.tree) h.is (program_stays V (program_of V names ss) sound h.plain)
+    let sound : SoundProgram V (program_of V names ss) = program_is_sound V names ss values refl h.within h.accepted in
+    subst (λ (q : Resolved). SoundProgram (plain_part V) q.tree) h.is (program_stays V (program_of V names ss) sound)
 
 named_scripts : (V : RegistrationList) (ss : List Source) (r : Resolved) → IsResolution V ss r → HasNames r.names r.tree
 named_scripts V ss r h =

@@ -1,19 +1,16 @@
 -- What a build gives (docs/MEANING.md, "A build"; the AngelScript manual, "Script modules"): the errors of the first phase
 -- that refuses something, or the program.
-use Rattle.std.specs.Prelude.{ℕ, if◌then◌else◌, List, [], ◌∷◌, Result, Ok, Err}
+use Rattle.std.specs.Prelude.{ℕ, List, [], ◌∷◌, Result, Ok, Err}
 use Rattle.ang_kinds.specs.declared.error.Error.{Error}
-use Rattle.ang_kinds.specs.declared.error.ErrorKind.TheVariants.{NotYet}
-use Rattle.ang_lex.specs.Tokens.{start_of}
 use Rattle.ang_registry.specs.Registration.{RegistrationList}
 use Rattle.ang_typed.specs.Typed as t
 use Rattle.ang_typed.specs.View.{view_typed}
-use Rattle.ang_written.specs.Sources.{Source, fault_at}
+use Rattle.ang_written.specs.Sources.{Source}
 use Rattle.ang_names.specs.declared.names.Names.{Names}
 use Rattle.ang_names.specs.Declarations.{declarations_of}
 use Rattle.ang_names.specs.Phases.{errors_of, errors_or}
 use Rattle.ang_names.specs.Resolved.{names_of}
 use Rattle.ang_check.specs.Bodies.{body_errors, program_of}
-use Rattle.ang_plain.specs.Plainness.{asks_plain}
 use Rattle.ang_build.specs.declared.program.Program.{Program}
 use Rattle.ang_build.specs.Script.{sources_of}
 
@@ -43,18 +40,13 @@ pub data Built : Type 0 where
 abbrev pub script_errors : RegistrationList → List Source → List Error
 script_errors V ss = errors_or (errors_of V ss) (body_errors V (names_of V (declarations_of ss)) ss)
 
--- The program, where it asks the host for plain entities alone. Scripts without errors do, since any other use is `NotYet` where it
--- stands; so the error here is not met.
-abbrev pub built_from : RegistrationList → Resolved → Built
-built_from V r = if asks_plain V r.tree then Compiled r else Errors (fault_at NotYet (start_of 0) ∷ [])
-
--- what is built where nothing is refused
-abbrev pub unless_refused : List Error → Built → Built
-unless_refused (e ∷ es) built = Errors (e ∷ es)
-unless_refused [] built = built
+-- the program, where nothing is refused
+abbrev pub unless_refused : List Error → Resolved → Built
+unless_refused (e ∷ es) r = Errors (e ∷ es)
+unless_refused [] r = Compiled r
 
 abbrev pub build_of_scripts : RegistrationList → List Source → Built
-build_of_scripts V ss = unless_refused (script_errors V ss) (built_from V (resolution_of V ss))
+build_of_scripts V ss = unless_refused (script_errors V ss) (resolution_of V ss)
 
 -- the error of the first section that is not read, or what the scripts build to
 abbrev pub after_reading : RegistrationList → Result (List Source) Error → Built

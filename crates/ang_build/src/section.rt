@@ -13,7 +13,7 @@ use ang_tree::Script;
 use std::alloc::Global;
 
 /// An error without a name.
-pub fn nameless(alloc: Global, kind: ErrorKind, place: Place) -> Error
+fn nameless(alloc: Global, kind: ErrorKind, place: Place) -> Error
     ensures { result ≡ fault_at kind place }
 {
     Error {
