@@ -1,5 +1,6 @@
 pub mod Tree
 pub mod Plain
 pub mod Lowered
+pub mod Kinds
 pub mod Hosts
 pub mod Same

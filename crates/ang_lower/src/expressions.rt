@@ -1,7 +1,8 @@
 //! The core trees of expressions.
-ghost use Rattle.std.specs.Prelude.{◌≡◌, IfOk, map as list_map};
+ghost use Rattle.std.specs.Prelude.{◌≡◌, IfOk, true, map as list_map};
 ghost use Rattle.ang_typed.specs.View.{view_expr, view_arg, view_args, view_option};
 ghost use Rattle.ang_lower.specs.Plain.{plain_expr};
+ghost use Rattle.ang_lower.specs.Kinds.{is_unary, is_binary, is_choice, is_change, is_call};
 ghost use Rattle.ang_lower.specs.Lowered as spec;
 
 use crate::build::{Pair, apply, binary, call, choice, with_operand};
@@ -30,6 +31,32 @@ pub fn lower_expression(
         typed::Expression::Number { value, .. } => Ok(Expression::Number(*value)),
         typed::Expression::Truth(b) => Ok(Expression::Number(u64::from(*b))),
         typed::Expression::Variable { variable, .. } => read(alloc, alive, variable),
+        typed::Expression::Convert { .. }
+        | typed::Expression::Negate { .. }
+        | typed::Expression::Complement { .. }
+        | typed::Expression::Not { .. } => lower_unary(alloc, alive, e),
+        typed::Expression::Operate { .. } | typed::Expression::Compare { .. } => {
+            lower_binary(alloc, alive, e)
+        }
+        typed::Expression::And { .. }
+        | typed::Expression::Or { .. }
+        | typed::Expression::Choose { .. } => lower_choice(alloc, alive, e),
+        typed::Expression::Assign { .. }
+        | typed::Expression::Compound { .. }
+        | typed::Expression::Step { .. } => lower_change(alloc, alive, e),
+        typed::Expression::Call { .. } | typed::Expression::HostCall { .. } => {
+            lower_call(alloc, alive, e)
+        }
+    }
+}
+
+/// A conversion, or an operator on one operand.
+#[cycle(expression)]
+fn lower_unary(alloc: Global, alive: usize, e: &typed::Expression) -> Result<Expression, AllocError>
+    requires kind { is_unary (view_expr e.now) ≡ true }
+    ensures exact { IfOk result (λ x. plain_expr x ≡ spec.lowered alive (view_expr e.now)) }
+{
+    match e {
         typed::Expression::Convert { to, operand, .. } => {
             let operand = lower_expression(alloc, alive, operand)?;
             conversion(alloc, *to, operand)
@@ -46,6 +73,21 @@ pub fn lower_expression(
             let operand = lower_expression(alloc, alive, operand)?;
             denial(alloc, operand)
         }
+        _ => unreachable!(),
+    }
+}
+
+/// An operator on two operands that are both evaluated.
+#[cycle(expression)]
+fn lower_binary(
+    alloc: Global,
+    alive: usize,
+    e: &typed::Expression,
+) -> Result<Expression, AllocError>
+    requires kind { is_binary (view_expr e.now) ≡ true }
+    ensures exact { IfOk result (λ x. plain_expr x ≡ spec.lowered alive (view_expr e.now)) }
+{
+    match e {
         typed::Expression::Operate {
             operator,
             ty,
@@ -68,6 +110,21 @@ pub fn lower_expression(
             let operation = Operation::Compare(test(*comparison), is_signed(*ty));
             binary(alloc, operation, Pair { left, right })
         }
+        _ => unreachable!(),
+    }
+}
+
+/// What evaluates one of two operands by a test.
+#[cycle(expression)]
+fn lower_choice(
+    alloc: Global,
+    alive: usize,
+    e: &typed::Expression,
+) -> Result<Expression, AllocError>
+    requires kind { is_choice (view_expr e.now) ≡ true }
+    ensures exact { IfOk result (λ x. plain_expr x ≡ spec.lowered alive (view_expr e.now)) }
+{
+    match e {
         typed::Expression::And { left, right } => {
             let test = lower_expression(alloc, alive, left)?;
             let left = lower_expression(alloc, alive, right)?;
@@ -91,6 +148,21 @@ pub fn lower_expression(
             let test = lower_expression(alloc, alive, condition)?;
             choice(alloc, test, pair)
         }
+        _ => unreachable!(),
+    }
+}
+
+/// What stores into a variable.
+#[cycle(expression)]
+fn lower_change(
+    alloc: Global,
+    alive: usize,
+    e: &typed::Expression,
+) -> Result<Expression, AllocError>
+    requires kind { is_change (view_expr e.now) ≡ true }
+    ensures exact { IfOk result (λ x. plain_expr x ≡ spec.lowered alive (view_expr e.now)) }
+{
+    match e {
         typed::Expression::Assign {
             variable,
             value,
@@ -118,6 +190,17 @@ pub fn lower_expression(
             let by = step(*ty, *kind);
             change(alloc, alive, variable, by, Expression::Number(1))
         }
+        _ => unreachable!(),
+    }
+}
+
+/// A call of a function of the module or of the host.
+#[cycle(expression)]
+fn lower_call(alloc: Global, alive: usize, e: &typed::Expression) -> Result<Expression, AllocError>
+    requires kind { is_call (view_expr e.now) ≡ true }
+    ensures exact { IfOk result (λ x. plain_expr x ≡ spec.lowered alive (view_expr e.now)) }
+{
+    match e {
         typed::Expression::Call {
             function,
             arguments,
@@ -136,6 +219,7 @@ pub fn lower_expression(
             let values = lower_arguments(alloc, alive, arguments.as_slice())?;
             Ok(apply(Operation::Ask(host.entity), values))
         }
+        _ => unreachable!(),
     }
 }
 

@@ -1,9 +1,10 @@
 //! The core trees of statements.
-ghost use Rattle.std.specs.Prelude.{◌≡◌, ◌+◌, ◌++◌, ◌∷◌, [], suc, length, IfOk, OnOk, map as list_map};
+ghost use Rattle.std.specs.Prelude.{◌≡◌, ◌+◌, ◌++◌, ◌∷◌, [], suc, length, IfOk, OnOk, true, map as list_map};
 ghost use Rattle.ang_typed.specs.View.{view_block, view_expr, view_local, view_option, view_stmt, view_stmts};
 ghost use Rattle.ang_source.specs.Sound.{declared, declared_by};
 ghost use Rattle.ang_lower.specs.Tree as tree;
 ghost use Rattle.ang_lower.specs.Plain.{plain_expr, plain_stmt};
+ghost use Rattle.ang_lower.specs.Kinds.{is_loop};
 ghost use Rattle.ang_lower.specs.Lowered as spec;
 
 use crate::build::{LoopHead, Tested, add, block, either, late_loop_of, loop_of};
@@ -222,18 +223,36 @@ fn add_statement(
             let whole = either(alloc, tested, otherwise)?;
             add_one(found, whole, alive)
         }
+        typed::Statement::While { .. }
+        | typed::Statement::DoWhile { .. }
+        | typed::Statement::For { .. } => {
+            let whole = lower_loop_statement(alloc, alive, written)?;
+            add_one(found, whole, alive)
+        }
+    }
+}
+
+/// A loop as it is written, with what it starts from in a block around it.
+#[cycle(statement)]
+fn lower_loop_statement(
+    alloc: Global,
+    alive: usize,
+    written: &typed::Statement,
+) -> Result<Statement, AllocError>
+    requires kind { is_loop (view_stmt written.now) ≡ true }
+    ensures exact { IfOk result (λ s. plain_stmt s ∷ [] ≡ spec.lowered_stmt alive (view_stmt written.now)) }
+{
+    match written {
         typed::Statement::While { condition, body } => {
             let test = lower_expression(alloc, alive, condition)?;
             let head = LoopHead {
                 test,
                 step: Statement::Skip,
             };
-            let whole = lower_loop(alloc, alive, body, head)?;
-            add_one(found, whole, alive)
+            lower_loop(alloc, alive, body, head)
         }
         typed::Statement::DoWhile { body, condition } => {
-            let whole = lower_late_loop(alloc, alive, body, condition)?;
-            add_one(found, whole, alive)
+            lower_late_loop(alloc, alive, body, condition)
         }
         typed::Statement::For {
             start,
@@ -246,7 +265,8 @@ fn add_statement(
             let head = loop_head(alloc, inside, condition, steps.as_slice())?;
             let whole = lower_loop(alloc, inside, body, head)?;
             add(&mut inner, whole)?;
-            add_one(found, block(inner), alive)
+            Ok(block(inner))
         }
+        _ => unreachable!(),
     }
 }

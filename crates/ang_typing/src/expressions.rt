@@ -1,7 +1,8 @@
 //! The typing of expressions.
-ghost use Rattle.std.specs.Prelude.{◌≡◌, IfOk, ◌++◌, ◌∷◌, []};
+ghost use Rattle.std.specs.Prelude.{◌≡◌, IfOk, true, ◌++◌, ◌∷◌, []};
 ghost use Rattle.ang_tree.specs.View as trees;
 ghost use Rattle.ang_operators.specs.Refusals.{Gives};
+ghost use Rattle.ang_typing.specs.Operands.{has_one_operand, has_more_operands};
 ghost use Rattle.ang_typing.specs.Typing as spec;
 ghost use Rattle.ang_operators.specs.View.{view_operand, view_operands};
 
@@ -72,6 +73,30 @@ pub fn typing(
         }
         Expression::ScopedCall { class, .. } => Err(fault(ErrorKind::NotYet, class.place)),
         Expression::Cast { word, .. } => Err(fault(ErrorKind::NotYet, word.place)),
+        Expression::Member { dot, .. } => Err(fault(ErrorKind::NotYet, dot.place)),
+        Expression::MethodCall { dot, .. } => Err(fault(ErrorKind::NotYet, dot.place)),
+        Expression::Convert { .. }
+        | Expression::Parenthesized { .. }
+        | Expression::Postfix { .. }
+        | Expression::Prefix { .. } => typing_over_one(alloc, setting, pairs, expression),
+        Expression::Binary { .. }
+        | Expression::Conditional { .. }
+        | Expression::Assignment { .. } => typing_over_more(alloc, setting, pairs, expression),
+    }
+}
+
+/// The typing of an expression with one operand.
+#[cycle(typing)]
+fn typing_over_one(
+    alloc: Global,
+    setting: &Setting<'_>,
+    pairs: &[Pair<'_>],
+    expression: &Expression,
+) -> Result<Operand, Stop>
+    requires kind { has_one_operand (trees.view_expr expression.now) ≡ true }
+    ensures exact { Gives view_operand result (spec.typing_of setting.now pairs.now (trees.view_expr expression.now)) }
+{
+    match expression {
         Expression::Convert {
             primitive,
             operand,
@@ -88,12 +113,26 @@ pub fn typing(
             let operand = typing(alloc, setting, pairs, operand)?;
             postfix(operand, operator.kind)
         }
-        Expression::Member { dot, .. } => Err(fault(ErrorKind::NotYet, dot.place)),
-        Expression::MethodCall { dot, .. } => Err(fault(ErrorKind::NotYet, dot.place)),
         Expression::Prefix { operator, operand } => {
             let operand = typing(alloc, setting, pairs, operand)?;
             prefix(alloc, setting.lineage(), operator, operand)
         }
+        _ => unreachable!(),
+    }
+}
+
+/// The typing of an expression with two or three operands.
+#[cycle(typing)]
+fn typing_over_more(
+    alloc: Global,
+    setting: &Setting<'_>,
+    pairs: &[Pair<'_>],
+    expression: &Expression,
+) -> Result<Operand, Stop>
+    requires kind { has_more_operands (trees.view_expr expression.now) ≡ true }
+    ensures exact { Gives view_operand result (spec.typing_of setting.now pairs.now (trees.view_expr expression.now)) }
+{
+    match expression {
         Expression::Binary {
             left,
             operator,
@@ -126,5 +165,6 @@ pub fn typing(
             let value = typing(alloc, setting, pairs, value)?;
             assignment(alloc, setting.lineage(), target, operator.kind, value)
         }
+        _ => unreachable!(),
     }
 }

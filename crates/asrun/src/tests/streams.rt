@@ -1,0 +1,85 @@
+//! Readers and writers that fail, or give and take little.
+
+use crate::tests::harness::{OUTPUT, PROFILE, Pieces, SESSION, Sink, run};
+use crate::{IoFault, Status};
+use std::io;
+use std::io::Read;
+use std::test::Fail;
+
+/// Gives one LF for ever.
+#[derive(Drop)]
+struct LineFeeds;
+
+impl Read for LineFeeds {
+    fn read(&mut self, buf: &mut [u8]) -> io::Result<usize> {
+        if buf.is_empty() {
+            return Ok(0);
+        }
+        buf[0] = b'\n';
+        Ok(1)
+    }
+}
+
+#[test]
+fn line_feeds_for_ever_are_a_read_fault(rt: HostRuntime) -> Result<(), Fail> {
+    let mut out = Sink::new(rt.alloc(), 4096, 0, false);
+    let mut text = Pieces::new(SESSION, 4096, 0);
+    let outcome = run(rt.alloc(), &mut LineFeeds, &mut text, &mut out)?;
+    assert_eq!(rt; outcome, Err(IoFault::Read));
+    assert_eq!(rt; out.kept.len(), 0);
+    let mut profile = Pieces::new(PROFILE, 4096, 0);
+    let outcome = run(rt.alloc(), &mut profile, &mut LineFeeds, &mut out)?;
+    assert_eq!(rt; outcome, Err(IoFault::Read));
+    assert_eq!(rt; out.kept.len(), 0);
+    Ok(())
+}
+
+#[test]
+fn byte_by_byte(rt: HostRuntime) -> Result<(), Fail> {
+    let mut out = Sink::new(rt.alloc(), 1, 0, false);
+    let mut profile = Pieces::new(PROFILE, 1, 0);
+    let mut text = Pieces::new(SESSION, 1, 0);
+    let outcome = run(rt.alloc(), &mut profile, &mut text, &mut out)?;
+    assert_eq!(rt; outcome, Ok(Status::AllOk));
+    assert_eq!(rt; out.kept.as_slice(), OUTPUT.as_bytes());
+    Ok(())
+}
+
+/// Each call of `read` fails in turn: of the profile at most 4, of the session at most 9.
+#[test]
+fn a_reader_fails_at_each_call(rt: HostRuntime) -> Result<(), Fail> {
+    for fails in 1..=4u64 {
+        let mut out = Sink::new(rt.alloc(), 4096, 0, false);
+        let mut profile = Pieces::new(PROFILE, 16, fails);
+        let mut text = Pieces::new(SESSION, 16, 0);
+        let outcome = run(rt.alloc(), &mut profile, &mut text, &mut out)?;
+        assert_eq!(rt; outcome, Err(IoFault::Read), "profile, call {fails}");
+        assert_eq!(rt; out.kept.len(), 0);
+    }
+    for fails in 1..=7u64 {
+        let mut out = Sink::new(rt.alloc(), 4096, 0, false);
+        let mut profile = Pieces::new(PROFILE, 16, 0);
+        let mut text = Pieces::new(SESSION, 16, fails);
+        let outcome = run(rt.alloc(), &mut profile, &mut text, &mut out)?;
+        assert_eq!(rt; outcome, Err(IoFault::Read), "session, call {fails}");
+        assert_eq!(rt; out.kept.len(), 0);
+    }
+    Ok(())
+}
+
+/// Each call of `write` fails or takes nothing in turn; what stands written is a front of the output.
+#[test]
+fn a_writer_stops_at_each_call(rt: HostRuntime) -> Result<(), Fail> {
+    for fails in [false, true] {
+        for stops in 1..=11u64 {
+            let mut out = Sink::new(rt.alloc(), 3, stops, fails);
+            let mut profile = Pieces::new(PROFILE, 4096, 0);
+            let mut text = Pieces::new(SESSION, 4096, 0);
+            let outcome = run(rt.alloc(), &mut profile, &mut text, &mut out)?;
+            assert_eq!(rt; outcome, Err(IoFault::Write), "call {stops}");
+            assert!(rt; OUTPUT.as_bytes().starts_with(out.kept.as_slice()));
+            assert!(rt; out.kept.len() < OUTPUT.len());
+        }
+    }
+    Ok(())
+}
