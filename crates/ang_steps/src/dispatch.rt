@@ -44,7 +44,7 @@ pub fn do_operation<S: Store>(
     store: &mut S,
     here: Place,
     room: usize,
-    operation: Operation,
+    operation: &Operation,
     size: usize,
 ) -> Result<Place, Pause>
     requires inside { here.at < size }
@@ -55,7 +55,7 @@ pub fn do_operation<S: Store>(
     ensures quiet { (S.world store.new).events ≡ (S.world store.old).events }
 {
     let top = here.top;
-    match operation {
+    match *operation {
         Operation::Work(what, at) => next(here, do_work(stack, top, room, what, at)),
         Operation::Compare(what, signed) => next(here, do_compare(stack, top, room, what, signed)),
         Operation::Convert(to) => next(here, do_convert(stack, top, room, to)),
@@ -75,9 +75,9 @@ pub fn do_operation<S: Store>(
                 change_global(body, stack, store, top, room, number, by),
             )
         }
-        Operation::Ask(_) => Err(Pause::Asks(here, operation)),
-        Operation::Read(_) => Err(Pause::Asks(here, operation)),
-        Operation::Write(_) => Err(Pause::Asks(here, operation)),
-        Operation::Alter(_, _) => Err(Pause::Asks(here, operation)),
+        Operation::Ask(_) => Err(Pause::Asks(here, *operation)),
+        Operation::Read(_) => Err(Pause::Asks(here, *operation)),
+        Operation::Write(_) => Err(Pause::Asks(here, *operation)),
+        Operation::Alter(_, _) => Err(Pause::Asks(here, *operation)),
     }
 }

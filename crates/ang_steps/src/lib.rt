@@ -7,8 +7,11 @@
 #![tactic(auto)]
 
 pub mod arms;
+pub mod body;
 pub mod dispatch;
 pub mod doing;
+pub mod fuse;
+pub mod fused;
 pub mod globals;
 pub mod handles;
 pub mod jumps;
@@ -16,6 +19,7 @@ pub mod many;
 pub mod operations;
 pub mod place;
 pub mod stack;
+pub mod step;
 pub mod stop;
 pub mod store;
 pub mod table;
