@@ -1,6 +1,7 @@
 pub mod Values
 pub mod Tests
 pub mod TableLists
+pub mod Fusing
 pub mod Parts
 pub mod Operators
 pub mod SeveralGiven

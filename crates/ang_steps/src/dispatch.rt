@@ -50,7 +50,7 @@ pub fn do_operation<S: Store>(
     requires inside { here.at < size }
     requires in_room { here.top ≤ room }
     requires within { room ≤ length stack.old }
-    ensures turned { (t : Table) → IsNext t body here (Do operation) size
+    ensures turned { (t : Table) → IsNext t body here (Do operation.now) size
         → Turned t body room here stack.old (S.world store.old) result stack.new (S.world store.new) }
     ensures quiet { (S.world store.new).events ≡ (S.world store.old).events }
 {

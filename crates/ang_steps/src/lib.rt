@@ -7,15 +7,15 @@
 #![tactic(auto)]
 
 pub mod arms;
-pub mod body;
 pub mod dispatch;
 pub mod doing;
-pub mod fuse;
-pub mod fused;
+pub mod endings;
 pub mod globals;
 pub mod handles;
 pub mod jumps;
 pub mod many;
+pub mod moves;
+pub mod operands;
 pub mod operations;
 pub mod place;
 pub mod stack;
