@@ -10,6 +10,7 @@ pub mod arms;
 pub mod dispatch;
 pub mod doing;
 pub mod endings;
+pub mod fused;
 pub mod globals;
 pub mod handles;
 pub mod jumps;
