@@ -7,9 +7,11 @@
 #![tactic(auto)]
 
 pub mod arms;
+pub mod body;
 pub mod dispatch;
 pub mod doing;
 pub mod endings;
+pub mod fuse;
 pub mod fused;
 pub mod globals;
 pub mod handles;
