@@ -1,6 +1,7 @@
 pub mod Values
 pub mod Tests
 pub mod TableLists
+pub mod Listing
 pub mod Fusing
 pub mod Parts
 pub mod Operators
