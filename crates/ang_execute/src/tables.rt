@@ -6,6 +6,7 @@ ghost use Rattle.ang_means.specs.Executed.{uses_in};
 use crate::entities::uses_of;
 use ang_code::RoutineCode;
 use ang_registry::View;
+use ang_steps::body::Body;
 use ang_steps::table::{ModuleCode, Table};
 use std::alloc::{AllocError, Global};
 
@@ -19,6 +20,11 @@ fn module_of(alloc: Global, name: &[u8], bodies: Vec<RoutineCode>) -> Result<Mod
     ensures imports { IfOk result (λ m. m.imports.items ≡ []) }
 {
     let name = Vec::from_slice(alloc, name)?;
+    let mut made = Vec::new(alloc);
+    for code in bodies {
+        made.push(Body::new(alloc, code)?)?;
+    }
+    let bodies = made;
     Ok(ModuleCode {
         name,
         bodies,

@@ -1,3 +1,4 @@
+pub mod Stepping
 pub mod Weighing
 pub mod Calling
 pub mod Leaving

@@ -44,18 +44,18 @@ pub fn do_operation<S: Store>(
     store: &mut S,
     here: Place,
     room: usize,
-    operation: Operation,
+    operation: &Operation,
     size: usize,
 ) -> Result<Place, Pause>
     requires inside { here.at < size }
     requires in_room { here.top ≤ room }
     requires within { room ≤ length stack.old }
-    ensures turned { (t : Table) → IsNext t body here (Do operation) size
+    ensures turned { (t : Table) → IsNext t body here (Do operation.now) size
         → Turned t body room here stack.old (S.world store.old) result stack.new (S.world store.new) }
     ensures quiet { (S.world store.new).events ≡ (S.world store.old).events }
 {
     let top = here.top;
-    match operation {
+    match *operation {
         Operation::Work(what, at) => next(here, do_work(stack, top, room, what, at)),
         Operation::Compare(what, signed) => next(here, do_compare(stack, top, room, what, signed)),
         Operation::Convert(to) => next(here, do_convert(stack, top, room, to)),
@@ -75,9 +75,9 @@ pub fn do_operation<S: Store>(
                 change_global(body, stack, store, top, room, number, by),
             )
         }
-        Operation::Ask(_) => Err(Pause::Asks(here, operation)),
-        Operation::Read(_) => Err(Pause::Asks(here, operation)),
-        Operation::Write(_) => Err(Pause::Asks(here, operation)),
-        Operation::Alter(_, _) => Err(Pause::Asks(here, operation)),
+        Operation::Ask(_) => Err(Pause::Asks(here, *operation)),
+        Operation::Read(_) => Err(Pause::Asks(here, *operation)),
+        Operation::Write(_) => Err(Pause::Asks(here, *operation)),
+        Operation::Alter(_, _) => Err(Pause::Asks(here, *operation)),
     }
 }

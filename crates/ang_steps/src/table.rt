@@ -3,9 +3,12 @@ ghost use Rattle.std.specs.Prelude.{◌≡◌, ℕ, List, Some, None, MatchOptio
 ghost use Rattle.ang_meaning.specs.declared.slot.Slot.{Slot};
 ghost use Rattle.ang_meaning.specs.World.{World};
 ghost use Rattle.ang_meaning.specs.Setting.{params_of, target, bound as bound_to};
+ghost use Rattle.ang_steps.specs.Fused.{AreSteps};
 ghost use Rattle.ang_steps.specs.Tables.{body_of, import_of, setting_of, texts_of, found};
 
-use ang_code::{Instruction, RoutineCode};
+use crate::body::Body;
+use crate::step::Step;
+use ang_code::Instruction;
 use ang_kinds::Fault;
 use ang_meaning::{Callee, HostUse, Passing, Routine};
 
@@ -23,8 +26,8 @@ pub struct Import {
 pub struct ModuleCode {
     /// The module's name, as events list it.
     pub name: Vec<u8>,
-    /// The code of its functions and initializers, by number.
-    pub bodies: Vec<RoutineCode>,
+    /// The code of its functions and initializers, by number, with its steps.
+    pub bodies: Vec<Body>,
     /// Its imports, by number.
     pub imports: Vec<Import>,
 }
@@ -40,7 +43,7 @@ pub struct Table {
 
 /// The code of a body, where there is such a body.
 #[inline(always)]
-pub fn body_at(table: &Table, body: Routine) -> Option<&RoutineCode>
+pub fn body_at(table: &Table, body: Routine) -> Option<&Body>
     ensures exact { MatchOption result (body_of table.now body ≡ None) (λ code. body_of table.now body ≡ Some code.now) }
 {
     let module = table.modules.get(body.home as usize)?;
@@ -53,7 +56,18 @@ pub fn text_at(table: &Table, body: Routine) -> &[Instruction]
     ensures exact { result.now ≡ (texts_of table.now).text body }
 {
     match body_at(table, body) {
-        Some(code) => &code.text,
+        Some(code) => code.text(),
+        None => &[],
+    }
+}
+
+/// The steps of a body, none where there is no such body.
+#[inline(always)]
+pub fn steps_at(table: &Table, body: Routine) -> &[Step]
+    ensures fits { AreSteps result.now ((texts_of table.now).text body) }
+{
+    match body_at(table, body) {
+        Some(code) => code.steps(),
         None => &[],
     }
 }
@@ -64,7 +78,7 @@ pub fn height_at(table: &Table, body: Routine) -> usize
     ensures exact { result ≡ (texts_of table.now).height body }
 {
     match body_at(table, body) {
-        Some(code) => code.height,
+        Some(code) => code.height(),
         None => 0,
     }
 }
@@ -75,7 +89,7 @@ pub fn params_at(table: &Table, body: Routine) -> &[Passing]
     ensures exact { (nesting : ℕ) → result.now ≡ params_of (setting_of table.now nesting) body }
 {
     match body_at(table, body) {
-        Some(code) => &code.params,
+        Some(code) => code.params(),
         None => &[],
     }
 }
