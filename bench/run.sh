@@ -4,7 +4,7 @@
 #
 #     bench/run.sh [TURNS [BUILDS]]
 #
-# Proves and builds both programs first (some minutes in a fresh clone).
+# Proves and builds both programs first, and the libraries below them (half an hour and more in a fresh clone).
 set -eu
 cd "$(dirname "$0")/.."
 turns=${1:-200}

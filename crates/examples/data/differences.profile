@@ -9,3 +9,7 @@ global 0 0 int64 level
 # The function's own mask meets the module's. It names a type whose mask doesn't.
 mask 00000001
 function 2 2 Cell@+ pick(Cell@+)
+# A type that the module sees, and its only factory, which it doesn't.
+type Counter 1
+mask 00000002
+factory Counter 0 Counter@ f()
