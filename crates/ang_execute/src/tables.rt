@@ -10,21 +10,31 @@ use ang_steps::body::Body;
 use ang_steps::table::{ModuleCode, Table};
 use std::alloc::{AllocError, Global};
 
+/// The code of bodies, each with its steps.
+///
+/// # Errors
+/// Want of memory.
+fn bodies_of(alloc: Global, codes: Vec<RoutineCode>) -> Result<Vec<Body>, AllocError>
+    ensures same { IfOk result (λ bodies. bodies.items ≡ codes.items) }
+{
+    let mut bodies = Vec::new(alloc);
+    for code in codes {
+        bodies.push(Body::new(alloc, code)?)?;
+    }
+    Ok(bodies)
+}
+
 /// A module's code, without imports.
 ///
 /// # Errors
 /// Want of memory.
-fn module_of(alloc: Global, name: &[u8], bodies: Vec<RoutineCode>) -> Result<ModuleCode, AllocError>
+fn module_of(alloc: Global, name: &[u8], codes: Vec<RoutineCode>) -> Result<ModuleCode, AllocError>
     ensures name { IfOk result (λ m. m.name.items ≡ name.now) }
-    ensures bodies { IfOk result (λ m. m.bodies.items ≡ bodies.items) }
+    ensures bodies { IfOk result (λ m. m.bodies.items ≡ codes.items) }
     ensures imports { IfOk result (λ m. m.imports.items ≡ []) }
 {
     let name = Vec::from_slice(alloc, name)?;
-    let mut made = Vec::new(alloc);
-    for code in bodies {
-        made.push(Body::new(alloc, code)?)?;
-    }
-    let bodies = made;
+    let bodies = bodies_of(alloc, codes)?;
     Ok(ModuleCode {
         name,
         bodies,
