@@ -24,7 +24,7 @@ pub enum Command {
     Build {
         /// The module.
         name: List<u8>,
-        /// The ticks that the initialisers may take.
+        /// The ticks that the initializers may take.
         budget: u64,
     },
     /// Calls a script function of a built module.

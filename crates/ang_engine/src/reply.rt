@@ -49,7 +49,7 @@ pub enum Refusal {
     BuildMemory,
     /// The sections have errors, which the reply lists.
     BuildErrors,
-    /// An initialiser of a global failed.
+    /// An initializer of a global failed.
     InitFailed(Fault),
     /// The module has no function of that declaration.
     NoFunction,
