@@ -2,7 +2,6 @@
 use Rattle.std.proofs.Common.{Bool, ◌≡◌, ◌<◌, ◌≤◌, ◌+◌, refl, ap, sym, ◌∙◌, ℕ, suc, List, [], ◌∷◌, ◌++◌, append_assoc, append-nil, length, get_or, drop, take, drop-cons, add-one, arith, Result, Ok, Err, map as list_map}
 use Rattle.std.proofs.lemmas.List.{length-append, take-take, drop_all}
 use Rattle.std.proofs.Math.Seq.{take-length, take-append_seam}
-use Rattle.ang_tree.specs.Stmt as s
 use Rattle.ang_tree.specs.View as trees
 use Rattle.ang_tree.specs.declared.statement.Statement.{Statement}
 use Rattle.ang_tree.specs.declared.statement.Variable.{Variable}

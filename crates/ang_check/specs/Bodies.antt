@@ -1,4 +1,4 @@
--- The bodies and initializers of a build (docs/LANGUAGE.md, "Phases", the last): each is judged by itself, in the order of the
+-- The bodies and initializers of a build (docs/LANGUAGE.md, "Statements"): each is judged by itself, in the order of the
 -- declarations, and gives at most its first refusal.
 use Rattle.std.specs.Prelude.{ℕ, Bool, true, false, ◌||◌, if◌then◌else◌, length, List, [], ◌∷◌, map, Option, Some, None, Ok, Err}
 use Rattle.std.specs.List.{filter_map, flat_map}

@@ -1,4 +1,4 @@
--- The typing of statements (docs/LANGUAGE.md, "Statements" and "Names"; the AngelScript manual, "Statements" and "Variables"): by cases
+-- The typing of statements (docs/LANGUAGE.md, "Statements"; the AngelScript manual, "Statements" and "Variables"): by cases
 -- on the tree, the resolved tree and the pairs that are alive behind it, or the first refusal in reading order.
 use Rattle.std.specs.Prelude.{◌≡◌, ℕ, ◌-◌, ◌≤◌, nat_lt, Bool, true, false, if◌then◌else◌, is_some, length, take, drop, List, [], ◌∷◌, ◌++◌, map, Option, Some, None, Ok, Err}
 use Rattle.ang_kinds.specs.declared.error.ErrorKind.{ErrorKind}

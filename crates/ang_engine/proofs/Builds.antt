@@ -1,6 +1,6 @@
 -- How a build of a module leads to its reply.
-use Rattle.std.proofs.Common.{◌≡◌, ◌<◌, refl, ap, sym, ◌∙◌, subst, inl, inr, ℕ, true, false, List, [], ◌∷◌, ◌++◌, length, map, Option, Some, None}
-use Rattle.std.specs.Prelude.{Result, Ok, Err, slice_set, slice_index_or, if◌then◌else◌}
+use Rattle.std.proofs.Common.{◌≡◌, ◌<◌, refl, ap, sym, ◌∙◌, subst, inl, inr, ℕ, true, false, List, [], ◌∷◌, ◌++◌, length, map, Some, None}
+use Rattle.std.specs.Prelude.{Result, Ok, Err, slice_set, slice_index_or}
 use Rattle.ang_kinds.specs.declared.error.Unbuilt.{Unbuilt}
 use Rattle.ang_kinds.specs.declared.error.Unbuilt.TheVariants as unbuilt
 use Rattle.ang_kinds.specs.declared.mask.Mask.{Mask}
@@ -8,14 +8,13 @@ use Rattle.ang_kinds.specs.declared.fault.Fault.{Fault}
 use Rattle.ang_kinds.specs.declared.error.Error.{Error}
 use Rattle.ang_host.specs.declared.event.HostEvent.{HostEvent}
 use Rattle.ang_registry.specs.Registration.{RegistrationList, seen}
-use Rattle.ang_typed.specs.Typed as t
 use Rattle.ang_meaning.specs.declared.slot.Slot.{Slot}
 use Rattle.ang_meaning.specs.declared.slot.Slot.TheVariants.{Bits}
 use Rattle.ang_meaning.specs.World.{Input, Room, with_inputs}
 use Rattle.ang_vm.specs.Worlds.{world_of as run_world}
-use Rattle.ang_build.specs.Build.{Built, Errors, Compiled, build_of}
+use Rattle.ang_build.specs.Build.{Errors, Compiled, build_of}
 use Rattle.ang_means.specs.Executed.{first_globals, initialization_of}
-use Rattle.ang_means.specs.Ends.{Ended, Ends, completed}
+use Rattle.ang_means.specs.Ends.{Ends, completed}
 use Rattle.ang_execute.specs.Loaded.{tree_of}
 use Rattle.ang_engine.specs.declared.building.BuildRefused.{BuildRefused}
 use Rattle.ang_engine.specs.declared.building.BuildRefused.TheVariants as why
@@ -25,7 +24,7 @@ use Rattle.ang_engine.specs.declared.reply.Reply.{Reply}
 use Rattle.ang_engine.specs.declared.reply.Outcome.TheVariants.{Done, Refused}
 use Rattle.ang_engine.specs.declared.reply.Refusal.TheVariants.{NoModule, BadBudget, BuildMemory, BuildErrors, InitFailed}
 use Rattle.ang_engine.specs.World.{ModuleState, World, module_named, module_at, state_of, world_of, resolved_in}
-use Rattle.ang_engine.specs.Step.{Stepped, Leads, answered, refused, reply_of, emptied, started, after_build, build, build_within, is_budget, on_module}
+use Rattle.ang_engine.specs.Step.{Leads, answered, reply_of, emptied, started, after_build, build, build_within, is_budget, on_module}
 use Rattle.ang_engine.specs.Outcomes.{building, IsCompiled, refused_by, reply_to_build}
 use Rattle.ang_engine.specs.Sound.{IsLoaded}
 use Rattle.ang_engine.proofs.Finding.{on_module-none, on_module-found, on_module-unbudgeted, on_module-budgeted}

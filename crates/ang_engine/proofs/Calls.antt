@@ -1,5 +1,5 @@
 -- How a call leads to its reply.
-use Rattle.std.proofs.Common.{◌≡◌, ◌<◌, refl, ap, sym, ◌∙◌, subst, inl, inr, ◌⊎◌, ℕ, zero, suc, Bool, true, false, List, [], ◌∷◌, ◌++◌, length, Option, Some, None, map}
+use Rattle.std.proofs.Common.{◌≡◌, refl, ap, sym, ◌∙◌, subst, ℕ, zero, suc, Bool, true, false, List, [], ◌∷◌, ◌++◌, length, Option, Some, None, map}
 use Rattle.std.specs.Prelude.{Result, Ok, Err, slice_get, if◌then◌else◌}
 use Rattle.std.proofs.lemmas.List.{length-map}
 use Rattle.ang_kinds.specs.declared.fault.Fault.{Fault}
@@ -19,16 +19,15 @@ use Rattle.ang_call.specs.Calls.{is_callable, arguments_of, arguments_for, argum
 use Rattle.ang_call.specs.Named.{function_named_by}
 use Rattle.ang_means.specs.Modules.{TakesSoMany}
 use Rattle.ang_means.specs.Executed.{call_of}
-use Rattle.ang_means.specs.Ends.{Ends, end_of}
+use Rattle.ang_means.specs.Ends.{end_of}
 use Rattle.ang_execute.specs.Loaded.{tree_of}
 use Rattle.ang_engine.specs.declared.calling.Called.{Called}
 use Rattle.ang_engine.specs.declared.calling.ChosenCall.{ChosenCall}
 use Rattle.ang_engine.specs.declared.module.Loaded.{Loaded}
-use Rattle.ang_engine.specs.declared.reply.Refusal.{Refusal}
-use Rattle.ang_engine.specs.declared.reply.Refusal.TheVariants.{Memory, NotCallable, NoFunction}
-use Rattle.ang_engine.specs.World.{ModuleState, World, resolved_in}
-use Rattle.ang_engine.specs.Step.{Choice, Chosen, Not, choice_of, of_number, of_function, with_arguments, Leads, reply_of, refused, call_chosen, call_ended, called}
-use Rattle.ang_engine.specs.Outcomes.{IsChosen, HasCalled, IsCalled, outcome_by}
+use Rattle.ang_engine.specs.declared.reply.Refusal.TheVariants.{NotCallable}
+use Rattle.ang_engine.specs.World.{ModuleState, resolved_in}
+use Rattle.ang_engine.specs.Step.{Chosen, Not, choice_of, of_number, of_function, with_arguments, Leads, reply_of, call_chosen, call_ended, called}
+use Rattle.ang_engine.specs.Outcomes.{HasCalled, outcome_by}
 use Rattle.ang_engine.proofs.Leading.{told_by}
 
 -- ---- the function of a call

@@ -1,9 +1,7 @@
 -- How commands lead to their replies.
-use Rattle.std.proofs.Common.{◌≡◌, refl, ap, sym, ◌∙◌, subst, inl, inr, ◌⊎◌, ⊎_elim, ℕ, true, false, List, [], ◌∷◌, ◌++◌, Option, Some, None}
+use Rattle.std.proofs.Common.{◌≡◌, refl, ap, sym, ◌∙◌, subst, inl, inr, ◌⊎◌, true, false, List, [], ◌∷◌, ◌++◌, Option, Some, None}
 use Rattle.std.specs.Prelude.{Result, Ok, Err, IsSome, is_some}
 use Rattle.ang_kinds.specs.declared.fault.Fault.{Fault}
-use Rattle.ang_kinds.specs.declared.error.Error.{Error}
-use Rattle.ang_host.specs.declared.event.HostEvent.{HostEvent}
 use Rattle.ang_registry.specs.Registration.{RegistrationList}
 use Rattle.ang_meaning.specs.declared.slot.Slot.{Slot}
 use Rattle.ang_meaning.specs.World.{Input, Room}
@@ -17,7 +15,7 @@ use Rattle.ang_engine.specs.declared.reply.Refusal.{Refusal}
 use Rattle.ang_engine.specs.declared.reply.Refusal.TheVariants.{Memory}
 use Rattle.ang_engine.specs.declared.calling.Called.{Called}
 use Rattle.ang_engine.specs.World.{World}
-use Rattle.ang_engine.specs.Step.{Stepped, Leads, Takes, judged, step, answered, refused, reply_of}
+use Rattle.ang_engine.specs.Step.{Stepped, Leads, Takes, judged, answered, refused, reply_of}
 use Rattle.ang_engine.specs.Outcomes.{IsDone, IsCalled, outcome_of, reply_to_call}
 
 -- ---- what was told

@@ -1,6 +1,6 @@
 -- A call on the module of a name.
-use Rattle.std.proofs.Common.{◌≡◌, ◌<◌, ◌≤◌, refl, ap, sym, ◌∙◌, subst, inl, inr, arith, ℕ, zero, suc, Bool, true, false, List, [], ◌∷◌, length, All, Option, Some, None, map, option_map}
-use Rattle.std.specs.Prelude.{Result, Ok, Err, if◌then◌else◌, slice_index_or, slice_get}
+use Rattle.std.proofs.Common.{◌≡◌, ◌<◌, refl, ap, sym, ◌∙◌, subst, inl, inr, ℕ, Bool, true, false, List, length, All, Option, Some, None, map, option_map}
+use Rattle.std.specs.Prelude.{Result, Ok, Err, if◌then◌else◌, slice_index_or}
 use Rattle.std.proofs.lemmas.List.Elements.{All-get_or}
 use Rattle.std.specs.declared.alloc.Global.{Global}
 use Rattle.std.specs.declared.dyn_box.DynBox.{DynBox}
@@ -19,7 +19,7 @@ use Rattle.ang_engine.specs.declared.calling.Called.{Called}
 use Rattle.ang_engine.specs.declared.module.Loaded.{Loaded}
 use Rattle.ang_engine.specs.declared.module.Module.{Module}
 use Rattle.ang_engine.specs.declared.reply.Refusal.{Refusal}
-use Rattle.ang_engine.specs.declared.reply.Refusal.TheVariants.{NoModule, NotBuilt, BadBudget}
+use Rattle.ang_engine.specs.declared.reply.Refusal.TheVariants.{NotBuilt, BadBudget}
 use Rattle.ang_engine.specs.World.{ModuleState, World, module_named, module_at, state_of, world_of, resolved_in}
 use Rattle.ang_engine.specs.Step.{Stepped, choice_of, refused, call, call_chosen, call_program, is_budget}
 use Rattle.ang_engine.specs.Outcomes.{IsCalled, calling}

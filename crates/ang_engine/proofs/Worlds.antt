@@ -1,9 +1,9 @@
 -- The modules of an engine, seen as a world.
-use Rattle.std.proofs.Common.{◌≡◌, ◌<◌, refl, ap, sym, ◌∙◌, ℕ, zero, suc, List, [], ◌∷◌, length, arith, map, ◌≤◌}
+use Rattle.std.proofs.Common.{◌≡◌, ◌<◌, refl, ap, ℕ, zero, suc, List, [], ◌∷◌, length, arith, map, ◌≤◌}
 use Rattle.std.specs.Prelude.{slice_index_or, slice_set}
 use Rattle.ang_meaning.specs.declared.slot.Slot.{Slot}
 use Rattle.ang_engine.specs.declared.module.Module.{Module}
-use Rattle.ang_engine.specs.World.{ModuleState, World, state_of, world_of, module_at, no_module}
+use Rattle.ang_engine.specs.World.{state_of, world_of, module_at, no_module}
 
 -- ---- lists
 

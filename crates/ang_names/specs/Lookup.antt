@@ -1,6 +1,6 @@
 -- A script's functions and globals by name (docs/LANGUAGE.md, "Names of a build"; the AngelScript manual, "Function
 -- overloading"). Numbers are places in `Names`.
-use Rattle.std.specs.Prelude.{ℕ, ◌+◌, if◌then◌else◌, List, [], ◌∷◌, map, Option, Some, None, bytes_eq, slice_get}
+use Rattle.std.specs.Prelude.{ℕ, ◌+◌, if◌then◌else◌, List, [], ◌∷◌, map, Option, bytes_eq, slice_get}
 use Rattle.std.specs.List.{position}
 use Rattle.ang_kinds.specs.declared.types.Pass.{Pass}
 use Rattle.ang_types.specs.declared.arg_type.ArgType.{ArgType}

@@ -1,8 +1,7 @@
 -- The names of declarations that no phase refuses, with what their types mean (docs/LANGUAGE.md, "Names of a build"; the
 -- AngelScript manual, "Functions" and "Global variables").
-use Rattle.std.specs.Prelude.{ℕ, is_some, List, map, Option, Some, None, Result, Ok, Err}
+use Rattle.std.specs.Prelude.{ℕ, is_some, List, map, Option, Some, None, Ok, Err}
 use Rattle.std.specs.List.{filter_map}
-use Rattle.ang_lex.specs.declared.token.Token.{Token}
 use Rattle.ang_registry.specs.Registration.{RegistrationList}
 use Rattle.ang_tree.specs.declared.declaration.Parameter.{Parameter}
 use Rattle.ang_tree.specs.declared.type_name.TypeName.{TypeName}

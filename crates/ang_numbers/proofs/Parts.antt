@@ -1,16 +1,15 @@
 -- What the parts of each operator come to, over plain variables.
-use Rattle.std.proofs.Common.{◌≡◌, ℕ, zero, suc, ◌+◌, ◌-◌, ◌*◌, ◌/◌, ◌%◌, ◌^◌, ◌<◌, ◌≤◌, Bool, true, false, ℤ, pos, negsuc, neg_ℤ, unsigned_abs, int_div, int_rem, refl, sym, ap, ◌∙◌, subst, arith, div-le_self, mod-eq_of_lt, Option, Some, None, Result, Ok, Err, SFits, w8, w16, w32, w64}
+use Rattle.std.proofs.Common.{◌≡◌, ℕ, zero, suc, ◌*◌, ◌/◌, ◌%◌, ◌^◌, ◌<◌, ◌≤◌, true, ℤ, pos, negsuc, neg_ℤ, unsigned_abs, int_div, int_rem, refl, sym, ap, ◌∙◌, subst, arith, div-le_self, mod-eq_of_lt, Option, Some, None, Ok, Err, SFits, w8, w16, w32, w64}
 use Rattle.std.specs.Int.{cast_signed, cast_unsigned, int_div_euclid, int_shr, int_wrapping_div, int_wrap}
-use mir.Val.{bits}
 use mir.ValLaws.{to_z-Fits}
-use Rattle.std.proofs.lemmas.Int.{of_z-to_z, to_z-of_z}
+use Rattle.std.proofs.lemmas.Int.{of_z-to_z}
 use Rattle.std.proofs.Math.Nat.{mod-le}
 use Rattle.ang_kinds.specs.declared.primitive.Primitive.{Primitive}
 use Rattle.ang_kinds.specs.declared.primitive.Primitive.TheVariants.{I8, I16, I32, I64, U64}
 use Rattle.ang_kinds.specs.declared.fault.Fault.{Fault}
 use Rattle.ang_meaning.specs.Numbers.{is_signed, number, number_of, bits_of, converted, divided}
 use Rattle.ang_numbers.specs.Answers.{answer_of, unless}
-use Rattle.ang_numbers.proofs.Congruence.{Same, same_left, same_written, bits_same}
+use Rattle.ang_numbers.proofs.Congruence.{same_left, same_written, bits_same}
 
 -- what speaks against a division, and what does not
 module _ (p : Primitive) (x y x' y' r : ℤ) (o : Option Fault) (ex : x' ≡ x) (ey : y' ≡ y) (h : divided p x' y' r ≡ unless o p r) where

@@ -9,7 +9,7 @@ use Rattle.ang_tree.specs.Kinds.{Is}
 use Rattle.ang_tree.specs.TypeNames.{spelled_type, FitsType}
 use Rattle.ang_tree.specs.Tree.{Args}
 use Rattle.ang_tree.specs.Stmt.{constructor, Vars, Body, spelled_body}
-use Rattle.ang_tree.specs.Declarations.{Params, spelled_params, FitsParams, Decl, spelled_decl, FitsDecl}
+use Rattle.ang_tree.specs.Declarations.{Params, spelled_params, Decl, spelled_decl, FitsDecl}
 use Rattle.ang_tree.specs.Declarations as decl
 use Rattle.ang_read.specs.From.{From}
 use Rattle.ang_read.specs.Read.{at, deep, Outcome, pure, repeat}

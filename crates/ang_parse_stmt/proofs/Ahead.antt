@@ -1,8 +1,8 @@
 -- The laws of looking at the next token without taking it.
-use Rattle.std.proofs.Common.{◌≡◌, ℕ, ◌≤◌, inr, Bool, true, false, List, [], ◌∷◌, ◌++◌, length, Some, None, Ok, Err, refl, ap, arith}
+use Rattle.std.proofs.Common.{◌≡◌, ℕ, ◌≤◌, Bool, true, false, List, [], ◌∷◌, ◌++◌, length, refl, ap}
 use Rattle.ang_lex.specs.declared.token.Token.{Token}
 use Rattle.ang_lex.specs.declared.token.TokenKind.{TokenKind}
-use Rattle.ang_read.specs.Read.{at, deep, Outcome, Parser, Choice, chosen, look}
+use Rattle.ang_read.specs.Read.{Outcome, Parser}
 use Rattle.ang_read.proofs.Outcomes.{Reads}
 use Rattle.ang_read.proofs.Tokens.{begins}
 use Rattle.ang_read.proofs.Tame.{Tame, Agree, Past, Kept, Filled}

@@ -1,20 +1,16 @@
 -- The readers of statements look no further than they read.
-use Rattle.std.proofs.Common.{ℕ, zero, suc, ◌≤◌, Bool, true, false, List, [], ◌∷◌, ◌++◌, Option, Some, None, arith}
+use Rattle.std.proofs.Common.{ℕ, zero, suc, ◌≤◌, Bool, true, false, List, Some, None, arith}
 use Rattle.ang_lex.specs.declared.token.Token.{Token}
 use Rattle.ang_lex.specs.declared.token.TokenKind.{TokenKind}
 use Rattle.ang_lex.specs.declared.token.TokenKind.TheVariants as k
-use Rattle.ang_kinds.specs.declared.primitive.Primitive.{Primitive}
-use Rattle.ang_tree.specs.declared.type_name.TypeName.{TypeName}
-use Rattle.ang_tree.specs.Kinds.{Is, type_kind}
-use Rattle.ang_tree.specs.Tree.{Tree, none}
-use Rattle.ang_tree.specs.Stmt.{absent, value, constructor, Var, with_variables, with_expression, Stmt, Stmts, block, break, continue, return, body, end, added_stmt}
-use Rattle.ang_read.specs.Read.{Parser, pure, ◌>>=◌, Choice, look, repeat}
-use Rattle.ang_read.specs.Tokens.{a_token, perhaps, is_name, is_semicolon, is_const, is_left_paren, is_right_paren, is_right_brace, is_while}
+use Rattle.ang_tree.specs.Tree.{none}
+use Rattle.ang_tree.specs.Stmt.{Stmt, Stmts, block, break, continue, return, body, end, added_stmt}
+use Rattle.ang_read.specs.Read.{Parser, pure, ◌>>=◌, Choice, look}
+use Rattle.ang_read.specs.Tokens.{a_token, is_semicolon, is_left_paren, is_right_paren, is_right_brace, is_while}
 use Rattle.ang_read.proofs.Tame.{Tame, Both, tame_pure, tame_bind, tame_look, tame_repeat}
-use Rattle.ang_read.proofs.Tokens.{a_token_tame, perhaps_tame}
-use Rattle.ang_parse_expr.specs.ReadType.{handle_of, type_of, type_named}
-use Rattle.ang_parse_expr.specs.ReadExpr.{expr, args, expressions}
-use Rattle.ang_parse_expr.proofs.TameExpr.{type_named_tame, expr_tame, args_at_tame, expressions_at_tame, expr_named_tame, expr_primitive_tame}
+use Rattle.ang_read.proofs.Tokens.{a_token_tame}
+use Rattle.ang_parse_expr.specs.ReadExpr.{expr, expressions}
+use Rattle.ang_parse_expr.proofs.TameExpr.{expr_tame, expressions_at_tame}
 use Rattle.ang_parse_variables.specs.ReadVars as v
 use Rattle.ang_parse_stmt.specs.ReadStmt as r
 use Rattle.ang_parse_stmt.proofs.Ahead.{tame_ahead}

@@ -1,10 +1,10 @@
 -- Something is spelled: how many tokens follow it.
 use Rattle.std.proofs.Common.{◌<◌, ◌≤◌, List, [], ◌∷◌, length, Option, Some, None, arith}
 use Rattle.ang_lex.specs.declared.token.Token.{Token}
-use Rattle.ang_tree.specs.Tree.{Tree, spelled, listed}
-use Rattle.ang_tree.specs.Stmt.{each, Init, absent, value, constructor, Var, Vars, Start, with_variables, with_expression, spelled_init, spelled_var, spelled_vars, spelled_option, spelled_start, Stmt, Body, Stmts, block, variables, expression, break, continue, return, when, either, while, do_while, for, body, end, then, spelled_stmt, spelled_body, spelled_stmts}
+use Rattle.ang_tree.specs.Tree.{Tree}
+use Rattle.ang_tree.specs.Stmt.{each, Init, absent, value, constructor, Var, Vars, Start, with_variables, with_expression, spelled_init, spelled_var, spelled_vars, spelled_option, spelled_start}
 use Rattle.ang_parse_expr.proofs.SoundType.{optional-length, type-length}
-use Rattle.ang_parse_expr.proofs.Sound.{spelled-length, args-length, listed-length}
+use Rattle.ang_parse_expr.proofs.Sound.{spelled-length, args-length}
 
 pub option-length : (e : Option Tree) (s : List Token) → length s ≤ length (spelled_option e s)
 option-length None s = omega arith

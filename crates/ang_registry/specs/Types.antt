@@ -1,4 +1,4 @@
--- The types of a registration list by name and by driver (docs/EMBEDDING.md, "Types").
+-- The types of a registration list by name and by driver (docs/EMBEDDING.md, "Registration").
 use Rattle.std.specs.Prelude.{ℕ, Bool, true, false, not, ◌==◌, ◌&&◌, ◌||◌, nat_lt, is_some, List, Option, Some, None}
 use Rattle.std.specs.List.{list_any, list_all, position}
 use Rattle.std.specs.Str.{bytes_eq}

@@ -1,4 +1,4 @@
--- The parts of a build, each with what it belongs to (docs/LANGUAGE.md, "Phases").
+-- The parts of a build, each with what it belongs to (docs/LANGUAGE.md, "Statements").
 use Rattle.std.specs.Prelude.{◌≡◌, List, [], ◌∷◌}
 use Rattle.ang_registry.specs.Registration.{RegistrationList}
 use Rattle.ang_names.specs.declared.names.ScriptFunction.{ScriptFunction}

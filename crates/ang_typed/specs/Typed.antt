@@ -1,7 +1,6 @@
 -- The resolved tree of a module, without where it lies in memory: source text with its meaning settled. (docs/ARCHITECTURE.md.)
 use Rattle.std.specs.Prelude.{ℕ, Bool, List, [], ◌∷◌, Option}
 use Rattle.ang_kinds.specs.declared.primitive.Primitive.{Primitive}
-use Rattle.ang_kinds.specs.declared.types.Pass.{Pass}
 use Rattle.ang_types.specs.declared.arg_type.ArgType.{ArgType}
 use Rattle.ang_typed.specs.declared.expression.HostEntity.{HostEntity}
 use Rattle.ang_typed.specs.declared.expression.Variable.{Variable}

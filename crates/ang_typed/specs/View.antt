@@ -1,5 +1,5 @@
 -- A resolved tree of the program without where it lies in memory.
-use Rattle.std.specs.Prelude.{List, [], ◌∷◌, map, Option, option_map}
+use Rattle.std.specs.Prelude.{List, map, Option, option_map}
 use Rattle.ang_typed.specs.declared.expression.Expression.{Expression}
 use Rattle.ang_typed.specs.declared.expression.Argument.{Argument}
 use Rattle.ang_typed.specs.declared.expression.Argument.TheOpen.{Expression-F, Argument-F}

@@ -1,4 +1,4 @@
-use Rattle.std.proofs.Common.{◌≡◌, ◌∙◌, sym, ap, subst, length, []}
+use Rattle.std.proofs.Common.{◌∙◌, sym, ap, subst, length}
 use Rattle.std.specs.Prelude.{Ok, Err, slice_set}
 use Rattle.ang_host.specs.Boxes.{members}
 use Rattle.ang_plain.specs.Plainness.{plain_part}

@@ -1,4 +1,4 @@
-use Rattle.std.proofs.Common.{rules, ◌≡◌, ◌<◌, ap, sym, true, false, length, map}
+use Rattle.std.proofs.Common.{rules, ◌≡◌, ap, true, false, length, map}
 use Rattle.ang_host.specs.Boxes.{members}
 use Rattle.ang_vm.specs.Worlds.{values_in}
 use Rattle.ang_engine.specs.Step.{is_budget}

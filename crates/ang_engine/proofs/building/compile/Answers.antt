@@ -1,4 +1,3 @@
-use Rattle.std.proofs.Common.{subst, sym}
 use Rattle.ang_build.proofs.Programs.{program-sound}
 use Rattle.ang_build.specs.Build.{resolved_of}
 use Rattle.ang_engine.proofs.building.compile.Goals as goal

@@ -1,4 +1,4 @@
-use Rattle.std.proofs.Common.{rules, inr, refl, true, length, ◌≡◌, ◌≤◌, arith}
+use Rattle.std.proofs.Common.{rules, inr, refl, true, length, ◌≡◌, ◌≤◌}
 use Rattle.ang_lex.specs.Spelling.{is_identifier}
 use Rattle.ang_vm.specs.Worlds.{values_in}
 use Rattle.ang_engine.specs.World.{world_of}

@@ -1,4 +1,4 @@
-use Rattle.std.proofs.Common.{inr, refl, All}
+use Rattle.std.proofs.Common.{inr, refl}
 use Rattle.ang_engine.specs.World.{world_of}
 use Rattle.ang_engine.proofs.Finding.{on_module-none, section-pushed}
 use Rattle.ang_engine.proofs.modules.add_text.Goals as goal

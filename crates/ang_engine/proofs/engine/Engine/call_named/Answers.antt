@@ -1,4 +1,4 @@
-use Rattle.std.proofs.Common.{rules, ◌≡◌, ◌<◌, refl, sym, subst, inr, true, false, Some, None, List, length}
+use Rattle.std.proofs.Common.{rules, ◌≡◌, ◌<◌, refl, subst, inr, true, false, Some, length}
 use Rattle.ang_host.specs.Boxes.{members}
 use Rattle.ang_vm.specs.Worlds.{values_in}
 use Rattle.ang_engine.specs.Step.{is_budget}
