@@ -1,5 +1,5 @@
 -- A typed expression is sound, where it is not beyond what is built.
-use Rattle.std.specs.Prelude.{◌≡◌, ℕ, Bool, false, ◌||◌, length, List, Ok, Err, IfOk}
+use Rattle.std.specs.Prelude.{◌≡◌, ℕ, false, length, List, Ok, Err, IfOk}
 use Rattle.ang_registry.specs.Registration.{RegistrationList}
 use Rattle.ang_tree.specs.Tree.{Tree, Args, Trees, literal, name, call, scoped_call, cast, convert, group, postfix, member, method_call, prefix, binary, conditional, assignment, arguments, none, more}
 use Rattle.ang_written.specs.Sources.{text_of}

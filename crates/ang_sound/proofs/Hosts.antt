@@ -1,11 +1,10 @@
 -- What a look-up in a view finds is an entity of the view, and no object passes by it where it is named or called.
-use Rattle.std.specs.Prelude.{◌≡◌, ◌≢◌, ℕ, suc, ◌+◌, Bool, true, false, ◌&&◌, ◌||◌, bytes_eq, List, [], ◌∷◌, length, option_to_list, Option, Some, None, IfSome}
+use Rattle.std.specs.Prelude.{◌≡◌, ◌≢◌, ℕ, suc, ◌+◌, Bool, true, false, bytes_eq, List, [], ◌∷◌, length, option_to_list, Option, Some, None, IfSome}
 use Rattle.std.specs.List.{list_any}
 use Rattle.std.proofs.Common.{refl, ap, sym, subst, arith}
 use Rattle.ang_kinds.specs.declared.types.Param.{Param}
 use Rattle.ang_kinds.specs.declared.types.Pass.{Pass}
 use Rattle.ang_kinds.specs.declared.types.Pass.TheVariants.{RefOut}
-use Rattle.ang_kinds.specs.declared.types.Signature.{Signature}
 use Rattle.ang_registry.specs.declared.entry.Entry.{Entry}
 use Rattle.ang_registry.specs.declared.entry.EntryKind.{EntryKind}
 use Rattle.ang_registry.specs.declared.entry.EntryKind.TheVariants as entry

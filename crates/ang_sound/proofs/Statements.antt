@@ -1,5 +1,5 @@
 -- A typed statement is sound, where it is not beyond what is built, and the pairs behind it are the locals that are alive there, without objects.
-use Rattle.std.specs.Prelude.{◌≡◌, ℕ, suc, ◌+◌, Bool, true, false, ◌||◌, length, List, [], ◌∷◌, ◌++◌, Option, Some, None, Ok, Err, IfOk}
+use Rattle.std.specs.Prelude.{◌≡◌, ℕ, suc, ◌+◌, Bool, true, false, length, List, [], ◌∷◌, ◌++◌, Option, Some, None, Ok, Err, IfOk}
 use Rattle.std.proofs.Common.{refl, subst, arith, length-append}
 use Rattle.ang_lex.specs.declared.token.Token.{Token}
 use Rattle.ang_types.specs.declared.arg_type.ArgType.{ArgType}

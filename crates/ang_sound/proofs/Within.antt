@@ -1,6 +1,6 @@
 -- Scripts of which no declaration is beyond what is built: their names are of plain types, and no body and no initializer uses an object.
-use Rattle.std.specs.Prelude.{◌≡◌, ℕ, ◌+◌, Bool, true, false, ◌||◌, is_some, List, [], ◌∷◌, ◌++◌, map, Option, Some, None, Ok, Err}
-use Rattle.std.specs.List.{list_any, filter_map, flat_map}
+use Rattle.std.specs.Prelude.{◌≡◌, ℕ, ◌+◌, Bool, true, false, is_some, List, [], ◌∷◌, ◌++◌, map, Option, Some, None, Ok, Err}
+use Rattle.std.specs.List.{filter_map, flat_map}
 use Rattle.std.proofs.Common.{refl, sym, subst, append_assoc}
 use Rattle.ang_kinds.specs.declared.types.Pass.{Pass}
 use Rattle.ang_kinds.specs.declared.types.Pass.TheVariants as pass
@@ -20,7 +20,6 @@ use Rattle.ang_written.specs.Sources.{Source, text_of}
 use Rattle.ang_written.specs.Types.{Meaning, without_handle, object_type, type_by, type_of, no_void, value_type_of, pass_of, changed, passed, parameter_type_of}
 use Rattle.ang_written.specs.NotYet.{is_host_type, is_type_beyond, is_init_beyond, is_body_beyond, are_parameters_beyond, is_function_beyond, is_global_beyond, refused_where, global_errors, declaration_errors, section_errors, not_yet, first_of_type}
 use Rattle.ang_names.specs.declared.listed.Declared.{Declared}
-use Rattle.ang_names.specs.declared.names.ScriptFunction.{ScriptFunction}
 use Rattle.ang_names.specs.declared.names.ScriptGlobal.{ScriptGlobal}
 use Rattle.ang_names.specs.declared.names.ScriptParameter.{ScriptParameter}
 use Rattle.ang_names.specs.Declarations.{globals_from, declared_by, declared_from, declarations_from, declarations_of}
