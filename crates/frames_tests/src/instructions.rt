@@ -1,6 +1,7 @@
 use ang_code::{Instruction, RoutineCode};
 use ang_kinds::{EntityNo, Fault, Prim};
 use ang_meaning::{Arithmetic, Callee, Change, Operation, Passing, Routine, Slot};
+use ang_steps::body::Body;
 use ang_steps::arms::{change_local, push_slot, swap_local};
 use ang_steps::dispatch::asks_host;
 use ang_steps::doing::{do_convert, do_work};
@@ -96,7 +97,7 @@ fn table(alloc: Global) -> Result<Table, AllocError> {
     };
     let module = ModuleCode {
         name: vec![in alloc; b'm']?,
-        bodies: vec![in alloc; body]?,
+        bodies: vec![in alloc; Body::new(alloc, body)?]?,
         imports: vec![in alloc; unbound, bound]?,
     };
     Ok(Table {

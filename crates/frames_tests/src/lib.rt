@@ -7,6 +7,8 @@ mod askings;
 #[cfg(test)]
 mod bare;
 #[cfg(test)]
+mod fused;
+#[cfg(test)]
 mod instructions;
 #[cfg(test)]
 mod runs;

@@ -4,6 +4,7 @@ use ang_code::{Instruction, RoutineCode};
 use ang_frames::{Halt, run_from, start_call, start_initializer};
 use ang_kinds::{Fault, Prim};
 use ang_meaning::{Arithmetic, Callee, Comparison, Operation, Passing, Routine, Slot};
+use ang_steps::body::Body;
 use ang_steps::place::Ending;
 use ang_steps::table::{ModuleCode, Table};
 use std::alloc::{AllocError, Global};
@@ -20,16 +21,17 @@ pub fn body(
     params: &[Passing],
     height: usize,
     text: &[Instruction],
-) -> Result<RoutineCode, AllocError> {
-    Ok(RoutineCode {
+) -> Result<Body, AllocError> {
+    let code = RoutineCode {
         params: params.to_vec(alloc)?,
         height,
         text: text.to_vec(alloc)?,
-    })
+    };
+    Body::new(alloc, code)
 }
 
 /// A table of one module with these bodies.
-pub fn table_of(alloc: Global, bodies: Vec<RoutineCode>) -> Result<Table, AllocError> {
+pub fn table_of(alloc: Global, bodies: Vec<Body>) -> Result<Table, AllocError> {
     let module = ModuleCode {
         name: Vec::new(alloc),
         bodies,

@@ -12,6 +12,7 @@ use ang_kinds::{EntityNo, Fault, List, Prim, Value};
 use ang_meaning::{
     Arithmetic, Callee, Change, Comparison, HostType, HostUse, Operation, Passing, Routine, Slot,
 };
+use ang_steps::body::Body;
 use ang_steps::table::{ModuleCode, Table};
 use ang_vm::{Globals, Machine, run, run_initializer};
 use std::alloc::{AllocError, Global};
@@ -67,15 +68,16 @@ fn body(
     params: &[Passing],
     height: usize,
     text: &[Instruction],
-) -> Result<RoutineCode, AllocError> {
-    Ok(RoutineCode {
+) -> Result<Body, AllocError> {
+    let code = RoutineCode {
         params: params.to_vec(alloc)?,
         height,
         text: text.to_vec(alloc)?,
-    })
+    };
+    Body::new(alloc, code)
 }
 
-fn table_of(alloc: Global, bodies: Vec<RoutineCode>) -> Result<Table, AllocError> {
+fn table_of(alloc: Global, bodies: Vec<Body>) -> Result<Table, AllocError> {
     let module = ModuleCode {
         name: Vec::from_slice(alloc, b"m".as_slice())?,
         bodies,
