@@ -88,6 +88,11 @@ module _ {V : Type 0} {P : V → Type 0} (m : (v : V) → Meaning (P v)) (R : Re
   done_nothing w xs s o =
       record { deeds = []; actions = refl; bad_line = refl; does = refl; follow = follow_nothing xs; printed = appends_nothing o; all_ok = refl }
 
+  -- a session that was not begun
+  pub cut_nothing : (w : World) (xs : List (DynBox V Global P)) (s : Session) (o : Option (List ℕ)) → IsCut m R w xs s o o w xs
+  cut_nothing w xs s o =
+      record { deeds = []; left = s.actions; actions = refl; replies = refl; follow = follow_nothing xs; count = 0; printed = appends_nothing o }
+
   -- one action more
   pub done_more : (w v after : World) (xs ys zs : List (DynBox V Global P)) (whole left next : Session) (old mid new : Option (List ℕ)) (ok one : Bool) (a : Action)
       → HasDone m R w xs whole left old mid ok v ys → left ≡ behind_action a next → IsPrinted m R v ys a mid new one after zs

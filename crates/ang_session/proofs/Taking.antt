@@ -1,28 +1,49 @@
 -- Engines that take drivers, and give them back.
-use Rattle.std.proofs.Common.{◌≡◌, ℕ, List, Option, Some, None, IfSome, Result, Ok, Err, inr}
+use Rattle.std.proofs.Common.{◌≡◌, ℕ, List, length, Option, Some, None, IfSome, Result, Ok, Err, inr}
 use Rattle.std.specs.Result.{IfOk, OnErr}
 use Rattle.std.specs.declared.alloc.Global.{Global}
 use Rattle.std.specs.declared.dyn_box.DynBox.{DynBox}
 use Rattle.ang_host.specs.Laws.{Meaning}
 use Rattle.ang_registry.specs.Registration.{RegistrationList}
-use Rattle.ang_session.specs.Drivers.{AreTaken, AreBalanced}
+use Rattle.ang_engine.specs.Sound.{HaveDrivers}
+use Rattle.ang_engine.specs.World.{no_modules}
+use Rattle.ang_session.specs.Drivers.{AreListed, AreTaken, AreBalanced}
 use Rattle.ang_session.specs.Whole.{Ends, Stops, RunsSession, StopsSession}
 use Rattle.ang_session.specs.declared.ending.Status.{Status}
 use Rattle.ang_session.specs.declared.ending.Stop.{Stop}
+use Rattle.ang_session.specs.Lines.{lines_of}
+use Rattle.ang_session.specs.Session.{session_from}
+use Rattle.ang_session.proofs.Doing.{cut_nothing}
 
-module _ {V : Type 0} {P : V → Type 0} (m : (v : V) → Meaning (P v)) (R : RegistrationList) (xs ys : List (DynBox V Global P)) where
-  -- an engine took the drivers, the session was done, and the engine was discarded
-  pub ends_taken : (old new text : Option (List ℕ)) (budget : ℕ) (ended : Result Status Stop) → AreTaken m R xs → AreBalanced m ys
-      → IfOk ended (λ status. IfSome text (λ s. RunsSession m xs ys old new R s budget status))
+-- the session could not be read
+pub stops_unread : {V : Type 0} {P : V → Type 0} (m : (v : V) → Meaning (P v)) (R : RegistrationList) (xs : List (DynBox V Global P)) (o text : Option (List ℕ)) (budget : ℕ)
+    → IfSome text (λ s. StopsSession m xs xs o o R s budget)
+stops_unread m R xs o None budget = tt
+stops_unread m R xs o (Some s) budget = inr (no_modules, cut_nothing m R no_modules xs (session_from 1 budget 0 (lines_of s)) o)
+
+module _ {V : Type 0} {P : V → Type 0} (m : (v : V) → Meaning (P v)) (R R' : RegistrationList) (xs xs' ys ys' : List (DynBox V Global P)) where
+  -- an engine over the list that it was given has the drivers that it was given
+  taken_by : R' ≡ R → xs' ≡ xs → AreListed m xs → HaveDrivers R' (length xs') → AreTaken m R xs
+  taken_by list same listed in_list = record { listed = listed; in_list = rw (← list, ← same) in_list }
+
+  -- it took the drivers, the session was done, and it was discarded
+  pub ends_taken : (old new text : Option (List ℕ)) (budget : ℕ) (ended : Result Status Stop) → R' ≡ R → xs' ≡ xs → ys ≡ ys'
+      → AreListed m xs → HaveDrivers R' (length xs') → AreBalanced m ys
+      → IfOk ended (λ status. IfSome text (λ s. RunsSession m xs' ys' old new R' s budget status))
       → IfOk ended (λ status. IfSome text (λ s. Ends m xs ys old new (Ok R) s budget status))
-  ends_taken old new text budget (Err stop) taken alive h = tt
-  ends_taken old new None budget (Ok status) taken alive h = tt
-  ends_taken old new (Some s) budget (Ok status) taken alive h = inr (taken, h, alive)
+  ends_taken old new text budget (Err stop) list same back listed in_list alive h = tt
+  ends_taken old new None budget (Ok status) list same back listed in_list alive h = tt
+  ends_taken old new (Some s) budget (Ok status) list same back listed in_list alive h =
+      let runs : RunsSession m xs ys old new R s budget status = rw (← list, ← same, back) h in
+      inr (taken_by list same listed in_list, runs, alive)
 
   -- the session was cut short
-  pub stops_taken : (old new text : Option (List ℕ)) (budget : ℕ) (ended : Result Status Stop) → AreTaken m R xs → AreBalanced m ys
-      → OnErr ended (IfSome text (λ s. StopsSession m xs ys old new R s budget))
+  pub stops_taken : (old new text : Option (List ℕ)) (budget : ℕ) (ended : Result Status Stop) → R' ≡ R → xs' ≡ xs → ys ≡ ys'
+      → AreListed m xs → HaveDrivers R' (length xs') → AreBalanced m ys
+      → OnErr ended (IfSome text (λ s. StopsSession m xs' ys' old new R' s budget))
       → OnErr ended (IfSome text (λ s. Stops m xs ys old new (Ok R) s budget))
-  stops_taken old new text budget (Ok status) taken alive h = tt
-  stops_taken old new None budget (Err stop) taken alive h = tt
-  stops_taken old new (Some s) budget (Err stop) taken alive h = inr (inr (taken, h, alive))
+  stops_taken old new text budget (Ok status) list same back listed in_list alive h = tt
+  stops_taken old new None budget (Err stop) list same back listed in_list alive h = tt
+  stops_taken old new (Some s) budget (Err stop) list same back listed in_list alive h =
+      let stops : StopsSession m xs ys old new R s budget = rw (← list, ← same, back) h in
+      inr (inr (taken_by list same listed in_list, stops, alive))
