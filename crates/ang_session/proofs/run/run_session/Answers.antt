@@ -1,8 +1,11 @@
-use Rattle.std.proofs.Common.{arith, sym, ◌∙◌}
+use Rattle.std.proofs.Common.{arith, refl, sym, ◌∙◌}
 use Rattle.std.proofs.lemmas.Result.{err_from_is_err_and}
-use Rattle.ang_session.proofs.Doing.{done_more, done_half, done_cut, done_bad, done_bad_cut, done_all}
+use Rattle.ang_session.proofs.Doing.{done_nothing, done_more, done_half, done_cut, done_bad, done_bad_cut, done_all}
 use Rattle.ang_session.proofs.Turns.{session_end, session_skipped, session_bad, session_act}
 use Rattle.ang_session.proofs.run.run_session.Goals as goal
+
+pub loop-line-init : goal.loop-line-init
+loop-line-init g c = record { lines = omega arith; sound = c.requires.sound; list = refl; order = refl; done = done_nothing _ _ _ _ _ _ }
 
 pub loop-line-preserved-then-is_skipped : goal.loop-line-preserved-then-is_skipped
 loop-line-preserved-then-is_skipped g c =
