@@ -79,7 +79,7 @@ module _ {V : Type 0} {P : V → Type 0} (m : (v : V) → Meaning (P v)) (R : Re
       → DriversFollow m (roles_of R) xs (events_in (ds ++ d ∷ [])) zs
   follow_more xs ys zs ds d p q =
       rw (events_more ds d)
-          (AllFollow-join (λ b. (m b.vtable).state b.value) (λ b. b.vtable) (λ v. (m v).fits) (roles_of R) xs ys zs (events_in ds) (deed_events d) p q)
+      (AllFollow-join (λ b. (m b.vtable).state b.value) (λ b. b.vtable) (λ v. (m v).fits) (roles_of R) xs ys zs (events_in ds) (deed_events d) p q)
 
   pub follow_nothing : (xs : List (DynBox V Global P)) → DriversFollow m (roles_of R) xs [] xs
   follow_nothing xs = AllFollow-none (λ b. (m b.vtable).state b.value) (λ b. b.vtable) (λ v. (m v).fits) (roles_of R) xs

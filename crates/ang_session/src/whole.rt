@@ -231,7 +231,7 @@ pub fn session<P: Read, S: Read, W: Write>(
     requires few { length drivers.items < 2 ^ 60 }
     ensures output { IfSome (P.remaining profile.old) (λ p. IfSome (S.remaining session.old) (λ s.
         Tells (λ v. (⟦<dyn Driver as Driver>⟧ v).meaning) drivers.items result.drivers.items (W.contents out.old) (W.contents out.new)
-            (start_of p) s budget result.outcome)) }
+        (start_of p) s budget result.outcome)) }
     ensures order { kinds_of result.drivers.items ≡ kinds_of drivers.items }
     // They come back as they were, or, where an engine may have taken them, with nothing alive.
     ensures returned { (result.drivers.items ≡ drivers.items)
