@@ -1,8 +1,7 @@
 //! A whole run: a profile, a session, and the text of the replies.
-ghost use Rattle.std.specs.Prelude.{◌≡◌, ◌<◌, ◌≤◌, ◌^◌, ◌⊎◌, [], All, length, Ok, IfOk, IfSome, OnOk, OnErr};
+ghost use Rattle.std.specs.Prelude.{◌≡◌, ◌<◌, ◌^◌, ◌⊎◌, length, Ok, IfOk, IfSome, OnOk, OnErr};
 ghost use Rattle.std.specs.Io.KnownBytes.{Appends};
 ghost use Rattle.ang_host.specs.Boxes.{members};
-ghost use Rattle.ang_host.specs.Members.{states_of, AreFresh};
 ghost use Rattle.ang_engine.specs.Engines.{registrations, world_in, drivers_in};
 ghost use Rattle.ang_engine.specs.Sound.{IsSound};
 ghost use Rattle.ang_engine.specs.World.{no_modules};
