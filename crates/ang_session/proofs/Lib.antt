@@ -6,6 +6,7 @@ pub mod FirstLines
 pub mod Loading
 pub mod Numerals
 pub mod ReadBytes
+pub mod Taking
 pub mod Telling
 pub mod Texts
 pub mod Turns

@@ -2,6 +2,9 @@
 use Rattle.std.proofs.Common.{◌≡◌, ℕ, Bool, true, false, cond, List, Option, Some, None, IfSome, Result, Ok, Err, inl, inr}
 use Rattle.std.specs.Result.{IfOk, OnErr}
 use Rattle.std.specs.List.{list_all}
+use Rattle.std.specs.declared.alloc.Global.{Global}
+use Rattle.std.specs.declared.dyn_box.DynBox.{DynBox}
+use Rattle.ang_host.specs.Laws.{Meaning}
 use Rattle.ang_registry.specs.Registration.{RegistrationList}
 use Rattle.ang_session.specs.Deeds.{Deed, is_ok, status_of}
 use Rattle.ang_session.specs.Whole.{Ends, Stops, Tells, Starts, start_of, outcome_of}
@@ -18,34 +21,35 @@ no_memory : (bad : Option ℕ) (deeds : List Deed) → Memory ≡ status_of bad 
 no_memory None deeds e = no_status (list_all is_ok deeds) e
 no_memory (Some n) deeds e = cc
 
-never : (R : RegistrationList) (s : List ℕ) (budget : ℕ) (old new : Option (List ℕ)) → Ends (Ok R) s budget old new Memory → ⊥
-never R s budget old new (inl h) = let e : Memory ≡ BadInput = h.3 in cc
-never R s budget old new (inr (inl h)) = let e : Memory ≡ BadInput = h.2 in cc
-never R s budget old new (inr (inr h)) = no_memory _ h.2.deeds h.2.ending
+module _ {V : Type 0} {P : V → Type 0} (m : (v : V) → Meaning (P v)) (xs ys : List (DynBox V Global P)) where
+  never : (R : RegistrationList) (s : List ℕ) (budget : ℕ) (old new : Option (List ℕ)) → Ends m xs ys old new (Ok R) s budget Memory → ⊥
+  never R s budget old new (inl h) = let e : Memory ≡ BadInput = h.3 in cc
+  never R s budget old new (inr (taken, inl h, alive)) = let e : Memory ≡ BadInput = h.2 in cc
+  never R s budget old new (inr (taken, inr h, alive)) = no_memory _ h.2.deeds h.2.ending
 
-ends : (R : RegistrationList) (s : List ℕ) (budget : ℕ) (old new : Option (List ℕ)) (status : Status)
-    → Ends (Ok R) s budget old new status → Tells (Ok R) s budget old new (Ok status)
-ends R s budget old new AllOk h = h
-ends R s budget old new SomeRefused h = h
-ends R s budget old new BadInput h = h
-ends R s budget old new Memory h = absurd (never R s budget old new h)
+  ends : (R : RegistrationList) (s : List ℕ) (budget : ℕ) (old new : Option (List ℕ)) (status : Status)
+      → Ends m xs ys old new (Ok R) s budget status → Tells m xs ys old new (Ok R) s budget (Ok status)
+  ends R s budget old new AllOk h = h
+  ends R s budget old new SomeRefused h = h
+  ends R s budget old new BadInput h = h
+  ends R s budget old new Memory h = absurd (never R s budget old new h)
 
--- over a profile that was taken
-tells_taken : (R : RegistrationList) (s : List ℕ) (budget : ℕ) (old new : Option (List ℕ)) (ended : Result Status Stop)
-    → IfOk ended (λ status. Ends (Ok R) s budget old new status) → OnErr ended (Stops (Ok R) s budget old new)
-    → Tells (Ok R) s budget old new (outcome_of ended)
-tells_taken R s budget old new (Ok status) h k = ends R s budget old new status h
-tells_taken R s budget old new (Err stop.Memory) h k = k
-tells_taken R s budget old new (Err (stop.Fault fault)) h k = k
+  -- over a profile that was taken
+  tells_taken : (R : RegistrationList) (s : List ℕ) (budget : ℕ) (old new : Option (List ℕ)) (ended : Result Status Stop)
+      → IfOk ended (λ status. Ends m xs ys old new (Ok R) s budget status) → OnErr ended (Stops m xs ys old new (Ok R) s budget)
+      → Tells m xs ys old new (Ok R) s budget (outcome_of ended)
+  tells_taken R s budget old new (Ok status) h k = ends R s budget old new status h
+  tells_taken R s budget old new (Err stop.Memory) h k = k
+  tells_taken R s budget old new (Err (stop.Fault fault)) h k = k
 
--- the whole run, where the profile was taken
-pub tells : (R : RegistrationList) (P S : Option (List ℕ)) (budget : ℕ) (old mid new : Option (List ℕ)) (ended : Result Status Stop)
-    → IfSome P (λ p. Starts (start_of p) R old mid true)
-    → IfOk ended (λ status. IfSome S (λ s. Ends (Ok R) s budget mid new status))
-    → OnErr ended (IfSome S (λ s. Stops (Ok R) s budget mid new))
-    → IfSome P (λ p. IfSome S (λ s. Tells (start_of p) s budget old new (outcome_of ended)))
-tells R None S budget old mid new ended a h k = tt
-tells R (Some p) None budget old mid new ended a h k = tt
-tells R (Some p) (Some s) budget old mid new ended a h k =
-    let taken : Tells (Ok R) s budget mid new (outcome_of ended) = tells_taken R s budget mid new ended h k in
-    rw (a.0, ← a.1) taken
+  -- the whole run, where the profile was taken
+  pub tells : (R : RegistrationList) (profile session : Option (List ℕ)) (budget : ℕ) (old mid new : Option (List ℕ)) (ended : Result Status Stop)
+      → IfSome profile (λ p. Starts (start_of p) R old mid true)
+      → IfOk ended (λ status. IfSome session (λ s. Ends m xs ys mid new (Ok R) s budget status))
+      → OnErr ended (IfSome session (λ s. Stops m xs ys mid new (Ok R) s budget))
+      → IfSome profile (λ p. IfSome session (λ s. Tells m xs ys old new (start_of p) s budget (outcome_of ended)))
+  tells R None session budget old mid new ended a h k = tt
+  tells R (Some p) None budget old mid new ended a h k = tt
+  tells R (Some p) (Some s) budget old mid new ended a h k =
+      let taken : Tells m xs ys mid new (Ok R) s budget (outcome_of ended) = tells_taken R s budget mid new ended h k in
+      rw (a.0, ← a.1) taken

@@ -1,8 +1,45 @@
 -- The drivers of a run.
-use Rattle.std.specs.Prelude.{List, map as list_map}
+use Rattle.std.specs.Prelude.{ℕ, ◌≤◌, List, All, length, codes, map as list_map}
 use Rattle.std.specs.declared.alloc.Global.{Global}
 use Rattle.std.specs.declared.dyn_box.DynBox.{DynBox}
+use Rattle.ang_host.specs.Counts.{IsBalanced}
+use Rattle.ang_host.specs.Laws.{Meaning}
+use Rattle.ang_host.specs.Members.{states_of, AreFresh}
+use Rattle.ang_host.specs.Refusal.{IsRefusal}
+use Rattle.ang_host.specs.declared.drivers.DriversError.{DriversError}
+use Rattle.ang_host.specs.declared.drivers.DriversError.TheVariants.{TooMany, Busy}
+use Rattle.ang_registry.specs.Registration.{RegistrationList}
+use Rattle.ang_engine.specs.Sound.{HaveDrivers}
 
 -- which driver stands at each place
 abbrev pub kinds_of : {V : Type 0} {P : V → Type 0} → List (DynBox V Global P) → List V
 kinds_of = list_map (λ b. b.vtable)
+
+-- The drivers are taken as a list: there are at most 64, and none has a live key.
+pub record AreListed {V : Type 0} {P : V → Type 0} (m : (v : V) → Meaning (P v)) (xs : List (DynBox V Global P)) : Type 0 where
+  pub few : length xs ≤ 64
+  pub idle : AreFresh (states_of m xs)
+
+-- An engine over the list R takes the drivers: each entry's driver is one of them, too.
+pub record AreTaken {V : Type 0} {P : V → Type 0} (m : (v : V) → Meaning (P v)) (R : RegistrationList) (xs : List (DynBox V Global P)) : Type 0 where
+  pub listed : AreListed m xs
+  pub in_list : HaveDrivers R (length xs)
+
+-- why none takes them: they are not taken as a list, or an entry's driver is not there
+pub data EngineRefusal : Type 0 where
+  NotListed : DriversError → EngineRefusal
+  NoDriver : EngineRefusal
+
+abbrev pub IsRefused : {V : Type 0} {P : V → Type 0} → ((v : V) → Meaning (P v)) → RegistrationList → List (DynBox V Global P) → EngineRefusal → Type 0
+IsRefused m R xs (NotListed why) = IsRefusal why (states_of m xs)
+IsRefused m R xs NoDriver = AreListed m xs × (HaveDrivers R (length xs) → ⊥)
+
+-- what is printed then
+abbrev pub engine_text : EngineRefusal → List ℕ
+engine_text (NotListed TooMany) = codes "engine TooMany\n"
+engine_text (NotListed Busy) = codes "engine Busy\n"
+engine_text NoDriver = codes "engine NoDriver\n"
+
+-- They come back with nothing alive.
+abbrev pub AreBalanced : {V : Type 0} {P : V → Type 0} → ((v : V) → Meaning (P v)) → List (DynBox V Global P) → Type 0
+AreBalanced m xs = All IsBalanced (states_of m xs)

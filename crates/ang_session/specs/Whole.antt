@@ -1,11 +1,15 @@
 -- What a run over a profile and a session prints, and how it ends (docs/EMBEDDING.md, "The program").
 use Rattle.std.specs.Prelude.{◌≡◌, ℕ, ◌<◌, ◌≤◌, ◌⊎◌, nat_lt, List, [], ◌++◌, length, Option, Result, Ok, Err, codes, decimal, Bool, true, false, if◌then◌else◌}
 use Rattle.std.specs.Io.KnownBytes.{Appends}
+use Rattle.std.specs.declared.alloc.Global.{Global}
+use Rattle.std.specs.declared.dyn_box.DynBox.{DynBox}
+use Rattle.ang_host.specs.Laws.{Meaning}
 use Rattle.ang_registry.specs.declared.error.RegError.{RegError}
 use Rattle.ang_registry.specs.declared.error.RegError.TheVariants.{Limit, EmptyMask, BadDeclaration, UnknownType, WrongDriver, Duplicate, Memory as NoMemory}
 use Rattle.ang_registry.specs.Registration.{RegistrationList, Registrations}
 use Rattle.ang_engine.specs.World.{World, no_modules}
 use Rattle.ang_session.specs.Deeds.{IsDone, IsCut}
+use Rattle.ang_session.specs.Drivers.{AreTaken, AreBalanced, EngineRefusal, IsRefused, engine_text}
 use Rattle.ang_session.specs.Lines.{lines_of}
 use Rattle.ang_session.specs.Profile.{loaded}
 use Rattle.ang_session.specs.Session.{session_from}
@@ -58,40 +62,46 @@ abbrev pub start_of : List ℕ → Result RegistrationList (List ℕ)
 start_of profile =
     if nat_lt most_profile (length profile) then Err long_profile_text else registered_by (loaded 1 fresh (lines_of profile))
 
--- `engine TooMany`, `engine Busy` or `engine NoDriver`
-abbrev pub IsEngineText : List ℕ → Type 0
-IsEngineText text = (text ≡ codes "engine TooMany\n") ⊎ ((text ≡ codes "engine Busy\n") ⊎ (text ≡ codes "engine NoDriver\n"))
+-- A run with the drivers xs that come back as ys, and with a writer that has the bytes old and then new. Here m is the meaning of what is behind each vtable.
+module _ {V : Type 0} {P : V → Type 0} (m : (v : V) → Meaning (P v)) (xs ys : List (DynBox V Global P)) (old new : Option (List ℕ)) where
+  -- No engine over the list R takes the drivers, which come back as they were. The text that says why was printed.
+  abbrev pub EngineRefused : RegistrationList → Status → Type 0
+  EngineRefused R status = (why : EngineRefusal) × IsRefused m R xs why × Appends old new (engine_text why) × (status ≡ BadInput) × (ys ≡ xs)
 
--- The session was read and done.
-abbrev pub RunsSession : RegistrationList → List ℕ → ℕ → Option (List ℕ) → Option (List ℕ) → Status → Type 0
-RunsSession R session budget old new status =
-    ((most_session < length session) × Appends old new long_session_text × (status ≡ BadInput))
-    ⊎ ((length session ≤ most_session) × (after : World) × IsDone R no_modules (session_from 1 budget 0 (lines_of session)) old new status after)
+  -- The session was read and done.
+  abbrev pub RunsSession : RegistrationList → List ℕ → ℕ → Status → Type 0
+  RunsSession R session budget status =
+      ((most_session < length session) × Appends old new long_session_text × (status ≡ BadInput) × (ys ≡ xs))
+      ⊎ ((length session ≤ most_session) × (after : World) × IsDone m R no_modules xs (session_from 1 budget 0 (lines_of session)) old new status after ys)
 
--- A run that came to its end: what it printed is all.
-abbrev pub Ends : Result RegistrationList (List ℕ) → List ℕ → ℕ → Option (List ℕ) → Option (List ℕ) → Status → Type 0
-Ends (Err text) session budget old new status = Appends old new text × (status ≡ BadInput)
-Ends (Ok R) session budget old new status =
-    ((text : List ℕ) × IsEngineText text × Appends old new text × (status ≡ BadInput)) ⊎ RunsSession R session budget old new status
+  -- A run that came to its end: what it printed is all. Where an engine took the drivers, none of their objects is alive.
+  abbrev pub Ends : Result RegistrationList (List ℕ) → List ℕ → ℕ → Status → Type 0
+  Ends (Err text) session budget status = Appends old new text × (status ≡ BadInput) × (ys ≡ xs)
+  Ends (Ok R) session budget status = EngineRefused R status ⊎ (AreTaken m R xs × RunsSession R session budget status × AreBalanced m ys)
 
--- The session was not done to its end.
-abbrev pub StopsSession : RegistrationList → List ℕ → ℕ → Option (List ℕ) → Option (List ℕ) → Type 0
-StopsSession R session budget old new =
-    HasFront old new long_session_text ⊎ ((after : World) × IsCut R no_modules (session_from 1 budget 0 (lines_of session)) old new after)
+  -- The text that says why no engine takes the drivers was cut short.
+  abbrev pub EngineStops : RegistrationList → Type 0
+  EngineStops R = (why : EngineRefusal) × IsRefused m R xs why × HasFront old new (engine_text why) × (ys ≡ xs)
 
--- A run that was cut short: what it printed is a front.
-abbrev pub Stops : Result RegistrationList (List ℕ) → List ℕ → ℕ → Option (List ℕ) → Option (List ℕ) → Type 0
-Stops (Err text) session budget old new = HasFront old new text
-Stops (Ok R) session budget old new =
-    ((text : List ℕ) × IsEngineText text × HasFront old new text) ⊎ StopsSession R session budget old new
+  -- The session was not done to its end.
+  abbrev pub StopsSession : RegistrationList → List ℕ → ℕ → Type 0
+  StopsSession R session budget =
+      ((most_session < length session) × HasFront old new long_session_text × (ys ≡ xs))
+      ⊎ ((after : World) × IsCut m R no_modules xs (session_from 1 budget 0 (lines_of session)) old new after ys)
 
--- what a run over these texts prints, by its outcome
-abbrev pub Tells : Result RegistrationList (List ℕ) → List ℕ → ℕ → Option (List ℕ) → Option (List ℕ) → Result Status IoFault → Type 0
-Tells start session budget old new (Ok AllOk) = Ends start session budget old new AllOk
-Tells start session budget old new (Ok SomeRefused) = Ends start session budget old new SomeRefused
-Tells start session budget old new (Ok BadInput) = Ends start session budget old new BadInput
-Tells start session budget old new (Ok Memory) = Stops start session budget old new
-Tells start session budget old new (Err fault) = Stops start session budget old new
+  -- A run that was cut short: what it printed is a front. It may have been cut before there was an engine.
+  abbrev pub Stops : Result RegistrationList (List ℕ) → List ℕ → ℕ → Type 0
+  Stops (Err text) session budget = HasFront old new text × (ys ≡ xs)
+  Stops (Ok R) session budget =
+      ((new ≡ old) × (ys ≡ xs)) ⊎ (EngineStops R ⊎ (AreTaken m R xs × StopsSession R session budget × AreBalanced m ys))
+
+  -- what a run over these texts prints and asks, by its outcome
+  abbrev pub Tells : Result RegistrationList (List ℕ) → List ℕ → ℕ → Result Status IoFault → Type 0
+  Tells start session budget (Ok AllOk) = Ends start session budget AllOk
+  Tells start session budget (Ok SomeRefused) = Ends start session budget SomeRefused
+  Tells start session budget (Ok BadInput) = Ends start session budget BadInput
+  Tells start session budget (Ok Memory) = Stops start session budget
+  Tells start session budget (Err fault) = Stops start session budget
 
 -- a profile that was loaded printed nothing, and one that wasn't said why
 abbrev pub Starts : Result RegistrationList (List ℕ) → RegistrationList → Option (List ℕ) → Option (List ℕ) → Bool → Type 0
@@ -101,14 +111,7 @@ Starts start R old new false = (text : List ℕ) × (start ≡ Err text) × Appe
 -- a front of what a profile prints that isn't taken, and else nothing
 abbrev pub StartStops : Result RegistrationList (List ℕ) → Option (List ℕ) → Option (List ℕ) → Type 0
 StartStops (Err text) old new = HasFront old new text
-StartStops (Ok R) old new = HasFront old new []
-
--- the texts of a refusal of the drivers or the engine
-abbrev pub EngineRefused : Option (List ℕ) → Option (List ℕ) → Status → Type 0
-EngineRefused old new status = (text : List ℕ) × IsEngineText text × Appends old new text × (status ≡ BadInput)
-
-abbrev pub EngineStops : Option (List ℕ) → Option (List ℕ) → Type 0
-EngineStops old new = (text : List ℕ) × IsEngineText text × HasFront old new text
+StartStops (Ok R) old new = new ≡ old
 
 -- want of memory is a status, and a fault is none
 abbrev pub outcome_of : Result Status Stop → Result Status IoFault

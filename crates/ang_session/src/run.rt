@@ -65,8 +65,8 @@ fn run_command<W: Write>(
     ensures sound { IsSound (λ v. (⟦<dyn Driver as Driver>⟧ v).meaning) engine.new }
     ensures registrations { registrations engine.new ≡ registrations engine.old }
     ensures order { kinds_of (drivers_in engine.new) ≡ kinds_of (drivers_in engine.old) }
-    ensures done { IfOk result (λ ok. IsPrinted (registrations engine.old) (world_in engine.old) (action.Command command) (W.contents writer.old) (W.contents writer.new) ok (world_in engine.new)) }
-    ensures cut { OnErr result (IsHalfPrinted (registrations engine.old) (world_in engine.old) (action.Command command) (W.contents writer.old) (W.contents writer.new) (world_in engine.new)) }
+    ensures done { IfOk result (λ ok. IsPrinted (λ v. (⟦<dyn Driver as Driver>⟧ v).meaning) (registrations engine.old) (world_in engine.old) (drivers_in engine.old) (action.Command command) (W.contents writer.old) (W.contents writer.new) ok (world_in engine.new) (drivers_in engine.new)) }
+    ensures cut { OnErr result (IsHalfPrinted (λ v. (⟦<dyn Driver as Driver>⟧ v).meaning) (registrations engine.old) (world_in engine.old) (drivers_in engine.old) (action.Command command) (W.contents writer.old) (W.contents writer.new) (world_in engine.new) (drivers_in engine.new)) }
 {
     let reply = engine.apply(command);
     print_reply(alloc, writer, &reply)?;
@@ -86,8 +86,8 @@ fn perform<W: Write>(
     ensures registrations { registrations engine.new ≡ registrations engine.old }
     ensures order { kinds_of (drivers_in engine.new) ≡ kinds_of (drivers_in engine.old) }
     ensures budget { IfOk result (λ x. x.1 ≡ budget_after budget action) }
-    ensures done { IfOk result (λ x. IsPrinted (registrations engine.old) (world_in engine.old) action (W.contents writer.old) (W.contents writer.new) x.0 (world_in engine.new)) }
-    ensures cut { OnErr result (IsHalfPrinted (registrations engine.old) (world_in engine.old) action (W.contents writer.old) (W.contents writer.new) (world_in engine.new)) }
+    ensures done { IfOk result (λ x. IsPrinted (λ v. (⟦<dyn Driver as Driver>⟧ v).meaning) (registrations engine.old) (world_in engine.old) (drivers_in engine.old) action (W.contents writer.old) (W.contents writer.new) x.0 (world_in engine.new) (drivers_in engine.new)) }
+    ensures cut { OnErr result (IsHalfPrinted (λ v. (⟦<dyn Driver as Driver>⟧ v).meaning) (registrations engine.old) (world_in engine.old) (drivers_in engine.old) action (W.contents writer.old) (W.contents writer.new) (world_in engine.new) (drivers_in engine.new)) }
 {
     match action {
         Action::Command(command) => {
@@ -114,8 +114,8 @@ pub fn run_session<W: Write>(
     ensures sound { IsSound (λ v. (⟦<dyn Driver as Driver>⟧ v).meaning) engine.new }
     ensures registrations { registrations engine.new ≡ registrations engine.old }
     ensures order { kinds_of (drivers_in engine.new) ≡ kinds_of (drivers_in engine.old) }
-    ensures done { IfOk result (λ status. IsDone (registrations engine.old) (world_in engine.old) (session_from 1 budget 0 (lines_of text.now)) (W.contents writer.old) (W.contents writer.new) status (world_in engine.new)) }
-    ensures cut { OnErr result (IsCut (registrations engine.old) (world_in engine.old) (session_from 1 budget 0 (lines_of text.now)) (W.contents writer.old) (W.contents writer.new) (world_in engine.new)) }
+    ensures done { IfOk result (λ status. IsDone (λ v. (⟦<dyn Driver as Driver>⟧ v).meaning) (registrations engine.old) (world_in engine.old) (drivers_in engine.old) (session_from 1 budget 0 (lines_of text.now)) (W.contents writer.old) (W.contents writer.new) status (world_in engine.new) (drivers_in engine.new)) }
+    ensures cut { OnErr result (IsCut (λ v. (⟦<dyn Driver as Driver>⟧ v).meaning) (registrations engine.old) (world_in engine.old) (drivers_in engine.old) (session_from 1 budget 0 (lines_of text.now)) (W.contents writer.old) (W.contents writer.new) (world_in engine.new) (drivers_in engine.new)) }
 {
     let mut rest = text;
     let mut number = 1;

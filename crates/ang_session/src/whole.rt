@@ -1,16 +1,14 @@
 //! A whole run: a profile, a session, and the text of the replies.
-ghost use Rattle.std.specs.Prelude.{◌≡◌, ◌<◌, ◌≤◌, ◌^◌, ◌⊎◌, [], All, length, Ok, IfOk, IfSome, OnOk, OnErr};
+ghost use Rattle.std.specs.Prelude.{◌≡◌, ◌<◌, ◌^◌, ◌⊎◌, length, Ok, IfOk, IfSome, OnOk, OnErr};
 ghost use Rattle.std.specs.Io.KnownBytes.{Appends};
 ghost use Rattle.ang_host.specs.Boxes.{members};
-ghost use Rattle.ang_host.specs.Counts.{IsBalanced};
-ghost use Rattle.ang_host.specs.Members.{states_of, AreFresh};
 ghost use Rattle.ang_engine.specs.Engines.{registrations, world_in, drivers_in};
 ghost use Rattle.ang_engine.specs.Sound.{IsSound};
 ghost use Rattle.ang_engine.specs.World.{no_modules};
-ghost use Rattle.ang_session.specs.Drivers.{kinds_of};
+ghost use Rattle.ang_session.specs.Drivers.{kinds_of, AreListed, AreBalanced, NotListed, NoDriver, engine_text};
 ghost use Rattle.ang_session.specs.Lines.{lines_of};
 ghost use Rattle.ang_session.specs.Profile.{loaded};
-ghost use Rattle.ang_session.specs.Whole.{profile_fault_text, registered_by, start_of, Starts, Tells, RunsSession, StopsSession, StartStops, EngineRefused, EngineStops, Ends, Stops, outcome_of, fresh};
+ghost use Rattle.ang_session.specs.Whole.{profile_fault_text, registered_by, start_of, Starts, Tells, RunsSession, StopsSession, StartStops, Ends, Stops, outcome_of, fresh};
 ghost use Rattle.ang_session.specs.Writing.{HasFront};
 
 use crate::ending::{IoFault, Status, Stop};
@@ -107,8 +105,8 @@ fn run_text<R: Read, W: Write>(
     requires new { world_in engine.old ≡ no_modules }
     ensures sound { IsSound (λ v. (⟦<dyn Driver as Driver>⟧ v).meaning) engine.new }
     ensures order { kinds_of (drivers_in engine.new) ≡ kinds_of (drivers_in engine.old) }
-    ensures done { IfOk result (λ status. IfSome (R.remaining reader.old) (λ text. RunsSession (registrations engine.old) text budget (W.contents writer.old) (W.contents writer.new) status)) }
-    ensures cut { OnErr result (IfSome (R.remaining reader.old) (λ text. StopsSession (registrations engine.old) text budget (W.contents writer.old) (W.contents writer.new))) }
+    ensures done { IfOk result (λ status. IfSome (R.remaining reader.old) (λ text. RunsSession (λ v. (⟦<dyn Driver as Driver>⟧ v).meaning) (drivers_in engine.old) (drivers_in engine.new) (W.contents writer.old) (W.contents writer.new) (registrations engine.old) text budget status)) }
+    ensures cut { OnErr result (IfSome (R.remaining reader.old) (λ text. StopsSession (λ v. (⟦<dyn Driver as Driver>⟧ v).meaning) (drivers_in engine.old) (drivers_in engine.new) (W.contents writer.old) (W.contents writer.new) (registrations engine.old) text budget)) }
 {
     match read_text(alloc, reader, MOST_SESSION)? {
         Text::Whole(text) => run_session(alloc, engine, writer, &text, budget),
@@ -119,9 +117,11 @@ fn run_text<R: Read, W: Write>(
     }
 }
 
+/// Prints why the drivers were not taken as a list.
 fn print_drivers_error<W: Write>(writer: &mut W, why: DriversError) -> Result<Status, Stop>
-    ensures done { IfOk result (EngineRefused (W.contents writer.old) (W.contents writer.new)) }
-    ensures cut { OnErr result (EngineStops (W.contents writer.old) (W.contents writer.new)) }
+    ensures whole { OnOk result (Appends (W.contents writer.old) (W.contents writer.new) (engine_text (NotListed why))) }
+    ensures status { IfOk result (λ status. status ≡ Status.BadInput) }
+    ensures front { OnErr result (HasFront (W.contents writer.old) (W.contents writer.new) (engine_text (NotListed why))) }
 {
     match why {
         DriversError::TooMany => write_text(writer, b"engine TooMany\n")?,
@@ -130,14 +130,13 @@ fn print_drivers_error<W: Write>(writer: &mut W, why: DriversError) -> Result<St
     Ok(Status::BadInput)
 }
 
-fn print_new_error<W: Write>(writer: &mut W, why: NewError) -> Result<Status, Stop>
-    ensures done { IfOk result (EngineRefused (W.contents writer.old) (W.contents writer.new)) }
-    ensures cut { OnErr result (EngineStops (W.contents writer.old) (W.contents writer.new)) }
+/// Prints that an entry's driver is not there.
+fn print_no_driver<W: Write>(writer: &mut W) -> Result<Status, Stop>
+    ensures whole { OnOk result (Appends (W.contents writer.old) (W.contents writer.new) (engine_text NoDriver)) }
+    ensures status { IfOk result (λ status. status ≡ Status.BadInput) }
+    ensures front { OnErr result (HasFront (W.contents writer.old) (W.contents writer.new) (engine_text NoDriver)) }
 {
-    match why {
-        NewError::NoDriver => write_text(writer, b"engine NoDriver\n")?,
-        NewError::Memory => return Err(Stop::Memory),
-    }
+    write_text(writer, b"engine NoDriver\n")?;
     Ok(Status::BadInput)
 }
 
@@ -150,12 +149,12 @@ fn run_engine<R: Read, W: Write>(
     drivers: Drivers,
     budget: u64,
 ) -> (Result<Status, Stop>, Vec<Box<dyn Driver>>)
-    requires idle { AreFresh (states_of (λ v. (⟦<dyn Driver as Driver>⟧ v).meaning) (members drivers)) }
-    ensures done { IfOk result.0 (λ status. IfSome (R.remaining reader.old) (λ text. Ends (Ok registry.entries) text budget (W.contents writer.old) (W.contents writer.new) status)) }
-    ensures cut { OnErr result.0 (IfSome (R.remaining reader.old) (λ text. Stops (Ok registry.entries) text budget (W.contents writer.old) (W.contents writer.new))) }
+    requires listed { AreListed (λ v. (⟦<dyn Driver as Driver>⟧ v).meaning) (members drivers) }
+    ensures done { IfOk result.0 (λ status. IfSome (R.remaining reader.old) (λ text. Ends (λ v. (⟦<dyn Driver as Driver>⟧ v).meaning) (members drivers) result.1.items (W.contents writer.old) (W.contents writer.new) (Ok registry.entries) text budget status)) }
+    ensures cut { OnErr result.0 (IfSome (R.remaining reader.old) (λ text. Stops (λ v. (⟦<dyn Driver as Driver>⟧ v).meaning) (members drivers) result.1.items (W.contents writer.old) (W.contents writer.new) (Ok registry.entries) text budget)) }
     ensures order { kinds_of result.1.items ≡ kinds_of (members drivers) }
     ensures returned { (result.1.items ≡ members drivers)
-        ⊎ All IsBalanced (states_of (λ v. (⟦<dyn Driver as Driver>⟧ v).meaning) result.1.items) }
+        ⊎ AreBalanced (λ v. (⟦<dyn Driver as Driver>⟧ v).meaning) result.1.items }
 {
     match Engine::new(alloc, registry, drivers) {
         Ok(mut engine) => {
@@ -170,7 +169,11 @@ fn run_engine<R: Read, W: Write>(
             },
         ) => {
             drop(registry);
-            (print_new_error(writer, why), drivers.into_boxes())
+            let ended = match why {
+                NewError::NoDriver => print_no_driver(writer),
+                NewError::Memory => Err(Stop::Memory),
+            };
+            (ended, drivers.into_boxes())
         }
     }
 }
@@ -185,11 +188,11 @@ fn run_drivers<R: Read, W: Write>(
     budget: u64,
 ) -> (Result<Status, Stop>, Vec<Box<dyn Driver>>)
     requires few { length drivers.items < 2 ^ 60 }
-    ensures done { IfOk result.0 (λ status. IfSome (R.remaining reader.old) (λ text. Ends (Ok registry.entries) text budget (W.contents writer.old) (W.contents writer.new) status)) }
-    ensures cut { OnErr result.0 (IfSome (R.remaining reader.old) (λ text. Stops (Ok registry.entries) text budget (W.contents writer.old) (W.contents writer.new))) }
+    ensures done { IfOk result.0 (λ status. IfSome (R.remaining reader.old) (λ text. Ends (λ v. (⟦<dyn Driver as Driver>⟧ v).meaning) drivers.items result.1.items (W.contents writer.old) (W.contents writer.new) (Ok registry.entries) text budget status)) }
+    ensures cut { OnErr result.0 (IfSome (R.remaining reader.old) (λ text. Stops (λ v. (⟦<dyn Driver as Driver>⟧ v).meaning) drivers.items result.1.items (W.contents writer.old) (W.contents writer.new) (Ok registry.entries) text budget)) }
     ensures order { kinds_of result.1.items ≡ kinds_of drivers.items }
     ensures returned { (result.1.items ≡ drivers.items)
-        ⊎ All IsBalanced (states_of (λ v. (⟦<dyn Driver as Driver>⟧ v).meaning) result.1.items) }
+        ⊎ (AreListed (λ v. (⟦<dyn Driver as Driver>⟧ v).meaning) drivers.items × AreBalanced (λ v. (⟦<dyn Driver as Driver>⟧ v).meaning) result.1.items) }
 {
     match Drivers::new(drivers) {
         Ok(drivers) => run_engine(alloc, reader, writer, registry, drivers, budget),
@@ -226,11 +229,12 @@ pub fn session<P: Read, S: Read, W: Write>(
 ) -> SessionEnd
     requires few { length drivers.items < 2 ^ 60 }
     ensures output { IfSome (P.remaining profile.old) (λ p. IfSome (S.remaining session.old) (λ s.
-        Tells (start_of p) s budget (W.contents out.old) (W.contents out.new) result.outcome)) }
+        Tells (λ v. (⟦<dyn Driver as Driver>⟧ v).meaning) drivers.items result.drivers.items (W.contents out.old) (W.contents out.new)
+        (start_of p) s budget result.outcome)) }
     ensures order { kinds_of result.drivers.items ≡ kinds_of drivers.items }
-    // Where no engine was made they are as they were.
+    // They come back as they were, or, where an engine may have taken them, with nothing alive.
     ensures returned { (result.drivers.items ≡ drivers.items)
-        ⊎ All IsBalanced (states_of (λ v. (⟦<dyn Driver as Driver>⟧ v).meaning) result.drivers.items) }
+        ⊎ (AreListed (λ v. (⟦<dyn Driver as Driver>⟧ v).meaning) drivers.items × AreBalanced (λ v. (⟦<dyn Driver as Driver>⟧ v).meaning) result.drivers.items) }
 {
     let mut registry = Registry::new(alloc);
     match load_profile(alloc, profile, out, &mut registry) {
