@@ -64,15 +64,21 @@ const COUNTING: [Instruction; 12] = [
 fn each_place_has_its_step(rt: HostRuntime) -> Result<(), Fail> {
     let steps = fuse(rt.alloc(), COUNTING.as_slice())?;
     assert_eq!(rt; steps.len(), 12);
-    assert_eq!(rt; steps[0], Step::Push(0));
-    assert_eq!(rt; steps[1], Step::Other);
-    assert_eq!(rt; steps[2], Step::TestConstant(Comparison::Less, true, 0, 10, 4));
-    assert_eq!(rt; steps[3], Step::TestTopConstant(Comparison::Less, true, 10, 4));
-    assert_eq!(rt; steps[4], Step::Other);
-    assert_eq!(rt; steps[5], Step::Other);
-    assert_eq!(rt; steps[6], Step::AddBack64(true, 0, 1, 7));
-    assert_eq!(rt; steps[7], Step::ChangeTop(INCREMENT, 0));
-    assert_eq!(rt; steps[10], Step::Load(0));
+    assert_eq!(rt; steps.get(0).copied(), Some(Step::Push(0)));
+    assert_eq!(rt; steps.get(1).copied(), Some(Step::Other));
+    assert_eq!(rt;
+        steps.get(2).copied(),
+        Some(Step::TestConstant(Comparison::Less, true, 0, 10, 4))
+    );
+    assert_eq!(rt;
+        steps.get(3).copied(),
+        Some(Step::TestTopConstant(Comparison::Less, true, 10, 4))
+    );
+    assert_eq!(rt; steps.get(4).copied(), Some(Step::Other));
+    assert_eq!(rt; steps.get(5).copied(), Some(Step::Other));
+    assert_eq!(rt; steps.get(6).copied(), Some(Step::AddBack64(true, 0, 1, 7)));
+    assert_eq!(rt; steps.get(7).copied(), Some(Step::ChangeTop(INCREMENT, 0)));
+    assert_eq!(rt; steps.get(10).copied(), Some(Step::Load(0)));
     Ok(())
 }
 
@@ -83,7 +89,10 @@ fn fused_loop_takes_its_ticks(rt: HostRuntime) -> Result<(), Fail> {
     let ten = Slot::Bits(10);
     assert_eq!(rt; end_of(rt.alloc(), 3, 100, text)?, Ending::Gives(ten, 88));
     assert_eq!(rt; end_of(rt.alloc(), 3, 12, text)?, Ending::Gives(ten, 0));
-    assert_eq!(rt; end_of(rt.alloc(), 3, 11, text)?, Ending::Stops(Fault::Budget));
+    assert_eq!(rt;
+        end_of(rt.alloc(), 3, 11, text)?,
+        Ending::Stops(Fault::Budget)
+    );
     Ok(())
 }
 
@@ -97,7 +106,10 @@ fn fused_step_wants_its_room(rt: HostRuntime) -> Result<(), Fail> {
         ADD,
         Instruction::Return(1),
     ];
-    assert_eq!(rt; end_of(rt.alloc(), 3, 9, &text)?, Ending::Gives(Slot::Bits(3), 8));
+    assert_eq!(rt;
+        end_of(rt.alloc(), 3, 9, &text)?,
+        Ending::Gives(Slot::Bits(3), 8)
+    );
     assert_eq!(rt; end_of(rt.alloc(), 2, 9, &text)?, Ending::Lost);
     Ok(())
 }
@@ -127,7 +139,10 @@ fn fused_step_faults(rt: HostRuntime) -> Result<(), Fail> {
     ];
     let by_zero = Ending::Stops(Fault::DivideByZero);
     assert_eq!(rt; end_of(rt.alloc(), 4, 9, &quotient)?, by_zero);
-    assert_eq!(rt; end_of(rt.alloc(), 4, 9, &null)?, Ending::Stops(Fault::Null));
+    assert_eq!(rt;
+        end_of(rt.alloc(), 4, 9, &null)?,
+        Ending::Stops(Fault::Null)
+    );
     Ok(())
 }
 
@@ -143,6 +158,9 @@ fn jump_into_a_fused_step(rt: HostRuntime) -> Result<(), Fail> {
         ADD,
         Instruction::Return(1),
     ];
-    assert_eq!(rt; end_of(rt.alloc(), 4, 9, &text)?, Ending::Gives(Slot::Bits(10), 8));
+    assert_eq!(rt;
+        end_of(rt.alloc(), 4, 9, &text)?,
+        Ending::Gives(Slot::Bits(10), 8)
+    );
     Ok(())
 }
