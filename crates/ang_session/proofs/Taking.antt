@@ -1,7 +1,7 @@
 -- Engines that take drivers, and give them back.
-use Rattle.std.proofs.Common.{◌≡◌, ℕ, ◌<◌, List, length, Option, Some, None, IfSome, Result, Ok, Err, inl, inr, refl}
+use Rattle.std.proofs.Common.{◌≡◌, ℕ, ◌<◌, List, length, Option, Some, None, IfSome, Result, Ok, Err, inl, inr, refl, ◌∙◌}
 use Rattle.std.specs.Io.KnownBytes.{Appends}
-use Rattle.std.specs.Result.{IfOk, OnOk, OnErr}
+use Rattle.std.specs.Result.{IfOk, IfErr, OnOk, OnErr}
 use Rattle.std.specs.declared.alloc.Global.{Global}
 use Rattle.std.specs.declared.dyn_box.DynBox.{DynBox}
 use Rattle.ang_host.specs.Laws.{Meaning}
@@ -9,7 +9,8 @@ use Rattle.ang_registry.specs.Registration.{RegistrationList}
 use Rattle.ang_engine.specs.Sound.{HaveDrivers}
 use Rattle.ang_engine.specs.World.{no_modules}
 use Rattle.ang_session.specs.Drivers.{AreListed, AreTaken, AreBalanced, EngineRefusal, IsRefused, engine_text}
-use Rattle.ang_session.specs.Whole.{Ends, Stops, RunsSession, StopsSession, most_session, long_session_text}
+use Rattle.ang_session.specs.Reading.{unread}
+use Rattle.ang_session.specs.Whole.{Untouched, Ends, Stops, RunsSession, StopsSession, most_session, long_session_text}
 use Rattle.ang_session.specs.Writing.{HasFront}
 use Rattle.ang_session.specs.declared.ending.Status.{Status}
 use Rattle.ang_session.specs.declared.ending.Status.TheVariants.{BadInput}
@@ -73,3 +74,9 @@ module _ {V : Type 0} {P : V → Type 0} (m : (v : V) → Meaning (P v)) (R R' :
   stops_taken old new (Some s) budget (Err stop) list same back listed in_list alive h =
       let stops : StopsSession m xs ys old new R s budget = rw (← list, ← same, back) h in
       inr (inr (taken_by list same listed in_list, stops, alive))
+
+  -- the session could not be read, and the engine was discarded
+  pub untouched_taken : (old new : Option (List ℕ)) (ended : Result Status Stop) → xs' ≡ xs → ys ≡ ys'
+      → IfErr ended (λ e. e ≡ unread → Untouched m xs' ys' old new) → IfErr ended (λ e. e ≡ unread → Untouched m xs ys old new)
+  untouched_taken old new (Ok status) same back h = tt
+  untouched_taken old new (Err stop) same back h = λ is. ((h is).0, back ∙ (h is).1 ∙ same)

@@ -1,6 +1,9 @@
 -- Reading a text whole (docs/EMBEDDING.md, "The program").
 use Rattle.std.specs.Prelude.{◌≡◌, ◌<◌, ◌≤◌, ◌+◌, ℕ, List, length, Option}
 use Rattle.std.specs.Io.KnownBytes.{Consumes, IsAtEnd}
+use Rattle.ang_session.specs.declared.ending.IoFault.TheVariants as io
+use Rattle.ang_session.specs.declared.ending.Stop.{Stop}
+use Rattle.ang_session.specs.declared.ending.Stop.TheVariants.{Fault}
 use Rattle.ang_session.specs.declared.reading.Text.{Text}
 use Rattle.ang_session.specs.declared.reading.Text.TheVariants.{Whole, TooLong}
 
@@ -13,3 +16,7 @@ WasRead limit old new TooLong = (taken : List ℕ) × Consumes old new taken × 
 abbrev pub IsTextOf : ℕ → Text → List ℕ → Type 0
 IsTextOf limit (Whole text) bytes = (text.items ≡ bytes) × (length bytes ≤ limit)
 IsTextOf limit TooLong bytes = limit < length bytes
+
+-- a text could not be read
+abbrev pub unread : Stop
+unread = Fault io.Read

@@ -15,6 +15,7 @@ use Rattle.ang_session.specs.Profile.{loaded}
 use Rattle.ang_session.specs.Session.{session_from}
 use Rattle.ang_session.specs.Writing.{HasFront}
 use Rattle.ang_session.specs.declared.ending.IoFault.{IoFault}
+use Rattle.ang_session.specs.declared.ending.IoFault.TheVariants as io
 use Rattle.ang_session.specs.declared.ending.Status.{Status}
 use Rattle.ang_session.specs.declared.ending.Status.TheVariants.{AllOk, SomeRefused, BadInput, Memory}
 use Rattle.ang_session.specs.declared.ending.Stop.{Stop}
@@ -64,6 +65,10 @@ start_of profile =
 
 -- A run with the drivers xs that come back as ys, and with a writer that has the bytes old and then new. Here m is the meaning of what is behind each vtable.
 module _ {V : Type 0} {P : V → Type 0} (m : (v : V) → Meaning (P v)) (xs ys : List (DynBox V Global P)) (old new : Option (List ℕ)) where
+  -- Nothing was printed, and the drivers come back as they were.
+  abbrev pub Untouched : Type 0
+  Untouched = (new ≡ old) × (ys ≡ xs)
+
   -- No engine over the list R takes the drivers, which come back as they were. The text that says why was printed.
   abbrev pub EngineRefused : RegistrationList → Status → Type 0
   EngineRefused R status = (why : EngineRefusal) × IsRefused m R xs why × Appends old new (engine_text why) × (status ≡ BadInput) × (ys ≡ xs)
@@ -93,15 +98,16 @@ module _ {V : Type 0} {P : V → Type 0} (m : (v : V) → Meaning (P v)) (xs ys 
   abbrev pub Stops : Result RegistrationList (List ℕ) → List ℕ → ℕ → Type 0
   Stops (Err text) session budget = HasFront old new text × (ys ≡ xs)
   Stops (Ok R) session budget =
-      ((new ≡ old) × (ys ≡ xs)) ⊎ (EngineStops R ⊎ (AreTaken m R xs × StopsSession R session budget × AreBalanced m ys))
+      Untouched ⊎ (EngineStops R ⊎ (AreTaken m R xs × StopsSession R session budget × AreBalanced m ys))
 
-  -- what a run over these texts prints and asks, by its outcome
+  -- What a run over these texts prints and asks, by its outcome. A text that can't be read is found before anything is printed and anyone is asked.
   abbrev pub Tells : Result RegistrationList (List ℕ) → List ℕ → ℕ → Result Status IoFault → Type 0
   Tells start session budget (Ok AllOk) = Ends start session budget AllOk
   Tells start session budget (Ok SomeRefused) = Ends start session budget SomeRefused
   Tells start session budget (Ok BadInput) = Ends start session budget BadInput
   Tells start session budget (Ok Memory) = Stops start session budget
-  Tells start session budget (Err fault) = Stops start session budget
+  Tells start session budget (Err io.Write) = Stops start session budget
+  Tells start session budget (Err io.Read) = Untouched
 
 -- a profile that was loaded printed nothing, and one that wasn't said why
 abbrev pub Starts : Result RegistrationList (List ℕ) → RegistrationList → Option (List ℕ) → Option (List ℕ) → Bool → Type 0
@@ -117,4 +123,4 @@ StartStops (Ok R) old new = new ≡ old
 abbrev pub outcome_of : Result Status Stop → Result Status IoFault
 outcome_of (Ok status) = Ok status
 outcome_of (Err stop.Memory) = Ok Memory
-outcome_of (Err (stop.Fault fault)) = Err fault
+outcome_of (Err (stop.Fault why)) = Err why

@@ -1,11 +1,12 @@
 //! Running what a session says.
-ghost use Rattle.std.specs.Prelude.{◌≡◌, ◌<◌, ◌≤◌, ◌^◌, [], length, Some, IfOk, OnOk, OnErr};
+ghost use Rattle.std.specs.Prelude.{◌≡◌, ◌≢◌, ◌<◌, ◌≤◌, ◌^◌, [], length, Some, IfOk, IfErr, OnOk, OnErr};
 ghost use Rattle.std.specs.Io.KnownBytes.{Appends};
 ghost use Rattle.ang_engine.specs.Engines.{registrations, world_in, drivers_in};
 ghost use Rattle.ang_engine.specs.Sound.{IsSound};
 ghost use Rattle.ang_session.specs.Deeds.{IsDone, IsCut, IsPrinted, IsHalfPrinted, bad_line_text, is_done};
 ghost use Rattle.ang_session.specs.Drivers.{kinds_of};
 ghost use Rattle.ang_session.specs.Lines.{lines_of};
+ghost use Rattle.ang_session.specs.Reading.{unread};
 ghost use Rattle.ang_session.specs.Session.{session_from, budget_after};
 ghost use Rattle.ang_text.specs.Text.{reply_text};
 ghost use Rattle.ang_session.specs.Writing.{HasFront};
@@ -27,6 +28,7 @@ use std::io::Write;
 fn print_reply<W: Write>(alloc: Global, writer: &mut W, reply: &Reply) -> Result<(), Stop>
     ensures whole { OnOk result (Appends (W.contents writer.old) (W.contents writer.new) (reply_text reply.now)) }
     ensures front { OnErr result (HasFront (W.contents writer.old) (W.contents writer.new) (reply_text reply.now)) }
+    ensures fault { IfErr result (λ e. e ≢ unread) }
 {
     let mut text = Vec::new(alloc);
     push_reply(&mut text, reply)?;
@@ -38,6 +40,7 @@ fn print_reply<W: Write>(alloc: Global, writer: &mut W, reply: &Reply) -> Result
 fn print_bad_line<W: Write>(alloc: Global, writer: &mut W, number: u64) -> Result<(), Stop>
     ensures whole { OnOk result (Appends (W.contents writer.old) (W.contents writer.new) (bad_line_text (Some number))) }
     ensures front { OnErr result (HasFront (W.contents writer.old) (W.contents writer.new) (bad_line_text (Some number))) }
+    ensures fault { IfErr result (λ e. e ≢ unread) }
 {
     let mut text = Vec::new(alloc);
     push_bad_line(&mut text, number)?;
@@ -67,6 +70,7 @@ fn run_command<W: Write>(
     ensures order { kinds_of (drivers_in engine.new) ≡ kinds_of (drivers_in engine.old) }
     ensures done { IfOk result (λ ok. IsPrinted (λ v. (⟦<dyn Driver as Driver>⟧ v).meaning) (registrations engine.old) (world_in engine.old) (drivers_in engine.old) (action.Command command) (W.contents writer.old) (W.contents writer.new) ok (world_in engine.new) (drivers_in engine.new)) }
     ensures cut { OnErr result (IsHalfPrinted (λ v. (⟦<dyn Driver as Driver>⟧ v).meaning) (registrations engine.old) (world_in engine.old) (drivers_in engine.old) (action.Command command) (W.contents writer.old) (W.contents writer.new) (world_in engine.new) (drivers_in engine.new)) }
+    ensures fault { IfErr result (λ e. e ≢ unread) }
 {
     let reply = engine.apply(command);
     print_reply(alloc, writer, &reply)?;
@@ -88,6 +92,7 @@ fn perform<W: Write>(
     ensures budget { IfOk result (λ x. x.1 ≡ budget_after budget action) }
     ensures done { IfOk result (λ x. IsPrinted (λ v. (⟦<dyn Driver as Driver>⟧ v).meaning) (registrations engine.old) (world_in engine.old) (drivers_in engine.old) action (W.contents writer.old) (W.contents writer.new) x.0 (world_in engine.new) (drivers_in engine.new)) }
     ensures cut { OnErr result (IsHalfPrinted (λ v. (⟦<dyn Driver as Driver>⟧ v).meaning) (registrations engine.old) (world_in engine.old) (drivers_in engine.old) action (W.contents writer.old) (W.contents writer.new) (world_in engine.new) (drivers_in engine.new)) }
+    ensures fault { IfErr result (λ e. e ≢ unread) }
 {
     match action {
         Action::Command(command) => {
@@ -116,6 +121,7 @@ pub fn run_session<W: Write>(
     ensures order { kinds_of (drivers_in engine.new) ≡ kinds_of (drivers_in engine.old) }
     ensures done { IfOk result (λ status. IsDone (λ v. (⟦<dyn Driver as Driver>⟧ v).meaning) (registrations engine.old) (world_in engine.old) (drivers_in engine.old) (session_from 1 budget 0 (lines_of text.now)) (W.contents writer.old) (W.contents writer.new) status (world_in engine.new) (drivers_in engine.new)) }
     ensures cut { OnErr result (IsCut (λ v. (⟦<dyn Driver as Driver>⟧ v).meaning) (registrations engine.old) (world_in engine.old) (drivers_in engine.old) (session_from 1 budget 0 (lines_of text.now)) (W.contents writer.old) (W.contents writer.new) (world_in engine.new) (drivers_in engine.new)) }
+    ensures fault { IfErr result (λ e. e ≢ unread) }
 {
     let mut rest = text;
     let mut number = 1;

@@ -1,5 +1,5 @@
 //! A whole run: a profile, a session, and the text of the replies.
-ghost use Rattle.std.specs.Prelude.{◌≡◌, ◌<◌, ◌^◌, ◌⊎◌, length, Ok, IfOk, IfSome, OnOk, OnErr};
+ghost use Rattle.std.specs.Prelude.{◌≡◌, ◌≢◌, ◌<◌, ◌^◌, ◌⊎◌, length, Ok, IfOk, IfErr, IfSome, OnOk, OnErr};
 ghost use Rattle.std.specs.Io.KnownBytes.{Appends};
 ghost use Rattle.ang_host.specs.Boxes.{members};
 ghost use Rattle.ang_engine.specs.Engines.{registrations, world_in, drivers_in};
@@ -8,7 +8,8 @@ ghost use Rattle.ang_engine.specs.World.{no_modules};
 ghost use Rattle.ang_session.specs.Drivers.{kinds_of, AreListed, AreBalanced, NotListed, NoDriver, engine_text};
 ghost use Rattle.ang_session.specs.Lines.{lines_of};
 ghost use Rattle.ang_session.specs.Profile.{loaded};
-ghost use Rattle.ang_session.specs.Whole.{profile_fault_text, registered_by, start_of, Starts, Tells, RunsSession, StopsSession, StartStops, Ends, Stops, outcome_of, fresh};
+ghost use Rattle.ang_session.specs.Reading.{unread};
+ghost use Rattle.ang_session.specs.Whole.{profile_fault_text, registered_by, start_of, Starts, Tells, RunsSession, StopsSession, StartStops, Ends, Stops, Untouched, outcome_of, fresh};
 ghost use Rattle.ang_session.specs.Writing.{HasFront};
 
 use crate::ending::{IoFault, Status, Stop};
@@ -45,6 +46,7 @@ fn print_profile_fault<W: Write>(
 ) -> Result<(), Stop>
     ensures whole { OnOk result (Appends (W.contents writer.old) (W.contents writer.new) (profile_fault_text fault)) }
     ensures front { OnErr result (HasFront (W.contents writer.old) (W.contents writer.new) (profile_fault_text fault)) }
+    ensures fault { IfErr result (λ e. e ≢ unread) }
 {
     let mut text = Vec::new(alloc);
     push_profile_fault(&mut text, fault)?;
@@ -62,6 +64,7 @@ fn load_text<W: Write>(
     requires few { length text.now < 2 ^ 32 }
     ensures done { IfOk result (Starts (registered_by (loaded 1 registry.old (lines_of text.now))) registry.new.entries (W.contents writer.old) (W.contents writer.new)) }
     ensures cut { OnErr result (StartStops (registered_by (loaded 1 registry.old (lines_of text.now))) (W.contents writer.old) (W.contents writer.new)) }
+    ensures fault { IfErr result (λ e. e ≢ unread) }
 {
     match load(registry, text) {
         Ok(()) => Ok(true),
@@ -83,6 +86,7 @@ fn load_profile<R: Read, W: Write>(
     requires new { registry.old ≡ fresh }
     ensures done { IfOk result (λ ok. IfSome (R.remaining reader.old) (λ text. Starts (start_of text) registry.new.entries (W.contents writer.old) (W.contents writer.new) ok)) }
     ensures cut { OnErr result (IfSome (R.remaining reader.old) (λ text. StartStops (start_of text) (W.contents writer.old) (W.contents writer.new))) }
+    ensures fault { IfErr result (λ e. e ≡ unread → W.contents writer.new ≡ W.contents writer.old) }
 {
     match read_text(alloc, reader, MOST_PROFILE)? {
         Text::Whole(text) => load_text(alloc, writer, registry, &text),
@@ -107,6 +111,7 @@ fn run_text<R: Read, W: Write>(
     ensures order { kinds_of (drivers_in engine.new) ≡ kinds_of (drivers_in engine.old) }
     ensures done { IfOk result (λ status. IfSome (R.remaining reader.old) (λ text. RunsSession (λ v. (⟦<dyn Driver as Driver>⟧ v).meaning) (drivers_in engine.old) (drivers_in engine.new) (W.contents writer.old) (W.contents writer.new) (registrations engine.old) text budget status)) }
     ensures cut { OnErr result (IfSome (R.remaining reader.old) (λ text. StopsSession (λ v. (⟦<dyn Driver as Driver>⟧ v).meaning) (drivers_in engine.old) (drivers_in engine.new) (W.contents writer.old) (W.contents writer.new) (registrations engine.old) text budget)) }
+    ensures fault { IfErr result (λ e. e ≡ unread → Untouched (λ v. (⟦<dyn Driver as Driver>⟧ v).meaning) (drivers_in engine.old) (drivers_in engine.new) (W.contents writer.old) (W.contents writer.new)) }
 {
     match read_text(alloc, reader, MOST_SESSION)? {
         Text::Whole(text) => run_session(alloc, engine, writer, &text, budget),
@@ -122,6 +127,7 @@ fn print_drivers_error<W: Write>(writer: &mut W, why: DriversError) -> Result<St
     ensures whole { OnOk result (Appends (W.contents writer.old) (W.contents writer.new) (engine_text (NotListed why))) }
     ensures status { IfOk result (λ status. status ≡ Status.BadInput) }
     ensures front { OnErr result (HasFront (W.contents writer.old) (W.contents writer.new) (engine_text (NotListed why))) }
+    ensures fault { IfErr result (λ e. e ≢ unread) }
 {
     match why {
         DriversError::TooMany => write_text(writer, b"engine TooMany\n")?,
@@ -135,6 +141,7 @@ fn print_no_driver<W: Write>(writer: &mut W) -> Result<Status, Stop>
     ensures whole { OnOk result (Appends (W.contents writer.old) (W.contents writer.new) (engine_text NoDriver)) }
     ensures status { IfOk result (λ status. status ≡ Status.BadInput) }
     ensures front { OnErr result (HasFront (W.contents writer.old) (W.contents writer.new) (engine_text NoDriver)) }
+    ensures fault { IfErr result (λ e. e ≢ unread) }
 {
     write_text(writer, b"engine NoDriver\n")?;
     Ok(Status::BadInput)
@@ -155,6 +162,7 @@ fn run_engine<R: Read, W: Write>(
     ensures order { kinds_of result.1.items ≡ kinds_of (members drivers) }
     ensures returned { (result.1.items ≡ members drivers)
         ⊎ AreBalanced (λ v. (⟦<dyn Driver as Driver>⟧ v).meaning) result.1.items }
+    ensures fault { IfErr result.0 (λ e. e ≡ unread → Untouched (λ v. (⟦<dyn Driver as Driver>⟧ v).meaning) (members drivers) result.1.items (W.contents writer.old) (W.contents writer.new)) }
 {
     match Engine::new(alloc, registry, drivers) {
         Ok(mut engine) => {
@@ -193,6 +201,7 @@ fn run_drivers<R: Read, W: Write>(
     ensures order { kinds_of result.1.items ≡ kinds_of drivers.items }
     ensures returned { (result.1.items ≡ drivers.items)
         ⊎ (AreListed (λ v. (⟦<dyn Driver as Driver>⟧ v).meaning) drivers.items × AreBalanced (λ v. (⟦<dyn Driver as Driver>⟧ v).meaning) result.1.items) }
+    ensures fault { IfErr result.0 (λ e. e ≡ unread → Untouched (λ v. (⟦<dyn Driver as Driver>⟧ v).meaning) drivers.items result.1.items (W.contents writer.old) (W.contents writer.new)) }
 {
     match Drivers::new(drivers) {
         Ok(drivers) => run_engine(alloc, reader, writer, registry, drivers, budget),

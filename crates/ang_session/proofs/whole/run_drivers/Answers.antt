@@ -19,3 +19,6 @@ returns-in-Err-clause-cut g c =
     stops_refused (λ v. (g.dyn-1.0.entry v).1.meaning) c.args.registry.entries _ _ (g.W.Write.contents c.args.writer.now)
     (g.W.Write.contents c.print_drivers_error.new.writer) (g.R.Read.remaining c.args.reader.now) c.args.budget (NotListed c.in-Err.why)
     c.print_drivers_error.result c.in-Err.ensures.given_back c.in-Err.ensures.why c.print_drivers_error.ensures.front
+
+pub returns-in-Ok-clause-fault : goal.returns-in-Ok-clause-fault
+returns-in-Ok-clause-fault g c = rw c.in-Ok.ensures.kept at c.run_engine.ensures.fault
