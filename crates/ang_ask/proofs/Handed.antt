@@ -4,6 +4,8 @@ use Rattle.std.specs.List.{list_any}
 use Rattle.std.proofs.lemmas.List.{drop_all}
 use Rattle.ang_kinds.specs.declared.primitive.Primitive.{Primitive}
 use Rattle.ang_kinds.specs.declared.primitive.Primitive.TheVariants.{I8, I16, I32, I64, U8, U16, U32, U64, Bool as TruthType}
+use Rattle.ang_host.specs.declared.answer.Answer.{Answer}
+use Rattle.ang_host.specs.declared.answer.HostReply.TheVariants.{Asking}
 use Rattle.ang_host.specs.declared.event.Role.{Role}
 use Rattle.ang_host.specs.declared.event.Role.TheVariants.{Making, Calling, Property}
 use Rattle.ang_host.specs.State.{State}
@@ -14,7 +16,7 @@ use Rattle.ang_meaning.specs.declared.host.HostType.{HostType}
 use Rattle.ang_meaning.specs.declared.host.HostType.TheVariants.{Nothing, Plain, Handle}
 use Rattle.ang_meaning.specs.declared.host.HostUse.{HostUse}
 use Rattle.ang_meaning.specs.Setting.{is_handle}
-use Rattle.ang_meaning.specs.Hosts.{plain_value, value_of, values_of}
+use Rattle.ang_meaning.specs.Hosts.{plain_value, value_of, values_of, is_reply_to}
 use Rattle.ang_ask.specs.Plain.{is_primitive, gives_plain, is_plain}
 
 drop_item : {A : Type 0} (xs : List A) (i : ℕ) (x : A) → i < length xs → x ≡ get_or xs i x → drop i xs ≡ x ∷ drop (i + 1) xs
@@ -92,3 +94,9 @@ pub result_plain : (role : Role) (t : HostType) → gives_plain role t ≡ true 
 result_plain (Making f) t h = absurd (cc)
 result_plain (Calling f) t h = not_true (is_handle t) h
 result_plain (Property f) t h = primitive_plain t h
+
+-- each answer is of the kind that it gives
+pub answer_plain : (role : Role) (t : HostType) → gives_plain role t ≡ true → (a : Answer) → is_reply_to role (Asking a) ≡ true
+answer_plain (Making f) t h a = absurd (cc)
+answer_plain (Calling f) t h a = refl
+answer_plain (Property f) t h a = refl

@@ -1,6 +1,6 @@
 -- What one asking comes to in the meaning, where no objects are about.
 use Rattle.std.proofs.Common.{◌≡◌, ◌⊎◌, ℕ, zero, suc, Bool, true, false, List, [], ◌∷◌, ◌++◌, Option, Some, None, inl, inr, refl, sym, ap, ◌∙◌}
-use Rattle.std.specs.Prelude.{Result}
+use Rattle.std.specs.Prelude.{Result, cond}
 use Rattle.ang_kinds.specs.declared.mask.EntityNo.{EntityNo}
 use Rattle.ang_kinds.specs.declared.primitive.Primitive.{Primitive}
 use Rattle.ang_kinds.specs.declared.primitive.Primitive.TheVariants.{I8, I16, I32, I64, U8, U16, U32, U64, Bool as TruthType}
@@ -20,7 +20,7 @@ use Rattle.ang_meaning.specs.declared.host.HostType.TheVariants.{Nothing, Plain,
 use Rattle.ang_meaning.specs.World.{World, Room, Said, with_inputs, memory_step, tally_step, one_more, hold, script_lowered, script_given, host_lowered, host_given, given, give, give_all}
 use Rattle.ang_meaning.specs.Setting.{Setting, use_at, is_handle}
 use Rattle.ang_meaning.specs.Told.{Told}
-use Rattle.ang_meaning.specs.Hosts.{Fine, Fails, if_within, slot_of, accepted, replied_by, asked}
+use Rattle.ang_meaning.specs.Hosts.{Fine, Fails, if_within, slot_of, accepted, replied_by, is_reply_to, asked}
 use Rattle.ang_ask.specs.Replies.{done, taken, answered}
 use Rattle.ang_ask.specs.Asking.{HasNoObjects, AskedOnce}
 
@@ -76,17 +76,21 @@ replied_done d of (SaidFault n) w h = refl
 replied_done d of SaidMemory w h = refl
 replied_done d of Full w h = refl
 
--- one asking, told whether there was memory, and the answer
+-- a test that holds
+if_so : {A : Type 0} {b : Bool} → b ≡ true → (x y : A) → cond b x y ≡ x
+if_so h x y = ap (λ b. cond b x y) h
+
+-- one asking, told whether there was memory, and the answer, which is of the kind that the entity gives
 pub once_told : (z : Setting) (m : ℕ) (e : EntityNo) (d : ℕ) (args : List Value) (of : HostType) (caller : List ℕ) (r : Result Slot Fault) (before after : List HostEvent) (w : World)
-    → is_handle of ≡ false → z.name m ≡ caller → (use_at z e).driver ≡ d → w.events ≡ before → AskedOnce caller e d args of r before after
+    → is_handle of ≡ false → ((a : Answer) → is_reply_to (use_at z e).role (Asking a) ≡ true) → z.name m ≡ caller → (use_at z e).driver ≡ d → w.events ≡ before → AskedOnce caller e d args of r before after
     → Told (λ is. asked z m e None args of (with_inputs is w)) (λ is. done r (with_inputs is (record w { events = after })))
 unfolding asked memory_step
-once_told z m e d args of caller r before after w plain name driver events (inl p) = record {
+once_told z m e d args of caller r before after w plain kind name driver events (inl p) = record {
   used = Room false ∷ [];
   tells = λ rest. ap (λ es. Fails Memory (with_inputs rest (record w { events = es }))) (events ∙ sym p.1)
       ∙ ap (λ x. done x (with_inputs rest (record w { events = after }))) (sym p.0);
 }
-once_told z m e d args of caller r before after w plain name driver events (inr p) =
+once_told z m e d args of caller r before after w plain kind name driver events (inr p) =
     let listed : w.events ++ Called (z.name m) e (use_at z e).driver None args (Asking p.0) ∷ [] ≡ after =
     ap (λ es. es ++ Called (z.name m) e (use_at z e).driver None args (Asking p.0) ∷ []) events
     ∙ ap (λ n. before ++ Called n e (use_at z e).driver None args (Asking p.0) ∷ []) name
@@ -94,7 +98,7 @@ once_told z m e d args of caller r before after w plain name driver events (inr 
     let gives : answered (use_at z e).driver of p.0 ≡ r = ap (λ k. answered k of p.0) driver ∙ sym p.1 in
     record {
       used = Room true ∷ (Said (Asking p.0) ∷ []);
-      tells = λ rest. replied_done (use_at z e).driver of p.0 _ plain
+      tells = λ rest. if_so (kind p.0) _ _ ∙ replied_done (use_at z e).driver of p.0 _ plain
           ∙ ap (λ es. done (answered (use_at z e).driver of p.0) (with_inputs rest (record w { events = es }))) listed
           ∙ ap (λ x. done x (with_inputs rest (record w { events = after }))) gives;
     }

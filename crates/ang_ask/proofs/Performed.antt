@@ -5,6 +5,8 @@ use Rattle.ang_kinds.specs.declared.mask.EntityNo.{EntityNo}
 use Rattle.ang_kinds.specs.declared.primitive.Primitive.{Primitive}
 use Rattle.ang_kinds.specs.declared.fault.Fault.{Fault}
 use Rattle.ang_kinds.specs.declared.fault.Fault.TheVariants.{Null}
+use Rattle.ang_host.specs.declared.answer.Answer.{Answer}
+use Rattle.ang_host.specs.declared.answer.HostReply.TheVariants.{Asking}
 use Rattle.ang_host.specs.declared.event.HostEvent.{HostEvent}
 use Rattle.ang_host.specs.declared.event.Role.{Role}
 use Rattle.ang_host.specs.declared.event.Role.TheVariants.{Making, Calling, Property}
@@ -16,12 +18,12 @@ use Rattle.ang_meaning.specs.declared.operation.Change.{Change}
 use Rattle.ang_meaning.specs.declared.operation.Operation.TheVariants.{Ask, Read, Write, Alter}
 use Rattle.ang_meaning.specs.World.{with_inputs}
 use Rattle.ang_meaning.specs.Setting.{Setting, host_in, use_at, is_called_by, is_property, may_call, may_access, is_fit}
-use Rattle.ang_meaning.specs.Hosts.{values_of, asked, Fails}
+use Rattle.ang_meaning.specs.Hosts.{values_of, is_reply_to, asked, Fails}
 use Rattle.ang_meaning.specs.Perform.{gives_up}
 use Rattle.ang_meaning.proofs.Telling.{told_same}
 use Rattle.ang_ask.specs.Plain.{is_primitive, gives_plain, is_plain}
 use Rattle.ang_ask.specs.Asking.{AskedOnce, SetOnce, AlteredOnce, first_operand, Performed}
-use Rattle.ang_ask.proofs.Handed.{plain_parts, result_plain}
+use Rattle.ang_ask.proofs.Handed.{plain_parts, result_plain, answer_plain}
 use Rattle.ang_ask.proofs.Meanings.{once_told}
 use Rattle.ang_ask.proofs.Performing.{told_from, told_up, ask_is, read_is, behind, write_is, alter_is, write_of_none, alter_of_none, set_told, altered_told}
 
@@ -32,6 +34,10 @@ found z e f host same at =
     ap (λ x. host_in (z.host x.0)) one ∙ ap host_in at
 
 module _ (caller : List ℕ) (host : HostUse) (plain : is_plain host ≡ true) (e : EntityNo) (ops : List Slot) (r : Result Slot Fault) (before after : List HostEvent) where
+  -- in a setting that has it so, each answer is of the kind that it gives
+  kind_known : (z : Setting) → use_at z e ≡ host → (a : Answer) → is_reply_to (use_at z e).role (Asking a) ≡ true
+  kind_known z known a = ap (λ u. is_reply_to u.role (Asking a)) known ∙ answer_plain host.role host.result (plain_parts host plain).gives a
+
   pub performed_ask : AskedOnce caller e host.driver (values_of host.driver host.params ops) host.result r before after → Performed caller host (Ask e) ops r before after
   performed_ask once = record {
     told = λ z m f w same fit name at events none.
@@ -41,7 +47,7 @@ module _ (caller : List ℕ) (host : HostUse) (plain : is_plain host ≡ true) (
         ∙ ap (λ x. gives_up (reverse ops) (asked z m e None (values_of x.driver x.params ops) x.result (with_inputs is w))) known)
         (told_up _ (reverse ops) r w after none
         (once_told z m e host.driver (values_of host.driver host.params ops) host.result caller r before after w
-        (result_plain host.role host.result parts.gives) name (ap (λ x. x.driver) known) events once));
+        (result_plain host.role host.result parts.gives) (kind_known z known) name (ap (λ x. x.driver) known) events once));
   }
 
   module _ (x : EntityNo) (x_is : x ≡ e) (d : ℕ) (d_is : d ≡ host.driver) (p : Primitive) (of : host.result ≡ Plain p) where
@@ -52,7 +58,7 @@ module _ (caller : List ℕ) (host : HostUse) (plain : is_plain host ≡ true) (
           told_from (λ is. read_is z m e (ap (λ u. u.member) known ∙ (plain_parts host plain).member) (reverse ops) (with_inputs is w)
           ∙ ap (λ ty. gives_up (reverse ops) (asked z m e None [] ty (with_inputs is w))) (ap (λ u. u.result) known ∙ of))
           (told_up _ (reverse ops) r w after none
-          (once_told z m e d [] (Plain p) caller r before after w refl name (ap (λ u. u.driver) known ∙ sym d_is) events
+          (once_told z m e d [] (Plain p) caller r before after w refl (kind_known z known) name (ap (λ u. u.driver) known ∙ sym d_is) events
           (subst (λ y. AskedOnce caller y d [] (Plain p) r before after) x_is once)));
     }
 
@@ -64,7 +70,7 @@ module _ (caller : List ℕ) (host : HostUse) (plain : is_plain host ≡ true) (
             let member : (use_at z e).member ≡ false = ap (λ u. u.member) known ∙ (plain_parts host plain).member in
             told_from (λ is. write_is z m e member ops v (with_inputs is w) first)
             (told_up _ (behind z m e member ops) r w after none
-            (set_told z m e d p caller name (ap (λ u. u.driver) known ∙ sym d_is) (ap (λ u. u.result) known ∙ of) v v r before after w events
+            (set_told z m e d p caller name (kind_known z known) (ap (λ u. u.driver) known ∙ sym d_is) (ap (λ u. u.result) known ∙ of) v v r before after w events
             (subst (λ y. SetOnce caller y d p v v r before after) x_is once)));
       }
 
@@ -75,7 +81,7 @@ module _ (caller : List ℕ) (host : HostUse) (plain : is_plain host ≡ true) (
             let member : (use_at z e).member ≡ false = ap (λ u. u.member) known ∙ (plain_parts host plain).member in
             told_from (λ is. alter_is z m e member by ops v (with_inputs is w) first)
             (told_up _ (behind z m e member ops) r w after none
-            (altered_told z m e d p caller name (ap (λ u. u.driver) known ∙ sym d_is) (ap (λ u. u.result) known ∙ of) by v r before after w events
+            (altered_told z m e d p caller name (kind_known z known) (ap (λ u. u.driver) known ∙ sym d_is) (ap (λ u. u.result) known ∙ of) by v r before after w events
             (subst (λ y. AlteredOnce caller y d p by v r before after) x_is once)));
       }
 

@@ -1,11 +1,13 @@
 -- Operations on the host as the meaning performs them, where the entity is asked of no object and there are no objects.
-use Rattle.std.proofs.Common.{◌≡◌, ℕ, false, List, [], ◌∷◌, ◌++◌, Some, None, reverse, length, refl, sym, ap, ◌∙◌, ◌≤◌, arith}
+use Rattle.std.proofs.Common.{◌≡◌, ℕ, true, false, List, [], ◌∷◌, ◌++◌, Some, None, reverse, length, refl, sym, ap, ◌∙◌, ◌≤◌, arith}
 use Rattle.std.specs.Prelude.{if◌then◌else◌, Result, Ok, Err}
 use Rattle.std.proofs.lemmas.List.{reverse-reverse, length-reverse}
 use Rattle.ang_kinds.specs.declared.mask.EntityNo.{EntityNo}
 use Rattle.ang_kinds.specs.declared.primitive.Primitive.{Primitive}
 use Rattle.ang_kinds.specs.declared.fault.Fault.{Fault}
 use Rattle.ang_kinds.specs.declared.fault.Fault.TheVariants.{Null}
+use Rattle.ang_host.specs.declared.answer.Answer.{Answer}
+use Rattle.ang_host.specs.declared.answer.HostReply.TheVariants.{Asking}
 use Rattle.ang_host.specs.declared.event.HostEvent.{HostEvent}
 use Rattle.ang_meaning.specs.declared.slot.Slot.{Slot}
 use Rattle.ang_meaning.specs.declared.slot.Slot.TheVariants.{Bits}
@@ -16,7 +18,7 @@ use Rattle.ang_meaning.specs.Numbers.{Changed, Into, Never}
 use Rattle.ang_meaning.specs.World.{World, Input, with_inputs}
 use Rattle.ang_meaning.specs.Setting.{Setting, use_at}
 use Rattle.ang_meaning.specs.Told.{Told}
-use Rattle.ang_meaning.specs.Hosts.{Done, Fine, Fails, value_of, values_of, asked}
+use Rattle.ang_meaning.specs.Hosts.{Done, Fine, Fails, value_of, values_of, is_reply_to, asked}
 use Rattle.ang_meaning.specs.Perform.{Of, key_at, behind_first, gives_up, called_of, read_of, write_of, in_place_of, altered_to, altered_of, change_of, perform}
 use Rattle.ang_meaning.proofs.Telling.{told_same, told_then, told_map}
 use Rattle.ang_ask.specs.Replies.{done}
@@ -133,13 +135,13 @@ module _ (z : Setting) (m : ℕ) (e : EntityNo) (member : (use_at z e).member �
   alter_of_none by (x ∷ (o ∷ (u ∷ us))) w h = alter_of_many by _ w (many_back x o u us)
 
 module _ (z : Setting) (m : ℕ) (e : EntityNo) (d : ℕ) (p : Primitive) (caller : List ℕ) (name : z.name m ≡ caller)
-    (driver : (use_at z e).driver ≡ d) (of : (use_at z e).result ≡ Plain p) where
+    (kind : (a : Answer) → is_reply_to (use_at z e).role (Asking a) ≡ true) (driver : (use_at z e).driver ≡ d) (of : (use_at z e).result ≡ Plain p) where
   -- a property is written
   pub set_told : (stored given : Slot) (r : Result Slot Fault) (before after : List HostEvent) (w : World) → w.events ≡ before
       → SetOnce caller e d p stored given r before after
       → Told (λ is. in_place_of given (write_of z m e (Of None) stored (with_inputs is w))) (λ is. done r (with_inputs is (record w { events = after })))
   set_told stored given r before after w events s =
-      let t = once_told z m e d (value_of d (Plain p) stored ∷ []) Nothing caller s.0 before after w refl name driver events s.2 in
+      let t = once_told z m e d (value_of d (Plain p) stored ∷ []) Nothing caller s.0 before after w refl kind name driver events s.2 in
       let args : value_of (use_at z e).driver (use_at z e).result stored ≡ value_of d (Plain p) stored =
       ap (λ k. value_of k (use_at z e).result stored) driver ∙ ap (λ ty. value_of d ty stored) of in
       record {
@@ -174,5 +176,5 @@ module _ (z : Setting) (m : ℕ) (e : EntityNo) (d : ℕ) (p : Primitive) (calle
       → Told (λ is. altered_of z m e (Of None) by v (read_of z m e (Of None) (with_inputs is w))) (λ is. done r (with_inputs is (record w { events = after })))
   altered_told by v r before after w events a =
       told_from (λ is. ap (λ ty. altered_of z m e (Of None) by v (asked z m e None [] ty (with_inputs is w))) of)
-      (told_then (told_map (altered_of z m e (Of None) by v) (once_told z m e d [] (Plain p) caller a.old before a.between w refl name driver events a.was_read))
+      (told_then (told_map (altered_of z m e (Of None) by v) (once_told z m e d [] (Plain p) caller a.old before a.between w refl kind name driver events a.was_read))
       (changed_told by v a.old r a.between after (record w { events = a.between }) refl a.was_changed))

@@ -3,7 +3,7 @@ use Rattle.std.proofs.Common.{◌≡◌, ℕ, inl, inr, List, [], ◌∷◌, ◌
 use Rattle.std.specs.Prelude.{Bool, true, false, cond, reverse}
 use Rattle.ang_kinds.specs.declared.mask.EntityNo.{EntityNo}
 use Rattle.ang_kinds.specs.declared.value.Value.{Value}
-use Rattle.ang_kinds.specs.declared.fault.Fault.TheVariants.{BadAnswer}
+use Rattle.ang_kinds.specs.declared.fault.Fault.TheVariants.{BadAnswer, Memory}
 use Rattle.ang_host.specs.declared.answer.Made.TheVariants.{Key as MadeKey, Nothing as MadeNothing, Fault as MadeFault, Memory as MadeMemory, Full as MadeFull}
 use Rattle.ang_host.specs.declared.answer.Answer.TheVariants.{Void, Gave, Fault as SaidFault, Memory as SaidMemory, Full}
 use Rattle.ang_host.specs.declared.answer.HostReply.{HostReply}
@@ -19,7 +19,7 @@ use Rattle.ang_meaning.specs.declared.operation.Operation.TheVariants.{Work, Com
 use Rattle.ang_meaning.specs.Numbers.{Worked, Is, Cannot, Changed, Into, Never, worked}
 use Rattle.ang_meaning.specs.World.{World, Input, Room, Said, Counted, Fresh, Tried, Yes, No, memory_step, hold, give, give_all}
 use Rattle.ang_meaning.specs.Setting.{Setting, use_at, is_fit}
-use Rattle.ang_meaning.specs.Hosts.{Done, Fine, Fails, holding, accepted, is_void, slot_of, replied_by, asked_from, asked_told, asked, value_of, values_of}
+use Rattle.ang_meaning.specs.Hosts.{Done, Fine, Fails, holding, accepted, is_void, slot_of, replied_by, is_reply_to, asked_from, asked_told, asked, value_of, values_of}
 use Rattle.ang_meaning.specs.Perform.{work_done, change_of, global_or, global_put, stored_global, changed_global, Receiver, Of, Missing, receiver_of, arguments_of, gives_up, called_of, read_of, write_of, in_place_of, altered_to, altered_of, perform}
 use Rattle.ang_meaning.proofs.Moving.{give_moves, give_all_moves, put_moves}
 use Rattle.ang_asked.specs.Asked.{MayBeAsked, Asks}
@@ -59,13 +59,19 @@ module _ (z : Setting) (m : ℕ) where
   replied_asks d result (Asking SaidMemory) w = nothing z m w
   replied_asks d result (Asking Full) w = nothing z m w
 
+  -- a reply of another kind is left
+  kind_asks : (b : Bool) (w : World) (o : Done) → (b ≡ true → DoneAsks w o) → DoneAsks w (cond b o (Fails Memory w))
+  kind_asks true w o p = p refl
+  kind_asks false w o p = nothing z m w
+
   -- an asking of an entity that may be asked
   module _ (e : EntityNo) (may : MayBeAsked z e) where
     asked_said : (object : Option ℕ) (args : List Value) (result : HostType) (inputs : List Input) (w : World) → DoneAsks w (asked_from z m e object args result inputs w)
     asked_said object args result (Said reply ∷ rest) w =
         let event = Called (z.name m) e (use_at z e).driver object args reply in
         let u : World = record w { inputs = rest; events = w.events ++ event ∷ [] } in
-        done_then w u _ (record { more = event ∷ []; events = refl; askings = ((refl, may), tt) }) (replied_asks (use_at z e).driver result reply u)
+        kind_asks (is_reply_to (use_at z e).role reply) w _
+        (λ kind. done_then w u _ (record { more = event ∷ []; events = refl; askings = ((refl, may, kind), tt) }) (replied_asks (use_at z e).driver result reply u))
     asked_said object args result [] w = nothing z m w
     asked_said object args result (Room b ∷ rest) w = nothing z m w
     asked_said object args result (Counted b ∷ rest) w = nothing z m w

@@ -7,7 +7,8 @@ use Rattle.ang_host.specs.declared.event.HostEvent.TheVariants.{Called, Ended}
 use Rattle.ang_meaning.specs.declared.slot.Slot.{Slot}
 use Rattle.ang_meaning.specs.declared.routine.Routine.{Routine}
 use Rattle.ang_meaning.specs.World.{World, with_inputs}
-use Rattle.ang_meaning.specs.Setting.{Setting, may_call, may_access}
+use Rattle.ang_meaning.specs.Setting.{Setting, use_at, may_call, may_access}
+use Rattle.ang_meaning.specs.Hosts.{is_reply_to}
 use Rattle.ang_code.specs.declared.instruction.Frame.{Frame}
 use Rattle.ang_code.specs.Machine.{Texts, Config, At, Over, Finished, Faulted, Stuck, steps, call_begins, initializer_begins}
 use Rattle.ang_code.specs.Runs.{Runs, Ending}
@@ -16,9 +17,10 @@ use Rattle.ang_code.specs.Runs.{Runs, Ending}
 abbrev pub MayBeAsked : Setting → EntityNo → Type 0
 MayBeAsked z e = (may_call (z.host e.0) ≡ true) ⊎ (may_access (z.host e.0) ≡ true)
 
--- the event is an asking by module m, of an entity that there is, in the way of its role, or an object's end
+-- the event is an asking by module m, of an entity that there is, in the way of its role, and its reply is of the kind that this role gives; or an object's end
 abbrev pub IsAskedBy : Setting → ℕ → HostEvent → Type 0
-IsAskedBy z m (Called caller entity driver object args reply) = (caller ≡ z.name m) × MayBeAsked z entity
+IsAskedBy z m (Called caller entity driver object args reply) =
+    (caller ≡ z.name m) × MayBeAsked z entity × (is_reply_to (use_at z entity).role reply ≡ true)
 IsAskedBy z m (Ended driver key) = Unit {0}
 
 -- what a run of module m listed since

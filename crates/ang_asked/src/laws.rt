@@ -3,7 +3,8 @@ ghost use Rattle.ang_asked.specs.Asked.{CallsAsk, InitializersAsk, CallRunsAsk, 
 ghost use Rattle.ang_asked.specs.Determined.{HasOneEnd};
 
 /// Where no import is bound, a run of a module lists, as far as it has come, askings by that module alone,
-/// of entities that are asked in the way of their role, and ends of objects.
+/// of entities that are asked in the way of their role, with replies of the kind that this role gives, and
+/// ends of objects.
 #[tactic(auto, using(crate::proofs::Asking::calls_ask, crate::proofs::Asking::initializers_ask))]
 pub fn each_run_asks()
     ensures calls { CallsAsk }

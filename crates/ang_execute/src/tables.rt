@@ -5,8 +5,8 @@ ghost use Rattle.ang_means.specs.Executed.{uses_in};
 
 use crate::entities::uses_of;
 use ang_code::RoutineCode;
+use ang_fuse::body::Body;
 use ang_registry::View;
-use ang_steps::body::Body;
 use ang_steps::table::{ModuleCode, Table};
 use std::alloc::{AllocError, Global};
 

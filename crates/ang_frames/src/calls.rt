@@ -4,11 +4,12 @@ ghost use Rattle.ang_meaning.specs.World.{World, with_inputs};
 ghost use Rattle.ang_meaning.specs.Setting.{has_objects, target};
 ghost use Rattle.ang_meaning.specs.Told.{Told};
 ghost use Rattle.ang_code.specs.declared.instruction.Frame.{Frame};
-ghost use Rattle.ang_code.specs.Machine.{begins, enters, found_enters};
+ghost use Rattle.ang_code.specs.Machine.{Texts, begins, enters, found_enters};
 ghost use Rattle.ang_steps.specs.Stacks.{values};
 ghost use Rattle.ang_steps.specs.Tables.{setting_of, texts_of};
 ghost use Rattle.ang_frames.specs.Legs.{Fits, begun, caller_at, misses};
 
+use crate::lookups::params_and_height;
 use ang_code::Frame;
 use ang_kinds::Fault;
 use ang_meaning::{Callee, Passing, Routine, Slot};
@@ -16,7 +17,7 @@ use ang_steps::handles::is_null;
 use ang_steps::place::{Place, Standing};
 use ang_steps::stack::peek;
 use ang_steps::stop::Stop;
-use ang_steps::table::{Table, callee_of, height_at, params_at};
+use ang_steps::table::{Table, callee_of};
 
 /// Whether a parameter misses its object.
 #[inline(always)]
@@ -62,6 +63,34 @@ fn reserve(stack: &mut Vec<Slot>, top: usize, height: usize) -> Option<usize>
     }
 }
 
+/// A body that puts so many values above its parameters at most begins, where there is memory for its frame.
+///
+/// # Errors
+/// `Memory` where there is none.
+fn begin_above(
+    body: Routine,
+    height: usize,
+    stack: &mut Vec<Slot>,
+    top: usize,
+    ticks: u64,
+) -> Result<Standing, Stop>
+    requires within { top ≤ length stack.old.items }
+    ensures told { (code : Texts) (frames : List Frame) (w : World) → height ≡ code.height body
+        → Told (λ is. begins code body (values stack.old.items top) frames ticks (with_inputs is w))
+        (λ is. begun result top stack.new.items frames (with_inputs is w)) }
+    ensures in_room { IfOk result (λ s. (s.place.top ≤ s.room) × (s.room ≤ length stack.new.items)) }
+    ensures grows { length stack.old.items ≤ length stack.new.items }
+{
+    match reserve(stack, top, height) {
+        Some(room) => Ok(Standing {
+            body,
+            room,
+            place: Place { at: 0, top, ticks },
+        }),
+        None => Err(Stop::Fails(Fault::Memory)),
+    }
+}
+
 /// A body begins, where there is memory for its frame.
 ///
 /// # Errors
@@ -80,14 +109,8 @@ pub fn begin(
     ensures in_room { IfOk result (λ s. (s.place.top ≤ s.room) × (s.room ≤ length stack.new.items)) }
     ensures grows { length stack.old.items ≤ length stack.new.items }
 {
-    match reserve(stack, top, height_at(table, body)) {
-        Some(room) => Ok(Standing {
-            body,
-            room,
-            place: Place { at: 0, top, ticks },
-        }),
-        None => Err(Stop::Fails(Fault::Memory)),
-    }
+    let (_, height) = params_and_height(table, body);
+    begin_above(body, height, stack, top, ticks)
 }
 
 /// A function is entered, with its arguments on top.
@@ -112,7 +135,7 @@ pub fn enter_body(
     ensures grows { length stack.old.items ≤ length stack.new.items }
 {
     let top = from.place.top;
-    let params = params_at(table, body);
+    let (params, height) = params_and_height(table, body);
     if params.len() > top {
         return Err(Stop::Lost);
     }
@@ -131,7 +154,7 @@ pub fn enter_body(
         room: from.room,
     };
     match frames.push(caller) {
-        Ok(()) => begin(table, body, stack, top, from.place.ticks - 1),
+        Ok(()) => begin_above(body, height, stack, top, from.place.ticks - 1),
         Err(_) => Err(Stop::Fails(Fault::Memory)),
     }
 }

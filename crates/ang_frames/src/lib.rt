@@ -10,6 +10,7 @@ mod answering;
 mod calls;
 mod entities;
 mod halts;
+mod lookups;
 mod returns;
 mod run;
 mod start;

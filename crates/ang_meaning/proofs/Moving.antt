@@ -24,7 +24,7 @@ use Rattle.ang_meaning.specs.Numbers.{Worked, Is, Cannot, Changed, Into, Never, 
 use Rattle.ang_meaning.specs.World.{World, HostRecord, Input, Room, Said, Counted, Fresh, Tried, Yes, No, memory_told, memory_step, one_more, tally_told, tally_step, held, hold, Lowered, Gone, Kept, host_lowered, each_given, script_given, script_lowered, given, give, give_all}
 use Rattle.ang_meaning.specs.Told.{has_room, stopped_by, answers_told, answers_listed, Moves, GoesOn, Stops}
 use Rattle.ang_meaning.specs.Setting.{Setting, use_at}
-use Rattle.ang_meaning.specs.Hosts.{Done, Fine, Fails, holding, accepted, is_void, slot_of, replied_by, asked_from, asked_told, asked, value_of, values_of}
+use Rattle.ang_meaning.specs.Hosts.{Done, Fine, Fails, holding, accepted, is_void, slot_of, replied_by, is_reply_to, asked_from, asked_told, asked, value_of, values_of}
 use Rattle.ang_meaning.specs.Perform.{work_done, change_of, global_or, global_put, stored_global, changed_global, Receiver, Of, Missing, receiver_of, arguments_of, gives_up, called_of, read_of, write_of, in_place_of, altered_to, altered_of, perform}
 use Rattle.ang_meaning.specs.Results.{give_some, give_back, give_others}
 
@@ -243,13 +243,19 @@ replied_goes d result (Asking (SaidFault n)) w = faulted (HostFault n) w w (noth
 replied_goes d result (Asking SaidMemory) w = faulted Memory w w (nothing w)
 replied_goes d result (Asking Full) w = faulted Tally w w (nothing w)
 
+-- a reply of another kind is left
+kind_goes : (b : Bool) (w : World) (o : Done) → DoneFrom w o → DoneFrom w (cond b o (Fails Memory w))
+kind_goes true w o p = p
+kind_goes false w o p = faulted Memory w w (nothing w)
+
 module _ (z : Setting) (m : ℕ) (e : EntityNo) where
   asked_said : (object : Option ℕ) (args : List Value) (result : HostType) (inputs : List Input) (w : World) → w.inputs ≡ inputs → DoneFrom w (asked_from z m e object args result inputs w)
   asked_said object args result (Said reply ∷ rest) w h =
       let event = Called (z.name m) e (use_at z e).driver object args reply in
       let u : World = record w { inputs = rest; events = w.events ++ event ∷ [] } in
-      done_then w u _ (record { used = Said reply ∷ []; moves = record { more = event ∷ []; inputs = h; events = refl; answers = refl }; room = refl })
-      (replied_goes (use_at z e).driver result reply u)
+      kind_goes (is_reply_to (use_at z e).role reply) w _
+      (done_then w u _ (record { used = Said reply ∷ []; moves = record { more = event ∷ []; inputs = h; events = refl; answers = refl }; room = refl })
+      (replied_goes (use_at z e).driver result reply u))
   asked_said object args result [] w h = faulted Memory w w (nothing w)
   asked_said object args result (Room b ∷ rest) w h = faulted Memory w w (nothing w)
   asked_said object args result (Counted b ∷ rest) w h = faulted Memory w w (nothing w)

@@ -12,6 +12,8 @@ use Rattle.ang_host.specs.declared.answer.Answer.TheVariants.{Void, Gave, Fault 
 use Rattle.ang_host.specs.declared.answer.HostReply.{HostReply}
 use Rattle.ang_host.specs.declared.answer.HostReply.TheVariants.{Making, Asking}
 use Rattle.ang_host.specs.declared.event.HostEvent.TheVariants.{Called}
+use Rattle.ang_host.specs.declared.event.Role.{Role}
+use Rattle.ang_host.specs.declared.event.Role.TheVariants.{Making as MakingRole, Calling as CallingRole, Property as PropertyRole}
 use Rattle.ang_meaning.specs.declared.slot.Slot.{Slot}
 use Rattle.ang_meaning.specs.declared.slot.Slot.TheVariants.{Bits, Host}
 use Rattle.ang_meaning.specs.declared.host.HostType.{HostType}
@@ -105,11 +107,22 @@ replied_by d result (Asking (SaidFault n)) w = Fails (HostFault n) w
 replied_by d result (Asking SaidMemory) w = Fails Memory w
 replied_by d result (Asking Full) w = Fails Tally w
 
--- one asking: the event is listed, whatever the reply
+-- whether a reply is of the kind that an entity of this role gives: a factory says what it made, a function, method or property what it answers
+abbrev pub is_reply_to : Role → HostReply → Bool
+is_reply_to (MakingRole f) (Making made) = true
+is_reply_to (MakingRole f) (Asking answer) = false
+is_reply_to (CallingRole f) (Making made) = false
+is_reply_to (CallingRole f) (Asking answer) = true
+is_reply_to (PropertyRole f) (Making made) = false
+is_reply_to (PropertyRole f) (Asking answer) = true
+
+-- One asking: the event is listed, whatever the reply says. A reply of another kind is none to this asking, and is left as an input of another sort is.
 abbrev pub asked_from : Setting → ℕ → EntityNo → Option ℕ → List Value → HostType → List Input → World → Done
 asked_from z m e object args result (Said reply ∷ rest) w =
-    replied_by (use_at z e).driver result reply
-    (record w { inputs = rest; events = w.events ++ Called (z.name m) e (use_at z e).driver object args reply ∷ [] })
+    if is_reply_to (use_at z e).role reply
+    then (replied_by (use_at z e).driver result reply
+    (record w { inputs = rest; events = w.events ++ Called (z.name m) e (use_at z e).driver object args reply ∷ [] }))
+    else (Fails Memory w)
 asked_from z m e object args result _ w = Fails Memory w
 
 abbrev pub asked_told : Setting → ℕ → EntityNo → Option ℕ → List Value → HostType → Tried → Done

@@ -1,8 +1,6 @@
 pub mod Values
 pub mod Tests
 pub mod TableLists
-pub mod Listing
-pub mod Fusing
 pub mod Parts
 pub mod Operators
 pub mod SeveralGiven

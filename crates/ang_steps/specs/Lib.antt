@@ -3,4 +3,3 @@ pub mod Tables
 pub mod Arms
 pub mod Asking
 pub mod Turns
-pub mod Fused

@@ -7,22 +7,15 @@
 #![tactic(auto)]
 
 pub mod arms;
-pub mod body;
 pub mod dispatch;
 pub mod doing;
-pub mod endings;
-pub mod fuse;
-pub mod fused;
 pub mod globals;
 pub mod handles;
 pub mod jumps;
 pub mod many;
-pub mod moves;
-pub mod operands;
 pub mod operations;
 pub mod place;
 pub mod stack;
-pub mod step;
 pub mod stop;
 pub mod store;
 pub mod table;

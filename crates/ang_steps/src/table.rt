@@ -3,12 +3,12 @@ ghost use Rattle.std.specs.Prelude.{◌≡◌, ℕ, List, Some, None, MatchOptio
 ghost use Rattle.ang_meaning.specs.declared.slot.Slot.{Slot};
 ghost use Rattle.ang_meaning.specs.World.{World};
 ghost use Rattle.ang_meaning.specs.Setting.{params_of, target, bound as bound_to};
-ghost use Rattle.ang_steps.specs.Fused.{AreSteps};
+ghost use Rattle.ang_fuse.specs.Sequences.{AreSteps};
 ghost use Rattle.ang_steps.specs.Tables.{body_of, import_of, setting_of, texts_of, found};
 
-use crate::body::Body;
-use crate::step::Step;
 use ang_code::Instruction;
+use ang_fuse::body::Body;
+use ang_fuse::step::Step;
 use ang_kinds::Fault;
 use ang_meaning::{Callee, HostUse, Passing, Routine};
 

@@ -2,6 +2,9 @@
 //! (docs/EMBEDDING.md, "The program").
 #![tactic(auto)]
 
+ghost use Rattle.std.specs.Prelude.{◌≡◌};
+ghost use Rattle.asrun.specs.Exit.{status_of};
+
 mod command;
 mod options;
 #[cfg(test)]
@@ -16,13 +19,16 @@ use std::fs::File;
 use std::process::ExitCode;
 use std::{env, io};
 
-/// The exit status of what was read and written without a fault.
-fn code_of(status: Status) -> u8 {
-    match status {
-        Status::AllOk => 0,
-        Status::SomeRefused => 1,
-        Status::BadInput => 2,
-        Status::Memory => 3,
+/// The exit status of each outcome of a session.
+fn code_of(outcome: Result<Status, IoFault>) -> u8
+    ensures exact { result ≡ status_of outcome }
+{
+    match outcome {
+        Ok(Status::AllOk) => 0,
+        Ok(Status::SomeRefused) => 1,
+        Ok(Status::BadInput) => 2,
+        Ok(Status::Memory) => 3,
+        Err(_) => 2,
     }
 }
 
@@ -58,10 +64,10 @@ fn run_files(rt: &HostRuntime, options: &Options) -> Result<u8, AllocError> {
     drop(drivers);
     match outcome {
         Ok(Status::Memory) => Ok(no_memory(rt)),
-        Ok(status) => Ok(code_of(status)),
+        Ok(_) => Ok(code_of(outcome)),
         Err(fault) => {
             let _ = eprintln!(rt; "asrun: {fault}");
-            Ok(2)
+            Ok(code_of(outcome))
         }
     }
 }

@@ -3,11 +3,11 @@ use crate::bare::Bare;
 use crate::runs::{ADD, body, ended, table_of};
 use ang_code::Instruction;
 use ang_frames::{run_from, start_call};
+use ang_fuse::fuse::fuse;
+use ang_fuse::step::Step;
 use ang_kinds::{Fault, Prim};
 use ang_meaning::{Arithmetic, Change, Comparison, Operation, Routine, Slot};
-use ang_steps::fuse::fuse;
 use ang_steps::place::Ending;
-use ang_steps::step::Step;
 use std::alloc::{AllocError, Global};
 use std::test::Fail;
 

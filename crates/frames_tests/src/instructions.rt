@@ -1,8 +1,8 @@
 use ang_code::{Instruction, RoutineCode};
+use ang_fuse::body::Body;
 use ang_kinds::{EntityNo, Fault, Prim};
 use ang_meaning::{Arithmetic, Callee, Change, Operation, Passing, Routine, Slot};
 use ang_steps::arms::{change_local, push_slot, swap_local};
-use ang_steps::body::Body;
 use ang_steps::dispatch::asks_host;
 use ang_steps::doing::{do_convert, do_work};
 use ang_steps::handles::{are_same, is_null};

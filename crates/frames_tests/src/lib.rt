@@ -12,3 +12,5 @@ mod fused;
 mod instructions;
 #[cfg(test)]
 mod runs;
+#[cfg(test)]
+mod taken;

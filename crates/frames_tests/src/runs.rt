@@ -2,9 +2,9 @@
 use crate::bare::Bare;
 use ang_code::{Instruction, RoutineCode};
 use ang_frames::{Halt, run_from, start_call, start_initializer};
+use ang_fuse::body::Body;
 use ang_kinds::{Fault, Prim};
 use ang_meaning::{Arithmetic, Callee, Comparison, Operation, Passing, Routine, Slot};
-use ang_steps::body::Body;
 use ang_steps::place::Ending;
 use ang_steps::table::{ModuleCode, Table};
 use std::alloc::{AllocError, Global};

@@ -7,12 +7,12 @@ ghost use Rattle.ang_vm.specs.Machines.{HasPlainEntities};
 use ang_ask::is_plain;
 use ang_code::{Instruction, RoutineCode};
 use ang_drivers::Console;
+use ang_fuse::body::Body;
 use ang_host::{Answer, Driver, Drivers, HostEvent, HostReply, Role};
 use ang_kinds::{EntityNo, Fault, List, Prim, Value};
 use ang_meaning::{
     Arithmetic, Callee, Change, Comparison, HostType, HostUse, Operation, Passing, Routine, Slot,
 };
-use ang_steps::body::Body;
 use ang_steps::table::{ModuleCode, Table};
 use ang_vm::{Globals, Machine, run, run_initializer};
 use std::alloc::{AllocError, Global};

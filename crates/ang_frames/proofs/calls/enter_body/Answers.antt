@@ -19,7 +19,7 @@ returns-then-params-top c =
     let stack = c.args.stack.now.items in
     let frames = reverse c.args.frames.now.items in
     let deep : f.place.top ≤ length stack = omega (arith, c.requires.fits.values, c.requires.fits.body) in
-    let count = ap length (c.params_at-params.ensures.exact c.args.nesting) in
+    let count = ap length (c.params_and_height-height.ensures.params c.args.nesting) in
     record {
       told = λ w. told_same (λ is. enters_lost z code c.args.body stack f.place.top frames (caller_at f) f.place.ticks deep (omega (arith, count)) (with_inputs is w));
       fits = tt;
@@ -34,9 +34,9 @@ returns-then-not-have_objects c =
     let stack = c.args.stack.now.items in
     let frames = reverse c.args.frames.now.items in
     let deep : f.place.top ≤ length stack = omega (arith, c.requires.fits.values, c.requires.fits.body) in
-    let count = ap length (c.params_at-params.ensures.exact c.args.nesting) in
+    let count = ap length (c.params_and_height-height.ensures.params c.args.nesting) in
     let few : length (params_of z c.args.body) ≤ f.place.top = omega (arith, count) in
-    let objects = ap (λ ps. has_objects ps (values stack f.place.top)) (sym (c.params_at-params.ensures.exact c.args.nesting)) ∙ sym (ap (λ l. has_objects c.params_at-params.result.now (values l f.place.top)) c.as_slice.ensures.value) ∙ sym c.have_objects.ensures.exact ∙ c.if-not-have_objects.true in
+    let objects = ap (λ ps. has_objects ps (values stack f.place.top)) (sym (c.params_and_height-height.ensures.params c.args.nesting)) ∙ sym (ap (λ l. has_objects c.params_and_height-height.result.0.now (values l f.place.top)) c.as_slice.ensures.value) ∙ sym c.have_objects.ensures.exact ∙ c.if-not-have_objects.true in
     record {
       told = λ w. told_same (λ is. enters_null z code c.args.body stack f.place.top frames (caller_at f) f.place.ticks deep few objects (with_inputs is w));
       fits = tt;
@@ -51,9 +51,9 @@ returns-then-len-nesting c =
     let stack = c.args.stack.now.items in
     let frames = reverse c.args.frames.now.items in
     let deep : f.place.top ≤ length stack = omega (arith, c.requires.fits.values, c.requires.fits.body) in
-    let count = ap length (c.params_at-params.ensures.exact c.args.nesting) in
+    let count = ap length (c.params_and_height-height.ensures.params c.args.nesting) in
     let few : length (params_of z c.args.body) ≤ f.place.top = omega (arith, count) in
-    let objects = ap (λ ps. has_objects ps (values stack f.place.top)) (sym (c.params_at-params.ensures.exact c.args.nesting)) ∙ sym (ap (λ l. has_objects c.params_at-params.result.now (values l f.place.top)) c.as_slice.ensures.value) ∙ sym c.have_objects.ensures.exact ∙ c.if-not-have_objects.false in
+    let objects = ap (λ ps. has_objects ps (values stack f.place.top)) (sym (c.params_and_height-height.ensures.params c.args.nesting)) ∙ sym (ap (λ l. has_objects c.params_and_height-height.result.0.now (values l f.place.top)) c.as_slice.ensures.value) ∙ sym c.have_objects.ensures.exact ∙ c.if-not-have_objects.false in
     let callers = length-reverse c.args.frames.now.items in
     record {
       told = λ w. told_same (λ is. enters_deep z code c.args.body stack f.place.top frames (caller_at f) f.place.ticks deep few objects (omega (arith, callers, c.len.ensures, c.args.frames.now.ok.0)) (with_inputs is w));
@@ -69,9 +69,9 @@ returns-then-from-eq0 c =
     let stack = c.args.stack.now.items in
     let frames = reverse c.args.frames.now.items in
     let deep : f.place.top ≤ length stack = omega (arith, c.requires.fits.values, c.requires.fits.body) in
-    let count = ap length (c.params_at-params.ensures.exact c.args.nesting) in
+    let count = ap length (c.params_and_height-height.ensures.params c.args.nesting) in
     let few : length (params_of z c.args.body) ≤ f.place.top = omega (arith, count) in
-    let objects = ap (λ ps. has_objects ps (values stack f.place.top)) (sym (c.params_at-params.ensures.exact c.args.nesting)) ∙ sym (ap (λ l. has_objects c.params_at-params.result.now (values l f.place.top)) c.as_slice.ensures.value) ∙ sym c.have_objects.ensures.exact ∙ c.if-not-have_objects.false in
+    let objects = ap (λ ps. has_objects ps (values stack f.place.top)) (sym (c.params_and_height-height.ensures.params c.args.nesting)) ∙ sym (ap (λ l. has_objects c.params_and_height-height.result.0.now (values l f.place.top)) c.as_slice.ensures.value) ∙ sym c.have_objects.ensures.exact ∙ c.if-not-have_objects.false in
     let callers = length-reverse c.args.frames.now.items in
     let nests : length frames + 1 < c.args.nesting = omega (arith, callers, c.len.ensures, c.args.frames.now.ok.0) in
     record {
@@ -88,9 +88,9 @@ returns-in-Err c =
     let stack = c.args.stack.now.items in
     let frames = reverse c.args.frames.now.items in
     let deep : f.place.top ≤ length stack = omega (arith, c.requires.fits.values, c.requires.fits.body) in
-    let count = ap length (c.params_at-params.ensures.exact c.args.nesting) in
+    let count = ap length (c.params_and_height-height.ensures.params c.args.nesting) in
     let few : length (params_of z c.args.body) ≤ f.place.top = omega (arith, count) in
-    let objects = ap (λ ps. has_objects ps (values stack f.place.top)) (sym (c.params_at-params.ensures.exact c.args.nesting)) ∙ sym (ap (λ l. has_objects c.params_at-params.result.now (values l f.place.top)) c.as_slice.ensures.value) ∙ sym c.have_objects.ensures.exact ∙ c.if-not-have_objects.false in
+    let objects = ap (λ ps. has_objects ps (values stack f.place.top)) (sym (c.params_and_height-height.ensures.params c.args.nesting)) ∙ sym (ap (λ l. has_objects c.params_and_height-height.result.0.now (values l f.place.top)) c.as_slice.ensures.value) ∙ sym c.have_objects.ensures.exact ∙ c.if-not-have_objects.false in
     let callers = length-reverse c.args.frames.now.items in
     let nests : length frames + 1 < c.args.nesting = omega (arith, callers, c.len.ensures, c.args.frames.now.ok.0) in
     record {
@@ -107,14 +107,14 @@ returns-in-Ok c =
     let stack = c.args.stack.now.items in
     let frames = reverse c.args.frames.now.items in
     let deep : f.place.top ≤ length stack = omega (arith, c.requires.fits.values, c.requires.fits.body) in
-    let count = ap length (c.params_at-params.ensures.exact c.args.nesting) in
+    let count = ap length (c.params_and_height-height.ensures.params c.args.nesting) in
     let few : length (params_of z c.args.body) ≤ f.place.top = omega (arith, count) in
-    let objects = ap (λ ps. has_objects ps (values stack f.place.top)) (sym (c.params_at-params.ensures.exact c.args.nesting)) ∙ sym (ap (λ l. has_objects c.params_at-params.result.now (values l f.place.top)) c.as_slice.ensures.value) ∙ sym c.have_objects.ensures.exact ∙ c.if-not-have_objects.false in
+    let objects = ap (λ ps. has_objects ps (values stack f.place.top)) (sym (c.params_and_height-height.ensures.params c.args.nesting)) ∙ sym (ap (λ l. has_objects c.params_and_height-height.result.0.now (values l f.place.top)) c.as_slice.ensures.value) ∙ sym c.have_objects.ensures.exact ∙ c.if-not-have_objects.false in
     let callers = length-reverse c.args.frames.now.items in
     let nests : length frames + 1 < c.args.nesting = omega (arith, callers, c.len.ensures, c.args.frames.now.ok.0) in
     let pushed : reverse c.push.new.self.items ≡ caller_at f ∷ frames = ap reverse c.in-Ok.ensures.items ∙ push_front c.args.frames.now.items (caller_at f) in
     record {
-      told = λ w. told_then (told_same (λ is. enters_begins z code c.args.body stack f.place.top frames (caller_at f) f.place.ticks deep few objects nests (omega arith) (with_inputs is w) ∙ ap (λ fr. begins code c.args.body (values stack f.place.top) fr (f.place.ticks - 1) (with_inputs is w)) (sym pushed))) (c.begin.ensures.told (reverse c.push.new.self.items) w);
-      fits = fits_begun c.begin.result c.begin.new.stack.items c.push.new.self.items c.begin.ensures.in_room (subst (AllFit (length c.begin.new.stack.items)) (sym pushed) (omega (arith, c.requires.fits.body, c.begin.ensures.grows), fit_more frames (length stack) (length c.begin.new.stack.items) c.begin.ensures.grows c.requires.fits.callers));
-      grows = c.begin.ensures.grows;
+      told = λ w. told_then (told_same (λ is. enters_begins z code c.args.body stack f.place.top frames (caller_at f) f.place.ticks deep few objects nests (omega arith) (with_inputs is w) ∙ ap (λ fr. begins code c.args.body (values stack f.place.top) fr (f.place.ticks - 1) (with_inputs is w)) (sym pushed))) (c.begin_above.ensures.told code (reverse c.push.new.self.items) w c.params_and_height-height.ensures.height);
+      fits = fits_begun c.begin_above.result c.begin_above.new.stack.items c.push.new.self.items c.begin_above.ensures.in_room (subst (AllFit (length c.begin_above.new.stack.items)) (sym pushed) (omega (arith, c.requires.fits.body, c.begin_above.ensures.grows), fit_more frames (length stack) (length c.begin_above.new.stack.items) c.begin_above.ensures.grows c.requires.fits.callers));
+      grows = c.begin_above.ensures.grows;
     }
