@@ -7,7 +7,7 @@ use ang_typed::Typed;
 /// The functions and globals of the tree are those of the names, each at its number
 /// ([`crate::laws::programs_have_their_names`]). The tree is sound over the plain part of the view that it was
 /// built over ([`crate::laws::programs_are_sound`]).
-#[derive(Drop, Debug)]
+#[derive(Drop)]
 pub struct Program {
     /// What the scripts declare, with what its types mean.
     pub names: Names,

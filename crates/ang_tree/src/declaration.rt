@@ -6,7 +6,7 @@ use crate::type_name::TypeName;
 use ang_lex::Token;
 
 /// A section, as it is written.
-#[derive(Debug, Drop)]
+#[derive(Drop)]
 pub struct Script {
     /// The section's bytes. A token's text is the slice at its span.
     pub source: Vec<u8>,
@@ -15,7 +15,7 @@ pub struct Script {
 }
 
 /// A declaration of a script.
-#[derive(Debug, Drop)]
+#[derive(Drop)]
 pub enum Declaration {
     Class(Class),
     Interface(Interface),
@@ -28,7 +28,7 @@ pub enum Declaration {
 }
 
 /// `[ "final" ] "class" NAME [ ":" NAME { "," NAME } ] "{" { member } "}"`
-#[derive(Debug, Drop)]
+#[derive(Drop)]
 pub struct Class {
     pub final_word: Option<Token>,
     pub word: Token,
@@ -49,7 +49,7 @@ pub struct BaseName {
 }
 
 /// A member of a class.
-#[derive(Debug, Drop)]
+#[derive(Drop)]
 pub enum Member {
     /// `access type NAME { "," NAME } ";"`
     Fields {
@@ -91,7 +91,7 @@ pub struct FieldName {
 }
 
 /// The call of the base class's constructor: `"super" args ";"`.
-#[derive(Debug, Drop)]
+#[derive(Drop)]
 pub struct SuperCall {
     pub word: Token,
     pub arguments: Arguments,
@@ -99,7 +99,7 @@ pub struct SuperCall {
 }
 
 /// `"interface" NAME [ ":" NAME { "," NAME } ] "{" { method } "}"`
-#[derive(Debug, Drop)]
+#[derive(Drop)]
 pub struct Interface {
     pub word: Token,
     pub name: Token,
@@ -111,7 +111,7 @@ pub struct Interface {
 }
 
 /// `type NAME params [ "const" ] ";"`
-#[derive(Debug, Drop)]
+#[derive(Drop)]
 pub struct InterfaceMethod {
     pub result: TypeName,
     pub name: Token,
@@ -121,7 +121,7 @@ pub struct InterfaceMethod {
 }
 
 /// `"import" type NAME params "from" TEXT ";"`
-#[derive(Debug, Drop)]
+#[derive(Drop)]
 pub struct Import {
     pub word: Token,
     pub result: TypeName,
@@ -133,7 +133,7 @@ pub struct Import {
 }
 
 /// `type NAME params block`
-#[derive(Debug, Drop)]
+#[derive(Drop)]
 pub struct Function {
     pub result: TypeName,
     pub name: Token,
@@ -142,7 +142,7 @@ pub struct Function {
 }
 
 /// `"(" [ "void" | param { "," param } ] ")"`
-#[derive(Debug, Drop)]
+#[derive(Drop)]
 pub struct Parameters {
     pub open: Token,
     /// The word of `(void)`, which has no items.

@@ -5,7 +5,7 @@ use ang_lex::Token;
 
 /// An expression.
 #[cycle(expression)]
-#[derive(Debug, Drop)]
+#[derive(Drop)]
 pub enum Expression {
     /// A number, `true`, `false`, `null` or `this`.
     Literal(Token),
@@ -93,7 +93,7 @@ pub enum Expression {
 
 /// The arguments of a call: `"(" [ assign { "," assign } ] ")"`.
 #[cycle(expression)]
-#[derive(Debug, Drop)]
+#[derive(Drop)]
 pub struct Arguments {
     pub open: Token,
     pub items: Vec<Argument>,
@@ -102,7 +102,7 @@ pub struct Arguments {
 
 /// One of several expressions that commas part.
 #[cycle(expression)]
-#[derive(Debug, Drop)]
+#[derive(Drop)]
 pub struct Argument {
     /// The comma in front of it. The first has none.
     pub comma: Option<Token>,

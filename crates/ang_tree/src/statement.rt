@@ -6,7 +6,7 @@ use ang_lex::Token;
 
 /// A statement.
 #[cycle(statement)]
-#[derive(Debug, Drop)]
+#[derive(Drop)]
 pub enum Statement {
     /// `"{" { stmt } "}"`
     Block(Block),
@@ -75,7 +75,7 @@ pub enum Statement {
 
 /// `"{" { stmt } "}"`
 #[cycle(statement)]
-#[derive(Debug, Drop)]
+#[derive(Drop)]
 pub struct Block {
     pub open: Token,
     pub statements: Vec<Statement>,
@@ -84,14 +84,14 @@ pub struct Block {
 
 /// The other branch of an `if`: `"else" stmt`.
 #[cycle(statement)]
-#[derive(Debug, Drop)]
+#[derive(Drop)]
 pub struct Else {
     pub word: Token,
     pub branch: Box<Statement>,
 }
 
 /// What a `for` begins with, up to its first `;`.
-#[derive(Debug, Drop)]
+#[derive(Drop)]
 pub enum ForStart {
     Variables(Variables),
     /// `[ assign ] ";"`
@@ -102,7 +102,7 @@ pub enum ForStart {
 }
 
 /// Variables of one type: `type NAME [ "=" assign | args ] { "," NAME [ "=" assign | args ] } ";"`.
-#[derive(Debug, Drop)]
+#[derive(Drop)]
 pub struct Variables {
     pub declared_type: TypeName,
     pub items: Vec<Variable>,
@@ -110,7 +110,7 @@ pub struct Variables {
 }
 
 /// One of the variables of a declaration.
-#[derive(Debug, Drop)]
+#[derive(Drop)]
 pub struct Variable {
     /// The comma in front of it. The first has none.
     pub comma: Option<Token>,
@@ -119,7 +119,7 @@ pub struct Variable {
 }
 
 /// What a variable begins with.
-#[derive(Debug, Drop)]
+#[derive(Drop)]
 pub enum Initializer {
     /// Nothing is written.
     Absent,

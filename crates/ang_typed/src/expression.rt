@@ -88,7 +88,7 @@ pub enum StepKind {
 /// Operands and arguments are evaluated from left to right, each once. In an assignment the value comes
 /// first.
 #[cycle(expression)]
-#[derive(Debug, Drop)]
+#[derive(Drop)]
 pub enum Expression {
     /// A number of an integer type, as it is written: not negative, and within the type.
     Number {
@@ -191,7 +191,7 @@ pub enum Expression {
 
 /// An argument of a call.
 #[cycle(expression)]
-#[derive(Debug, Drop)]
+#[derive(Drop)]
 pub enum Argument {
     /// A value of the parameter's type `ty`, by value or by `&in`.
     Value {

@@ -6,7 +6,7 @@ use ang_kinds::{List, Pass};
 use ang_types::ArgType;
 
 /// What the checker gives for the scripts of one build.
-#[derive(Debug, Drop)]
+#[derive(Drop)]
 pub struct Typed {
     /// The functions, in the order of their declarations.
     pub functions: List<Function>,
@@ -15,7 +15,7 @@ pub struct Typed {
 }
 
 /// A function of the module.
-#[derive(Debug, Drop)]
+#[derive(Drop)]
 pub struct Function {
     /// In order.
     pub parameters: List<Parameter>,
@@ -34,7 +34,7 @@ pub struct Parameter {
 }
 
 /// A global variable.
-#[derive(Debug, Drop)]
+#[derive(Drop)]
 pub struct Global {
     pub ty: ArgType,
     /// A value of that type. Without one it stays 0 or `false`.

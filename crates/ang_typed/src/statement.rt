@@ -5,7 +5,7 @@ use ang_types::ArgType;
 
 /// A statement.
 #[cycle(statement)]
-#[derive(Debug, Drop)]
+#[derive(Drop)]
 pub enum Statement {
     /// `{ .. }`
     Block(Block),
@@ -48,13 +48,13 @@ pub enum Statement {
 /// Statements in a block of their own: wherever it is left, the locals that were declared in it end, last
 /// declared first.
 #[cycle(statement)]
-#[derive(Debug, Drop)]
+#[derive(Drop)]
 pub struct Block {
     pub statements: Vec<Statement>,
 }
 
 /// A new local, which is known behind its own initializer.
-#[derive(Debug, Drop)]
+#[derive(Drop)]
 pub struct Local {
     /// Its type.
     pub ty: ArgType,
