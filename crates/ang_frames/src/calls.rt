@@ -5,6 +5,7 @@ ghost use Rattle.ang_meaning.specs.Setting.{has_objects, target};
 ghost use Rattle.ang_meaning.specs.Told.{Told};
 ghost use Rattle.ang_code.specs.declared.instruction.Frame.{Frame};
 ghost use Rattle.ang_code.specs.Machine.{Texts, begins, enters, found_enters};
+ghost use Rattle.ang_fuse.specs.Parameters.{by_value as are_by_value};
 ghost use Rattle.ang_steps.specs.Stacks.{values};
 ghost use Rattle.ang_steps.specs.Tables.{setting_of, texts_of};
 ghost use Rattle.ang_frames.specs.Legs.{Fits, begun, caller_at, misses};
@@ -46,7 +47,22 @@ pub fn have_objects(params: &[Passing], stack: &[Slot], top: usize) -> bool
     true
 }
 
+/// The same, where it is known whether all parameters take values.
+#[inline(always)]
+fn objects_there(by_value: bool, params: &[Passing], stack: &[Slot], top: usize) -> bool
+    requires enough { length params.now ≤ top }
+    requires within { top ≤ length stack.now }
+    requires known { by_value ≡ are_by_value params.now }
+    ensures exact { result ≡ has_objects params.now (values stack.now top) }
+{
+    if by_value {
+        return true;
+    }
+    have_objects(params, stack, top)
+}
+
 /// Room above the values in use for so many more; none where there is no memory for it.
+#[inline(always)]
 fn reserve(stack: &mut Vec<Slot>, top: usize, height: usize) -> Option<usize>
     requires within { top ≤ length stack.old.items }
     ensures exact { IfSome result (λ room. (room ≡ top + height) × (room ≤ length stack.new.items)) }
@@ -67,6 +83,7 @@ fn reserve(stack: &mut Vec<Slot>, top: usize, height: usize) -> Option<usize>
 ///
 /// # Errors
 /// `Memory` where there is none.
+#[inline(always)]
 fn begin_above(
     body: Routine,
     height: usize,
@@ -109,7 +126,7 @@ pub fn begin(
     ensures in_room { IfOk result (λ s. (s.place.top ≤ s.room) × (s.room ≤ length stack.new.items)) }
     ensures grows { length stack.old.items ≤ length stack.new.items }
 {
-    let (_, height) = params_and_height(table, body);
+    let (_, height, _) = params_and_height(table, body);
     begin_above(body, height, stack, top, ticks)
 }
 
@@ -135,11 +152,11 @@ pub fn enter_body(
     ensures grows { length stack.old.items ≤ length stack.new.items }
 {
     let top = from.place.top;
-    let (params, height) = params_and_height(table, body);
+    let (params, height, by_value) = params_and_height(table, body);
     if params.len() > top {
         return Err(Stop::Lost);
     }
-    if !have_objects(params, stack.as_slice(), top) {
+    if !objects_there(by_value, params, stack.as_slice(), top) {
         return Err(Stop::Fails(Fault::Null));
     }
     if frames.len() + 1 >= nesting {

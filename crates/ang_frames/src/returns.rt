@@ -6,17 +6,19 @@ ghost use Rattle.ang_meaning.specs.Results.{give_others as others_given, outs_of
 ghost use Rattle.ang_meaning.specs.Told.{Told};
 ghost use Rattle.ang_code.specs.declared.instruction.Instruction.TheVariants.{Return};
 ghost use Rattle.ang_code.specs.Machine.{act, back};
+ghost use Rattle.ang_fuse.specs.Parameters.{by_value as are_by_value};
 ghost use Rattle.ang_steps.specs.Stacks.{values};
 ghost use Rattle.ang_steps.specs.Tables.{setting_of, texts_of};
 ghost use Rattle.ang_frames.specs.Legs.{Fits, AllFit, given_by, with_out, Unmoved, left};
 
+use crate::lookups::params_by_value;
 use ang_code::Frame;
 use ang_meaning::{Passing, Slot};
 use ang_steps::many::give_top;
 use ang_steps::place::{Ending, Place, Standing};
 use ang_steps::stack::{peek, push};
 use ang_steps::store::Store;
-use ang_steps::table::{Table, params_at};
+use ang_steps::table::Table;
 
 /// A parameter's value at its body's end: that of an `&out` parameter stays, and any other is given up.
 #[inline(always)]
@@ -83,6 +85,7 @@ pub fn keep_outs(params: &[Passing], stack: &mut [Slot], top: usize) -> usize
 
 /// The innermost caller goes on with a value on top of those in use, or the run ends with it where there is
 /// none.
+#[inline(always)]
 fn hand_back<S: Store>(
     stack: &mut [Slot],
     frames: &mut Vec<Frame>,
@@ -122,6 +125,32 @@ fn hand_back<S: Store>(
     }
 }
 
+/// The parameters are left: those other than `&out` give up their values, and the values of the others move down
+/// to where the parameters begin. How many values are in use then.
+#[inline(always)]
+fn leave_params<S: Store>(
+    by_value: bool,
+    params: &[Passing],
+    stack: &mut [Slot],
+    store: &mut S,
+    top: usize,
+) -> usize
+    requires enough { length params.now ≤ top }
+    requires within { top ≤ length stack.old }
+    requires known { by_value ≡ are_by_value params.now }
+    ensures told { Told (λ is. others_given params.now (values stack.old top) (with_inputs is (S.world store.old))) (λ is. with_inputs is (S.world store.new)) }
+    ensures kept { values stack.new result ≡ outs_of params.now (values stack.old top) ++ values stack.old (top - length params.now) }
+    ensures fewer { result ≤ top }
+    ensures quiet { (S.world store.new).events ≡ (S.world store.old).events }
+{
+    if by_value {
+        give_top(stack, store, top, params.len());
+        return top - params.len();
+    }
+    give_others(params, stack, store, top);
+    keep_outs(params, stack, top)
+}
+
 /// `Return`: the body gives up so many locals and its parameters, and its caller goes on with the top value,
 /// above those of the `&out` parameters.
 pub fn leave_body<S: Store>(
@@ -146,14 +175,13 @@ pub fn leave_body<S: Store>(
     if count > top - 1 {
         return Err(Ending::Lost);
     }
-    let params = params_at(table, from.body);
+    let (params, by_value) = params_by_value(table, from.body);
     let base = top - 1 - count;
     if params.len() > base {
         return Err(Ending::Lost);
     }
     let value = peek(stack, top, 0);
     give_top(stack, store, top - 1, count);
-    give_others(params, stack, store, base);
-    let kept = keep_outs(params, stack, base);
+    let kept = leave_params(by_value, params, stack, store, base);
     hand_back(stack, frames, store, value, kept, from.place.ticks)
 }

@@ -21,6 +21,23 @@ struct After {
     third: Slot,
 }
 
+/// What a step comes to where 2, 9 and 5 are in use, 5 on top, with nine ticks.
+fn taken_of_three(step: Step) -> Option<After> {
+    let mut stack = [Slot::Bits(2), Slot::Bits(9), Slot::Bits(5), Slot::Bits(0)];
+    let here = Place {
+        at: 7,
+        top: 3,
+        ticks: 9,
+    };
+    let place = take(&mut stack, here, 4, &step)?;
+    Some(After {
+        place,
+        first: stack[0],
+        second: stack[1],
+        third: stack[2],
+    })
+}
+
 /// What a step comes to where 5 and 3 are in use, 3 on top, with room for two more values and so many ticks.
 fn taken_with(ticks: u64, step: Step) -> Option<After> {
     let mut stack = [Slot::Bits(5), Slot::Bits(3), Slot::Bits(0), Slot::Bits(0)];
@@ -73,6 +90,8 @@ fn tests_jump(rt: HostRuntime) {
     assert_eq!(rt; top_local, led(10, 1, 9, [5, 3, 0]));
     let top_constant = taken(Step::TestTopConstant(less, true, 2, 4));
     assert_eq!(rt; top_constant, led(14, 1, 9, [5, 3, 0]));
+    let tops = taken(Step::TestTops(less, true, 4));
+    assert_eq!(rt; tops, led(13, 0, 9, [5, 3, 0]));
 }
 
 #[test]
@@ -86,6 +105,8 @@ fn operators_push(rt: HostRuntime) {
     assert_eq!(rt; top_local, led(9, 2, 9, [5, 8, 0]));
     let top_constant = taken(Step::WorkTopConstant(add, Prim::I64, 10));
     assert_eq!(rt; top_constant, led(9, 2, 9, [5, 13, 0]));
+    let tops = taken(Step::WorkTops(Arithmetic::Subtract, Prim::I64));
+    assert_eq!(rt; tops, led(8, 1, 9, [2, 3, 0]));
 }
 
 #[test]
@@ -99,6 +120,8 @@ fn operators_store(rt: HostRuntime) {
     assert_eq!(rt; top_local, led(11, 1, 9, [8, 3, 0]));
     let top_constant = taken(Step::KeepTopConstant(add, Prim::I64, 10, 0));
     assert_eq!(rt; top_constant, led(11, 1, 9, [13, 3, 0]));
+    let tops = taken_of_three(Step::KeepTops(Arithmetic::Subtract, Prim::I64, 0));
+    assert_eq!(rt; tops, led(10, 1, 9, [4, 9, 5]));
 }
 
 #[test]

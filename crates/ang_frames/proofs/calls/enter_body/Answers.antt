@@ -26,8 +26,8 @@ returns-then-params-top c =
       grows = omega arith;
     }
 
-pub returns-then-not-have_objects : goal.returns-then-not-have_objects
-returns-then-not-have_objects c =
+pub returns-then-not-objects_there : goal.returns-then-not-objects_there
+returns-then-not-objects_there c =
     let z = setting_of c.args.table.now c.args.nesting in
     let code = texts_of c.args.table.now in
     let f = c.args.from in
@@ -36,7 +36,7 @@ returns-then-not-have_objects c =
     let deep : f.place.top ≤ length stack = omega (arith, c.requires.fits.values, c.requires.fits.body) in
     let count = ap length (c.params_and_height-height.ensures.params c.args.nesting) in
     let few : length (params_of z c.args.body) ≤ f.place.top = omega (arith, count) in
-    let objects = ap (λ ps. has_objects ps (values stack f.place.top)) (sym (c.params_and_height-height.ensures.params c.args.nesting)) ∙ sym (ap (λ l. has_objects c.params_and_height-height.result.0.now (values l f.place.top)) c.as_slice.ensures.value) ∙ sym c.have_objects.ensures.exact ∙ c.if-not-have_objects.true in
+    let objects = ap (λ ps. has_objects ps (values stack f.place.top)) (sym (c.params_and_height-height.ensures.params c.args.nesting)) ∙ sym (ap (λ l. has_objects c.params_and_height-height.result.0.now (values l f.place.top)) c.as_slice.ensures.value) ∙ sym c.objects_there.ensures.exact ∙ c.if-not-objects_there.true in
     record {
       told = λ w. told_same (λ is. enters_null z code c.args.body stack f.place.top frames (caller_at f) f.place.ticks deep few objects (with_inputs is w));
       fits = tt;
@@ -53,7 +53,7 @@ returns-then-len-nesting c =
     let deep : f.place.top ≤ length stack = omega (arith, c.requires.fits.values, c.requires.fits.body) in
     let count = ap length (c.params_and_height-height.ensures.params c.args.nesting) in
     let few : length (params_of z c.args.body) ≤ f.place.top = omega (arith, count) in
-    let objects = ap (λ ps. has_objects ps (values stack f.place.top)) (sym (c.params_and_height-height.ensures.params c.args.nesting)) ∙ sym (ap (λ l. has_objects c.params_and_height-height.result.0.now (values l f.place.top)) c.as_slice.ensures.value) ∙ sym c.have_objects.ensures.exact ∙ c.if-not-have_objects.false in
+    let objects = ap (λ ps. has_objects ps (values stack f.place.top)) (sym (c.params_and_height-height.ensures.params c.args.nesting)) ∙ sym (ap (λ l. has_objects c.params_and_height-height.result.0.now (values l f.place.top)) c.as_slice.ensures.value) ∙ sym c.objects_there.ensures.exact ∙ c.if-not-objects_there.false in
     let callers = length-reverse c.args.frames.now.items in
     record {
       told = λ w. told_same (λ is. enters_deep z code c.args.body stack f.place.top frames (caller_at f) f.place.ticks deep few objects (omega (arith, callers, c.len.ensures, c.args.frames.now.ok.0)) (with_inputs is w));
@@ -71,7 +71,7 @@ returns-then-from-eq0 c =
     let deep : f.place.top ≤ length stack = omega (arith, c.requires.fits.values, c.requires.fits.body) in
     let count = ap length (c.params_and_height-height.ensures.params c.args.nesting) in
     let few : length (params_of z c.args.body) ≤ f.place.top = omega (arith, count) in
-    let objects = ap (λ ps. has_objects ps (values stack f.place.top)) (sym (c.params_and_height-height.ensures.params c.args.nesting)) ∙ sym (ap (λ l. has_objects c.params_and_height-height.result.0.now (values l f.place.top)) c.as_slice.ensures.value) ∙ sym c.have_objects.ensures.exact ∙ c.if-not-have_objects.false in
+    let objects = ap (λ ps. has_objects ps (values stack f.place.top)) (sym (c.params_and_height-height.ensures.params c.args.nesting)) ∙ sym (ap (λ l. has_objects c.params_and_height-height.result.0.now (values l f.place.top)) c.as_slice.ensures.value) ∙ sym c.objects_there.ensures.exact ∙ c.if-not-objects_there.false in
     let callers = length-reverse c.args.frames.now.items in
     let nests : length frames + 1 < c.args.nesting = omega (arith, callers, c.len.ensures, c.args.frames.now.ok.0) in
     record {
@@ -90,7 +90,7 @@ returns-in-Err c =
     let deep : f.place.top ≤ length stack = omega (arith, c.requires.fits.values, c.requires.fits.body) in
     let count = ap length (c.params_and_height-height.ensures.params c.args.nesting) in
     let few : length (params_of z c.args.body) ≤ f.place.top = omega (arith, count) in
-    let objects = ap (λ ps. has_objects ps (values stack f.place.top)) (sym (c.params_and_height-height.ensures.params c.args.nesting)) ∙ sym (ap (λ l. has_objects c.params_and_height-height.result.0.now (values l f.place.top)) c.as_slice.ensures.value) ∙ sym c.have_objects.ensures.exact ∙ c.if-not-have_objects.false in
+    let objects = ap (λ ps. has_objects ps (values stack f.place.top)) (sym (c.params_and_height-height.ensures.params c.args.nesting)) ∙ sym (ap (λ l. has_objects c.params_and_height-height.result.0.now (values l f.place.top)) c.as_slice.ensures.value) ∙ sym c.objects_there.ensures.exact ∙ c.if-not-objects_there.false in
     let callers = length-reverse c.args.frames.now.items in
     let nests : length frames + 1 < c.args.nesting = omega (arith, callers, c.len.ensures, c.args.frames.now.ok.0) in
     record {
@@ -109,7 +109,7 @@ returns-in-Ok c =
     let deep : f.place.top ≤ length stack = omega (arith, c.requires.fits.values, c.requires.fits.body) in
     let count = ap length (c.params_and_height-height.ensures.params c.args.nesting) in
     let few : length (params_of z c.args.body) ≤ f.place.top = omega (arith, count) in
-    let objects = ap (λ ps. has_objects ps (values stack f.place.top)) (sym (c.params_and_height-height.ensures.params c.args.nesting)) ∙ sym (ap (λ l. has_objects c.params_and_height-height.result.0.now (values l f.place.top)) c.as_slice.ensures.value) ∙ sym c.have_objects.ensures.exact ∙ c.if-not-have_objects.false in
+    let objects = ap (λ ps. has_objects ps (values stack f.place.top)) (sym (c.params_and_height-height.ensures.params c.args.nesting)) ∙ sym (ap (λ l. has_objects c.params_and_height-height.result.0.now (values l f.place.top)) c.as_slice.ensures.value) ∙ sym c.objects_there.ensures.exact ∙ c.if-not-objects_there.false in
     let callers = length-reverse c.args.frames.now.items in
     let nests : length frames + 1 < c.args.nesting = omega (arith, callers, c.len.ensures, c.args.frames.now.ok.0) in
     let pushed : reverse c.push.new.self.items ≡ caller_at f ∷ frames = ap reverse c.in-Ok.ensures.items ∙ push_front c.args.frames.now.items (caller_at f) in

@@ -38,7 +38,7 @@ returns-then-params-base g c =
     let f = c.args.from in
     let deep : f.place.top ≤ length c.args.stack.now = omega (arith, c.requires.fits.values, c.requires.fits.body) in
     record {
-      told = λ nesting. let count = ap length (c.params_at-params.ensures.exact nesting) in told_same (λ is. leaves_lost (setting_of c.args.table.now nesting) (texts_of c.args.table.now) f.body f.place.at f.room c.args.stack.now f.place.top c.args.count (reverse c.args.frames.now.items) f.place.ticks deep
+      told = λ nesting. let count = ap length (c.params_by_value-by_value.ensures.params nesting) in told_same (λ is. leaves_lost (setting_of c.args.table.now nesting) (texts_of c.args.table.now) f.body f.place.at f.room c.args.stack.now f.place.top c.args.count (reverse c.args.frames.now.items) f.place.ticks deep
           (local_at (values c.args.stack.now f.place.top) 0) (omega arith) refl (omega (arith, count)) (with_inputs is w));
       fits = tt;
       quiet = refl;
@@ -46,8 +46,8 @@ returns-then-params-base g c =
 
 pub hand_back-requires : goal.hand_back-requires
 hand_back-requires g c = record {
-  below = omega (arith, c.requires.fits.values, c.requires.fits.body, c.keep_outs-kept.ensures.fewer, c.keep_outs-kept.auto.stack);
-  callers = subst (λ n. AllFit n (reverse c.args.frames.now.items)) (sym c.keep_outs-kept.auto.stack) c.requires.fits.callers;
+  below = omega (arith, c.requires.fits.values, c.requires.fits.body, c.leave_params-kept.ensures.fewer, c.leave_params-kept.auto.stack);
+  callers = subst (λ n. AllFit n (reverse c.args.frames.now.items)) (sym c.leave_params-kept.auto.stack) c.requires.fits.callers;
 }
 
 pub returns : goal.returns
@@ -55,14 +55,14 @@ returns g c =
     let f = c.args.from in
     let deep : f.place.top ≤ length c.args.stack.now = omega (arith, c.requires.fits.values, c.requires.fits.body) in
     let base = f.place.top - 1 - c.args.count in
-    let outs = outs_of c.params_at-params.result.now (values c.args.stack.now base) in
-    let rest = values c.args.stack.now (base - length c.params_at-params.result.now) in
+    let outs = outs_of c.params_by_value-by_value.result.0.now (values c.args.stack.now base) in
+    let rest = values c.args.stack.now (base - length c.params_by_value-by_value.result.0.now) in
     record {
       told = λ nesting. told_then
           (leaves_on (setting_of c.args.table.now nesting) (texts_of c.args.table.now) f.body f.place.at f.room c.args.stack.now f.place.top c.args.count (reverse c.args.frames.now.items) f.place.ticks deep
-          c.peek-value.result (omega arith) c.peek-value.ensures.exact c.params_at-params.result.now (g.S.Store.world c.args.store.now) (g.S.Store.world c.give_top.new.store) (g.S.Store.world c.give_others.new.store) outs rest
-          (c.params_at-params.ensures.exact nesting) (omega arith) c.give_top.ensures.told c.give_others.ensures.told refl refl)
-          (c.hand_back.ensures.told outs rest c.keep_outs-kept.ensures.kept);
+          c.peek-value.result (omega arith) c.peek-value.ensures.exact c.params_by_value-by_value.result.0.now (g.S.Store.world c.args.store.now) (g.S.Store.world c.give_top.new.store) (g.S.Store.world c.leave_params-kept.new.store) outs rest
+          (c.params_by_value-by_value.ensures.params nesting) (omega arith) c.give_top.ensures.told c.leave_params-kept.ensures.told refl refl)
+          (c.hand_back.ensures.told outs rest c.leave_params-kept.ensures.kept);
       fits = c.hand_back.ensures.fits;
-      quiet = c.hand_back.ensures.quiet ∙ c.give_others.ensures.quiet ∙ c.give_top.ensures.quiet;
+      quiet = c.hand_back.ensures.quiet ∙ c.leave_params-kept.ensures.quiet ∙ c.give_top.ensures.quiet;
     }
