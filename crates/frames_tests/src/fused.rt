@@ -74,7 +74,10 @@ fn each_place_has_its_step(rt: HostRuntime) -> Result<(), Fail> {
         steps.get(3).copied(),
         Some(Step::TestTopConstant(Comparison::Less, true, 10, 4))
     );
-    assert_eq!(rt; steps.get(4).copied(), Some(Step::Other));
+    assert_eq!(rt;
+        steps.get(4).copied(),
+        Some(Step::TestTops(Comparison::Less, true, 4))
+    );
     assert_eq!(rt; steps.get(5).copied(), Some(Step::Other));
     assert_eq!(rt; steps.get(6).copied(), Some(Step::AddBack64(true, 0, 1, 7)));
     assert_eq!(rt; steps.get(7).copied(), Some(Step::ChangeTop(INCREMENT, 0)));
