@@ -485,6 +485,7 @@ impl Chart {
     /// Forgets all words but so many.
     pub fn forget(&mut self, words: usize) {
         self.ends.truncate(words.saturating_add(1));
-        self.points.truncate(self.end_of(self.ends.len()));
+        let end = self.end_of(self.ends.len());
+        self.points.truncate(end);
     }
 }
