@@ -3,22 +3,29 @@
 use ang_call::{find_function, is_callable};
 use ang_kinds::Mask;
 use ang_lex::lex;
-use ang_names::{Names, declare};
+use ang_names::{Names, ScriptFunction, declare};
 use ang_parse::parse;
 use ang_registry::{RegError, Registry, View};
 use std::alloc::{AllocError, Global};
-use std::test::Fail;
 
 /// The functions 0 to 7. Those named `f` differ in one thing each.
 const MODULE: &[u8] =
     b"void f() {} int f(int a) { return a; } int f(const int a) { return a; } int f(int &in a) { return a; } int f(int &out a) { a = 1; return a; } const int c() { return 1; } uint g(uint8 a, int64 b, bool d) { return 1; } void u(int x) {}";
 
-/// What a module sees of these: `void print(int)` and the type `Cell`.
-fn view(alloc: Global) -> Result<View, RegError> {
-    let mut registry = Registry::new(alloc);
+/// Puts into the registry `void print(int)` and the type `Cell`.
+fn register(registry: &mut Registry) -> Result<(), RegError> {
     let _ = registry.function(0, 0, b"void print(int)")?;
     let _ = registry.type_(b"Cell", 2)?;
-    Ok(registry.seen(alloc, Mask(1))?)
+    Ok(())
+}
+
+/// What a module sees of these.
+fn view(alloc: Global) -> Option<View> {
+    let mut registry = Registry::new(alloc);
+    if register(&mut registry).is_err() {
+        return None;
+    }
+    registry.seen(alloc, Mask(1)).ok()
 }
 
 /// The names of one section, or nothing where it has an error.
@@ -29,101 +36,82 @@ fn names_in(alloc: Global, view: &View, text: &[u8]) -> Option<Names> {
     declare(alloc, view, &scripts).ok()
 }
 
-#[test]
-fn a_declaration_names_its_function(rt: HostRuntime) -> Result<(), Fail> {
-    let alloc = rt.alloc();
-    let view = view(alloc)?;
-    let names = names_in(alloc, &view, MODULE).ok_or("names")?;
-    let rows: [(&[u8], usize); 16] = [
-        (b"void f()", 0),
-        (b"void f(void)", 0),
-        (
-            b"\xEF\xBB\xBF void\r\n\tf/* of nothing */( ) // a comment",
-            0,
-        ),
-        (b"void f() //", 0),
-        (b"int f(int)", 1),
-        (b"int f(int other)", 1),
-        (b"int32 f(int32 a)", 1),
-        (b"int f(const int)", 2),
-        (b"int f(int &in)", 3),
-        (b"int f(int&in b)", 3),
-        (b"int f(int &out)", 4),
-        (b"const int c()", 5),
-        (b"const int32 c(void)", 5),
-        (b"uint g(uint8, int64, bool)", 6),
-        (b"uint32 g(uint8 x, int64 y, bool z)", 6),
-        (b"void u(int)", 7),
-    ];
-    for (decl, number) in rows {
-        let found = find_function(alloc, &view, &names, decl)?;
-        assert_eq!(rt; found, Some(number), "at {decl:?}");
-    }
-    Ok(())
-}
+/// Which function of the module each text names.
+const NAMED: [(&str, usize); 16] = [
+    ("void f()", 0),
+    ("void f(void)", 0),
+    ("\u{FEFF} void\r\n\tf/* of nothing */( ) // a comment", 0),
+    ("void f() //", 0),
+    ("int f(int)", 1),
+    ("int f(int other)", 1),
+    ("int32 f(int32 a)", 1),
+    ("int f(const int)", 2),
+    ("int f(int &in)", 3),
+    ("int f(int&in b)", 3),
+    ("int f(int &out)", 4),
+    ("const int c()", 5),
+    ("const int32 c(void)", 5),
+    ("uint g(uint8, int64, bool)", 6),
+    ("uint32 g(uint8 x, int64 y, bool z)", 6),
+    ("void u(int)", 7),
+];
 
-#[test]
-fn another_heading_names_nothing(rt: HostRuntime) -> Result<(), Fail> {
-    let alloc = rt.alloc();
-    let view = view(alloc)?;
-    let names = names_in(alloc, &view, MODULE).ok_or("names")?;
-    let rows: [&[u8]; 15] = [
-        b"int f()",
-        b"const void f()",
-        b"void f(int)",
-        b"int f(uint)",
-        b"int f(int, int)",
-        b"int f(const int &in)",
-        b"int f(int &inout)",
-        b"int f(int &)",
-        b"int c()",
-        b"const uint c()",
-        b"uint g(int64, uint8, bool)",
-        b"uint g(uint8, int64)",
-        b"void v()",
-        b"void F()",
-        b"void print(int)",
-    ];
-    for decl in rows {
-        let found = find_function(alloc, &view, &names, decl)?;
-        assert_eq!(rt; found, None, "at {decl:?}");
-    }
-    Ok(())
-}
+/// Headings that no function of the module has, and texts of another form.
+const NOT_NAMED: [&str; 35] = [
+    "int f()",
+    "const void f()",
+    "void f(int)",
+    "int f(uint)",
+    "int f(int, int)",
+    "int f(const int &in)",
+    "int f(int &inout)",
+    "int f(int &)",
+    "int c()",
+    "const uint c()",
+    "uint g(int64, uint8, bool)",
+    "uint g(uint8, int64)",
+    "void v()",
+    "void F()",
+    "void print(int)",
+    "",
+    "f",
+    "f()",
+    "void f",
+    "void f(",
+    "void f();",
+    ";void f()",
+    "void f() x",
+    "void f() const",
+    "void f() {}",
+    "void f() {} //",
+    "void f() {} void u(int x)",
+    "void f() /*",
+    "void f() \"",
+    "void f() # ",
+    "void f(Nope)",
+    "Nope f()",
+    "void f(Cell@ c)",
+    "class C",
+    "import void f() from \"m\"",
+];
 
-#[test]
-fn a_text_of_another_form_names_nothing(rt: HostRuntime) -> Result<(), Fail> {
-    let alloc = rt.alloc();
-    let view = view(alloc)?;
-    let names = names_in(alloc, &view, MODULE).ok_or("names")?;
-    let rows: [&[u8]; 20] = [
-        b"",
-        b"f",
-        b"f()",
-        b"void f",
-        b"void f(",
-        b"void f();",
-        b";void f()",
-        b"void f() x",
-        b"void f() const",
-        b"void f() {}",
-        b"void f() {} //",
-        b"void f() {} void u(int x)",
-        b"void f() /*",
-        b"void f() \"",
-        b"void f() # ",
-        b"void f(Nope)",
-        b"Nope f()",
-        b"void f(Cell@ c)",
-        b"class C",
-        b"import void f() from \"m\"",
-    ];
-    for decl in rows {
-        let found = find_function(alloc, &view, &names, decl)?;
-        assert_eq!(rt; found, None, "at {decl:?}");
-    }
-    Ok(())
-}
+/// As many bytes of `void f()` and spaces as have room for an empty body behind them, and one more.
+const LENGTHS: [(&str, usize, Option<usize>); 2] = [
+    ("the longest text", 65_533, Some(0)),
+    ("a longer text", 65_534, None),
+];
+
+/// Which functions of the module can be called: those that take primitives by value.
+const CALLABLE: [(&str, bool); 8] = [
+    ("void f()", true),
+    ("int f(int)", true),
+    ("int f(const int)", true),
+    ("int f(int &in)", false),
+    ("int f(int &out)", false),
+    ("const int c()", true),
+    ("uint g(uint8, int64, bool)", true),
+    ("void u(int)", true),
+];
 
 /// `void f()` and spaces, as many bytes as that.
 fn spaced(alloc: Global, length: usize) -> Result<Vec<u8>, AllocError> {
@@ -134,27 +122,123 @@ fn spaced(alloc: Global, length: usize) -> Result<Vec<u8>, AllocError> {
     Ok(text)
 }
 
-#[test]
-fn a_text_has_room_for_an_empty_body(rt: HostRuntime) -> Result<(), Fail> {
-    let alloc = rt.alloc();
-    let view = view(alloc)?;
-    let names = names_in(alloc, &view, MODULE).ok_or("names")?;
-    let longest = spaced(alloc, 65_533)?;
-    let longer = spaced(alloc, 65_534)?;
-    assert_eq!(rt; find_function(alloc, &view, &names, &longest)?, Some(0));
-    assert_eq!(rt; find_function(alloc, &view, &names, &longer)?, None);
-    Ok(())
+fn is_found(alloc: Global, view: &View, names: &Names, decl: &[u8], wanted: Option<usize>) -> bool {
+    match find_function(alloc, view, names, decl) {
+        Ok(found) => found == wanted,
+        Err(_) => false,
+    }
+}
+
+fn wrong_name(alloc: Global, view: &View, names: &Names) -> Option<&'static str> {
+    for row in &NAMED {
+        let (decl, number) = *row;
+        if !is_found(alloc, view, names, decl.as_bytes(), Some(number)) {
+            return Some(decl);
+        }
+    }
+    None
+}
+
+fn wrongly_named(alloc: Global, view: &View, names: &Names) -> Option<&'static str> {
+    for decl in &NOT_NAMED {
+        if !is_found(alloc, view, names, decl.as_bytes(), None) {
+            return Some(*decl);
+        }
+    }
+    None
+}
+
+fn is_spaced_found(
+    alloc: Global,
+    view: &View,
+    names: &Names,
+    length: usize,
+    wanted: Option<usize>,
+) -> bool {
+    let Ok(text) = spaced(alloc, length) else {
+        return false;
+    };
+    is_found(alloc, view, names, &text, wanted)
+}
+
+fn wrong_length(alloc: Global, view: &View, names: &Names) -> Option<&'static str> {
+    for row in &LENGTHS {
+        let (what, length, wanted) = *row;
+        if !is_spaced_found(alloc, view, names, length, wanted) {
+            return Some(what);
+        }
+    }
+    None
+}
+
+fn wrongly_callable(functions: &[ScriptFunction]) -> Option<&'static str> {
+    for (i, row) in CALLABLE.iter().enumerate() {
+        let (heading, wanted) = *row;
+        match functions.get(i) {
+            Some(function) if is_callable(function) == wanted => {}
+            _ => return Some(heading),
+        }
+    }
+    if functions.len() == CALLABLE.len() {
+        None
+    } else {
+        Some("another function")
+    }
+}
+
+/// What the module's names are asked.
+#[derive(Clone, Copy)]
+enum Asked {
+    Named,
+    NotNamed,
+    Lengths,
+    Callable,
+}
+
+fn wrong_in(alloc: Global, view: &View, names: &Names, asked: Asked) -> Option<&'static str> {
+    match asked {
+        Asked::Named => wrong_name(alloc, view, names),
+        Asked::NotNamed => wrongly_named(alloc, view, names),
+        Asked::Lengths => wrong_length(alloc, view, names),
+        Asked::Callable => wrongly_callable(names.functions.as_slice()),
+    }
+}
+
+fn wrong_in_view(alloc: Global, view: &View, asked: Asked) -> Option<&'static str> {
+    let Some(names) = names_in(alloc, view, MODULE) else {
+        return Some("the module");
+    };
+    wrong_in(alloc, view, &names, asked)
+}
+
+/// The first row that is answered wrongly.
+fn first_wrong(alloc: Global, asked: Asked) -> Option<&'static str> {
+    let Some(view) = view(alloc) else {
+        return Some("the view");
+    };
+    wrong_in_view(alloc, &view, asked)
 }
 
 #[test]
-fn primitives_by_value_can_be_passed(rt: HostRuntime) -> Result<(), Fail> {
-    let alloc = rt.alloc();
-    let view = view(alloc)?;
-    let names = names_in(alloc, &view, MODULE).ok_or("names")?;
-    let callable = [true, true, true, false, false, true, true, true];
-    assert_eq!(rt; names.functions.as_slice().len(), 8);
-    for (function, wanted) in names.functions.as_slice().iter().zip(callable) {
-        assert_eq!(rt; is_callable(function), wanted);
-    }
-    Ok(())
+fn a_declaration_names_its_function(rt: HostRuntime) {
+    let wrong = first_wrong(rt.alloc(), Asked::Named);
+    assert!(rt; wrong.is_none(), "{wrong:?}");
+}
+
+#[test]
+fn another_heading_or_form_names_nothing(rt: HostRuntime) {
+    let wrong = first_wrong(rt.alloc(), Asked::NotNamed);
+    assert!(rt; wrong.is_none(), "{wrong:?}");
+}
+
+#[test]
+fn a_text_has_room_for_an_empty_body(rt: HostRuntime) {
+    let wrong = first_wrong(rt.alloc(), Asked::Lengths);
+    assert!(rt; wrong.is_none(), "{wrong:?}");
+}
+
+#[test]
+fn primitives_by_value_can_be_passed(rt: HostRuntime) {
+    let wrong = first_wrong(rt.alloc(), Asked::Callable);
+    assert!(rt; wrong.is_none(), "{wrong:?}");
 }

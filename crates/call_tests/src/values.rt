@@ -6,7 +6,6 @@ use ang_meaning::Slot;
 use ang_names::{Origin, ScriptFunction, ScriptParameter};
 use ang_types::ArgType;
 use std::alloc::{AllocError, Global};
-use std::test::Fail;
 
 const OBJECT: ArgType = ArgType::Object {
     number: 0,
@@ -46,164 +45,246 @@ fn function(alloc: Global, gives: ArgType, params: Vec<ScriptParameter>) -> Scri
     }
 }
 
-/// A function of one parameter of this type, by value.
-fn taking(alloc: Global, ty: ArgType) -> Result<ScriptFunction, AllocError> {
-    let params = vec![in alloc; parameter(alloc, ty, Pass::Value)]?;
+/// A function of these parameters, by value.
+fn taking(alloc: Global, types: &[ArgType]) -> Result<ScriptFunction, AllocError> {
+    let mut params = Vec::new(alloc);
+    for ty in types {
+        params.push(parameter(alloc, *ty, Pass::Value))?;
+    }
     Ok(function(alloc, ArgType::Void, params))
 }
 
-/// The slot of the only argument of such a function, if the value can be one.
-fn passed(alloc: Global, of: Prim, value: Value) -> Result<Option<Slot>, AllocError> {
-    let function = taking(alloc, ArgType::Plain(of))?;
-    let Some(slots) = arguments(alloc, &function, &[value])? else {
-        return Ok(None);
+fn are_bits(slots: &[Slot], bits: &[u64]) -> bool {
+    for (i, slot) in slots.iter().enumerate() {
+        match bits.get(i) {
+            Some(bits) if *slot == Slot::Bits(*bits) => {}
+            _ => return false,
+        }
+    }
+    slots.len() == bits.len()
+}
+
+fn are_passed(
+    alloc: Global,
+    function: &ScriptFunction,
+    values: &[Value],
+    bits: Option<&[u64]>,
+) -> bool {
+    let Ok(slots) = arguments(alloc, function, values) else {
+        return false;
     };
-    Ok(slots.first().copied())
+    match (&slots, bits) {
+        (Some(slots), Some(bits)) => are_bits(slots, bits),
+        (slots, bits) => slots.is_none() && bits.is_none(),
+    }
 }
 
-fn bits(number: i64) -> Option<Slot> {
-    Some(Slot::Bits(number.cast_unsigned()))
+/// Whether the values are passed to such a function in slots of these bits, or are not passed.
+fn passes(alloc: Global, types: &[ArgType], values: &[Value], bits: Option<&[u64]>) -> bool {
+    let Ok(function) = taking(alloc, types) else {
+        return false;
+    };
+    are_passed(alloc, &function, values, bits)
 }
+
+/// Whether so it is with one argument of this type.
+fn passes_one(alloc: Global, of: Prim, value: Value, bits: Option<u64>) -> bool {
+    let types = [ArgType::Plain(of)];
+    match bits {
+        Some(bits) => passes(alloc, &types, &[value], Some(&[bits])),
+        None => passes(alloc, &types, &[value], None),
+    }
+}
+
+/// A parameter's type, a value, and the bits of its slot if the value can be passed.
+const VALUES: [(Prim, Value, Option<u64>); 46] = [
+    // signed numbers in their range
+    (Prim::I8, Value::Int(-128), Some(0xffff_ffff_ffff_ff80)),
+    (Prim::I8, Value::Int(127), Some(127)),
+    (Prim::I8, Value::Int(-1), Some(u64::MAX)),
+    (Prim::I8, Value::Int(-129), None),
+    (Prim::I8, Value::Int(128), None),
+    (Prim::I8, Value::Uint(1), None),
+    (Prim::I8, Value::Bool(true), None),
+    (Prim::I16, Value::Int(-32_768), Some(0xffff_ffff_ffff_8000)),
+    (Prim::I16, Value::Int(32_767), Some(32_767)),
+    (Prim::I16, Value::Int(-1), Some(u64::MAX)),
+    (Prim::I16, Value::Int(-32_769), None),
+    (Prim::I16, Value::Int(32_768), None),
+    (Prim::I16, Value::Uint(1), None),
+    (Prim::I16, Value::Bool(true), None),
+    (
+        Prim::I32,
+        Value::Int(-2_147_483_648),
+        Some(0xffff_ffff_8000_0000),
+    ),
+    (Prim::I32, Value::Int(2_147_483_647), Some(2_147_483_647)),
+    (Prim::I32, Value::Int(-1), Some(u64::MAX)),
+    (Prim::I32, Value::Int(-2_147_483_649), None),
+    (Prim::I32, Value::Int(2_147_483_648), None),
+    (Prim::I32, Value::Uint(1), None),
+    (Prim::I32, Value::Bool(true), None),
+    (Prim::I64, Value::Int(i64::MIN), Some(0x8000_0000_0000_0000)),
+    (Prim::I64, Value::Int(i64::MAX), Some(0x7fff_ffff_ffff_ffff)),
+    (Prim::I64, Value::Uint(1), None),
+    // unsigned numbers in theirs
+    (Prim::U8, Value::Uint(0), Some(0)),
+    (Prim::U8, Value::Uint(255), Some(255)),
+    (Prim::U8, Value::Uint(256), None),
+    (Prim::U8, Value::Int(1), None),
+    (Prim::U8, Value::Key(Some(1)), None),
+    (Prim::U16, Value::Uint(0), Some(0)),
+    (Prim::U16, Value::Uint(65_535), Some(65_535)),
+    (Prim::U16, Value::Uint(65_536), None),
+    (Prim::U16, Value::Int(1), None),
+    (Prim::U16, Value::Key(Some(1)), None),
+    (Prim::U32, Value::Uint(0), Some(0)),
+    (Prim::U32, Value::Uint(4_294_967_295), Some(4_294_967_295)),
+    (Prim::U32, Value::Uint(4_294_967_296), None),
+    (Prim::U32, Value::Int(1), None),
+    (Prim::U32, Value::Key(Some(1)), None),
+    (Prim::U64, Value::Uint(u64::MAX), Some(u64::MAX)),
+    (Prim::U64, Value::Int(1), None),
+    // truth values
+    (Prim::Bool, Value::Bool(true), Some(1)),
+    (Prim::Bool, Value::Bool(false), Some(0)),
+    (Prim::Bool, Value::Int(1), None),
+    (Prim::Bool, Value::Uint(1), None),
+    (Prim::Bool, Value::Key(None), None),
+];
 
 #[test]
-fn signed_numbers_are_in_their_range(rt: HostRuntime) -> Result<(), Fail> {
-    let alloc = rt.alloc();
-    let rows: [(Prim, i64, i64); 3] = [
-        (Prim::I8, -128, 127),
-        (Prim::I16, -32_768, 32_767),
-        (Prim::I32, -2_147_483_648, 2_147_483_647),
-    ];
-    for (of, least, greatest) in rows {
-        assert_eq!(rt; passed(alloc, of, Value::Int(least))?, bits(least));
-        assert_eq!(rt; passed(alloc, of, Value::Int(greatest))?, bits(greatest));
-        assert_eq!(rt;
-            passed(alloc, of, Value::Int(-1))?,
-            Some(Slot::Bits(u64::MAX))
+fn values_are_in_their_range(rt: HostRuntime) {
+    for row in &VALUES {
+        let (of, value, bits) = *row;
+        assert!(rt; passes_one(rt.alloc(), of, value, bits), "{of:?} {value:?}");
+    }
+}
+
+/// The types of parameters, values, and the bits of their slots if they can be passed.
+type Passed = (&'static [ArgType], &'static [Value], Option<&'static [u64]>);
+
+const TWO: &[ArgType] = &[ArgType::Plain(Prim::I8), ArgType::Plain(Prim::U8)];
+
+/// Arguments stand in order, and are as many as the parameters.
+const ORDERS: [Passed; 6] = [
+    (TWO, &[Value::Int(3), Value::Uint(4)], Some(&[3, 4])),
+    (TWO, &[Value::Uint(4), Value::Int(3)], None),
+    (TWO, &[Value::Int(3)], None),
+    (TWO, &[], None),
+    (&[], &[], Some(&[])),
+    (&[], &[Value::Int(3)], None),
+];
+
+#[test]
+fn arguments_stand_in_order(rt: HostRuntime) {
+    for row in &ORDERS {
+        let (types, values, bits) = *row;
+        assert!(rt;
+            passes(rt.alloc(), types, values, bits),
+            "{types:?} {values:?}"
         );
-        assert_eq!(rt; passed(alloc, of, Value::Int(least.wrapping_sub(1)))?, None);
-        assert_eq!(rt;
-            passed(alloc, of, Value::Int(greatest.wrapping_add(1)))?,
-            None
+    }
+}
+
+/// Whether a function of one parameter of this type can't be called, and takes no null handle.
+fn takes_none(alloc: Global, ty: ArgType) -> bool {
+    let Ok(function) = taking(alloc, &[ty]) else {
+        return false;
+    };
+    !is_callable(&function) && are_passed(alloc, &function, &[Value::Key(None)], None)
+}
+
+#[test]
+fn objects_are_not_passed(rt: HostRuntime) {
+    for ty in &[OBJECT, HANDLE, ArgType::Void, ArgType::Null] {
+        assert!(rt; takes_none(rt.alloc(), *ty), "{ty:?}");
+    }
+}
+
+/// Whether a function without parameters that has this result can be called, and what value it has where a call gives
+/// this slot.
+fn gives(alloc: Global, ty: ArgType, slot: Slot, callable: bool, value: Option<Value>) -> bool {
+    let function = function(alloc, ty, Vec::new(alloc));
+    is_callable(&function) == callable && result_value(&function, slot) == value
+}
+
+/// A result's type, a slot, whether such a function can be called, and the slot's value.
+const RESULTS: [(ArgType, Slot, bool, Option<Value>); 14] = [
+    (
+        ArgType::Plain(Prim::I8),
+        Slot::Bits(u64::MAX),
+        true,
+        Some(Value::Int(-1)),
+    ),
+    (
+        ArgType::Plain(Prim::I16),
+        Slot::Bits(5),
+        true,
+        Some(Value::Int(5)),
+    ),
+    (
+        ArgType::Plain(Prim::I32),
+        Slot::Bits(0xffff_ffff_8000_0000),
+        true,
+        Some(Value::Int(-2_147_483_648)),
+    ),
+    (
+        ArgType::Plain(Prim::I64),
+        Slot::Bits(0x8000_0000_0000_0000),
+        true,
+        Some(Value::Int(i64::MIN)),
+    ),
+    (
+        ArgType::Plain(Prim::U8),
+        Slot::Bits(255),
+        true,
+        Some(Value::Uint(255)),
+    ),
+    (
+        ArgType::Plain(Prim::U16),
+        Slot::Bits(0),
+        true,
+        Some(Value::Uint(0)),
+    ),
+    (
+        ArgType::Plain(Prim::U32),
+        Slot::Bits(4_294_967_295),
+        true,
+        Some(Value::Uint(4_294_967_295)),
+    ),
+    (
+        ArgType::Plain(Prim::U64),
+        Slot::Bits(u64::MAX),
+        true,
+        Some(Value::Uint(u64::MAX)),
+    ),
+    (
+        ArgType::Plain(Prim::Bool),
+        Slot::Bits(1),
+        true,
+        Some(Value::Bool(true)),
+    ),
+    (
+        ArgType::Plain(Prim::Bool),
+        Slot::Bits(0),
+        true,
+        Some(Value::Bool(false)),
+    ),
+    (ArgType::Void, Slot::Bits(0), true, None),
+    // objects are no results
+    (OBJECT, Slot::Host(2, Some(7)), false, None),
+    (HANDLE, Slot::Host(2, Some(7)), false, None),
+    (ArgType::Null, Slot::Host(2, Some(7)), false, None),
+];
+
+#[test]
+fn results_are_of_their_type(rt: HostRuntime) {
+    for row in &RESULTS {
+        let (result, slot, callable, value) = *row;
+        assert!(rt;
+            gives(rt.alloc(), result, slot, callable, value),
+            "{result:?} {slot:?}"
         );
-        assert_eq!(rt; passed(alloc, of, Value::Uint(1))?, None);
-        assert_eq!(rt; passed(alloc, of, Value::Bool(true))?, None);
     }
-    assert_eq!(rt;
-        passed(alloc, Prim::I64, Value::Int(i64::MIN))?,
-        bits(i64::MIN)
-    );
-    assert_eq!(rt;
-        passed(alloc, Prim::I64, Value::Int(i64::MAX))?,
-        bits(i64::MAX)
-    );
-    assert_eq!(rt; passed(alloc, Prim::I64, Value::Uint(1))?, None);
-    Ok(())
-}
-
-#[test]
-fn unsigned_numbers_are_in_their_range(rt: HostRuntime) -> Result<(), Fail> {
-    let alloc = rt.alloc();
-    let rows: [(Prim, u64); 3] = [
-        (Prim::U8, 255),
-        (Prim::U16, 65_535),
-        (Prim::U32, 4_294_967_295),
-    ];
-    for (of, greatest) in rows {
-        assert_eq!(rt; passed(alloc, of, Value::Uint(0))?, Some(Slot::Bits(0)));
-        assert_eq!(rt;
-            passed(alloc, of, Value::Uint(greatest))?,
-            Some(Slot::Bits(greatest))
-        );
-        assert_eq!(rt;
-            passed(alloc, of, Value::Uint(greatest.wrapping_add(1)))?,
-            None
-        );
-        assert_eq!(rt; passed(alloc, of, Value::Int(1))?, None);
-        assert_eq!(rt; passed(alloc, of, Value::Key(Some(1)))?, None);
-    }
-    let greatest = Value::Uint(u64::MAX);
-    assert_eq!(rt;
-        passed(alloc, Prim::U64, greatest)?,
-        Some(Slot::Bits(u64::MAX))
-    );
-    assert_eq!(rt; passed(alloc, Prim::U64, Value::Int(1))?, None);
-    Ok(())
-}
-
-#[test]
-fn truth_values_are_bool(rt: HostRuntime) -> Result<(), Fail> {
-    let alloc = rt.alloc();
-    assert_eq!(rt;
-        passed(alloc, Prim::Bool, Value::Bool(true))?,
-        Some(Slot::Bits(1))
-    );
-    assert_eq!(rt;
-        passed(alloc, Prim::Bool, Value::Bool(false))?,
-        Some(Slot::Bits(0))
-    );
-    assert_eq!(rt; passed(alloc, Prim::Bool, Value::Int(1))?, None);
-    assert_eq!(rt; passed(alloc, Prim::Bool, Value::Uint(1))?, None);
-    assert_eq!(rt; passed(alloc, Prim::Bool, Value::Key(None))?, None);
-    Ok(())
-}
-
-#[test]
-fn arguments_stand_in_order(rt: HostRuntime) -> Result<(), Fail> {
-    let alloc = rt.alloc();
-    let first = parameter(alloc, ArgType::Plain(Prim::I8), Pass::Value);
-    let second = parameter(alloc, ArgType::Plain(Prim::U8), Pass::Value);
-    let two = function(alloc, ArgType::Void, vec![in alloc; first, second]?);
-    let values = [Value::Int(3), Value::Uint(4)];
-    let slots = arguments(alloc, &two, &values)?.ok_or("two arguments")?;
-    assert_eq!(rt; slots.as_slice(), [Slot::Bits(3), Slot::Bits(4)].as_slice());
-    assert!(rt; arguments(alloc, &two, &[Value::Uint(4), Value::Int(3)])?.is_none());
-    assert!(rt; arguments(alloc, &two, &[Value::Int(3)])?.is_none());
-    assert!(rt; arguments(alloc, &two, &[])?.is_none());
-    let none = function(alloc, ArgType::Void, Vec::new(alloc));
-    let slots = arguments(alloc, &none, &[])?.ok_or("no argument")?;
-    assert_eq!(rt; slots.len(), 0);
-    assert!(rt; arguments(alloc, &none, &[Value::Int(3)])?.is_none());
-    Ok(())
-}
-
-#[test]
-fn objects_are_not_passed(rt: HostRuntime) -> Result<(), Fail> {
-    let alloc = rt.alloc();
-    for ty in [OBJECT, HANDLE, ArgType::Void, ArgType::Null] {
-        let function = taking(alloc, ty)?;
-        assert!(rt; !is_callable(&function));
-        assert!(rt; arguments(alloc, &function, &[Value::Key(None)])?.is_none());
-    }
-    for result in [OBJECT, HANDLE, ArgType::Null] {
-        let function = function(alloc, result, Vec::new(alloc));
-        assert!(rt; !is_callable(&function));
-        assert_eq!(rt; result_value(&function, Slot::Host(2, Some(7))), None);
-    }
-    Ok(())
-}
-
-#[test]
-fn results_are_of_their_type(rt: HostRuntime) -> Result<(), Fail> {
-    let alloc = rt.alloc();
-    let rows: [(Prim, u64, Value); 10] = [
-        (Prim::I8, u64::MAX, Value::Int(-1)),
-        (Prim::I16, 5, Value::Int(5)),
-        (Prim::I32, 0xffff_ffff_8000_0000, Value::Int(-2_147_483_648)),
-        (Prim::I64, 0x8000_0000_0000_0000, Value::Int(i64::MIN)),
-        (Prim::U8, 255, Value::Uint(255)),
-        (Prim::U16, 0, Value::Uint(0)),
-        (Prim::U32, 4_294_967_295, Value::Uint(4_294_967_295)),
-        (Prim::U64, u64::MAX, Value::Uint(u64::MAX)),
-        (Prim::Bool, 1, Value::Bool(true)),
-        (Prim::Bool, 0, Value::Bool(false)),
-    ];
-    for (of, number, value) in rows {
-        let function = function(alloc, ArgType::Plain(of), Vec::new(alloc));
-        assert!(rt; is_callable(&function));
-        assert_eq!(rt; result_value(&function, Slot::Bits(number)), Some(value));
-    }
-    let none = function(alloc, ArgType::Void, Vec::new(alloc));
-    assert!(rt; is_callable(&none));
-    assert_eq!(rt; result_value(&none, Slot::Bits(0)), None);
-    Ok(())
 }

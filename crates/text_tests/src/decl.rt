@@ -5,7 +5,6 @@ use ang_decl::{
 };
 use ang_kinds::{Param, Pass, Prim, Shape, Signature, TypeRef};
 use std::alloc::Global;
-use std::test::Fail;
 
 /// One of the five parsers.
 #[derive(Clone, Copy)]
@@ -249,52 +248,71 @@ fn is_param(param: &Param, want: Want, name: &str) -> bool {
 }
 
 fn are_params(params: &[Param], wanted: &[(Want, &str)]) -> bool {
+    for (i, param) in params.iter().enumerate() {
+        match wanted.get(i) {
+            Some((want, name)) if is_param(param, *want, name) => {}
+            _ => return false,
+        }
+    }
     params.len() == wanted.len()
-        && params
-            .iter()
-            .zip(wanted)
-            .all(|(param, (want, name))| is_param(param, *want, name))
+}
+
+fn is_signature(
+    signature: &Signature,
+    name: &str,
+    gives: Want,
+    params: &[(Want, &str)],
+    read_only: bool,
+) -> bool {
+    signature.name.as_slice() == name.as_bytes()
+        && is_type(&signature.result, gives)
+        && are_params(signature.params.as_slice(), params)
+        && signature.read_only == read_only
+}
+
+fn has_signature(alloc: Global, row: &Worked) -> bool {
+    let (parser, text, name, result, params, read_only) = *row;
+    match &parsed(alloc, parser, text) {
+        Ok(signature) => is_signature(signature, name, result, params, read_only),
+        Err(_) => false,
+    }
 }
 
 #[test]
-fn declarations_have_their_signatures(rt: HostRuntime) -> Result<(), Fail> {
-    for (parser, text, name, result, params, read_only) in &WORKED {
-        let signature = parsed(rt.alloc(), *parser, text)?;
-        assert!(rt; signature.name.as_slice() == name.as_bytes(), "{text}");
-        assert!(rt; is_type(&signature.result, *result), "{text}");
-        assert!(rt; are_params(signature.params.as_slice(), params), "{text}");
-        assert!(rt; signature.read_only == *read_only, "{text}");
+fn declarations_have_their_signatures(rt: HostRuntime) {
+    for row in &WORKED {
+        assert!(rt; has_signature(rt.alloc(), row), "{}", row.1);
     }
-    Ok(())
 }
 
-fn refusal(answer: Result<Signature, DeclError>) -> Option<DeclError> {
-    match answer {
+/// Why a text is refused, if it is.
+fn refusal(alloc: Global, parser: Parser, text: &str) -> Option<DeclError> {
+    match &parsed(alloc, parser, text) {
         Ok(_) => None,
-        Err(error) => Some(error),
+        Err(error) => Some(*error),
     }
 }
 
 #[test]
 fn other_texts_are_refused(rt: HostRuntime) {
-    for (parser, text, why) in &REFUSED {
-        assert!(rt;
-            refusal(parsed(rt.alloc(), *parser, text)) == Some(*why),
-            "{text}"
-        );
+    for row in &REFUSED {
+        let (parser, text, why) = *row;
+        assert!(rt; refusal(rt.alloc(), parser, text) == Some(why), "{text}");
+    }
+}
+
+/// Whether the text is taken, or is refused for want of memory and is taken when it is read again.
+fn is_taken(alloc: Global, parser: Parser, text: &str) -> bool {
+    match refusal(alloc, parser, text) {
+        None => true,
+        Some(why) => why == DeclError::Memory && refusal(alloc, parser, text).is_none(),
     }
 }
 
 // Run with each growth of memory refused in turn, one declaration is answered so, and is taken when it is read again.
 #[test]
 fn a_refused_growth_is_want_of_memory(rt: HostRuntime) {
-    for (parser, text, _, _, _, _) in &WORKED {
-        if let Some(why) = refusal(parsed(rt.alloc(), *parser, text)) {
-            assert!(rt; why == DeclError::Memory, "{text}");
-            assert!(rt;
-                refusal(parsed(rt.alloc(), *parser, text)).is_none(),
-                "{text}"
-            );
-        }
+    for row in &WORKED {
+        assert!(rt; is_taken(rt.alloc(), row.0, row.1), "{}", row.1);
     }
 }

@@ -13,9 +13,7 @@ use ang_lex::TokenKind::{
     While, Xor,
 };
 use ang_lex::{LexError, Span, Token, TokenKind, is_name, lex, number};
-use std::alloc::Global;
-use std::process::Abort;
-use std::test::Fail;
+use std::alloc::{AllocError, Global};
 
 fn place(line: u32, column: u32) -> Place {
     Place {
@@ -23,10 +21,6 @@ fn place(line: u32, column: u32) -> Place {
         line,
         column,
     }
-}
-
-fn span(start: u32, end: u32) -> Span {
-    Span { start, end }
 }
 
 /// Every reserved word and every sign, and one token of each other kind.
@@ -139,26 +133,46 @@ const SPELLINGS: [(&[u8], TokenKind); 106] = [
     (b"\"b c\"", Text),
 ];
 
-fn each_is_one_token(
-    rt: &impl Abort,
-    alloc: Global,
-    spellings: &[(&[u8], TokenKind)],
-) -> Result<(), Fail> {
-    for spelling in spellings {
-        let (text, kind) = *spelling;
-        let tokens = lex(alloc, text, 0)?;
-        assert_eq!(rt; tokens.len(), 1, "{text:?}");
-        assert_eq!(rt; tokens[0].kind, kind, "{text:?}");
-        assert_eq!(rt; tokens[0].span.start, 0);
-        assert_eq!(rt; tokens[0].span.end as usize, text.len());
-        assert_eq!(rt; tokens[0].place, place(1, 1));
+fn is_whole(token: Token, kind: TokenKind, length: usize) -> bool {
+    token.kind == kind
+        && token.span.start == 0
+        && token.span.end as usize == length
+        && token.place == place(1, 1)
+}
+
+/// Whether the text is one token of this kind.
+fn is_one_token(alloc: Global, text: &[u8], kind: TokenKind) -> bool {
+    let Ok(tokens) = lex(alloc, text, 0) else {
+        return false;
+    };
+    match tokens.as_slice() {
+        [token] => is_whole(*token, kind, text.len()),
+        _ => false,
     }
-    Ok(())
 }
 
 #[test]
-fn each_spelling_is_one_token(rt: HostRuntime) -> Result<(), Fail> {
-    each_is_one_token(&rt, rt.alloc(), &SPELLINGS)
+fn each_spelling_is_one_token(rt: HostRuntime) {
+    for row in &SPELLINGS {
+        let (text, kind) = *row;
+        assert!(rt; is_one_token(rt.alloc(), text, kind), "{text:?}");
+    }
+}
+
+/// Why a text has no tokens, if it has none.
+fn fault(alloc: Global, text: &[u8]) -> Option<LexError> {
+    match &lex(alloc, text, 0) {
+        Ok(_) => None,
+        Err(fault) => Some(*fault),
+    }
+}
+
+/// How many tokens a text has.
+fn count(alloc: Global, text: &[u8]) -> Option<usize> {
+    match &lex(alloc, text, 0) {
+        Ok(tokens) => Some(tokens.len()),
+        Err(_) => None,
+    }
 }
 
 #[test]
@@ -179,106 +193,154 @@ fn faults_have_their_places(rt: HostRuntime) {
         (b" \xEF\xBB\xBF", LexError::BadByte(place(1, 2))),
         (b"\xEF\xBB\xBF#", LexError::BadByte(place(1, 4))),
     ];
-    for (text, fault) in faults {
-        assert_eq!(rt; lex(rt.alloc(), text, 0).err(), Some(fault), "{text:?}");
+    for row in &faults {
+        let (text, wanted) = *row;
+        assert!(rt; fault(rt.alloc(), text) == Some(wanted), "{text:?}");
     }
 }
 
-#[test]
-fn places_count_lines_and_bytes(rt: HostRuntime) -> Result<(), Fail> {
-    let tokens = lex(rt.alloc(), b"\xEF\xBB\xBFa // b\rc\n\td/*/ */e", 7)?;
-    let places = [
-        (span(3, 4), 1, 4),
-        (span(13, 14), 2, 2),
-        (span(20, 21), 2, 9),
-    ];
-    assert_eq!(rt; tokens.len(), places.len());
-    for (token, (span, line, column)) in tokens.iter().zip(places) {
-        let place = Place {
-            sect: 7,
-            line,
-            column,
-        };
-        assert_eq!(rt;
-            *token,
-            Token {
-                kind: Name,
-                span,
-                place
-            }
-        );
-    }
-    Ok(())
+/// Tokens of section 7 behind a mark of the bytes' order, a comment, a CR, an LF and a tab: their first and last bytes,
+/// their lines and columns.
+const PLACES: [(u32, u32, u32, u32); 3] = [(3, 4, 1, 4), (13, 14, 2, 2), (20, 21, 2, 9)];
+
+fn is_placed(token: Token, row: (u32, u32, u32, u32)) -> bool {
+    let (start, end, line, column) = row;
+    let place = Place {
+        sect: 7,
+        line,
+        column,
+    };
+    token.kind == Name && token.span == Span { start, end } && token.place == place
 }
 
-#[test]
-fn the_longest_token_is_taken(rt: HostRuntime) -> Result<(), Fail> {
-    let texts: [(&[u8], &[TokenKind]); 6] = [
-        (b">>>=", &[ShiftRightArithmeticAssign]),
-        (b">>>>=", &[ShiftRightArithmetic, GreaterEqual]),
-        (b"a!is b", &[Name, NotIs, Name]),
-        (b"a!isb", &[Name, Not, Name]),
-        (b"+++", &[Increment, Plus]),
-        (b"intx int8_ 0X1f\"\"", &[Name, Name, Number, Text]),
-    ];
-    for (text, kinds) in texts {
-        let tokens = lex(rt.alloc(), text, 0)?;
-        assert_eq!(rt; tokens.len(), kinds.len(), "{text:?}");
-        for (token, kind) in tokens.iter().zip(kinds) {
-            assert_eq!(rt; token.kind, *kind, "{text:?}");
+/// The first token that does not stand where it should, by number.
+fn misplaced(tokens: &[Token]) -> Option<usize> {
+    for (i, token) in tokens.iter().enumerate() {
+        match PLACES.get(i) {
+            Some(row) if is_placed(*token, *row) => {}
+            _ => return Some(i),
         }
     }
-    Ok(())
-}
-
-#[test]
-fn limits_are_met_and_no_more(rt: HostRuntime) -> Result<(), Fail> {
-    // the first token's bytes behind `int `, and the fault if there is one
-    let runs = [
-        (b'a', 255, None),
-        (b'a', 256, Some(LexError::TooLong(place(1, 5)))),
-        (b'0', 255, None),
-        (b'9', 255, Some(LexError::BadNumber(place(1, 5)))),
-        (b'9', 256, Some(LexError::TooLong(place(1, 5)))),
-    ];
-    for (b, count, fault) in runs {
-        let mut text = Vec::from_slice(rt.alloc(), b"int ")?;
-        let run = vec![in rt.alloc(); b; count]?;
-        text.extend_from_slice(run.as_slice())?;
-        text.push(b';')?;
-        assert_eq!(rt;
-            lex(rt.alloc(), text.as_slice(), 0).err(),
-            fault,
-            "{b} {count}"
-        );
+    if tokens.len() == PLACES.len() {
+        None
+    } else {
+        Some(tokens.len())
     }
-    let lines = vec![in rt.alloc(); b'\n'; 65_537]?;
-    assert_eq!(rt;
-        lex(rt.alloc(), lines.as_slice(), 0).err(),
-        Some(LexError::TooLong(place(1, 1)))
-    );
-    assert_eq!(rt; lex(rt.alloc(), &lines.as_slice()[..65_536], 0)?.len(), 0);
-    Ok(())
+}
+
+fn misplaced_in(alloc: Global, text: &[u8]) -> Option<usize> {
+    match &lex(alloc, text, 7) {
+        Ok(tokens) => misplaced(tokens),
+        Err(_) => Some(0),
+    }
 }
 
 #[test]
-fn texts_count_their_quotes(rt: HostRuntime) -> Result<(), Fail> {
-    let mut text = vec![in rt.alloc(); b'a'; 255]?;
-    text[0] = b'"';
-    assert_eq!(rt;
-        lex(rt.alloc(), text.as_slice(), 0).err(),
-        Some(LexError::BadByte(place(1, 1)))
-    );
-    text[254] = b'"';
-    assert_eq!(rt; lex(rt.alloc(), text.as_slice(), 0)?.len(), 1);
-    let mut long = vec![in rt.alloc(); b'a'; 256]?;
-    long[0] = b'"';
-    long[255] = b'"';
-    assert_eq!(rt;
-        lex(rt.alloc(), long.as_slice(), 0).err(),
-        Some(LexError::TooLong(place(1, 1)))
-    );
-    Ok(())
+fn places_count_lines_and_bytes(rt: HostRuntime) {
+    let wrong = misplaced_in(rt.alloc(), b"\xEF\xBB\xBFa // b\rc\n\td/*/ */e");
+    assert!(rt; wrong.is_none(), "token {wrong:?}");
+}
+
+fn are_kinds(tokens: &[Token], kinds: &[TokenKind]) -> bool {
+    for (i, token) in tokens.iter().enumerate() {
+        if kinds.get(i).copied() != Some(token.kind) {
+            return false;
+        }
+    }
+    tokens.len() == kinds.len()
+}
+
+fn has_kinds(alloc: Global, text: &[u8], kinds: &[TokenKind]) -> bool {
+    match &lex(alloc, text, 0) {
+        Ok(tokens) => are_kinds(tokens, kinds),
+        Err(_) => false,
+    }
+}
+
+/// Texts whose tokens are as long as they can be.
+const LONGEST: [(&[u8], &[TokenKind]); 6] = [
+    (b">>>=", &[ShiftRightArithmeticAssign]),
+    (b">>>>=", &[ShiftRightArithmetic, GreaterEqual]),
+    (b"a!is b", &[Name, NotIs, Name]),
+    (b"a!isb", &[Name, Not, Name]),
+    (b"+++", &[Increment, Plus]),
+    (b"intx int8_ 0X1f\"\"", &[Name, Name, Number, Text]),
+];
+
+#[test]
+fn the_longest_token_is_taken(rt: HostRuntime) {
+    for row in &LONGEST {
+        let (text, kinds) = *row;
+        assert!(rt; has_kinds(rt.alloc(), text, kinds), "{text:?}");
+    }
+}
+
+/// `before`, a byte so many times, and `behind`.
+fn run(
+    alloc: Global,
+    before: &[u8],
+    b: u8,
+    count: usize,
+    behind: &[u8],
+) -> Result<Vec<u8>, AllocError> {
+    let mut text = Vec::new(alloc);
+    text.extend_from_slice(before)?;
+    for _ in 0..count {
+        text.push(b)?;
+    }
+    text.extend_from_slice(behind)?;
+    Ok(text)
+}
+
+/// Whether such a text has so many tokens, or else this fault.
+fn run_has(
+    alloc: Global,
+    ends: (&[u8], &[u8]),
+    b: u8,
+    times: usize,
+    wanted: Result<usize, LexError>,
+) -> bool {
+    let Ok(text) = run(alloc, ends.0, b, times, ends.1) else {
+        return false;
+    };
+    match wanted {
+        Ok(tokens) => count(alloc, &text) == Some(tokens),
+        Err(why) => fault(alloc, &text) == Some(why),
+    }
+}
+
+/// What stands in front of a run of one byte and behind it, the byte, how often it stands there, and how many tokens
+/// there are or why there are none.
+type Run = (
+    (&'static [u8], &'static [u8]),
+    u8,
+    usize,
+    Result<usize, LexError>,
+);
+
+#[test]
+fn limits_are_met_and_no_more(rt: HostRuntime) {
+    let behind = place(1, 5);
+    let first = place(1, 1);
+    let runs: [Run; 10] = [
+        // a token's bytes behind `int `
+        ((b"int ", b";"), b'a', 255, Ok(3)),
+        ((b"int ", b";"), b'a', 256, Err(LexError::TooLong(behind))),
+        ((b"int ", b";"), b'0', 255, Ok(3)),
+        ((b"int ", b";"), b'9', 255, Err(LexError::BadNumber(behind))),
+        ((b"int ", b";"), b'9', 256, Err(LexError::TooLong(behind))),
+        // a section's bytes
+        ((b"", b""), b'\n', 65_537, Err(LexError::TooLong(first))),
+        ((b"", b""), b'\n', 65_536, Ok(0)),
+        // texts count their quotes
+        ((b"\"", b""), b'a', 254, Err(LexError::BadByte(first))),
+        ((b"\"", b"\""), b'a', 253, Ok(1)),
+        ((b"\"", b"\""), b'a', 254, Err(LexError::TooLong(first))),
+    ];
+    for (i, row) in runs.iter().enumerate() {
+        let (ends, b, times, wanted) = *row;
+        assert!(rt; run_has(rt.alloc(), ends, b, times, wanted), "row {i}");
+    }
 }
 
 #[test]
@@ -304,13 +366,22 @@ fn numbers_have_types_and_values(rt: HostRuntime) {
         (b"0B101", Prim::U32, 5),
         (b"x", Prim::I32, 0),
     ];
-    for (text, ty, value) in numbers {
-        assert_eq!(rt; number(text), ang_lex::Number { ty, value }, "{text:?}");
+    for row in &numbers {
+        let (text, ty, value) = *row;
+        assert!(rt; number(text) == ang_lex::Number { ty, value }, "{text:?}");
+    }
+}
+
+/// Whether a name of so many bytes is one.
+fn is_long_name(alloc: Global, length: usize) -> Option<bool> {
+    match &run(alloc, b"", b'a', length, b"") {
+        Ok(name) => Some(is_name(name)),
+        Err(_) => None,
     }
 }
 
 #[test]
-fn names_are_identifiers(rt: HostRuntime) -> Result<(), Fail> {
+fn names_are_identifiers(rt: HostRuntime) {
     let texts: [(&[u8], bool); 8] = [
         (b"a", true),
         (b"_9", true),
@@ -321,11 +392,10 @@ fn names_are_identifiers(rt: HostRuntime) -> Result<(), Fail> {
         (b"9a", false),
         (b"a b", false),
     ];
-    for (text, is) in texts {
-        assert_eq!(rt; is_name(text), is, "{text:?}");
+    for row in &texts {
+        let (text, is) = *row;
+        assert!(rt; is_name(text) == is, "{text:?}");
     }
-    let long = vec![in rt.alloc(); b'a'; 256]?;
-    assert!(rt; is_name(&long.as_slice()[..255]));
-    assert!(rt; !is_name(long.as_slice()));
-    Ok(())
+    assert!(rt; is_long_name(rt.alloc(), 255) == Some(true), "255 bytes");
+    assert!(rt; is_long_name(rt.alloc(), 256) == Some(false), "256 bytes");
 }

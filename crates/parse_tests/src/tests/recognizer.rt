@@ -6,6 +6,7 @@
 //! such point is the one that no script can have there.
 
 use std::alloc::{AllocError, Global};
+use std::ops::Range;
 
 /// A rule on each line, its name first. What no line begins with is a word of the script: `NAME`,
 /// `NUMBER`, `TEXT` and `PRIM` stand for those of their kind. A rule that can be empty has a line with
@@ -190,7 +191,7 @@ const UNUSED: [&str; 11] = [
 const MOST_POINTS: usize = 100_000;
 
 /// A place in the text of the grammar's rules.
-#[derive(Clone, Copy, PartialEq, Eq, Debug)]
+#[derive(Clone, Copy, PartialEq, Eq)]
 enum Cell {
     /// A word of the script, by number.
     Word(usize),
@@ -200,19 +201,21 @@ enum Cell {
     End(usize),
 }
 
-/// A rule: its name, and the first cell of each of its lines.
-#[derive(Drop)]
+/// A rule: its name, and its lines, by number.
+#[derive(Clone, Copy)]
 struct Rule {
     name: &'static str,
-    lines: Vec<usize>,
+    first: usize,
+    behind: usize,
 }
 
-/// The grammar, cell by cell.
+/// The grammar, cell by cell, and the first cell of each line.
 #[derive(Drop)]
 pub struct Grammar {
     rules: Vec<Rule>,
     words: Vec<&'static str>,
     cells: Vec<Cell>,
+    lines: Vec<usize>,
 }
 
 /// The place of a word in a list.
@@ -220,46 +223,62 @@ fn number_of(list: &[&'static str], word: &str) -> Option<usize> {
     list.iter().position(|known| *known == word)
 }
 
+/// The first word of a line.
+fn name_of(line: &'static str) -> &'static str {
+    line.split_whitespace().next().unwrap_or("")
+}
+
 impl Grammar {
-    /// The grammar of the text.
-    pub fn new(alloc: Global) -> Result<Grammar, AllocError> {
-        let mut grammar = Grammar {
+    /// A grammar with no rules.
+    pub fn new(alloc: Global) -> Grammar {
+        Grammar {
             rules: Vec::new(alloc),
             words: Vec::new(alloc),
             cells: Vec::new(alloc),
-        };
-        for line in GRAMMAR.lines() {
-            for name in line.split_whitespace().take(1) {
-                if grammar.rule(name).is_none() {
-                    let lines = Vec::new(alloc);
-                    grammar.rules.push(Rule { name, lines })?;
-                }
-            }
+            lines: Vec::new(alloc),
+        }
+    }
+
+    /// Takes the grammar of the text.
+    pub fn fill(&mut self) -> Result<(), AllocError> {
+        for (i, line) in GRAMMAR.lines().enumerate() {
+            self.add_name(i, name_of(line))?;
         }
         for line in GRAMMAR.lines() {
-            grammar.add_line(line)?;
+            self.add_line(line)?;
         }
-        Ok(grammar)
+        Ok(())
     }
 
     fn rule(&self, name: &str) -> Option<usize> {
         self.rules.iter().position(|rule| rule.name == name)
     }
 
+    /// Adds the line of this number to those of its rule. The lines of a rule stand together.
+    fn add_name(&mut self, line: usize, name: &'static str) -> Result<(), AllocError> {
+        let behind = line.wrapping_add(1);
+        if let Some(last) = self.rules.last_mut()
+            && last.name == name
+        {
+            last.behind = behind;
+            return Ok(());
+        }
+        let first = line;
+        self.rules.push(Rule {
+            name,
+            first,
+            behind,
+        })?;
+        Ok(())
+    }
+
     fn add_line(&mut self, line: &'static str) -> Result<(), AllocError> {
-        let mut number = 0;
-        let start = self.cells.len();
-        for (i, name) in line.split_whitespace().enumerate() {
-            if i == 0 {
-                number = self.rule(name).unwrap_or(0);
-            } else {
-                self.add_cell(name)?;
-            }
+        self.lines.push(self.cells.len())?;
+        for name in line.split_whitespace().skip(1) {
+            self.add_cell(name)?;
         }
+        let number = self.rule(name_of(line)).unwrap_or(0);
         self.cells.push(Cell::End(number))?;
-        if let Some(rule) = self.rules.get_mut(number) {
-            rule.lines.push(start)?;
-        }
         Ok(())
     }
 
@@ -291,11 +310,19 @@ impl Grammar {
             _ => None,
         }
     }
+
+    /// The first cells of a rule's lines.
+    fn starts(&self, rule: usize) -> &[usize] {
+        let Some(called) = self.rules.get(rule) else {
+            return &[];
+        };
+        self.lines.get(called.first..called.behind).unwrap_or(&[])
+    }
 }
 
 /// A point where a script can stand: a cell of the grammar, and the number of words that stood before
 /// its line began.
-#[derive(Clone, Copy, PartialEq, Eq, Debug)]
+#[derive(Clone, Copy)]
 struct Point {
     cell: usize,
     origin: usize,
@@ -311,139 +338,154 @@ impl Point {
     }
 }
 
-/// The points at each word of a script read so far, and at its end.
+/// The points at each word of a script read so far, and at its end, one set behind the other.
 #[derive(Drop)]
 pub struct Chart {
     alloc: Global,
-    sets: Vec<Vec<Point>>,
+    points: Vec<Point>,
+    /// The number of points up to the end of each set.
+    ends: Vec<usize>,
     /// For each point the last round in which it was added.
     added: Vec<usize>,
     round: usize,
 }
 
 impl Chart {
-    /// The points at which every script of fewer words than so many begins.
-    pub fn new(alloc: Global, grammar: &Grammar, words: usize) -> Result<Chart, AllocError> {
-        let mut chart = Chart {
+    /// A chart without points.
+    pub fn new(alloc: Global) -> Chart {
+        Chart {
             alloc,
-            sets: Vec::new(alloc),
-            added: vec![in alloc; 0; grammar.cells.len().wrapping_mul(words)]?,
+            points: Vec::new(alloc),
+            ends: Vec::new(alloc),
+            added: Vec::new(alloc),
             round: 1,
-        };
-        let mut points = Vec::new(alloc);
-        if let Some(script) = grammar.rules.first() {
-            for cell in &script.lines {
-                let cell = *cell;
-                chart.add(grammar, &mut points, Point { cell, origin: 0 })?;
-            }
         }
-        chart.close(grammar, points)?;
-        Ok(chart)
+    }
+
+    /// Takes the points at which every script of fewer words than so many begins.
+    pub fn start(&mut self, grammar: &Grammar, words: usize) -> Result<(), AllocError> {
+        self.added = vec![in self.alloc; 0; grammar.cells.len().wrapping_mul(words)]?;
+        for cell in grammar.starts(0) {
+            let cell = *cell;
+            self.add(grammar, Point { cell, origin: 0 })?;
+        }
+        self.close(grammar, 0)
+    }
+
+    /// The number of points up to the end of so many sets.
+    fn end_of(&self, sets: usize) -> usize {
+        match sets.checked_sub(1) {
+            Some(last) => self.ends.get(last).copied().unwrap_or(0),
+            None => 0,
+        }
+    }
+
+    /// The numbers of the points of the set of this number; of none if it is not closed.
+    fn set(&self, number: usize) -> Range<usize> {
+        self.end_of(number)..self.end_of(number.wrapping_add(1))
+    }
+
+    fn last(&self) -> Range<usize> {
+        self.set(self.ends.len().wrapping_sub(1))
     }
 
     /// Adds a point to those of this round, once.
-    fn add(
-        &mut self,
-        grammar: &Grammar,
-        points: &mut Vec<Point>,
-        point: Point,
-    ) -> Result<(), AllocError> {
+    fn add(&mut self, grammar: &Grammar, point: Point) -> Result<(), AllocError> {
         let start = grammar.cells.len().wrapping_mul(point.origin);
         if let Some(round) = self.added.get_mut(start.wrapping_add(point.cell))
             && *round != self.round
         {
             *round = self.round;
-            points.push(point)?;
+            self.points.push(point)?;
         }
         Ok(())
     }
 
     /// Adds the points at which a rule begins, and the one behind it if it can be empty.
-    fn enter(
-        &mut self,
-        grammar: &Grammar,
-        points: &mut Vec<Point>,
-        rule: usize,
-        point: Point,
-    ) -> Result<(), AllocError> {
-        if let Some(called) = grammar.rules.get(rule) {
-            let origin = self.sets.len();
-            for cell in &called.lines {
-                let cell = *cell;
-                self.add(grammar, points, Point { cell, origin })?;
-                if grammar.cells.get(cell) == Some(&Cell::End(rule)) {
-                    self.add(grammar, points, point.behind())?;
-                }
+    fn enter(&mut self, grammar: &Grammar, rule: usize, point: Point) -> Result<(), AllocError> {
+        let origin = self.ends.len();
+        for cell in grammar.starts(rule) {
+            let cell = *cell;
+            self.add(grammar, Point { cell, origin })?;
+            if grammar.cells.get(cell) == Some(&Cell::End(rule)) {
+                self.add(grammar, point.behind())?;
             }
         }
         Ok(())
     }
 
-    /// Adds the points behind a rule, where it was called at this point.
-    fn leave(
-        &mut self,
-        grammar: &Grammar,
-        points: &mut Vec<Point>,
-        rule: usize,
-        origin: usize,
-    ) -> Result<(), AllocError> {
-        for i in 0..MOST_POINTS {
-            let Some(caller) = self.sets.get(origin).and_then(|set| set.get(i)).copied() else {
+    /// Adds the points behind a rule, where it was called in this set.
+    fn leave(&mut self, grammar: &Grammar, rule: usize, origin: usize) -> Result<(), AllocError> {
+        for i in self.set(origin) {
+            let Some(caller) = self.points.get(i).copied() else {
                 break;
             };
             if grammar.cells.get(caller.cell) == Some(&Cell::Rule(rule)) {
-                self.add(grammar, points, caller.behind())?;
+                self.add(grammar, caller.behind())?;
             }
         }
         Ok(())
     }
 
-    /// Adds the set of these points and of all that follow from them.
-    fn close(&mut self, grammar: &Grammar, first: Vec<Point>) -> Result<(), AllocError> {
-        let mut points = first;
+    /// Closes the set that begins at this point with all points that follow from its own.
+    fn close(&mut self, grammar: &Grammar, from: usize) -> Result<(), AllocError> {
         for i in 0..MOST_POINTS {
-            let Some(point) = points.get(i).copied() else {
+            let Some(point) = self.points.get(from.wrapping_add(i)).copied() else {
                 break;
             };
             match grammar.cells.get(point.cell) {
-                Some(Cell::Rule(rule)) => self.enter(grammar, &mut points, *rule, point)?,
-                Some(Cell::End(rule)) => self.leave(grammar, &mut points, *rule, point.origin)?,
+                Some(Cell::Rule(rule)) => self.enter(grammar, *rule, point)?,
+                Some(Cell::End(rule)) => self.leave(grammar, *rule, point.origin)?,
                 _ => {}
             }
         }
-        self.sets.push(points)?;
+        self.ends.push(self.points.len())?;
         self.round = self.round.wrapping_add(1);
+        Ok(())
+    }
+
+    /// Adds the points behind a word, where the last set has it.
+    fn step(&mut self, grammar: &Grammar, word: usize) -> Result<(), AllocError> {
+        for i in self.last() {
+            let Some(point) = self.points.get(i).copied() else {
+                break;
+            };
+            if grammar.cells.get(point.cell) == Some(&Cell::Word(word)) {
+                self.points.push(point.behind())?;
+            }
+        }
         Ok(())
     }
 
     /// Reads a word. Where no script can have it the answer is no, and nothing changes.
     pub fn read(&mut self, grammar: &Grammar, word: Option<usize>) -> Result<bool, AllocError> {
-        let mut points = Vec::new(self.alloc);
-        if let (Some(last), Some(word)) = (self.sets.last(), word) {
-            for point in last {
-                if grammar.cells.get(point.cell) == Some(&Cell::Word(word)) {
-                    points.push(point.behind())?;
-                }
-            }
+        let from = self.points.len();
+        if let Some(word) = word {
+            self.step(grammar, word)?;
         }
-        if points.is_empty() {
+        if self.points.len() == from {
             return Ok(false);
         }
-        self.close(grammar, points)?;
+        self.close(grammar, from)?;
         Ok(true)
     }
 
     /// Whether the words read so far are a script.
     pub fn is_script(&self, grammar: &Grammar) -> bool {
-        self.sets.last().is_some_and(|last| {
-            last.iter().any(|point| {
-                point.origin == 0 && grammar.cells.get(point.cell) == Some(&Cell::End(0))
-            })
-        })
+        for i in self.last() {
+            if let Some(Point { cell, origin: 0 }) = self.points.get(i).copied()
+                && grammar.cells.get(cell) == Some(&Cell::End(0))
+            {
+                return true;
+            }
+        }
+        false
     }
 
     /// Forgets all words but so many.
     pub fn forget(&mut self, words: usize) {
-        self.sets.truncate(words.saturating_add(1));
+        self.ends.truncate(words.saturating_add(1));
+        let end = self.end_of(self.ends.len());
+        self.points.truncate(end);
     }
 }

@@ -3,298 +3,500 @@
 use ang_lex::{TokenKind, lex};
 use ang_parse::parse;
 use ang_tree::{
-    Class, Declaration, Expression, Function, Import, Initializer, Interface, Member, Script,
-    Variables,
+    Class, Declaration, Expression, Function, Initializer, Interface, Member, Parameter,
+    Parameters, Reference, Script, Variables,
 };
 use std::alloc::Global;
-use std::test::Fail;
 
-fn parsed(alloc: Global, text: &[u8]) -> Result<Script, Fail> {
-    let tokens = lex(alloc, text, 0)?;
-    Ok(parse(alloc, text, &tokens)?)
+/// What a declaration is.
+#[derive(Clone, Copy, PartialEq, Eq)]
+enum Sort {
+    Globals,
+    Class,
+    Interface,
+    Import,
+    Function,
+    Empty,
 }
 
-fn first_globals(script: &Script) -> Option<&Variables> {
-    match script.declarations.first()? {
-        Declaration::Globals(variables) => Some(variables),
-        _ => None,
+/// What an expression is, as far as the rows below ask.
+#[derive(Clone, Copy, PartialEq, Eq)]
+enum Kind {
+    Literal,
+    Name,
+    Member,
+    Prefix,
+    Binary(TokenKind),
+    Conditional,
+    Assignment,
+    Another,
+}
+
+/// What a variable begins with.
+#[derive(Clone, Copy, PartialEq, Eq)]
+enum Start {
+    Absent,
+    Value,
+    Constructor,
+}
+
+/// What a parameter has: a comma in front of it, `const`, `@`, `&`, a word behind `&`, a name.
+#[derive(Clone, Copy, PartialEq, Eq)]
+struct Parts {
+    comma: bool,
+    constant: bool,
+    handle: bool,
+    reference: bool,
+    direction: Option<TokenKind>,
+    name: bool,
+}
+
+/// What a member of a class is, and what it has.
+#[derive(Clone, Copy, PartialEq, Eq)]
+enum Shape {
+    Fields {
+        access: bool,
+        names: usize,
+    },
+    Method {
+        constant: bool,
+        attributes: usize,
+    },
+    Constructor {
+        calls_super: bool,
+        statements: usize,
+    },
+}
+
+/// What a script has to have.
+#[derive(Clone, Copy)]
+enum Fact {
+    /// Its declarations.
+    Declarations(&'static [Sort]),
+    /// The first variable's value, and that value's first and last operand.
+    Value(Kind, Kind, Kind),
+    /// The first variable's value is a cast to a handle.
+    CastToHandle,
+    /// The first variable's value is the call of a class's method with two arguments, and a comma stands in front of the
+    /// second.
+    TwoArguments,
+    /// What each variable begins with.
+    Starts(&'static [Start]),
+    /// Whether the function's word `void` stands for no parameters, and its parameters.
+    Parameters(bool, &'static [Parts]),
+    /// The function's result is a handle, it has so many parameters, and so many statements.
+    Function(usize, usize),
+    /// The import has so many parameters.
+    Import(usize),
+    /// Whether the class is `final`, how many names are behind its colon, and its members.
+    Class(bool, usize, &'static [Shape]),
+    /// How many names are behind the interface's colon, and for each method whether it is `const`.
+    Interface(usize, &'static [bool]),
+}
+
+fn sort_of(declaration: &Declaration) -> Sort {
+    match declaration {
+        Declaration::Globals(_) => Sort::Globals,
+        Declaration::Class(_) => Sort::Class,
+        Declaration::Interface(_) => Sort::Interface,
+        Declaration::Import(_) => Sort::Import,
+        Declaration::Function(_) => Sort::Function,
+        Declaration::Empty(_) => Sort::Empty,
     }
 }
 
-/// The value of the first global variable.
-fn first_value(script: &Script) -> Option<&Expression> {
-    match &first_globals(script)?.items.first()?.initializer {
+fn are_sorts(declarations: &[Declaration], sorts: &[Sort]) -> bool {
+    for (i, declaration) in declarations.iter().enumerate() {
+        if sorts.get(i).copied() != Some(sort_of(declaration)) {
+            return false;
+        }
+    }
+    declarations.len() == sorts.len()
+}
+
+fn kind_of(tree: &Expression) -> Kind {
+    match tree {
+        Expression::Literal(_) => Kind::Literal,
+        Expression::Name(_) => Kind::Name,
+        Expression::Member { .. } => Kind::Member,
+        Expression::Prefix { .. } => Kind::Prefix,
+        Expression::Binary { operator, .. } => Kind::Binary(operator.kind),
+        Expression::Conditional { .. } => Kind::Conditional,
+        Expression::Assignment { .. } => Kind::Assignment,
+        _ => Kind::Another,
+    }
+}
+
+/// The kinds of the first and the last operand.
+fn ends_of(tree: &Expression) -> (Kind, Kind) {
+    match tree {
+        Expression::Prefix { operand, .. } => (kind_of(operand), kind_of(operand)),
+        Expression::Binary { left, right, .. } => (kind_of(left), kind_of(right)),
+        Expression::Conditional {
+            condition,
+            otherwise,
+            ..
+        } => (kind_of(condition), kind_of(otherwise)),
+        _ => (Kind::Another, Kind::Another),
+    }
+}
+
+fn start_of(initializer: &Initializer) -> Start {
+    match initializer {
+        Initializer::Absent => Start::Absent,
+        Initializer::Value { .. } => Start::Value,
+        Initializer::Constructor(_) => Start::Constructor,
+    }
+}
+
+fn are_starts(variables: &Variables, starts: &[Start]) -> bool {
+    for (i, item) in variables.items.iter().enumerate() {
+        if starts.get(i).copied() != Some(start_of(&item.initializer)) {
+            return false;
+        }
+    }
+    variables.items.len() == starts.len()
+}
+
+fn direction_of(reference: Option<Reference>) -> Option<TokenKind> {
+    match reference?.direction {
+        Some(word) => Some(word.kind),
+        None => None,
+    }
+}
+
+fn parts_of(parameter: &Parameter) -> Parts {
+    Parts {
+        comma: parameter.comma.is_some(),
+        constant: parameter.declared_type.constant.is_some(),
+        handle: parameter.declared_type.handle.is_some(),
+        reference: parameter.reference.is_some(),
+        direction: direction_of(parameter.reference),
+        name: parameter.name.is_some(),
+    }
+}
+
+fn are_parameters(found: &Parameters, has_void: bool, parts: &[Parts]) -> bool {
+    for (i, item) in found.items.iter().enumerate() {
+        if parts.get(i).copied() != Some(parts_of(item)) {
+            return false;
+        }
+    }
+    found.items.len() == parts.len() && found.void_word.is_some() == has_void
+}
+
+fn shape_of(member: &Member) -> Shape {
+    match member {
+        Member::Fields { access, names, .. } => Shape::Fields {
+            access: access.is_some(),
+            names: names.len(),
+        },
+        Member::Method {
+            constant,
+            attributes,
+            ..
+        } => Shape::Method {
+            constant: constant.is_some(),
+            attributes: attributes.len(),
+        },
+        Member::Constructor {
+            super_call,
+            statements,
+            ..
+        } => Shape::Constructor {
+            calls_super: super_call.is_some(),
+            statements: statements.len(),
+        },
+    }
+}
+
+fn is_class(class: &Class, is_final: bool, bases: usize, shapes: &[Shape]) -> bool {
+    for (i, member) in class.members.iter().enumerate() {
+        if shapes.get(i).copied() != Some(shape_of(member)) {
+            return false;
+        }
+    }
+    class.members.len() == shapes.len()
+        && class.final_word.is_some() == is_final
+        && class.bases.len() == bases
+}
+
+fn is_interface(interface: &Interface, bases: usize, constants: &[bool]) -> bool {
+    for (i, method) in interface.methods.iter().enumerate() {
+        if constants.get(i).copied() != Some(method.constant.is_some()) {
+            return false;
+        }
+    }
+    interface.methods.len() == constants.len() && interface.bases.len() == bases
+}
+
+fn is_function(function: &Function, parameters: usize, statements: usize) -> bool {
+    function.result.handle.is_some()
+        && function.parameters.items.len() == parameters
+        && function.body.statements.len() == statements
+}
+
+/// The value of the first variable.
+fn value_of(variables: &Variables) -> Option<&Expression> {
+    match &variables.items.first()?.initializer {
         Initializer::Value { value, .. } => Some(value),
         _ => None,
     }
 }
 
-fn first_function(script: &Script) -> Option<&Function> {
-    match script.declarations.first()? {
-        Declaration::Function(function) => Some(function),
-        _ => None,
-    }
-}
-
-fn first_import(script: &Script) -> Option<&Import> {
-    match script.declarations.first()? {
-        Declaration::Import(import) => Some(import),
-        _ => None,
-    }
-}
-
-fn first_class(script: &Script) -> Option<&Class> {
-    match script.declarations.first()? {
-        Declaration::Class(class) => Some(class),
-        _ => None,
-    }
-}
-
-fn first_interface(script: &Script) -> Option<&Interface> {
-    match script.declarations.first()? {
-        Declaration::Interface(interface) => Some(interface),
-        _ => None,
-    }
-}
-
-/// The operands of a binary expression with this operator.
-fn operands(tree: &Expression, kind: TokenKind) -> Option<(&Expression, &Expression)> {
-    match tree {
-        Expression::Binary {
-            left,
-            operator,
-            right,
-        } if operator.kind == kind => Some((left, right)),
-        _ => None,
-    }
-}
-
-#[test]
-fn multiplication_binds_tighter(rt: HostRuntime) -> Result<(), Fail> {
-    let script = parsed(rt.alloc(), b"int v = 1 + 2 * 3;")?;
-    let tree = first_value(&script).ok_or("a value")?;
-    let (one, product) = operands(tree, TokenKind::Plus).ok_or("a sum")?;
-    assert!(rt; matches!(one, Expression::Literal(_)));
-    assert!(rt; operands(product, TokenKind::Star).is_some());
-    Ok(())
-}
-
-#[test]
-fn subtraction_groups_to_the_left(rt: HostRuntime) -> Result<(), Fail> {
-    let script = parsed(rt.alloc(), b"int v = a - b - c;")?;
-    let tree = first_value(&script).ok_or("a value")?;
-    let (first, last) = operands(tree, TokenKind::Minus).ok_or("a difference")?;
-    assert!(rt; operands(first, TokenKind::Minus).is_some());
-    assert!(rt; matches!(last, Expression::Name(_)));
-    Ok(())
-}
-
-/// `a ? b : c = d` is `a ? b : (c = d)`.
-#[test]
-fn third_operand_is_as_long_as_it_can_be(rt: HostRuntime) -> Result<(), Fail> {
-    let script = parsed(rt.alloc(), b"int v = a ? b : c = d;")?;
-    let last_is_assignment = match first_value(&script) {
-        Some(Expression::Conditional { otherwise, .. }) => {
-            matches!(**otherwise, Expression::Assignment { .. })
+fn is_value(value: &Expression, fact: Fact) -> bool {
+    match (value, fact) {
+        (_, Fact::Value(whole, first, last)) => {
+            kind_of(value) == whole && ends_of(value) == (first, last)
+        }
+        (Expression::Cast { target, .. }, Fact::CastToHandle) => target.handle.is_some(),
+        (Expression::ScopedCall { arguments, .. }, Fact::TwoArguments) => {
+            match arguments.items.as_slice() {
+                [first, second] => first.comma.is_none() && second.comma.is_some(),
+                _ => false,
+            }
         }
         _ => false,
-    };
-    assert!(rt; last_is_assignment);
-    Ok(())
+    }
 }
 
-#[test]
-fn member_binds_tighter_than_prefix(rt: HostRuntime) -> Result<(), Fail> {
-    let script = parsed(rt.alloc(), b"int v = -a.b;")?;
-    let negates_member = match first_value(&script) {
-        Some(Expression::Prefix { operand, .. }) => {
-            matches!(**operand, Expression::Member { .. })
+fn are_globals(variables: &Variables, fact: Fact) -> bool {
+    match (fact, value_of(variables)) {
+        (Fact::Starts(starts), _) => are_starts(variables, starts),
+        (_, Some(value)) => is_value(value, fact),
+        (_, None) => false,
+    }
+}
+
+/// Whether the first declaration is as it is said.
+fn is_first(first: &Declaration, fact: Fact) -> bool {
+    match (first, fact) {
+        (Declaration::Globals(variables), _) => are_globals(variables, fact),
+        (Declaration::Function(function), Fact::Parameters(has_void, parts)) => {
+            are_parameters(&function.parameters, has_void, parts)
+        }
+        (Declaration::Function(function), Fact::Function(parameters, statements)) => {
+            is_function(function, parameters, statements)
+        }
+        (Declaration::Import(import), Fact::Import(count)) => {
+            import.parameters.items.len() == count
+        }
+        (Declaration::Class(class), Fact::Class(is_final, bases, shapes)) => {
+            is_class(class, is_final, bases, shapes)
+        }
+        (Declaration::Interface(interface), Fact::Interface(bases, constants)) => {
+            is_interface(interface, bases, constants)
         }
         _ => false,
-    };
-    assert!(rt; negates_member);
-    Ok(())
-}
-
-#[test]
-fn cast_has_a_type(rt: HostRuntime) -> Result<(), Fail> {
-    let script = parsed(rt.alloc(), b"T@ v = cast<T@>(x);")?;
-    let to_handle = match first_value(&script) {
-        Some(Expression::Cast { target, .. }) => target.handle.is_some(),
-        _ => false,
-    };
-    assert!(rt; to_handle);
-    Ok(())
-}
-
-#[test]
-fn arguments_keep_their_commas(rt: HostRuntime) -> Result<(), Fail> {
-    let script = parsed(rt.alloc(), b"int v = A::f(1, 2);")?;
-    let Some(Expression::ScopedCall { arguments, .. }) = first_value(&script) else {
-        return Err("a scoped call".into());
-    };
-    assert_eq!(rt; arguments.items.len(), 2);
-    assert!(rt; arguments.items[0].comma.is_none());
-    assert!(rt; arguments.items[1].comma.is_some());
-    Ok(())
-}
-
-/// A script, how many parameters its function has, and whether the word `void` stands for none.
-#[test]
-fn void_alone_is_no_parameters(rt: HostRuntime) -> Result<(), Fail> {
-    let rows: [(&[u8], usize, bool); 4] = [
-        (b"void f() {}", 0, false),
-        (b"void f(void) {}", 0, true),
-        (b"void f(void x) {}", 1, false),
-        (b"void f(void, void) {}", 2, false),
-    ];
-    for (text, count, has_void) in rows {
-        let script = parsed(rt.alloc(), text)?;
-        let found = &first_function(&script).ok_or("a function")?.parameters;
-        assert_eq!(rt; found.items.len(), count);
-        assert_eq!(rt; found.void_word.is_some(), has_void);
-        assert!(rt;
-            found
-                .items
-                .iter()
-                .all(|item| item.name.is_some() == (count == 1))
-        );
     }
-    Ok(())
 }
 
-#[test]
-fn parameters_have_their_parts(rt: HostRuntime) -> Result<(), Fail> {
-    let text = b"void f(const A@ const &in a, int& out b, B &inout, C& c, D) {}";
-    let script = parsed(rt.alloc(), text)?;
-    let items = &first_function(&script)
-        .ok_or("a function")?
-        .parameters
-        .items;
-    assert_eq!(rt; items.len(), 5);
-    assert!(rt; items[0].comma.is_none());
-    assert!(rt; items[0].declared_type.constant.is_some());
-    assert!(rt; items[0].declared_type.handle.is_some());
-    assert!(rt; items[0].name.is_some());
-    assert!(rt; items[1].comma.is_some());
-    let direction = match items[1].reference {
-        Some(reference) => reference.direction,
-        None => None,
+fn has(script: &Script, fact: Fact) -> bool {
+    match (fact, script.declarations.first()) {
+        (Fact::Declarations(sorts), _) => are_sorts(&script.declarations, sorts),
+        (_, Some(first)) => is_first(first, fact),
+        (_, None) => false,
+    }
+}
+
+/// Whether the text is a script that keeps it, and has what it has to.
+fn is_so(alloc: Global, text: &[u8], fact: Fact) -> bool {
+    let Ok(tokens) = lex(alloc, text, 3) else {
+        return false;
     };
-    assert!(rt; matches!(direction.map(|word| word.kind), Some(TokenKind::Out)));
-    assert!(rt; items[2].name.is_none());
-    assert!(rt; matches!(items[3].reference, Some(reference) if reference.direction.is_none()));
-    assert!(rt; items[3].name.is_some());
-    assert!(rt; items[4].reference.is_none());
-    Ok(())
-}
-
-#[test]
-fn block_makes_a_function(rt: HostRuntime) -> Result<(), Fail> {
-    let script = parsed(rt.alloc(), b"A@ f(B, int &out c) { return c; } class D {}")?;
-    let function = first_function(&script).ok_or("a function")?;
-    assert!(rt; function.result.handle.is_some());
-    assert_eq!(rt; function.parameters.items.len(), 2);
-    assert_eq!(rt; function.body.statements.len(), 1);
-    assert_eq!(rt; script.declarations.len(), 2);
-    Ok(())
-}
-
-/// The group is parameters as well, and a semicolon tells.
-#[test]
-fn group_and_semicolon_are_globals(rt: HostRuntime) -> Result<(), Fail> {
-    let script = parsed(rt.alloc(), b"A x(B & C);")?;
-    let variables = first_globals(&script).ok_or("globals")?;
-    assert_eq!(rt; variables.items.len(), 1);
-    assert!(rt; matches!(variables.items[0].initializer, Initializer::Constructor(_)));
-    Ok(())
-}
-
-#[test]
-fn globals_have_their_initializers(rt: HostRuntime) -> Result<(), Fail> {
-    let script = parsed(rt.alloc(), b"const int a = (1), b, c((2) + 3);")?;
-    let variables = first_globals(&script).ok_or("globals")?;
-    assert_eq!(rt; variables.items.len(), 3);
-    assert!(rt; matches!(variables.items[0].initializer, Initializer::Value { .. }));
-    assert!(rt; matches!(variables.items[1].initializer, Initializer::Absent));
-    assert!(rt; matches!(variables.items[2].initializer, Initializer::Constructor(_)));
-    Ok(())
-}
-
-#[test]
-fn import_has_its_parts(rt: HostRuntime) -> Result<(), Fail> {
-    let script = parsed(rt.alloc(), b"import int f(int, uint8 x) from \"m\"; ;")?;
-    let imported = first_import(&script).ok_or("an import")?;
-    assert_eq!(rt; imported.parameters.items.len(), 2);
-    assert_eq!(rt; script.declarations.len(), 2);
-    Ok(())
-}
-
-#[test]
-fn bases_are_names_behind_a_colon(rt: HostRuntime) -> Result<(), Fail> {
-    let script = parsed(rt.alloc(), b"class A : B, C {} class D {}")?;
-    let found = first_class(&script).ok_or("a class")?;
-    assert_eq!(rt; found.bases.len(), 2);
-    assert_eq!(rt; found.members.len(), 0);
-    assert!(rt; found.final_word.is_none());
-    assert_eq!(rt; script.declarations.len(), 2);
-    Ok(())
-}
-
-#[test]
-fn final_stands_in_front_of_class(rt: HostRuntime) -> Result<(), Fail> {
-    let script = parsed(rt.alloc(), b"final class A {}")?;
-    let found = first_class(&script).ok_or("a class")?;
-    assert!(rt; found.final_word.is_some());
-    Ok(())
-}
-
-#[test]
-fn parenthesis_tells_members_apart(rt: HostRuntime) -> Result<(), Fail> {
-    let text =
-        b"class A { private int x, y; A@ f(int a) const final override { b; } A() { super(1); c; } A d; }";
-    let script = parsed(rt.alloc(), text)?;
-    let members = &first_class(&script).ok_or("a class")?.members;
-    assert_eq!(rt; members.len(), 4);
-    let two_private = match &members[0] {
-        Member::Fields { access, names, .. } => access.is_some() && names.len() == 2,
-        _ => false,
+    let Ok(script) = parse(alloc, text, &tokens) else {
+        return false;
     };
-    assert!(rt; two_private);
-    let constant_with_attributes = match &members[1] {
-        Member::Method {
-            constant,
-            attributes,
-            ..
-        } => constant.is_some() && attributes.len() == 2,
-        _ => false,
-    };
-    assert!(rt; constant_with_attributes);
-    let calls_super = match &members[2] {
-        Member::Constructor {
-            super_call,
-            statements,
-            ..
-        } => super_call.is_some() && statements.len() == 1,
-        _ => false,
-    };
-    assert!(rt; calls_super);
-    let one_of_its_class = match &members[3] {
-        Member::Fields { access, names, .. } => access.is_none() && names.len() == 1,
-        _ => false,
-    };
-    assert!(rt; one_of_its_class);
-    Ok(())
+    script.source.as_slice() == text && has(&script, fact)
 }
 
+/// `void`
+const TYPE: Parts = Parts {
+    comma: false,
+    constant: false,
+    handle: false,
+    reference: false,
+    direction: None,
+    name: false,
+};
+
+/// `, D`
+const MORE_TYPE: Parts = Parts {
+    comma: true,
+    constant: false,
+    handle: false,
+    reference: false,
+    direction: None,
+    name: false,
+};
+
+/// `void x`
+const NAMED: Parts = Parts {
+    comma: false,
+    constant: false,
+    handle: false,
+    reference: false,
+    direction: None,
+    name: true,
+};
+
+/// `const A@ const &in a`
+const IN: Parts = Parts {
+    comma: false,
+    constant: true,
+    handle: true,
+    reference: true,
+    direction: Some(TokenKind::In),
+    name: true,
+};
+
+/// `, int& out b`
+const OUT: Parts = Parts {
+    comma: true,
+    constant: false,
+    handle: false,
+    reference: true,
+    direction: Some(TokenKind::Out),
+    name: true,
+};
+
+/// `, B &inout`
+const IN_OUT: Parts = Parts {
+    comma: true,
+    constant: false,
+    handle: false,
+    reference: true,
+    direction: Some(TokenKind::InOut),
+    name: false,
+};
+
+/// `, C& c`
+const NO_WORD: Parts = Parts {
+    comma: true,
+    constant: false,
+    handle: false,
+    reference: true,
+    direction: None,
+    name: true,
+};
+
+const ALL_SORTS: &str =
+    "int a; class B {} interface I {} import void f() from \"m\"; void g() {} ;";
+
+const BLOCK: &str = "A@ f(B, int &out c) { return c; } class D {}";
+
+const IMPORT: &str = "import int f(int, uint8 x) from \"m\"; ;";
+
+const BASES: &str = "class A : B, C {} class D {}";
+
+/// A script, and what it has to have.
+const SCRIPTS: [(&str, Fact); 23] = [
+    (
+        ALL_SORTS,
+        Fact::Declarations(&[
+            Sort::Globals,
+            Sort::Class,
+            Sort::Interface,
+            Sort::Import,
+            Sort::Function,
+            Sort::Empty,
+        ]),
+    ),
+    // multiplication binds tighter
+    (
+        "int v = 1 + 2 * 3;",
+        Fact::Value(
+            Kind::Binary(TokenKind::Plus),
+            Kind::Literal,
+            Kind::Binary(TokenKind::Star),
+        ),
+    ),
+    // subtraction groups to the left
+    (
+        "int v = a - b - c;",
+        Fact::Value(
+            Kind::Binary(TokenKind::Minus),
+            Kind::Binary(TokenKind::Minus),
+            Kind::Name,
+        ),
+    ),
+    // `a ? b : (c = d)`
+    (
+        "int v = a ? b : c = d;",
+        Fact::Value(Kind::Conditional, Kind::Name, Kind::Assignment),
+    ),
+    // a member binds tighter than a prefix
+    (
+        "int v = -a.b;",
+        Fact::Value(Kind::Prefix, Kind::Member, Kind::Member),
+    ),
+    ("T@ v = cast<T@>(x);", Fact::CastToHandle),
+    ("int v = A::f(1, 2);", Fact::TwoArguments),
+    // `void` alone is no parameters
+    ("void f() {}", Fact::Parameters(false, &[])),
+    ("void f(void) {}", Fact::Parameters(true, &[])),
+    ("void f(void x) {}", Fact::Parameters(false, &[NAMED])),
+    (
+        "void f(void, void) {}",
+        Fact::Parameters(false, &[TYPE, MORE_TYPE]),
+    ),
+    (
+        "void f(const A@ const &in a, int& out b, B &inout, C& c, D) {}",
+        Fact::Parameters(false, &[IN, OUT, IN_OUT, NO_WORD, MORE_TYPE]),
+    ),
+    // a block makes a function
+    (BLOCK, Fact::Function(2, 1)),
+    (BLOCK, Fact::Declarations(&[Sort::Function, Sort::Class])),
+    // the group is parameters as well, and a semicolon tells
+    ("A x(B & C);", Fact::Starts(&[Start::Constructor])),
+    (
+        "const int a = (1), b, c((2) + 3);",
+        Fact::Starts(&[Start::Value, Start::Absent, Start::Constructor]),
+    ),
+    (IMPORT, Fact::Import(2)),
+    (IMPORT, Fact::Declarations(&[Sort::Import, Sort::Empty])),
+    // bases are names behind a colon
+    (BASES, Fact::Class(false, 2, &[])),
+    (BASES, Fact::Declarations(&[Sort::Class, Sort::Class])),
+    // `final` stands in front of `class`
+    ("final class A {}", Fact::Class(true, 0, &[])),
+    // a parenthesis tells members apart
+    (
+        "class A { private int x, y; A@ f(int a) const final override { b; } A() { super(1); c; } A d; }",
+        Fact::Class(
+            false,
+            0,
+            &[
+                Shape::Fields {
+                    access: true,
+                    names: 2,
+                },
+                Shape::Method {
+                    constant: true,
+                    attributes: 2,
+                },
+                Shape::Constructor {
+                    calls_super: true,
+                    statements: 1,
+                },
+                Shape::Fields {
+                    access: false,
+                    names: 1,
+                },
+            ],
+        ),
+    ),
+    // an interface has methods without bodies
+    (
+        "interface I : J { void f(int a); int g() const; }",
+        Fact::Interface(1, &[false, true]),
+    ),
+];
+
 #[test]
-fn interface_has_methods_without_bodies(rt: HostRuntime) -> Result<(), Fail> {
-    let text = b"interface I : J { void f(int a); int g() const; }";
-    let script = parsed(rt.alloc(), text)?;
-    let found = first_interface(&script).ok_or("an interface")?;
-    assert_eq!(rt; found.bases.len(), 1);
-    assert_eq!(rt; found.methods.len(), 2);
-    assert!(rt; found.methods[0].constant.is_none());
-    assert!(rt; found.methods[1].constant.is_some());
-    Ok(())
+fn scripts_have_their_trees(rt: HostRuntime) {
+    for (i, row) in SCRIPTS.iter().enumerate() {
+        let (text, fact) = *row;
+        assert!(rt; is_so(rt.alloc(), text.as_bytes(), fact), "row {i}: {text}");
+    }
 }
