@@ -2,10 +2,9 @@ use ang_drivers::Console;
 use ang_host::{Answer, Driver, Made};
 use ang_kinds::Value;
 use std::alloc::AllocError;
+use std::process::Abort;
 
-#[test]
-fn a_console_adds_and_faults(rt: HostRuntime) -> Result<(), AllocError> {
-    let mut console = Console::new(rt.alloc())?;
+fn adds_and_faults(rt: &impl Abort, console: &mut Console) {
     let cases = [
         (1, Value::Int(2), Value::Int(3), Answer::Gave(Value::Int(5))),
         (1, Value::Int(i64::MAX), Value::Int(1), Answer::Fault(2)),
@@ -20,12 +19,16 @@ fn a_console_adds_and_faults(rt: HostRuntime) -> Result<(), AllocError> {
     assert_eq!(rt; console.call(2, None, &[Value::Uint(7)]), Answer::Fault(7));
     let above = [Value::Uint(4_294_967_296)];
     assert_eq!(rt; console.call(2, None, &above), Answer::Fault(1));
-    Ok(())
 }
 
 #[test]
-fn a_console_notes_and_keeps_a_register(rt: HostRuntime) -> Result<(), AllocError> {
+fn a_console_adds_and_faults(rt: HostRuntime) -> Result<(), AllocError> {
     let mut console = Console::new(rt.alloc())?;
+    adds_and_faults(&rt, &mut console);
+    Ok(())
+}
+
+fn notes_and_keeps(rt: &impl Abort, console: &mut Console) {
     let noted = [Value::Bool(true), Value::Key(None), Value::Int(-4)];
     assert_eq!(rt; console.call(0, None, &noted), Answer::Void);
     assert_eq!(rt; console.call(0, None, &[]), Answer::Void);
@@ -38,5 +41,11 @@ fn a_console_notes_and_keeps_a_register(rt: HostRuntime) -> Result<(), AllocErro
     assert_eq!(rt; console.read(1, None), Answer::Fault(1));
     assert_eq!(rt; console.make(0, &[]), Made::Fault(1));
     assert!(rt; console.idle());
+}
+
+#[test]
+fn a_console_notes_and_keeps_a_register(rt: HostRuntime) -> Result<(), AllocError> {
+    let mut console = Console::new(rt.alloc())?;
+    notes_and_keeps(&rt, &mut console);
     Ok(())
 }
