@@ -14,11 +14,14 @@ fn adds_and_faults(rt: &impl Abort, console: &mut Console) {
         (3, Value::Int(2), Value::Int(3), Answer::Fault(1)),
     ];
     for (f, a, b, want) in cases {
-        assert_eq!(rt; console.call(f, None, &[a, b]), want, "call {f}");
+        assert!(rt;
+            console.call(f, None, &[a, b]) == want,
+            "{f} of {a:?} and {b:?}"
+        );
     }
-    assert_eq!(rt; console.call(2, None, &[Value::Uint(7)]), Answer::Fault(7));
+    assert!(rt; console.call(2, None, &[Value::Uint(7)]) == Answer::Fault(7));
     let above = [Value::Uint(4_294_967_296)];
-    assert_eq!(rt; console.call(2, None, &above), Answer::Fault(1));
+    assert!(rt; console.call(2, None, &above) == Answer::Fault(1));
 }
 
 #[test]
@@ -30,16 +33,16 @@ fn a_console_adds_and_faults(rt: HostRuntime) -> Result<(), AllocError> {
 
 fn notes_and_keeps(rt: &impl Abort, console: &mut Console) {
     let noted = [Value::Bool(true), Value::Key(None), Value::Int(-4)];
-    assert_eq!(rt; console.call(0, None, &noted), Answer::Void);
-    assert_eq!(rt; console.call(0, None, &[]), Answer::Void);
-    assert_eq!(rt; console.read(0, None), Answer::Gave(Value::Int(0)));
-    assert_eq!(rt; console.write(0, None, Value::Int(-5)), Answer::Void);
-    assert_eq!(rt; console.read(0, None), Answer::Gave(Value::Int(-5)));
-    assert_eq!(rt; console.write(0, None, Value::Uint(6)), Answer::Fault(1));
-    assert_eq!(rt; console.write(1, None, Value::Int(6)), Answer::Fault(1));
-    assert_eq!(rt; console.read(0, None), Answer::Gave(Value::Int(-5)));
-    assert_eq!(rt; console.read(1, None), Answer::Fault(1));
-    assert_eq!(rt; console.make(0, &[]), Made::Fault(1));
+    assert!(rt; console.call(0, None, &noted) == Answer::Void);
+    assert!(rt; console.call(0, None, &[]) == Answer::Void);
+    assert!(rt; console.read(0, None) == Answer::Gave(Value::Int(0)));
+    assert!(rt; console.write(0, None, Value::Int(-5)) == Answer::Void);
+    assert!(rt; console.read(0, None) == Answer::Gave(Value::Int(-5)));
+    assert!(rt; console.write(0, None, Value::Uint(6)) == Answer::Fault(1));
+    assert!(rt; console.write(1, None, Value::Int(6)) == Answer::Fault(1));
+    assert!(rt; console.read(0, None) == Answer::Gave(Value::Int(-5)));
+    assert!(rt; console.read(1, None) == Answer::Fault(1));
+    assert!(rt; console.make(0, &[]) == Made::Fault(1));
     assert!(rt; console.idle());
 }
 
