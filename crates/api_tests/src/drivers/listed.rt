@@ -27,15 +27,47 @@ fn the_list_takes_at_most_64_drivers(rt: HostRuntime) -> Result<(), AllocError> 
     Ok(())
 }
 
+/// What the driver of the number answers to a writing of its property 0, to a reading of it and to a call of its
+/// function 2, where there is such a driver.
+fn written(drivers: &mut Drivers, driver: u32, number: i64) -> Option<Answer> {
+    if driver as usize >= drivers.len() {
+        return None;
+    }
+    Some(drivers.write(driver, 0, None, Value::Int(number)))
+}
+
+fn told(drivers: &mut Drivers, driver: u32) -> Option<Answer> {
+    if driver as usize >= drivers.len() {
+        return None;
+    }
+    Some(drivers.read(driver, 0, None))
+}
+
+fn called(drivers: &mut Drivers, driver: u32, number: u64) -> Option<Answer> {
+    if driver as usize >= drivers.len() {
+        return None;
+    }
+    Some(drivers.call(driver, 2, None, &[Value::Uint(number)]))
+}
+
+fn made(drivers: &mut Drivers, driver: u32) -> Option<Made> {
+    if driver as usize >= drivers.len() {
+        return None;
+    }
+    Some(drivers.make(driver, 0, &[]))
+}
+
+fn is_idle(drivers: &Drivers, driver: u32) -> bool {
+    (driver as usize) < drivers.len() && drivers.idle(driver)
+}
+
 fn asks_by_number(rt: &impl Abort, drivers: &mut Drivers) {
-    assert!(rt; drivers.len() == 2);
-    assert!(rt; drivers.write(1, 0, None, Value::Int(9)) == Answer::Void);
-    assert!(rt; drivers.read(0, 0, None) == Answer::Gave(Value::Int(0)));
-    assert!(rt; drivers.read(1, 0, None) == Answer::Gave(Value::Int(9)));
-    let faulted = drivers.call(0, 2, None, &[Value::Uint(3)]);
-    assert!(rt; faulted == Answer::Fault(3));
-    assert!(rt; drivers.make(0, 0, &[]) == Made::Fault(1));
-    assert!(rt; drivers.idle(0) && drivers.idle(1));
+    assert!(rt; written(drivers, 1, 9) == Some(Answer::Void));
+    assert!(rt; told(drivers, 0) == Some(Answer::Gave(Value::Int(0))));
+    assert!(rt; told(drivers, 1) == Some(Answer::Gave(Value::Int(9))));
+    assert!(rt; called(drivers, 0, 3) == Some(Answer::Fault(3)));
+    assert!(rt; made(drivers, 0) == Some(Made::Fault(1)));
+    assert!(rt; is_idle(drivers, 0) && is_idle(drivers, 1));
 }
 
 #[test]
@@ -47,18 +79,17 @@ fn the_list_asks_the_driver_of_the_number(rt: HostRuntime) -> Result<(), AllocEr
     let Ok(mut drivers) = Drivers::new(boxes) else {
         panic!(rt; "two idle drivers were refused")
     };
+    let listed = drivers.len();
     asks_by_number(&rt, &mut drivers);
     let count = drivers.into_boxes().len();
-    assert!(rt; count == 2);
+    assert!(rt; (listed, count) == (2, 2));
     Ok(())
 }
 
 fn one_int(alloc: Global, number: i64) -> Result<List<Value>, AllocError>
     ensures { IfOk result (λ args. args ≡ Int number ∷ []) }
 {
-    let mut args = Vec::new(alloc);
-    args.push(Value::Int(number))?;
-    Ok(List::from_vec(args))
+    Ok(List::from_vec(Vec::from_slice(alloc, &[Value::Int(number)])?))
 }
 
 fn reply_of(event: &HostEvent) -> Option<HostReply> {

@@ -2,6 +2,7 @@ ghost use Rattle.std.specs.Prelude.{◌≡◌, ◌<◌, IfSome, length};
 ghost use Rattle.ang_host.specs.Boxes.{members};
 ghost use Rattle.ang_host.specs.Laws.{IsLive, AreLive};
 
+use crate::drivers::asking::{Asking, Making, first_made, first_wrong, is_idle};
 use ang_drivers::{Cell, Console, Counter};
 use ang_host::{Answer, Driver, Drivers, DriversError, Made};
 use ang_kinds::Value;
@@ -64,11 +65,11 @@ fn ends<D: Driver>(driver: &mut D, key: u64) -> bool
 }
 
 fn counts_by_steps(rt: &impl Abort, counter: &mut Counter) {
-    assert!(rt; counter.idle());
     let Some(key) = made(counter, 1, &[Value::Int(5)]) else {
         panic!(rt; "the first counter was not made")
     };
-    assert!(rt; key == 0 && !counter.idle());
+    assert!(rt; key == 0);
+    assert!(rt; !is_idle(counter));
     assert!(rt; told(counter, 0, key) == int(1));
     assert!(rt; written(counter, 0, key, 3) == DONE);
     assert!(rt; told(counter, 0, key) == int(3));
@@ -80,39 +81,38 @@ fn counts_by_steps(rt: &impl Abort, counter: &mut Counter) {
     assert!(rt; ends(counter, key));
 }
 
-fn counts_again(rt: &impl Abort, counter: &mut Counter) {
-    assert!(rt; counter.idle());
-    assert!(rt; counter.call(2, None, &[]) == Answer::Gave(Value::Uint(1)));
-    let Some(next) = made(counter, 0, &[]) else {
-        panic!(rt; "the second counter was not made")
-    };
-    assert!(rt; next == 1);
-    assert!(rt; called(counter, 1, next, &[]) == int(0));
+/// The key of another object, and its value.
+fn counts_again(counter: &mut Counter) -> Option<(u64, Answer)> {
+    let next = made(counter, 0, &[])?;
+    Some((next, called(counter, 1, next, &[])))
 }
+
+/// One reference was added.
+const ADDED: [(Asking, Answer); 1] = [(Asking::Call(2), Answer::Gave(Value::Uint(1)))];
 
 #[test]
 fn a_counter_counts_by_steps(rt: HostRuntime) -> Result<(), AllocError> {
     let mut counter = Counter::new(rt.alloc())?;
+    let is_idle_before = is_idle(&counter);
     counts_by_steps(&rt, &mut counter);
-    counts_again(&rt, &mut counter);
+    let is_idle_after = is_idle(&counter);
+    let wrong = first_wrong(&mut counter, &ADDED);
+    let next = counts_again(&mut counter);
+    drop(counter);
+    assert!(rt; is_idle_before && is_idle_after);
+    assert_eq!(rt; wrong, None);
+    assert!(rt; next == Some((1, int(0))));
     Ok(())
 }
 
-fn makes_none(rt: &impl Abort, counter: &mut Counter) {
-    for (f, argument) in [
-        (0, Value::Int(5)),
-        (1, Value::Uint(5)),
-        (1, Value::Int(2_147_483_648)),
-        (1, Value::Int(-2_147_483_649)),
-        (2, Value::Int(5)),
-    ] {
-        assert!(rt;
-            counter.make(f, &[argument]) == Made::Fault(1),
-            "{f} {argument:?}"
-        );
-    }
-    assert!(rt; counter.make(1, &[]) == Made::Fault(1));
-}
+const NOT_MADE: [Making; 6] = [
+    Making::Int(0, 5),
+    Making::Uint(1, 5),
+    Making::Int(1, 2_147_483_648),
+    Making::Int(1, -2_147_483_649),
+    Making::Int(2, 5),
+    Making::Bare(1),
+];
 
 fn faults(rt: &impl Abort, counter: &mut Counter) {
     let Some(key) = made(counter, 0, &[]) else {
@@ -124,22 +124,28 @@ fn faults(rt: &impl Abort, counter: &mut Counter) {
     assert!(rt; told(counter, 1, key) == UNKNOWN);
     assert!(rt; written(counter, 1, key, 1) == UNKNOWN);
     assert!(rt; written(counter, 0, key, 2_147_483_648) == UNKNOWN);
-    assert!(rt; counter.call(0, None, &[]) == UNKNOWN);
-    assert!(rt; counter.call(2, None, &[Value::Int(1)]) == UNKNOWN);
-    assert!(rt; counter.read(0, None) == UNKNOWN);
-    assert!(rt; counter.write(0, None, Value::Int(1)) == UNKNOWN);
 }
+
+const WITHOUT_OBJECT: [(Asking, Answer); 4] = [
+    (Asking::Call(0), UNKNOWN),
+    (Asking::CallInt(2, 1), UNKNOWN),
+    (Asking::Read(0), UNKNOWN),
+    (Asking::WriteInt(0, 1), UNKNOWN),
+];
 
 #[test]
 fn a_counter_faults_where_it_is_asked_otherwise(rt: HostRuntime) -> Result<(), AllocError> {
     let mut counter = Counter::new(rt.alloc())?;
-    makes_none(&rt, &mut counter);
+    let is_made = first_made(&mut counter, &NOT_MADE);
     faults(&rt, &mut counter);
+    let wrong = first_wrong(&mut counter, &WITHOUT_OBJECT);
+    drop(counter);
+    assert_eq!(rt; is_made, None);
+    assert_eq!(rt; wrong, None);
     Ok(())
 }
 
 fn holds_a_number(rt: &impl Abort, cell: &mut Cell) {
-    assert!(rt; cell.idle());
     let Some(key) = made(cell, 0, &[Value::Int(1)]) else {
         panic!(rt; "a cell was not made")
     };
@@ -152,21 +158,27 @@ fn holds_a_number(rt: &impl Abort, cell: &mut Cell) {
     assert!(rt; told(cell, 0, key) == UNKNOWN);
     assert!(rt; written(cell, 0, key, 9) == UNKNOWN);
     assert!(rt; ends(cell, key));
-    assert!(rt; cell.idle());
 }
 
-fn answers_without_objects(rt: &impl Abort, cell: &mut Cell) {
-    assert!(rt; cell.call(2, None, &[Value::Key(None)]) == Answer::Gave(Value::Key(None)));
-    assert!(rt; cell.call(2, None, &[Value::Int(0)]) == UNKNOWN);
-    assert!(rt; cell.make(0, &[Value::Int(2_147_483_648)]) == Made::Fault(1));
-    assert!(rt; cell.make(1, &[Value::Key(None), Value::Int(1)]) == Made::Fault(1));
-}
+const OF_NO_CELL: [(Asking, Answer); 2] = [
+    (Asking::CallNull(2), Answer::Gave(Value::Key(None))),
+    (Asking::CallInt(2, 0), UNKNOWN),
+];
+
+const NO_CELLS: [Making; 2] = [Making::Int(0, 2_147_483_648), Making::NullAndInt(1, 1)];
 
 #[test]
 fn a_cell_holds_a_number(rt: HostRuntime) -> Result<(), AllocError> {
     let mut cell = Cell::new(rt.alloc())?;
+    let is_idle_before = is_idle(&cell);
     holds_a_number(&rt, &mut cell);
-    answers_without_objects(&rt, &mut cell);
+    let is_idle_after = is_idle(&cell);
+    let wrong = first_wrong(&mut cell, &OF_NO_CELL);
+    let is_made = first_made(&mut cell, &NO_CELLS);
+    drop(cell);
+    assert!(rt; is_idle_before && is_idle_after);
+    assert_eq!(rt; wrong, None);
+    assert_eq!(rt; is_made, None);
     Ok(())
 }
 
@@ -177,21 +189,24 @@ fn above(cell: &mut Cell, more: i64) -> Option<(u64, u64, Answer)> {
     Some((nine, key, called(cell, 0, key, &[])))
 }
 
-fn is_made_from_another(rt: &impl Abort, cell: &mut Cell) {
-    assert!(rt; above(cell, -10) == Some((0, 1, int(-1))));
-    assert!(rt; above(cell, 2_147_483_647) == Some((2, 3, int(-2_147_483_640))));
-    assert!(rt; above(cell, 4_294_967_297) == Some((4, 5, int(10))));
-    let Some(key) = made(cell, 0, &[Value::Int(4)]) else {
-        panic!(rt; "the last cell was not made")
-    };
-    let picked = cell.call(2, None, &[Value::Key(Some(key))]);
-    assert!(rt; key == 6 && picked == Answer::Gave(Value::Key(Some(6))));
+/// What is picked of a new object, and its key.
+fn picked(cell: &mut Cell) -> Option<(u64, Answer)> {
+    let key = made(cell, 0, &[Value::Int(4)])?;
+    Some((key, cell.call(2, None, &[Value::Key(Some(key))])))
 }
 
 #[test]
 fn a_cell_is_made_from_another(rt: HostRuntime) -> Result<(), AllocError> {
     let mut cell = Cell::new(rt.alloc())?;
-    is_made_from_another(&rt, &mut cell);
+    let below = above(&mut cell, -10);
+    let wrapped = above(&mut cell, 2_147_483_647);
+    let cut = above(&mut cell, 4_294_967_297);
+    let picked = picked(&mut cell);
+    drop(cell);
+    assert!(rt; below == Some((0, 1, int(-1))));
+    assert!(rt; wrapped == Some((2, 3, int(-2_147_483_640))));
+    assert!(rt; cut == Some((4, 5, int(10))));
+    assert!(rt; picked == Some((6, Answer::Gave(Value::Key(Some(6))))));
     Ok(())
 }
 
