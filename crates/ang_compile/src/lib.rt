@@ -33,6 +33,3 @@ pub fn compile(alloc: Global, program: &Typed) -> Result<Vec<RoutineCode>, Alloc
     let codes = generate_module(alloc, bodies.as_slice())?;
     Ok(codes)
 }
-
-#[cfg(test)]
-mod tests;

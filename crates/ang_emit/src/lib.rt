@@ -8,6 +8,3 @@ mod height;
 mod statement;
 
 pub use bodies::{generate, generate_body, generate_module};
-
-#[cfg(test)]
-mod tests;

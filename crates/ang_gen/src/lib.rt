@@ -5,8 +5,6 @@
 #![tactic(auto)]
 
 pub mod laws;
-#[cfg(test)]
-mod tests;
 mod text;
 
 pub use text::Text;

@@ -10,8 +10,6 @@ mod conversions;
 mod division;
 mod operators;
 mod shifts;
-#[cfg(test)]
-mod tests;
 
 pub use changes::{Altered, change};
 pub use comparisons::{compare, deny};

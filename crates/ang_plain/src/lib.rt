@@ -6,7 +6,5 @@
 
 mod entries;
 pub mod laws;
-#[cfg(test)]
-mod tests;
 
 pub use entries::is_plain_entry;

@@ -1,3 +1,4 @@
+mod asking;
 mod console;
 mod listed;
 mod objects;

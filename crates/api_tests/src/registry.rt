@@ -2,8 +2,8 @@
 
 use ang_kinds::{EntityNo, Mask};
 use ang_registry::{EntryKind, RegError, Registry};
-use std::alloc::Global;
-use std::test::Fail;
+use std::alloc::{AllocError, Global};
+use std::process::Abort;
 
 /// One call that adds an entry.
 #[derive(Clone, Copy)]
@@ -14,6 +14,7 @@ enum Line {
     Property(&'static [u8], u32, &'static [u8]),
     Function(u32, u32, &'static [u8]),
     Global(u32, u32, &'static [u8]),
+    Blank,
 }
 
 fn add(registry: &mut Registry, line: &Line) -> Result<EntityNo, RegError> {
@@ -24,241 +25,363 @@ fn add(registry: &mut Registry, line: &Line) -> Result<EntityNo, RegError> {
         Line::Property(name, f, decl) => registry.property(name, *f, decl),
         Line::Function(driver, f, decl) => registry.function(*driver, *f, decl),
         Line::Global(driver, f, decl) => registry.global_property(*driver, *f, decl),
+        Line::Blank => registry.blank(),
     }
+}
+
+/// One call, and what it gives.
+#[derive(Clone, Copy)]
+enum Step {
+    /// The line's entry gets this number.
+    Number(u32, Line),
+    /// The line is taken.
+    Taken(Line),
+    /// The line is refused.
+    Refused(RegError, Line),
+    /// Blank entries get the numbers from the first one up to the second one, without it.
+    Blanks(u32, u32),
+    /// The first one is set as the mask for what is added from here on, and the second one was it.
+    Mask(u32, u32),
+    /// There are so many entries.
+    Length(usize),
+}
+
+fn adds_blanks(registry: &mut Registry, from: u32, to: u32) -> bool {
+    for number in from..to {
+        if registry.blank() != Ok(EntityNo(number)) {
+            return false;
+        }
+    }
+    true
+}
+
+/// Whether a call gives what it has to.
+fn gives(registry: &mut Registry, step: &Step) -> bool {
+    match step {
+        Step::Number(number, line) => add(registry, line) == Ok(EntityNo(*number)),
+        Step::Taken(line) => add(registry, line).is_ok(),
+        Step::Refused(why, line) => add(registry, line) == Err(*why),
+        Step::Blanks(from, to) => adds_blanks(registry, *from, *to),
+        Step::Mask(mask, before) => registry.set_default_mask(Mask(*mask)) == Mask(*before),
+        Step::Length(count) => registry.len() == *count,
+    }
+}
+
+/// The place of the first call that does not give what it has to.
+fn first_wrong(registry: &mut Registry, steps: &[Step]) -> Option<usize> {
+    for (at, step) in steps.iter().enumerate() {
+        if !gives(registry, step) {
+            return Some(at);
+        }
+    }
+    None
+}
+
+/// The same over a list that is empty at first.
+fn first_wrong_of_new(alloc: Global, steps: &[Step]) -> Option<usize> {
+    let mut registry = Registry::new(alloc);
+    first_wrong(&mut registry, steps)
 }
 
 /// Types `Counter` and `Cell` with their members, functions of three drivers, and two global properties.
-const PROFILE: [(u32, Line); 17] = [
-    (0, Line::Type(b"Counter", 1)),
-    (1, Line::Factory(b"Counter", 0, b"Counter@ f()")),
-    (2, Line::Factory(b"Counter", 1, b"Counter@ f(int)")),
-    (3, Line::Method(b"Counter", 0, b"void bump()")),
-    (4, Line::Method(b"Counter", 1, b"int value() const")),
-    (5, Line::Property(b"Counter", 0, b"int step")),
-    (6, Line::Type(b"Cell", 2)),
-    (7, Line::Factory(b"Cell", 0, b"Cell@ f(int)")),
-    (8, Line::Factory(b"Cell", 1, b"Cell@ f(Cell@+, int)")),
-    (9, Line::Method(b"Cell", 0, b"int get() const")),
-    (10, Line::Method(b"Cell", 1, b"void set(int)")),
-    (11, Line::Function(2, 2, b"Cell@+ pick(Cell@+)")),
-    (12, Line::Function(0, 0, b"void print(int64)")),
-    (13, Line::Function(0, 1, b"int64 sum(int64, int64)")),
-    (14, Line::Function(0, 2, b"void fail(uint)")),
-    (15, Line::Global(0, 0, b"int64 reg")),
-    (16, Line::Global(0, 0, b"const int64 limit")),
+const PROFILE: [Step; 18] = [
+    Step::Number(0, Line::Type(b"Counter", 1)),
+    Step::Number(1, Line::Factory(b"Counter", 0, b"Counter@ f()")),
+    Step::Number(2, Line::Factory(b"Counter", 1, b"Counter@ f(int)")),
+    Step::Number(3, Line::Method(b"Counter", 0, b"void bump()")),
+    Step::Number(4, Line::Method(b"Counter", 1, b"int value() const")),
+    Step::Number(5, Line::Property(b"Counter", 0, b"int step")),
+    Step::Number(6, Line::Type(b"Cell", 2)),
+    Step::Number(7, Line::Factory(b"Cell", 0, b"Cell@ f(int)")),
+    Step::Number(8, Line::Factory(b"Cell", 1, b"Cell@ f(Cell@+, int)")),
+    Step::Number(9, Line::Method(b"Cell", 0, b"int get() const")),
+    Step::Number(10, Line::Method(b"Cell", 1, b"void set(int)")),
+    Step::Number(11, Line::Function(2, 2, b"Cell@+ pick(Cell@+)")),
+    Step::Number(12, Line::Function(0, 0, b"void print(int64)")),
+    Step::Number(13, Line::Function(0, 1, b"int64 sum(int64, int64)")),
+    Step::Number(14, Line::Function(0, 2, b"void fail(uint)")),
+    Step::Number(15, Line::Global(0, 0, b"int64 reg")),
+    Step::Number(16, Line::Global(0, 0, b"const int64 limit")),
+    Step::Length(17),
 ];
 
-fn whole(alloc: Global) -> Result<Registry, RegError> {
-    let mut registry = Registry::new(alloc);
-    for (_, line) in &PROFILE {
-        add(&mut registry, line)?;
+/// What is kept of a method.
+fn keeps_a_method(rt: &impl Abort, registry: &Registry) {
+    match registry.get(EntityNo(10)) {
+        Some(set) => {
+            assert!(rt; set.kind == EntryKind::Method && set.owner == Some(EntityNo(6)));
+            assert_eq!(rt; (set.driver, set.f, set.mask), (2, 1, Mask(1)));
+            assert!(rt; set.signature.name.as_slice() == b"set".as_slice());
+        }
+        None => panic!(rt; "no entry 10"),
     }
-    Ok(registry)
+}
+
+/// What is kept of a global property.
+fn keeps_a_global(rt: &impl Abort, registry: &Registry) {
+    match registry.get(EntityNo(16)) {
+        Some(limit) => {
+            assert!(rt; limit.kind == EntryKind::Global && limit.owner.is_none());
+            assert!(rt; limit.signature.read_only);
+        }
+        None => panic!(rt; "no entry 16"),
+    }
 }
 
 #[test]
-fn a_whole_profile_is_accepted(rt: HostRuntime) -> Result<(), Fail> {
+fn a_whole_profile_is_accepted(rt: HostRuntime) {
     let mut registry = Registry::new(rt.alloc());
-    for (number, line) in &PROFILE {
-        assert_eq!(rt; add(&mut registry, line)?, EntityNo(*number));
-    }
-    assert_eq!(rt; registry.len(), 17);
-    let set = registry.get(EntityNo(10)).ok_or("no entry")?;
-    assert_eq!(rt;
-        (set.kind, set.owner),
-        (EntryKind::Method, Some(EntityNo(6)))
-    );
-    assert_eq!(rt; (set.driver, set.f, set.mask), (2, 1, Mask(1)));
-    assert_eq!(rt; set.signature.name.as_slice(), b"set".as_slice());
-    let limit = registry.get(EntityNo(16)).ok_or("no entry")?;
-    assert_eq!(rt; (limit.kind, limit.owner), (EntryKind::Global, None));
-    assert!(rt; limit.signature.read_only);
-    assert!(rt; registry.get(EntityNo(17)).is_none());
-    Ok(())
+    let wrong = first_wrong(&mut registry, &PROFILE);
+    keeps_a_method(&rt, &registry);
+    keeps_a_global(&rt, &registry);
+    let has_more = registry.get(EntityNo(17)).is_some();
+    drop(registry);
+    assert_eq!(rt; wrong, None);
+    assert!(rt; !has_more);
 }
 
-#[test]
-fn refusals_of_short_profiles(rt: HostRuntime) -> Result<(), Fail> {
-    let mut unknown = Registry::new(rt.alloc());
-    assert_eq!(rt;
-        unknown.method(b"Cell", 0, b"int get()"),
-        Err(RegError::UnknownType)
-    );
-    let mut foreign = Registry::new(rt.alloc());
-    assert_eq!(rt; foreign.type_(b"Cell", 2)?, EntityNo(0));
-    assert_eq!(rt;
-        foreign.function(0, 0, b"void take(Cell@+)"),
-        Err(RegError::WrongDriver)
-    );
-    // a hidden name is taken too
-    let mut taken = Registry::new(rt.alloc());
-    assert_eq!(rt; taken.function(0, 0, b"void p(int)")?, EntityNo(0));
-    assert_eq!(rt; taken.set_default_mask(Mask(2)), Mask(1));
-    assert_eq!(rt;
-        taken.function(0, 0, b"void p(int)"),
-        Err(RegError::Duplicate)
-    );
-    let mut empty = Registry::new(rt.alloc());
-    assert_eq!(rt; empty.set_default_mask(Mask(0)), Mask(1));
-    assert_eq!(rt; empty.function(0, 0, b"void p()"), Err(RegError::EmptyMask));
-    assert_eq!(rt; empty.blank()?, EntityNo(0));
-    Ok(())
-}
-
-#[test]
-fn refusals_over_a_whole_profile(rt: HostRuntime) -> Result<(), Fail> {
-    let refused = [
-        (Line::Type(b"1x", 64), RegError::BadDeclaration),
-        (Line::Type(b"int", 3), RegError::BadDeclaration),
-        (
-            Line::Factory(b"Row", 0, b"Cell@ f()"),
-            RegError::BadDeclaration,
-        ),
-        (
-            Line::Function(0, 0, b"void f(Cell, Row@+)"),
-            RegError::BadDeclaration,
-        ),
-        (Line::Factory(b"Row", 0, b"Row@ f()"), RegError::UnknownType),
-        (
-            Line::Function(0, 0, b"void f(Cell@+, Row@+)"),
+/// Calls over a list that is empty at first.
+const SHORT: [(&str, &[Step]); 4] = [
+    (
+        "a type that is not there",
+        &[Step::Refused(
             RegError::UnknownType,
-        ),
-        (Line::Type(b"Cell", 2), RegError::WrongDriver),
-        (Line::Type(b"Row", 64), RegError::WrongDriver),
-        (
-            Line::Method(b"Counter", 0, b"const Cell@+ c()"),
-            RegError::WrongDriver,
-        ),
-        (Line::Type(b"limit", 63), RegError::Duplicate),
-        (Line::Function(0, 0, b"void Cell(int)"), RegError::Duplicate),
-        (
-            Line::Function(0, 0, b"int print(int64 x)"),
-            RegError::Duplicate,
-        ),
-        (Line::Global(0, 0, b"bool sum"), RegError::Duplicate),
-        (
-            Line::Factory(b"Counter", 9, b"Counter@ g(int)"),
-            RegError::Duplicate,
-        ),
-        (
-            Line::Method(b"Counter", 9, b"int64 value() const"),
-            RegError::Duplicate,
-        ),
-        (
-            Line::Method(b"Counter", 9, b"void step(int)"),
-            RegError::Duplicate,
-        ),
-        (
-            Line::Property(b"Counter", 9, b"int bump"),
-            RegError::Duplicate,
-        ),
-    ];
-    let accepted = [
-        Line::Function(0, 0, b"void print(int)"),
-        Line::Function(2, 0, b"void pick(const Cell@+)"),
-        Line::Method(b"Counter", 0, b"int value()"),
-        Line::Property(b"Counter", 0, b"int f"),
-        Line::Method(b"Cell", 0, b"void bump()"),
-    ];
-    let mut registry = whole(rt.alloc())?;
-    for (line, why) in &refused {
-        assert_eq!(rt; add(&mut registry, line), Err(*why));
-    }
-    assert_eq!(rt; registry.len(), 17);
-    for line in &accepted {
-        assert!(rt; add(&mut registry, line).is_ok());
-    }
-    Ok(())
-}
+            Line::Method(b"Cell", 0, b"int get()"),
+        )],
+    ),
+    (
+        "a type of another driver",
+        &[
+            Step::Number(0, Line::Type(b"Cell", 2)),
+            Step::Refused(
+                RegError::WrongDriver,
+                Line::Function(0, 0, b"void take(Cell@+)"),
+            ),
+        ],
+    ),
+    (
+        "a hidden name is taken too",
+        &[
+            Step::Number(0, Line::Function(0, 0, b"void p(int)")),
+            Step::Mask(2, 1),
+            Step::Refused(RegError::Duplicate, Line::Function(0, 0, b"void p(int)")),
+        ],
+    ),
+    (
+        "an empty mask",
+        &[
+            Step::Mask(0, 1),
+            Step::Refused(RegError::EmptyMask, Line::Function(0, 0, b"void p()")),
+            Step::Number(0, Line::Blank),
+        ],
+    ),
+];
 
 #[test]
-fn limits_go_first(rt: HostRuntime) -> Result<(), Fail> {
+fn refusals_of_short_profiles(rt: HostRuntime) {
+    for (name, steps) in SHORT {
+        let wrong = first_wrong_of_new(rt.alloc(), steps);
+        assert_eq!(rt; wrong, None, "{name}");
+    }
+}
+
+/// Calls over the whole profile.
+const OVER_PROFILE: [Step; 23] = [
+    Step::Refused(RegError::BadDeclaration, Line::Type(b"1x", 64)),
+    Step::Refused(RegError::BadDeclaration, Line::Type(b"int", 3)),
+    Step::Refused(
+        RegError::BadDeclaration,
+        Line::Factory(b"Row", 0, b"Cell@ f()"),
+    ),
+    Step::Refused(
+        RegError::BadDeclaration,
+        Line::Function(0, 0, b"void f(Cell, Row@+)"),
+    ),
+    Step::Refused(RegError::UnknownType, Line::Factory(b"Row", 0, b"Row@ f()")),
+    Step::Refused(
+        RegError::UnknownType,
+        Line::Function(0, 0, b"void f(Cell@+, Row@+)"),
+    ),
+    Step::Refused(RegError::WrongDriver, Line::Type(b"Cell", 2)),
+    Step::Refused(RegError::WrongDriver, Line::Type(b"Row", 64)),
+    Step::Refused(
+        RegError::WrongDriver,
+        Line::Method(b"Counter", 0, b"const Cell@+ c()"),
+    ),
+    Step::Refused(RegError::Duplicate, Line::Type(b"limit", 63)),
+    Step::Refused(RegError::Duplicate, Line::Function(0, 0, b"void Cell(int)")),
+    Step::Refused(
+        RegError::Duplicate,
+        Line::Function(0, 0, b"int print(int64 x)"),
+    ),
+    Step::Refused(RegError::Duplicate, Line::Global(0, 0, b"bool sum")),
+    Step::Refused(
+        RegError::Duplicate,
+        Line::Factory(b"Counter", 9, b"Counter@ g(int)"),
+    ),
+    Step::Refused(
+        RegError::Duplicate,
+        Line::Method(b"Counter", 9, b"int64 value() const"),
+    ),
+    Step::Refused(
+        RegError::Duplicate,
+        Line::Method(b"Counter", 9, b"void step(int)"),
+    ),
+    Step::Refused(
+        RegError::Duplicate,
+        Line::Property(b"Counter", 9, b"int bump"),
+    ),
+    Step::Length(17),
+    Step::Taken(Line::Function(0, 0, b"void print(int)")),
+    Step::Taken(Line::Function(2, 0, b"void pick(const Cell@+)")),
+    Step::Taken(Line::Method(b"Counter", 0, b"int value()")),
+    Step::Taken(Line::Property(b"Counter", 0, b"int f")),
+    Step::Taken(Line::Method(b"Cell", 0, b"void bump()")),
+];
+
+#[test]
+fn refusals_over_a_whole_profile(rt: HostRuntime) {
     let mut registry = Registry::new(rt.alloc());
-    let most = b"void f(int,int,int,int,int,int,int,int,int,int,int,int,int,int,int,int,\
-        int,int,int,int,int,int,int,int,int,int,int,int,int,int,int,int)";
-    let more = b"void g(int,int,int,int,int,int,int,int,int,int,int,int,int,int,int,int,\
-        int,int,int,int,int,int,int,int,int,int,int,int,int,int,int,int,int)";
-    assert_eq!(rt; registry.function(0, 0, most)?, EntityNo(0));
-    registry.set_default_mask(Mask(0));
-    assert_eq!(rt; registry.function(64, 0, more), Err(RegError::Limit));
-    assert_eq!(rt; registry.function(64, 0, most), Err(RegError::EmptyMask));
-    for number in 1..1024 {
-        assert_eq!(rt; registry.blank()?, EntityNo(number));
+    let before = first_wrong(&mut registry, &PROFILE);
+    let wrong = first_wrong(&mut registry, &OVER_PROFILE);
+    drop(registry);
+    assert_eq!(rt; before, None);
+    assert_eq!(rt; wrong, None);
+}
+
+const MOST: &[u8] = b"void f(int,int,int,int,int,int,int,int,int,int,int,int,int,int,int,int,\
+    int,int,int,int,int,int,int,int,int,int,int,int,int,int,int,int)";
+
+const MORE: &[u8] = b"void g(int,int,int,int,int,int,int,int,int,int,int,int,int,int,int,int,\
+    int,int,int,int,int,int,int,int,int,int,int,int,int,int,int,int,int)";
+
+/// A function of the most parameters, and as many entries as there may be.
+const LIMITS: [Step; 8] = [
+    Step::Number(0, Line::Function(0, 0, MOST)),
+    Step::Mask(0, 1),
+    Step::Refused(RegError::Limit, Line::Function(64, 0, MORE)),
+    Step::Refused(RegError::EmptyMask, Line::Function(64, 0, MOST)),
+    Step::Blanks(1, 1024),
+    Step::Refused(RegError::Limit, Line::Blank),
+    Step::Refused(RegError::Limit, Line::Type(b"1x", 64)),
+    Step::Length(1024),
+];
+
+#[test]
+fn limits_go_first(rt: HostRuntime) {
+    assert_eq!(rt; first_wrong_of_new(rt.alloc(), &LIMITS), None);
+}
+
+/// Whether a module of the mask sees an entry.
+fn sees(alloc: Global, registry: &Registry, mask: u32, number: u32) -> Result<bool, AllocError> {
+    let view = registry.seen(alloc, Mask(mask))?;
+    Ok(view.get(EntityNo(number)).is_some())
+}
+
+/// Whether a module of the second mask sees a function of the first one, by its number and by its name.
+fn sees_function(alloc: Global, entry: u32, module: u32) -> Result<(bool, bool), RegError> {
+    let mut registry = Registry::new(alloc);
+    registry.set_default_mask(Mask(entry));
+    registry.function(0, 0, b"void print(int)")?;
+    let found = registry.find_function(Mask(module), b"print");
+    let view = sees(alloc, &registry, module, 0)?;
+    Ok((view, found.is_some()))
+}
+
+/// The mask of the entry, the mask of the module, and whether it sees the entry.
+const MASKS: [(u32, u32, bool); 5] = [
+    (0x0000_0001, 0x0000_0001, true),
+    (0x0000_0001, 0x0000_0002, false),
+    (0x8000_0000, 0x8000_0000, true),
+    (0x0000_0003, 0x0000_0002, true),
+    (0x0000_0001, 0x0000_0000, false),
+];
+
+#[test]
+fn a_mask_sees_what_it_meets(rt: HostRuntime) -> Result<(), RegError> {
+    for (entry, module, is_seen) in MASKS {
+        let found = sees_function(rt.alloc(), entry, module)?;
+        assert!(rt; found == (is_seen, is_seen), "{entry} and {module}");
     }
-    assert_eq!(rt; registry.blank(), Err(RegError::Limit));
-    assert_eq!(rt; registry.type_(b"1x", 64), Err(RegError::Limit));
-    assert_eq!(rt; registry.len(), 1024);
     Ok(())
 }
 
-#[test]
-fn a_mask_sees_what_it_meets(rt: HostRuntime) -> Result<(), Fail> {
-    // the mask of the entry, the mask of the module, and whether it sees the entry
-    let cases = [
-        (0x0000_0001, 0x0000_0001, true),
-        (0x0000_0001, 0x0000_0002, false),
-        (0x8000_0000, 0x8000_0000, true),
-        (0x0000_0003, 0x0000_0002, true),
-        (0x0000_0001, 0x0000_0000, false),
-    ];
-    for (entry, module, is_seen) in cases {
-        let mut registry = Registry::new(rt.alloc());
-        registry.set_default_mask(Mask(entry));
-        registry.function(0, 0, b"void print(int)")?;
-        let view = registry.seen(rt.alloc(), Mask(module))?;
-        assert_eq!(rt; view.get(EntityNo(0)).is_some(), is_seen);
-        let found = registry.find_function(Mask(module), b"print");
-        assert_eq!(rt; found.is_some(), is_seen);
-    }
-    Ok(())
+/// A type for one mask, and for two masks what names it, and last a function that does not.
+const NAMING: [Step; 8] = [
+    Step::Number(0, Line::Type(b"Cell", 2)),
+    Step::Mask(3, 1),
+    Step::Number(1, Line::Function(2, 2, b"Cell@+ made()")),
+    Step::Number(2, Line::Function(2, 2, b"void take(const Cell@+)")),
+    Step::Number(3, Line::Factory(b"Cell", 0, b"Cell@ f(int)")),
+    Step::Number(4, Line::Method(b"Cell", 0, b"int get() const")),
+    Step::Number(5, Line::Property(b"Cell", 0, b"int size")),
+    Step::Number(6, Line::Function(2, 2, b"void plain(int)")),
+];
+
+/// How many entries a module of the mask sees or not, and which one is the type.
+fn extent(
+    alloc: Global,
+    registry: &Registry,
+    mask: u32,
+) -> Result<(usize, Option<EntityNo>), AllocError> {
+    let view = registry.seen(alloc, Mask(mask))?;
+    Ok((view.len(), view.find_type(b"Cell")))
 }
 
-#[test]
-fn what_names_a_hidden_type_is_hidden(rt: HostRuntime) -> Result<(), Fail> {
-    let lines = [
-        Line::Function(2, 2, b"Cell@+ made()"),
-        Line::Function(2, 2, b"void take(const Cell@+)"),
-        Line::Factory(b"Cell", 0, b"Cell@ f(int)"),
-        Line::Method(b"Cell", 0, b"int get() const"),
-        Line::Property(b"Cell", 0, b"int size"),
-        Line::Function(2, 2, b"void plain(int)"),
-    ];
-    let mut registry = Registry::new(rt.alloc());
-    registry.type_(b"Cell", 2)?;
-    registry.set_default_mask(Mask(3));
-    for line in &lines {
-        add(&mut registry, line)?;
-    }
-    let both = registry.seen(rt.alloc(), Mask(1))?;
-    let hidden = registry.seen(rt.alloc(), Mask(2))?;
-    assert_eq!(rt; (both.len(), hidden.len()), (7, 7));
-    assert_eq!(rt; registry.find_type(b"Cell"), Some(EntityNo(0)));
-    assert_eq!(rt; both.find_type(b"Cell"), Some(EntityNo(0)));
-    assert_eq!(rt; hidden.find_type(b"Cell"), None);
+/// The first entry that is seen otherwise: mask 1 sees each, and mask 2 the last one alone.
+fn seen_otherwise(alloc: Global, registry: &Registry) -> Result<Option<u32>, AllocError> {
     for number in 0..7 {
-        assert!(rt; both.get(EntityNo(number)).is_some(), "{number}");
-        assert_eq!(rt;
-            hidden.get(EntityNo(number)).is_some(),
-            number == 6,
-            "{number}"
-        );
+        let for_one = sees(alloc, registry, 1, number)?;
+        let for_two = sees(alloc, registry, 2, number)?;
+        if !for_one || for_two != (number == 6) {
+            return Ok(Some(number));
+        }
     }
+    Ok(None)
+}
+
+#[test]
+fn what_names_a_hidden_type_is_hidden(rt: HostRuntime) -> Result<(), AllocError> {
+    let mut registry = Registry::new(rt.alloc());
+    let wrong = first_wrong(&mut registry, &NAMING);
+    let found = registry.find_type(b"Cell");
+    let both = extent(rt.alloc(), &registry, 1);
+    let hidden = extent(rt.alloc(), &registry, 2);
+    let otherwise = seen_otherwise(rt.alloc(), &registry);
+    drop(registry);
+    assert_eq!(rt; wrong, None);
+    assert_eq!(rt; found, Some(EntityNo(0)));
+    assert!(rt; both? == (7, Some(EntityNo(0))));
+    assert!(rt; hidden? == (7, None));
+    assert_eq!(rt; otherwise?, None);
     Ok(())
 }
 
 // Run with each growth of memory refused in turn, a call may find none, and the next one does.
-#[test]
-fn a_refused_growth_changes_nothing(rt: HostRuntime) -> Result<(), Fail> {
-    let mut registry = Registry::new(rt.alloc());
+fn adds_again(registry: &mut Registry) -> bool {
     if registry.function(0, 0, b"void print(int)") == Err(RegError::Memory) {
-        assert_eq!(rt; registry.len(), 0);
-        assert_eq!(rt; registry.function(0, 0, b"void print(int)")?, EntityNo(0));
+        registry.len() == 0 && registry.function(0, 0, b"void print(int)") == Ok(EntityNo(0))
+    } else {
+        true
     }
-    assert_eq!(rt; registry.len(), 1);
-    let view = match registry.seen(rt.alloc(), Mask(1)) {
-        Ok(view) => view,
-        Err(_) => registry.seen(rt.alloc(), Mask(1))?,
-    };
-    assert!(rt; view.get(EntityNo(0)).is_some());
+}
+
+fn sees_again(alloc: Global, registry: &Registry) -> Result<bool, AllocError> {
+    match sees(alloc, registry, 1, 0) {
+        Ok(is_seen) => Ok(is_seen),
+        Err(_) => sees(alloc, registry, 1, 0),
+    }
+}
+
+#[test]
+fn a_refused_growth_changes_nothing(rt: HostRuntime) -> Result<(), AllocError> {
+    let mut registry = Registry::new(rt.alloc());
+    let is_added = adds_again(&mut registry);
+    let count = registry.len();
+    let is_seen = sees_again(rt.alloc(), &registry);
+    drop(registry);
+    assert!(rt; is_added);
+    assert_eq!(rt; count, 1);
+    assert!(rt; is_seen?);
     Ok(())
 }

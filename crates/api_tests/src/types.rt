@@ -17,160 +17,208 @@ const INT64: ArgType = ArgType::Plain(Prim::I64);
 
 const BOOL: ArgType = ArgType::Plain(Prim::Bool);
 
+const BASE_OBJECT: ArgType = ArgType::Object {
+    number: BASE,
+    read_only: false,
+};
+
+const CONST_BASE_OBJECT: ArgType = ArgType::Object {
+    number: BASE,
+    read_only: true,
+};
+
+const DERIVED_OBJECT: ArgType = ArgType::Object {
+    number: DERIVED,
+    read_only: false,
+};
+
+const SHAPE_HANDLE: ArgType = ArgType::Handle {
+    number: SHAPE,
+    read_only: false,
+};
+
+const CONST_SHAPE_HANDLE: ArgType = ArgType::Handle {
+    number: SHAPE,
+    read_only: true,
+};
+
+const BASE_HANDLE: ArgType = ArgType::Handle {
+    number: BASE,
+    read_only: false,
+};
+
+const CONST_BASE_HANDLE: ArgType = ArgType::Handle {
+    number: BASE,
+    read_only: true,
+};
+
+const DERIVED_HANDLE: ArgType = ArgType::Handle {
+    number: DERIVED,
+    read_only: false,
+};
+
+const CONST_DERIVED_HANDLE: ArgType = ArgType::Handle {
+    number: DERIVED,
+    read_only: true,
+};
+
+const APART_HANDLE: ArgType = ArgType::Handle {
+    number: APART,
+    read_only: false,
+};
+
+/// What each of them derives from.
+const LINES: [&[u32]; 4] = [&[], &[SHAPE], &[BASE, SHAPE], &[]];
+
 fn lineage(alloc: Global) -> Result<Lineage, AllocError> {
-    let none: Vec<u32> = Vec::new(alloc);
-    let base = Vec::from_slice(alloc, &[SHAPE])?;
-    let derived = Vec::from_slice(alloc, &[BASE, SHAPE])?;
-    let apart: Vec<u32> = Vec::new(alloc);
-    Ok(Lineage::new(vec![in alloc; none, base, derived, apart]?))
-}
-
-fn plain(p: Prim) -> ArgType {
-    ArgType::Plain(p)
-}
-
-fn object(number: u32) -> ArgType {
-    ArgType::Object {
-        number,
-        read_only: false,
+    let mut lines = Vec::with_capacity(alloc, 4)?;
+    for line in LINES {
+        lines.push(Vec::from_slice(alloc, line)?)?;
     }
-}
-
-fn const_object(number: u32) -> ArgType {
-    ArgType::Object {
-        number,
-        read_only: true,
-    }
-}
-
-fn handle(number: u32) -> ArgType {
-    ArgType::Handle {
-        number,
-        read_only: false,
-    }
-}
-
-fn const_handle(number: u32) -> ArgType {
-    ArgType::Handle {
-        number,
-        read_only: true,
-    }
-}
-
-fn candidate(alloc: Global, params: &[(ArgType, Pass)]) -> Result<Candidate, AllocError> {
-    Ok(Candidate {
-        params: List::from_vec(Vec::from_slice(alloc, params)?),
-    })
-}
-
-fn by_value(alloc: Global, types: &[ArgType]) -> Result<Candidate, AllocError> {
-    let mut params = Vec::new(alloc);
-    for ty in types {
-        params.push((*ty, Pass::Value))?;
-    }
-    Ok(Candidate {
-        params: List::from_vec(params),
-    })
+    Ok(Lineage::new(lines))
 }
 
 #[test]
 fn integers_meet_in_their_common_type(rt: HostRuntime) {
-    assert_eq!(rt; common(Prim::I8, Prim::I8), Prim::I32);
-    assert_eq!(rt; common(Prim::U8, Prim::U16), Prim::U32);
-    assert_eq!(rt; common(Prim::I8, Prim::U8), Prim::U32);
-    assert_eq!(rt; common(Prim::I32, Prim::U32), Prim::U32);
-    assert_eq!(rt; common(Prim::U32, Prim::I64), Prim::I64);
-    assert_eq!(rt; common(Prim::I16, Prim::U64), Prim::U64);
-    assert_eq!(rt; common(Prim::U64, Prim::I64), Prim::U64);
+    assert!(rt; common(Prim::I8, Prim::I8) == Prim::I32);
+    assert!(rt; common(Prim::U8, Prim::U16) == Prim::U32);
+    assert!(rt; common(Prim::I8, Prim::U8) == Prim::U32);
+    assert!(rt; common(Prim::I32, Prim::U32) == Prim::U32);
+    assert!(rt; common(Prim::U32, Prim::I64) == Prim::I64);
+    assert!(rt; common(Prim::I16, Prim::U64) == Prim::U64);
+    assert!(rt; common(Prim::U64, Prim::I64) == Prim::U64);
+}
+
+/// From which type to which one, and the rank.
+const RANKS: [(ArgType, ArgType, Option<u8>); 27] = [
+    (INT, INT, Some(0)),
+    (BOOL, BOOL, Some(0)),
+    (INT, INT64, Some(2)),
+    (ArgType::Plain(Prim::U8), ArgType::Plain(Prim::U16), Some(2)),
+    (INT64, INT, Some(3)),
+    (INT, ArgType::Plain(Prim::U64), Some(3)),
+    (ArgType::Plain(Prim::U32), INT, Some(3)),
+    (BOOL, INT, None),
+    (INT, BOOL, None),
+    (ArgType::Null, BASE_HANDLE, Some(1)),
+    (ArgType::Null, CONST_BASE_HANDLE, Some(1)),
+    (ArgType::Null, BASE_OBJECT, None),
+    (ArgType::Null, INT, None),
+    (ArgType::Void, INT, None),
+    (BASE_OBJECT, BASE_OBJECT, Some(0)),
+    (BASE_OBJECT, CONST_BASE_OBJECT, Some(1)),
+    (BASE_OBJECT, BASE_HANDLE, Some(1)),
+    (BASE_HANDLE, BASE_OBJECT, Some(1)),
+    (BASE_HANDLE, CONST_BASE_HANDLE, Some(1)),
+    (CONST_BASE_HANDLE, BASE_HANDLE, None),
+    (CONST_BASE_OBJECT, BASE_HANDLE, None),
+    (DERIVED_HANDLE, BASE_HANDLE, Some(4)),
+    (DERIVED_OBJECT, CONST_SHAPE_HANDLE, Some(4)),
+    (BASE_HANDLE, DERIVED_HANDLE, None),
+    (CONST_DERIVED_HANDLE, BASE_HANDLE, None),
+    (APART_HANDLE, BASE_HANDLE, None),
+    (APART_HANDLE, INT, None),
+];
+
+fn rank_of(alloc: Global, from: ArgType, to: ArgType) -> Result<Option<u8>, AllocError> {
+    let lineage = lineage(alloc)?;
+    Ok(rank(&lineage, from, to))
 }
 
 #[test]
 fn conversions_have_their_ranks(rt: HostRuntime) -> Result<(), AllocError> {
-    let lineage = lineage(rt.alloc())?;
-    let rows = [
-        (INT, INT, Some(0)),
-        (BOOL, BOOL, Some(0)),
-        (INT, INT64, Some(2)),
-        (plain(Prim::U8), plain(Prim::U16), Some(2)),
-        (INT64, INT, Some(3)),
-        (INT, plain(Prim::U64), Some(3)),
-        (plain(Prim::U32), INT, Some(3)),
-        (BOOL, INT, None),
-        (INT, BOOL, None),
-        (ArgType::Null, handle(BASE), Some(1)),
-        (ArgType::Null, const_handle(BASE), Some(1)),
-        (ArgType::Null, object(BASE), None),
-        (ArgType::Null, INT, None),
-        (ArgType::Void, INT, None),
-        (object(BASE), object(BASE), Some(0)),
-        (object(BASE), const_object(BASE), Some(1)),
-        (object(BASE), handle(BASE), Some(1)),
-        (handle(BASE), object(BASE), Some(1)),
-        (handle(BASE), const_handle(BASE), Some(1)),
-        (const_handle(BASE), handle(BASE), None),
-        (const_object(BASE), handle(BASE), None),
-        (handle(DERIVED), handle(BASE), Some(4)),
-        (object(DERIVED), const_handle(SHAPE), Some(4)),
-        (handle(BASE), handle(DERIVED), None),
-        (const_handle(DERIVED), handle(BASE), None),
-        (handle(APART), handle(BASE), None),
-        (handle(APART), INT, None),
-    ];
-    for (from, to, want) in rows {
-        assert_eq!(rt; rank(&lineage, from, to), want, "{from:?} to {to:?}");
+    for (from, to, want) in RANKS {
+        assert!(rt;
+            rank_of(rt.alloc(), from, to)? == want,
+            "{from:?} to {to:?}"
+        );
     }
     Ok(())
 }
 
+/// Functions by their parameters.
+type Functions = &'static [&'static [(ArgType, Pass)]];
+
+/// `put(int64)` and `put(int)`, with a literal that is an `int`
+const PUT: Functions = &[&[(INT64, Pass::Value)], &[(INT, Pass::Value)]];
+
+const FIRST_PUT: Functions = &[&[(INT64, Pass::Value)]];
+
+/// `f(int64, int)` and `f(int, int64)`
+const CROSSED: Functions = &[
+    &[(INT64, Pass::Value), (INT, Pass::Value)],
+    &[(INT, Pass::Value), (INT64, Pass::Value)],
+];
+
+/// A third that is better than both makes it clear.
+const CLEAR: Functions = &[
+    &[(INT64, Pass::Value), (INT, Pass::Value)],
+    &[(INT, Pass::Value), (INT64, Pass::Value)],
+    &[(INT, Pass::Value), (INT, Pass::Value)],
+];
+
+/// What comes out converts to the variable.
+const GETS: Functions = &[
+    &[(DERIVED_HANDLE, Pass::RefOut)],
+    &[(SHAPE_HANDLE, Pass::RefOut)],
+];
+
+/// An object argument: a handle and a `const` object cost the same.
+const TAKES: Functions = &[
+    &[(BASE_HANDLE, Pass::Value)],
+    &[(CONST_BASE_OBJECT, Pass::RefIn)],
+];
+
+/// A name, the functions of that name, the types of the arguments, and what is picked.
+type Choice = (&'static str, Functions, &'static [ArgType], Pick);
+
+const BY_VALUE: [Choice; 8] = [
+    ("put(int)", PUT, &[INT], Pick::One(1)),
+    ("put(int) of one", FIRST_PUT, &[INT], Pick::One(0)),
+    ("f(int, int)", CROSSED, &[INT, INT], Pick::Ambiguous),
+    ("f(int64, int)", CROSSED, &[INT64, INT], Pick::One(0)),
+    ("f(int, bool)", CROSSED, &[INT, BOOL], Pick::NoViable),
+    ("f(int)", CROSSED, &[INT], Pick::NoViable),
+    ("of none", &[], &[], Pick::NoViable),
+    ("f(int, int) of three", CLEAR, &[INT, INT], Pick::One(2)),
+];
+
+const OF_OBJECTS: [Choice; 5] = [
+    ("get(base)", GETS, &[BASE_HANDLE], Pick::One(0)),
+    ("get(shape)", GETS, &[SHAPE_HANDLE], Pick::One(1)),
+    ("get(apart)", GETS, &[APART_HANDLE], Pick::NoViable),
+    ("take(object)", TAKES, &[BASE_OBJECT], Pick::Ambiguous),
+    ("take(handle)", TAKES, &[BASE_HANDLE], Pick::One(0)),
+];
+
+fn candidates(alloc: Global, functions: Functions) -> Result<Vec<Candidate>, AllocError> {
+    let mut candidates = Vec::new(alloc);
+    for params in functions {
+        let params = List::from_vec(Vec::from_slice(alloc, params)?);
+        candidates.push(Candidate { params })?;
+    }
+    Ok(candidates)
+}
+
+/// What is picked among these functions.
+fn picked(alloc: Global, functions: Functions, args: &[ArgType]) -> Result<Pick, AllocError> {
+    let candidates = candidates(alloc, functions)?;
+    let lineage = lineage(alloc)?;
+    Ok(resolve(&lineage, &candidates, args))
+}
+
 #[test]
 fn the_best_candidate_is_picked(rt: HostRuntime) -> Result<(), AllocError> {
-    let alloc = rt.alloc();
-    let lineage = lineage(alloc)?;
-
-    // `put(int64)` and `put(int)`, with a literal that is an `int`
-    let put = [by_value(alloc, &[INT64])?, by_value(alloc, &[INT])?];
-    assert_eq!(rt; resolve(&lineage, &put, &[INT]), Pick::One(1));
-    assert_eq!(rt; resolve(&lineage, &put[..1], &[INT]), Pick::One(0));
-
-    // `f(int64, int)` and `f(int, int64)`
-    let crossed = [
-        by_value(alloc, &[INT64, INT])?,
-        by_value(alloc, &[INT, INT64])?,
-    ];
-    assert_eq!(rt; resolve(&lineage, &crossed, &[INT, INT]), Pick::Ambiguous);
-    assert_eq!(rt; resolve(&lineage, &crossed, &[INT64, INT]), Pick::One(0));
-    assert_eq!(rt; resolve(&lineage, &crossed, &[INT, BOOL]), Pick::NoViable);
-    assert_eq!(rt; resolve(&lineage, &crossed, &[INT]), Pick::NoViable);
-    assert_eq!(rt; resolve(&lineage, &[], &[]), Pick::NoViable);
-
-    // a third that is better than both makes it clear
-    let clear = [
-        by_value(alloc, &[INT64, INT])?,
-        by_value(alloc, &[INT, INT64])?,
-        by_value(alloc, &[INT, INT])?,
-    ];
-    assert_eq!(rt; resolve(&lineage, &clear, &[INT, INT]), Pick::One(2));
+    for (name, functions, args, want) in BY_VALUE {
+        assert!(rt; picked(rt.alloc(), functions, args)? == want, "{name}");
+    }
     Ok(())
 }
 
 #[test]
 fn what_comes_out_converts_to_the_variable(rt: HostRuntime) -> Result<(), AllocError> {
-    let alloc = rt.alloc();
-    let lineage = lineage(alloc)?;
-    let gets = [
-        candidate(alloc, &[(handle(DERIVED), Pass::RefOut)])?,
-        candidate(alloc, &[(handle(SHAPE), Pass::RefOut)])?,
-    ];
-    assert_eq!(rt; resolve(&lineage, &gets, &[handle(BASE)]), Pick::One(0));
-    assert_eq!(rt; resolve(&lineage, &gets, &[handle(SHAPE)]), Pick::One(1));
-    assert_eq!(rt; resolve(&lineage, &gets, &[handle(APART)]), Pick::NoViable);
-
-    // an object argument: a handle and a `const` object cost the same
-    let takes = [
-        candidate(alloc, &[(handle(BASE), Pass::Value)])?,
-        candidate(alloc, &[(const_object(BASE), Pass::RefIn)])?,
-    ];
-    assert_eq!(rt; resolve(&lineage, &takes, &[object(BASE)]), Pick::Ambiguous);
-    assert_eq!(rt; resolve(&lineage, &takes, &[handle(BASE)]), Pick::One(0));
+    for (name, functions, args, want) in OF_OBJECTS {
+        assert!(rt; picked(rt.alloc(), functions, args)? == want, "{name}");
+    }
     Ok(())
 }

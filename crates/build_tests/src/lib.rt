@@ -8,6 +8,8 @@ mod names;
 #[cfg(test)]
 mod operators;
 #[cfg(test)]
+mod tokens;
+#[cfg(test)]
 mod typing;
 #[cfg(test)]
 mod written;

@@ -1,40 +1,16 @@
 //! Outside examples on small trees made by hand, and each call that takes memory once.
-ghost use Rattle.std.specs.Prelude.{◌<◌};
 
-use ang_kinds::{EntityNo, Error, ErrorKind, Mask, Pass, Place, Prim};
-use ang_lex::{Span, Token, TokenKind};
+use crate::tokens::{plain, token};
+use ang_kinds::{EntityNo, Error, ErrorKind, Mask, Pass, Prim};
+use ang_lex::{Token, TokenKind};
 use ang_registry::{RegError, Registry, View};
-use ang_tree::{Declaration, Initializer, Script, TypeName, Variable, Variables};
+use ang_tree::{Declaration, Initializer, Script, Variable, Variables};
 use ang_types::ArgType;
 use ang_written::{
     HostGlobal, copy_at, error_at, is_read_only, name_at, not_yet_errors, text_at, type_of,
     value_type_of, view_functions_named, view_global_named,
 };
 use std::alloc::{AllocError, Global};
-use std::test::Fail;
-
-/// A token of a section of one line.
-fn token(kind: TokenKind, start: u32, end: u32) -> Token
-    requires { start < 1000 }
-{
-    Token {
-        kind,
-        span: Span { start, end },
-        place: Place {
-            sect: 0,
-            line: 1,
-            column: start + 1,
-        },
-    }
-}
-
-fn plain(name: Token) -> TypeName {
-    TypeName {
-        constant: None,
-        name,
-        handle: None,
-    }
-}
 
 /// `TYPE NAME ;` with the tokens at these places.
 fn global(alloc: Global, word: Token, name: Token) -> Result<Declaration, AllocError> {
@@ -63,85 +39,158 @@ fn is_error(error: &Error, kind: ErrorKind, column: u32, name: &[u8]) -> bool {
     error.kind == kind && error.place.column == column && error.name.as_slice() == name
 }
 
+const TEXT: &[u8] = b"Cell Nope void";
+
+/// Whether the text of a token, and its copy, is this.
+fn is_copied(alloc: Global, token: &Token, want: &[u8]) -> Result<bool, AllocError> {
+    let copy = copy_at(alloc, TEXT, token)?;
+    Ok(text_at(TEXT, token) == want && copy.as_slice() == want)
+}
+
+/// Whether the name of a token that may be there is this.
+fn is_named(alloc: Global, token: &Option<Token>, want: &[u8]) -> Result<bool, AllocError> {
+    let name = name_at(alloc, TEXT, token)?;
+    Ok(name.as_slice() == want)
+}
+
+/// Whether an error is about the token `Nope`.
+fn is_about(alloc: Global, token: &Token) -> Result<bool, AllocError> {
+    let error = error_at(alloc, TEXT, ErrorKind::UnknownType, token)?;
+    Ok(is_error(&error, ErrorKind::UnknownType, 6, b"Nope"))
+}
+
 #[test]
-fn tokens_have_texts(rt: HostRuntime) -> Result<(), Fail> {
-    let alloc = rt.alloc();
-    let text = b"Cell Nope void";
+fn tokens_have_texts(rt: HostRuntime) -> Result<(), AllocError> {
     let nope = token(TokenKind::Name, 5, 9);
-    assert_eq!(rt; text_at(text, &nope), b"Nope".as_slice());
-    assert_eq!(rt; copy_at(alloc, text, &nope)?.as_slice(), b"Nope".as_slice());
-    assert_eq!(rt;
-        name_at(alloc, text, &Some(nope))?.as_slice(),
-        b"Nope".as_slice()
-    );
-    assert_eq!(rt; name_at(alloc, text, &None)?.as_slice(), b"".as_slice());
-    let error = error_at(alloc, text, ErrorKind::UnknownType, &nope)?;
-    assert!(rt; is_error(&error, ErrorKind::UnknownType, 6, b"Nope"));
+    assert!(rt; is_copied(rt.alloc(), &nope, b"Nope")?);
+    assert!(rt; is_named(rt.alloc(), &Some(nope), b"Nope")?);
+    assert!(rt; is_named(rt.alloc(), &None, b"")?);
+    assert!(rt; is_about(rt.alloc(), &nope)?);
     Ok(())
 }
 
-#[test]
-fn types_mean_what_is_written(rt: HostRuntime) -> Result<(), Fail> {
-    let alloc = rt.alloc();
+const CELL: ArgType = ArgType::Object {
+    number: 0,
+    read_only: false,
+};
+
+/// A token of the text, and what a type of that name means.
+const TYPES: [(TokenKind, u32, u32, Result<ArgType, ErrorKind>); 3] = [
+    (TokenKind::Name, 0, 4, Ok(CELL)),
+    (TokenKind::Name, 5, 9, Err(ErrorKind::UnknownType)),
+    (TokenKind::Void, 10, 14, Ok(ArgType::Void)),
+];
+
+/// What a type written as one token means, and what it means as that of a value.
+fn meant(
+    alloc: Global,
+    name: Token,
+) -> Result<(Result<ArgType, ErrorKind>, Result<ArgType, ErrorKind>), RegError> {
     let view = view(alloc)?;
-    let text = b"Cell Nope void";
-    let cell = plain(token(TokenKind::Name, 0, 4));
-    let nope = plain(token(TokenKind::Name, 5, 9));
-    let none = plain(token(TokenKind::Void, 10, 14));
-    let object = ArgType::Object {
-        number: 0,
-        read_only: false,
-    };
-    assert_eq!(rt; type_of(&view, text, &cell), Ok(object));
-    assert_eq!(rt; type_of(&view, text, &nope), Err(ErrorKind::UnknownType));
-    assert_eq!(rt; type_of(&view, text, &none), Ok(ArgType::Void));
-    assert_eq!(rt; value_type_of(&view, text, &none), Err(ErrorKind::BadType));
-    assert!(rt; !is_read_only(&cell));
-    Ok(())
+    let written = plain(name);
+    Ok((
+        type_of(&view, TEXT, &written),
+        value_type_of(&view, TEXT, &written),
+    ))
 }
 
 #[test]
-fn the_host_is_seen_by_name(rt: HostRuntime) -> Result<(), Fail> {
-    let alloc = rt.alloc();
+fn types_mean_what_is_written(rt: HostRuntime) -> Result<(), RegError> {
+    for (kind, start, end, want) in TYPES {
+        let (found, _) = meant(rt.alloc(), token(kind, start, end))?;
+        assert!(rt; found == want, "at {start}");
+    }
+    let (_, of_value) = meant(rt.alloc(), token(TokenKind::Void, 10, 14))?;
+    assert!(rt; of_value == Err(ErrorKind::BadType));
+    assert!(rt; !is_read_only(&plain(token(TokenKind::Name, 0, 4))));
+    Ok(())
+}
+
+const LIMIT: HostGlobal = HostGlobal {
+    entity: EntityNo(2),
+    driver: 0,
+    f: 5,
+    ty: ArgType::Plain(Prim::I64),
+    read_only: true,
+};
+
+fn is_limit(alloc: Global) -> Result<bool, RegError> {
     let view = view(alloc)?;
-    let limit = HostGlobal {
-        entity: EntityNo(2),
-        driver: 0,
-        f: 5,
-        ty: ArgType::Plain(Prim::I64),
-        read_only: true,
-    };
-    assert_eq!(rt; view_global_named(&view, b"limit"), Some(limit));
-    assert_eq!(rt; view_functions_named(alloc, &view, b"limit")?.len(), 0);
-    match view_functions_named(alloc, &view, b"print")?.as_slice() {
+    Ok(view_global_named(&view, b"limit") == Some(LIMIT))
+}
+
+/// How many functions have that name.
+fn count_of(alloc: Global, view: &View, name: &[u8]) -> Result<usize, AllocError> {
+    let functions = view_functions_named(alloc, view, name)?;
+    Ok(functions.len())
+}
+
+fn count_seen(alloc: Global, name: &[u8]) -> Result<usize, RegError> {
+    let view = view(alloc)?;
+    Ok(count_of(alloc, &view, name)?)
+}
+
+/// Whether `print` is one function, of that number, result and parameter.
+fn is_print(alloc: Global, view: &View) -> Result<bool, AllocError> {
+    let functions = view_functions_named(alloc, view, b"print")?;
+    let params = [(ArgType::Plain(Prim::I64), Pass::Value)];
+    Ok(match functions.as_slice() {
         [print] => {
-            assert_eq!(rt; print.entity, EntityNo(1));
-            assert_eq!(rt; print.result, ArgType::Void);
-            assert_eq!(rt;
-                print.params.as_slice(),
-                [(ArgType::Plain(Prim::I64), Pass::Value)].as_slice()
-            );
+            print.entity == EntityNo(1)
+                && print.result == ArgType::Void
+                && print.params.as_slice() == params.as_slice()
         }
-        _ => assert!(rt; false, "one function"),
-    }
-    Ok(())
+        _ => false,
+    })
+}
+
+fn sees_print(alloc: Global) -> Result<bool, RegError> {
+    let view = view(alloc)?;
+    Ok(is_print(alloc, &view)?)
 }
 
 #[test]
-fn an_object_type_is_not_built_yet(rt: HostRuntime) -> Result<(), Fail> {
-    let alloc = rt.alloc();
+fn the_host_is_seen_by_name(rt: HostRuntime) -> Result<(), RegError> {
+    assert!(rt; is_limit(rt.alloc())?);
+    assert!(rt; count_seen(rt.alloc(), b"limit")? == 0);
+    assert!(rt; sees_print(rt.alloc())?);
+    Ok(())
+}
+
+/// `int a; Cell b;`
+fn script(alloc: Global) -> Result<Script, AllocError> {
     let word = token(TokenKind::Primitive(Prim::I32), 0, 3);
-    let one = global(alloc, word, token(TokenKind::Name, 4, 5))?;
+    let mut declarations = Vec::with_capacity(alloc, 2)?;
+    declarations.push(global(alloc, word, token(TokenKind::Name, 4, 5))?)?;
     let cell = token(TokenKind::Name, 7, 11);
-    let other = global(alloc, cell, token(TokenKind::Name, 12, 13))?;
-    let script = Script {
+    declarations.push(global(alloc, cell, token(TokenKind::Name, 12, 13))?)?;
+    Ok(Script {
         source: Vec::from_slice(alloc, b"int a; Cell b;")?,
-        declarations: vec![in alloc; one, other]?,
-    };
-    let scripts = vec![in alloc; script]?;
-    match not_yet_errors(alloc, &view(alloc)?, &scripts)?.as_slice() {
-        [error] => assert!(rt; is_error(error, ErrorKind::NotYet, 8, b"")),
-        _ => assert!(rt; false, "one error"),
-    }
+        declarations,
+    })
+}
+
+/// Whether it is the only error that the second type's word can't be used yet.
+fn is_not_yet(alloc: Global, view: &View, scripts: &[Script]) -> Result<bool, AllocError> {
+    let errors = not_yet_errors(alloc, view, scripts)?;
+    Ok(match errors.as_slice() {
+        [error] => is_error(error, ErrorKind::NotYet, 8, b""),
+        _ => false,
+    })
+}
+
+fn is_script_not_yet(alloc: Global, view: &View) -> Result<bool, AllocError> {
+    let scripts = vec![in alloc; script(alloc)?]?;
+    is_not_yet(alloc, view, &scripts)
+}
+
+fn is_refused(alloc: Global) -> Result<bool, RegError> {
+    let view = view(alloc)?;
+    Ok(is_script_not_yet(alloc, &view)?)
+}
+
+#[test]
+fn an_object_type_is_not_built_yet(rt: HostRuntime) -> Result<(), RegError> {
+    assert!(rt; is_refused(rt.alloc())?);
     Ok(())
 }

@@ -1,26 +1,40 @@
 //! How many functions, globals and parameters a module's scripts may have.
 
-use ang_kinds::{Error, ErrorKind, Mask, Place, Unbuilt};
-use ang_lex::lex;
-use ang_names::declare;
-use ang_parse::parse;
-use ang_registry::{Registry, View};
+use crate::errors::{Want, is_only_error, scripts_of};
+use ang_kinds::{ErrorKind, Mask, Unbuilt};
+use ang_names::{Names, declare};
+use ang_registry::Registry;
+use ang_tree::Script;
 use std::alloc::{AllocError, Global};
-use std::test::Fail;
 
-/// What any module sees of an empty list.
-fn empty_view(alloc: Global) -> Result<View, AllocError> {
-    Registry::new(alloc).seen(alloc, Mask(1))
+/// What is declared by scripts of which any module sees an empty list.
+fn declared(alloc: Global, scripts: &[Script]) -> Result<Names, Unbuilt> {
+    match Registry::new(alloc).seen(alloc, Mask(1)) {
+        Ok(view) => declare(alloc, &view, scripts),
+        Err(_) => Err(Unbuilt::Memory),
+    }
 }
 
-/// The errors of one section's declarations, none where it has none; nothing of a section that is not read.
-fn errors_of(alloc: Global, view: &View, text: &[u8]) -> Option<Vec<Error>> {
-    let tokens = lex(alloc, text, 0).ok()?;
-    let script = parse(alloc, text, tokens.as_slice()).ok()?;
-    match declare(alloc, view, &[script]) {
-        Ok(_) => Some(Vec::new(alloc)),
-        Err(Unbuilt::Errors(errors)) => Some(errors.into_vec()),
-        Err(Unbuilt::Memory) => None,
+/// Whether a section is declared, which has to be read.
+fn is_declared(alloc: Global, text: &str) -> bool {
+    match scripts_of(alloc, text.as_bytes()) {
+        Some(scripts) => declared(alloc, &scripts).is_ok(),
+        None => false,
+    }
+}
+
+fn is_want(declared: Result<Names, Unbuilt>, want: Want) -> bool {
+    match declared {
+        Err(Unbuilt::Errors(errors)) => is_only_error(errors.as_slice(), want),
+        _ => false,
+    }
+}
+
+/// Whether that is the only error of a section, which has to be read.
+fn is_refused(alloc: Global, text: &str, want: Want) -> bool {
+    match scripts_of(alloc, text.as_bytes()) {
+        Some(scripts) => is_want(declared(alloc, &scripts), want),
+        None => false,
     }
 }
 
@@ -56,61 +70,47 @@ fn parameters(alloc: Global, times: usize) -> Result<String, AllocError> {
     Ok(text)
 }
 
-/// What is refused of a text, in one word: the kind, the place and the name of its only error.
-fn only_error(alloc: Global, text: &[u8]) -> Result<Error, Fail> {
-    let view = empty_view(alloc)?;
-    let mut errors = errors_of(alloc, &view, text).ok_or("declarations")?;
-    let last = errors.pop().ok_or("an error")?;
-    if errors.is_empty() {
-        Ok(last)
-    } else {
-        Err(Fail::from("one error"))
-    }
-}
-
-fn is_declared(alloc: Global, text: &[u8]) -> Result<bool, Fail> {
-    let view = empty_view(alloc)?;
-    let errors = errors_of(alloc, &view, text).ok_or("declarations")?;
-    Ok(errors.is_empty())
-}
-
-fn at(line: u32, column: u32) -> Place {
-    Place {
-        sect: 0,
-        line,
-        column,
-    }
-}
-
 #[test]
-fn a_module_has_4096_functions_at_most(rt: HostRuntime) -> Result<(), Fail> {
+fn a_module_may_have_4096_functions(rt: HostRuntime) -> Result<(), AllocError> {
     let alloc = rt.alloc();
-    assert!(rt; is_declared(alloc, functions(alloc, 4096)?.as_bytes())?);
-    let error = only_error(alloc, functions(alloc, 4097)?.as_bytes())?;
-    assert_eq!(rt; error.kind, ErrorKind::Limit);
-    assert_eq!(rt; error.place, at(4097, 6));
-    assert_eq!(rt; error.name.as_slice(), b"f4096".as_slice());
+    let is_declared = is_declared(alloc, functions(alloc, 4096)?.as_str());
+    assert!(rt; is_declared);
     Ok(())
 }
 
 #[test]
-fn a_module_has_4096_globals_at_most(rt: HostRuntime) -> Result<(), Fail> {
+fn a_module_has_4096_functions_at_most(rt: HostRuntime) -> Result<(), AllocError> {
     let alloc = rt.alloc();
-    assert!(rt; is_declared(alloc, globals(alloc, 4096)?.as_bytes())?);
-    let error = only_error(alloc, globals(alloc, 4097)?.as_bytes())?;
-    assert_eq!(rt; error.kind, ErrorKind::Limit);
-    assert_eq!(rt; error.place, at(4097, 5));
-    assert_eq!(rt; error.name.as_slice(), b"g4096".as_slice());
+    let want = (ErrorKind::Limit, 4097, 6, "f4096");
+    let is_refused = is_refused(alloc, functions(alloc, 4097)?.as_str(), want);
+    assert!(rt; is_refused);
     Ok(())
 }
 
 #[test]
-fn a_function_has_32_parameters_at_most(rt: HostRuntime) -> Result<(), Fail> {
+fn a_module_may_have_4096_globals(rt: HostRuntime) -> Result<(), AllocError> {
     let alloc = rt.alloc();
-    assert!(rt; is_declared(alloc, parameters(alloc, 32)?.as_bytes())?);
-    let error = only_error(alloc, parameters(alloc, 33)?.as_bytes())?;
-    assert_eq!(rt; error.kind, ErrorKind::Limit);
-    assert_eq!(rt; error.place, at(1, 6));
-    assert_eq!(rt; error.name.as_slice(), b"f".as_slice());
+    let is_declared = is_declared(alloc, globals(alloc, 4096)?.as_str());
+    assert!(rt; is_declared);
+    Ok(())
+}
+
+#[test]
+fn a_module_has_4096_globals_at_most(rt: HostRuntime) -> Result<(), AllocError> {
+    let alloc = rt.alloc();
+    let want = (ErrorKind::Limit, 4097, 5, "g4096");
+    let is_refused = is_refused(alloc, globals(alloc, 4097)?.as_str(), want);
+    assert!(rt; is_refused);
+    Ok(())
+}
+
+#[test]
+fn a_function_has_32_parameters_at_most(rt: HostRuntime) -> Result<(), AllocError> {
+    let alloc = rt.alloc();
+    let is_declared = is_declared(alloc, parameters(alloc, 32)?.as_str());
+    let want = (ErrorKind::Limit, 1, 6, "f");
+    let is_refused = is_refused(alloc, parameters(alloc, 33)?.as_str(), want);
+    assert!(rt; is_declared);
+    assert!(rt; is_refused);
     Ok(())
 }

@@ -5,7 +5,6 @@ use ang_lower::host_use;
 use ang_meaning::{HostType, HostUse};
 use ang_registry::{Entry, EntryKind};
 use std::alloc::{AllocError, Global};
-use std::test::Fail;
 
 fn handle(alloc: Global) -> TypeRef {
     TypeRef::Object {
@@ -25,10 +24,17 @@ fn param(alloc: Global, ty: TypeRef) -> Param {
     }
 }
 
+/// An `int64` and a handle.
+fn params(alloc: Global) -> Result<Vec<Param>, AllocError> {
+    let mut params = Vec::with_capacity(alloc, 2)?;
+    params.push(param(alloc, TypeRef::Plain(Prim::I64)))?;
+    params.push(param(alloc, handle(alloc)))?;
+    Ok(params)
+}
+
 /// An entry of driver 3 with the driver's number 7, that takes an `int64` and a handle and gives a `bool`.
 fn entry(alloc: Global, kind: EntryKind) -> Result<Entry, AllocError> {
-    let first = param(alloc, TypeRef::Plain(Prim::I64));
-    let second = param(alloc, handle(alloc));
+    let params = params(alloc)?;
     Ok(Entry {
         kind,
         owner: Some(EntityNo(1)),
@@ -37,7 +43,7 @@ fn entry(alloc: Global, kind: EntryKind) -> Result<Entry, AllocError> {
         signature: Signature {
             name: List::from_vec(Vec::new(alloc)),
             result: TypeRef::Plain(Prim::Bool),
-            params: List::from_vec(vec![in alloc; first, second]?),
+            params: List::from_vec(params),
             read_only: false,
         },
         mask: Mask(1),
@@ -50,29 +56,41 @@ fn used(alloc: Global, kind: EntryKind) -> Result<HostUse, AllocError> {
     host_use(alloc, &entry)
 }
 
+/// The role of an entry of that kind, whether it belongs to an object, and its driver.
+fn role(alloc: Global, kind: EntryKind) -> Result<(Role, bool, u32), AllocError> {
+    let found = used(alloc, kind)?;
+    Ok((found.role, found.member, found.driver))
+}
+
+const ROLES: [(EntryKind, Role, bool); 5] = [
+    (EntryKind::Factory, Role::Making(7), false),
+    (EntryKind::Method, Role::Calling(7), true),
+    (EntryKind::Property, Role::Property(7), true),
+    (EntryKind::Function, Role::Calling(7), false),
+    (EntryKind::Global, Role::Property(7), false),
+];
+
 #[test]
-fn each_kind_has_its_role(rt: HostRuntime) -> Result<(), Fail> {
-    let table = [
-        (EntryKind::Factory, Role::Making(7), false),
-        (EntryKind::Method, Role::Calling(7), true),
-        (EntryKind::Property, Role::Property(7), true),
-        (EntryKind::Function, Role::Calling(7), false),
-        (EntryKind::Global, Role::Property(7), false),
-    ];
-    for (kind, role, member) in table {
-        let found = used(rt.alloc(), kind)?;
-        assert_eq!(rt; found.role, role, "{kind:?}");
-        assert_eq!(rt; found.member, member, "{kind:?}");
-        assert_eq!(rt; found.driver, 3);
+fn each_kind_has_its_role(rt: HostRuntime) -> Result<(), AllocError> {
+    for (kind, want, member) in ROLES {
+        let found = role(rt.alloc(), kind)?;
+        assert!(rt; found == (want, member, 3), "{kind:?}");
     }
     Ok(())
 }
 
+/// Whether the parameters of a function, and its result, pass as they have to.
+fn passes(alloc: Global) -> Result<(bool, bool), AllocError> {
+    let found = used(alloc, EntryKind::Function)?;
+    let params = [HostType::Plain(Prim::I64), HostType::Handle];
+    Ok((
+        found.params.as_slice() == params.as_slice(),
+        found.result == HostType::Plain(Prim::Bool),
+    ))
+}
+
 #[test]
-fn types_pass_as_they_are_declared(rt: HostRuntime) -> Result<(), Fail> {
-    let found = used(rt.alloc(), EntryKind::Function)?;
-    let want = [HostType::Plain(Prim::I64), HostType::Handle];
-    assert_eq!(rt; found.params.as_slice(), want.as_slice());
-    assert_eq!(rt; found.result, HostType::Plain(Prim::Bool));
+fn types_pass_as_they_are_declared(rt: HostRuntime) -> Result<(), AllocError> {
+    assert_eq!(rt; passes(rt.alloc())?, (true, true));
     Ok(())
 }

@@ -1,42 +1,44 @@
+use crate::drivers::asking::{Asking, Making, first_made, first_wrong, is_idle};
 use ang_drivers::Console;
-use ang_host::{Answer, Driver, Made};
+use ang_host::Answer;
 use ang_kinds::Value;
 use std::alloc::AllocError;
+
+const ADDS: [(Asking, Answer); 8] = [
+    (Asking::CallInts(1, 2, 3), Answer::Gave(Value::Int(5))),
+    (Asking::CallInts(1, i64::MAX, 1), Answer::Fault(2)),
+    (Asking::CallInts(1, i64::MIN, -1), Answer::Fault(2)),
+    (Asking::CallIntAndUint(1, 2, 3), Answer::Fault(1)),
+    (Asking::CallUints(2, 7, 7), Answer::Fault(1)),
+    (Asking::CallInts(3, 2, 3), Answer::Fault(1)),
+    (Asking::CallUint(2, 7), Answer::Fault(7)),
+    (Asking::CallUint(2, 4_294_967_296), Answer::Fault(1)),
+];
 
 #[test]
 fn a_console_adds_and_faults(rt: HostRuntime) -> Result<(), AllocError> {
     let mut console = Console::new(rt.alloc())?;
-    let cases = [
-        (1, Value::Int(2), Value::Int(3), Answer::Gave(Value::Int(5))),
-        (1, Value::Int(i64::MAX), Value::Int(1), Answer::Fault(2)),
-        (1, Value::Int(i64::MIN), Value::Int(-1), Answer::Fault(2)),
-        (1, Value::Int(2), Value::Uint(3), Answer::Fault(1)),
-        (2, Value::Uint(7), Value::Uint(7), Answer::Fault(1)),
-        (3, Value::Int(2), Value::Int(3), Answer::Fault(1)),
-    ];
-    for (f, a, b, want) in cases {
-        assert_eq!(rt; console.call(f, None, &[a, b]), want, "call {f}");
-    }
-    assert_eq!(rt; console.call(2, None, &[Value::Uint(7)]), Answer::Fault(7));
-    let above = [Value::Uint(4_294_967_296)];
-    assert_eq!(rt; console.call(2, None, &above), Answer::Fault(1));
+    assert_eq!(rt; first_wrong(&mut console, &ADDS), None);
     Ok(())
 }
+
+const NOTES: [(Asking, Answer); 9] = [
+    (Asking::CallMixed(0, -4), Answer::Void),
+    (Asking::Call(0), Answer::Void),
+    (Asking::Read(0), Answer::Gave(Value::Int(0))),
+    (Asking::WriteInt(0, -5), Answer::Void),
+    (Asking::Read(0), Answer::Gave(Value::Int(-5))),
+    (Asking::WriteUint(0, 6), Answer::Fault(1)),
+    (Asking::WriteInt(1, 6), Answer::Fault(1)),
+    (Asking::Read(0), Answer::Gave(Value::Int(-5))),
+    (Asking::Read(1), Answer::Fault(1)),
+];
 
 #[test]
 fn a_console_notes_and_keeps_a_register(rt: HostRuntime) -> Result<(), AllocError> {
     let mut console = Console::new(rt.alloc())?;
-    let noted = [Value::Bool(true), Value::Key(None), Value::Int(-4)];
-    assert_eq!(rt; console.call(0, None, &noted), Answer::Void);
-    assert_eq!(rt; console.call(0, None, &[]), Answer::Void);
-    assert_eq!(rt; console.read(0, None), Answer::Gave(Value::Int(0)));
-    assert_eq!(rt; console.write(0, None, Value::Int(-5)), Answer::Void);
-    assert_eq!(rt; console.read(0, None), Answer::Gave(Value::Int(-5)));
-    assert_eq!(rt; console.write(0, None, Value::Uint(6)), Answer::Fault(1));
-    assert_eq!(rt; console.write(1, None, Value::Int(6)), Answer::Fault(1));
-    assert_eq!(rt; console.read(0, None), Answer::Gave(Value::Int(-5)));
-    assert_eq!(rt; console.read(1, None), Answer::Fault(1));
-    assert_eq!(rt; console.make(0, &[]), Made::Fault(1));
-    assert!(rt; console.idle());
+    assert_eq!(rt; first_wrong(&mut console, &NOTES), None);
+    assert_eq!(rt; first_made(&mut console, &[Making::Bare(0)]), None);
+    assert!(rt; is_idle(&console));
     Ok(())
 }

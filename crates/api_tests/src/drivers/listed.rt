@@ -9,6 +9,7 @@ use ang_host::{
 };
 use ang_kinds::{EntityNo, List, Value};
 use std::alloc::{AllocError, Global};
+use std::process::Abort;
 
 #[test]
 fn the_list_takes_at_most_64_drivers(rt: HostRuntime) -> Result<(), AllocError> {
@@ -17,19 +18,56 @@ fn the_list_takes_at_most_64_drivers(rt: HostRuntime) -> Result<(), AllocError> 
         for _ in 0..count {
             boxes.push(Box::new(rt.alloc(), Console::new(rt.alloc())?)?)?;
         }
-        match Drivers::new(boxes) {
-            Ok(drivers) => {
-                assert!(rt; taken, "{count} are too many");
-                assert_eq!(rt; drivers.len(), count);
-                assert_eq!(rt; drivers.into_boxes().len(), count);
-            }
-            Err((_why, boxes)) => {
-                assert!(rt; !taken, "{count} are not too many");
-                assert_eq!(rt; boxes.len(), count);
-            }
-        }
+        let found = match Drivers::new(boxes) {
+            Ok(drivers) => (true, drivers.len(), drivers.into_boxes().len()),
+            Err((_why, boxes)) => (false, count, boxes.len()),
+        };
+        assert!(rt; found == (taken, count, count), "{count} drivers");
     }
     Ok(())
+}
+
+/// What the driver of the number answers to a writing of its property 0, to a reading of it and to a call of its
+/// function 2, where there is such a driver.
+fn written(drivers: &mut Drivers, driver: u32, number: i64) -> Option<Answer> {
+    if driver as usize >= drivers.len() {
+        return None;
+    }
+    Some(drivers.write(driver, 0, None, Value::Int(number)))
+}
+
+fn told(drivers: &mut Drivers, driver: u32) -> Option<Answer> {
+    if driver as usize >= drivers.len() {
+        return None;
+    }
+    Some(drivers.read(driver, 0, None))
+}
+
+fn called(drivers: &mut Drivers, driver: u32, number: u64) -> Option<Answer> {
+    if driver as usize >= drivers.len() {
+        return None;
+    }
+    Some(drivers.call(driver, 2, None, &[Value::Uint(number)]))
+}
+
+fn made(drivers: &mut Drivers, driver: u32) -> Option<Made> {
+    if driver as usize >= drivers.len() {
+        return None;
+    }
+    Some(drivers.make(driver, 0, &[]))
+}
+
+fn is_idle(drivers: &Drivers, driver: u32) -> bool {
+    (driver as usize) < drivers.len() && drivers.idle(driver)
+}
+
+fn asks_by_number(rt: &impl Abort, drivers: &mut Drivers) {
+    assert!(rt; written(drivers, 1, 9) == Some(Answer::Void));
+    assert!(rt; told(drivers, 0) == Some(Answer::Gave(Value::Int(0))));
+    assert!(rt; told(drivers, 1) == Some(Answer::Gave(Value::Int(9))));
+    assert!(rt; called(drivers, 0, 3) == Some(Answer::Fault(3)));
+    assert!(rt; made(drivers, 0) == Some(Made::Fault(1)));
+    assert!(rt; is_idle(drivers, 0) && is_idle(drivers, 1));
 }
 
 #[test]
@@ -41,24 +79,17 @@ fn the_list_asks_the_driver_of_the_number(rt: HostRuntime) -> Result<(), AllocEr
     let Ok(mut drivers) = Drivers::new(boxes) else {
         panic!(rt; "two idle drivers were refused")
     };
-    assert!(rt; drivers.len() == 2);
-    assert_eq!(rt; drivers.write(1, 0, None, Value::Int(9)), Answer::Void);
-    assert_eq!(rt; drivers.read(0, 0, None), Answer::Gave(Value::Int(0)));
-    assert_eq!(rt; drivers.read(1, 0, None), Answer::Gave(Value::Int(9)));
-    let faulted = drivers.call(0, 2, None, &[Value::Uint(3)]);
-    assert_eq!(rt; faulted, Answer::Fault(3));
-    assert_eq!(rt; drivers.make(0, 0, &[]), Made::Fault(1));
-    assert!(rt; drivers.idle(0) && drivers.idle(1));
-    assert_eq!(rt; drivers.into_boxes().len(), 2);
+    let listed = drivers.len();
+    asks_by_number(&rt, &mut drivers);
+    let count = drivers.into_boxes().len();
+    assert!(rt; (listed, count) == (2, 2));
     Ok(())
 }
 
 fn one_int(alloc: Global, number: i64) -> Result<List<Value>, AllocError>
     ensures { IfOk result (λ args. args ≡ Int number ∷ []) }
 {
-    let mut args = Vec::new(alloc);
-    args.push(Value::Int(number))?;
-    Ok(List::from_vec(args))
+    Ok(List::from_vec(Vec::from_slice(alloc, &[Value::Int(number)])?))
 }
 
 fn reply_of(event: &HostEvent) -> Option<HostReply> {
@@ -68,14 +99,32 @@ fn reply_of(event: &HostEvent) -> Option<HostReply> {
     }
 }
 
+/// The place of the first event that does not list its reply.
+fn listed_otherwise(events: &[HostEvent], replies: &[HostReply]) -> Option<usize> {
+    for (at, event) in events.iter().enumerate() {
+        if reply_of(event) != replies.get(at).copied() {
+            return Some(at);
+        }
+    }
+    None
+}
+
+/// What is listed of a making, a call, a writing and a reading.
+const REPLIES: [HostReply; 4] = [
+    HostReply::Making(Made::Fault(1)),
+    HostReply::Asking(Answer::Void),
+    HostReply::Asking(Answer::Void),
+    HostReply::Asking(Answer::Gave(Value::Int(-8))),
+];
+
 #[test]
 fn each_asking_is_listed(rt: HostRuntime) -> Result<(), AllocError> {
     let alloc = rt.alloc();
-    let mut boxes: Vec<Box<dyn Driver>> = Vec::new(alloc);
-    boxes.push(Box::new(alloc, Console::new(alloc)?)?)?;
-    let mut events = Vec::with_capacity(alloc, 4)?;
     let written = one_int(alloc, -8)?;
     let noted = one_int(alloc, 3)?;
+    let mut events = Vec::with_capacity(alloc, 4)?;
+    let mut boxes: Vec<Box<dyn Driver>> = Vec::new(alloc);
+    boxes.push(Box::new(alloc, Console::new(alloc)?)?)?;
     let Ok(mut drivers) = Drivers::new(boxes) else {
         panic!(rt; "an idle driver was refused")
     };
@@ -100,21 +149,17 @@ fn each_asking_is_listed(rt: HostRuntime) -> Result<(), AllocError> {
     let caller = List::from_vec(Vec::new(alloc));
     let none = List::from_vec(Vec::new(alloc));
     let read = read_listed(&mut drivers, &mut events, caller, entity, 0, 0, None, none);
-    assert_eq!(rt; drivers.into_boxes().len(), 1);
-    assert_eq!(rt; made, Made::Fault(1));
-    assert_eq!(rt; called, Answer::Void);
-    assert_eq!(rt; wrote, Answer::Void);
-    assert_eq!(rt; read, Answer::Gave(Value::Int(-8)));
-    let replies = [
-        HostReply::Making(made),
-        HostReply::Asking(called),
-        HostReply::Asking(wrote),
-        HostReply::Asking(read),
-    ];
-    assert_eq!(rt; events.len(), 4);
-    for (event, want) in events.iter().zip(replies) {
-        assert_eq!(rt; reply_of(event), Some(want));
-    }
+    let count = drivers.into_boxes().len();
+    let listed = events.len();
+    let wrong = listed_otherwise(&events, &REPLIES);
+    drop(events);
+    assert!(rt; count == 1);
+    assert!(rt; made == Made::Fault(1));
+    assert!(rt; called == Answer::Void);
+    assert!(rt; wrote == Answer::Void);
+    assert!(rt; read == Answer::Gave(Value::Int(-8)));
+    assert!(rt; listed == 4);
+    assert_eq!(rt; wrong, None);
     Ok(())
 }
 
@@ -136,6 +181,16 @@ fn ends_when_released(
     release_listed(drivers, events, 0, key)
 }
 
+// Whether the events are a making of the key 0 and its end.
+fn lists_an_end(events: &[HostEvent]) -> bool {
+    match events {
+        [made, HostEvent::Ended { driver: 0, key: 0 }] => {
+            reply_of(made) == Some(HostReply::Making(Made::Key(0)))
+        }
+        _ => false,
+    }
+}
+
 #[test]
 fn an_end_is_listed(rt: HostRuntime) -> Result<(), AllocError> {
     let alloc = rt.alloc();
@@ -149,13 +204,11 @@ fn an_end_is_listed(rt: HostRuntime) -> Result<(), AllocError> {
     let caller = List::from_vec(Vec::new(alloc));
     let none = List::from_vec(Vec::new(alloc));
     let ended = ends_when_released(&mut drivers, &mut events, caller, none);
-    assert_eq!(rt; drivers.into_boxes().len(), 1);
+    let count = drivers.into_boxes().len();
+    let is_listed = lists_an_end(&events);
+    drop(events);
+    assert!(rt; count == 1);
     assert!(rt; ended);
-    assert_eq!(rt; events.len(), 2);
-    assert_eq!(rt;
-        events.first().and_then(reply_of),
-        Some(HostReply::Making(Made::Key(0)))
-    );
-    assert!(rt; matches!(events.get(1), Some(HostEvent::Ended { driver: 0, key: 0 })));
+    assert!(rt; is_listed);
     Ok(())
 }

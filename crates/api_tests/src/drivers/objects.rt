@@ -1,7 +1,8 @@
-ghost use Rattle.std.specs.Prelude.{◌≡◌, ◌<◌, length};
+ghost use Rattle.std.specs.Prelude.{◌≡◌, ◌<◌, IfSome, length};
 ghost use Rattle.ang_host.specs.Boxes.{members};
 ghost use Rattle.ang_host.specs.Laws.{IsLive, AreLive};
 
+use crate::drivers::asking::{Asking, Making, first_made, first_wrong, is_idle};
 use ang_drivers::{Cell, Console, Counter};
 use ang_host::{Answer, Driver, Drivers, DriversError, Made};
 use ang_kinds::Value;
@@ -16,17 +17,14 @@ fn int(number: i64) -> Answer {
     Answer::Gave(Value::Int(number))
 }
 
-// The key of a new object, which has to be `want`.
-fn made<D: Driver>(rt: &impl Abort, driver: &mut D, f: u32, args: &[Value], want: u64) -> u64
+// The key of a new object, where one is made.
+fn made<D: Driver>(driver: &mut D, f: u32, args: &[Value]) -> Option<u64>
     requires { AreLive (D.meaning.state driver.old) args.now }
-    ensures { IsLive (D.meaning.state driver.new) result }
+    ensures { IfSome result (λ key. IsLive (D.meaning.state driver.new) key) }
 {
     match driver.make(f, args) {
-        Made::Key(key) => {
-            assert_eq!(rt; key, want);
-            key
-        }
-        other => panic!(rt; "{other:?} in place of a key"),
+        Made::Key(key) => Some(key),
+        _ => None,
     }
 }
 
@@ -53,117 +51,162 @@ fn written<D: Driver>(driver: &mut D, f: u32, key: u64, number: i64) -> Answer
     driver.write(f, Some(key), Value::Int(number))
 }
 
-// Adds a reference and releases both: the object ends at the second release.
-fn ends<D: Driver>(rt: &impl Abort, driver: &mut D, key: u64)
+// Whether an object ends at the second release, after a reference was added.
+fn ends<D: Driver>(driver: &mut D, key: u64) -> bool
     requires { IsLive (D.meaning.state driver.old) key }
 {
     if !driver.add_ref(key) {
-        panic!(rt; "a reference was not added");
+        return false;
     }
     if driver.release(key) {
-        panic!(rt; "the object ended with a reference left");
+        return false;
     }
-    assert!(rt; driver.release(key));
+    driver.release(key)
 }
+
+fn counts_by_steps(rt: &impl Abort, counter: &mut Counter) {
+    let Some(key) = made(counter, 1, &[Value::Int(5)]) else {
+        panic!(rt; "the first counter was not made")
+    };
+    assert!(rt; key == 0);
+    assert!(rt; !is_idle(counter));
+    assert!(rt; told(counter, 0, key) == int(1));
+    assert!(rt; written(counter, 0, key, 3) == DONE);
+    assert!(rt; told(counter, 0, key) == int(3));
+    assert!(rt; called(counter, 0, key, &[]) == DONE);
+    assert!(rt; called(counter, 1, key, &[]) == int(8));
+    assert!(rt; written(counter, 0, key, 2_147_483_647) == DONE);
+    assert!(rt; called(counter, 0, key, &[]) == DONE);
+    assert!(rt; called(counter, 1, key, &[]) == int(-2_147_483_641));
+    assert!(rt; ends(counter, key));
+}
+
+/// The key of another object, and its value.
+fn counts_again(counter: &mut Counter) -> Option<(u64, Answer)> {
+    let next = made(counter, 0, &[])?;
+    Some((next, called(counter, 1, next, &[])))
+}
+
+/// One reference was added.
+const ADDED: [(Asking, Answer); 1] = [(Asking::Call(2), Answer::Gave(Value::Uint(1)))];
 
 #[test]
 fn a_counter_counts_by_steps(rt: HostRuntime) -> Result<(), AllocError> {
     let mut counter = Counter::new(rt.alloc())?;
-    assert!(rt; counter.idle());
-    let key = made(&rt, &mut counter, 1, &[Value::Int(5)], 0);
-    assert!(rt; !counter.idle());
-    assert_eq!(rt; told(&mut counter, 0, key), int(1));
-    assert_eq!(rt; written(&mut counter, 0, key, 3), DONE);
-    assert_eq!(rt; told(&mut counter, 0, key), int(3));
-    assert_eq!(rt; called(&mut counter, 0, key, &[]), DONE);
-    assert_eq!(rt; called(&mut counter, 1, key, &[]), int(8));
-    assert_eq!(rt; written(&mut counter, 0, key, 2_147_483_647), DONE);
-    assert_eq!(rt; called(&mut counter, 0, key, &[]), DONE);
-    assert_eq!(rt; called(&mut counter, 1, key, &[]), int(-2_147_483_641));
-    ends(&rt, &mut counter, key);
-    assert!(rt; counter.idle());
-    assert_eq!(rt; counter.call(2, None, &[]), Answer::Gave(Value::Uint(1)));
-    let next = made(&rt, &mut counter, 0, &[], 1);
-    assert_eq!(rt; called(&mut counter, 1, next, &[]), int(0));
+    let is_idle_before = is_idle(&counter);
+    counts_by_steps(&rt, &mut counter);
+    let is_idle_after = is_idle(&counter);
+    let wrong = first_wrong(&mut counter, &ADDED);
+    let next = counts_again(&mut counter);
+    drop(counter);
+    assert!(rt; is_idle_before && is_idle_after);
+    assert_eq!(rt; wrong, None);
+    assert!(rt; next == Some((1, int(0))));
     Ok(())
 }
+
+const NOT_MADE: [Making; 6] = [
+    Making::Int(0, 5),
+    Making::Uint(1, 5),
+    Making::Int(1, 2_147_483_648),
+    Making::Int(1, -2_147_483_649),
+    Making::Int(2, 5),
+    Making::Bare(1),
+];
+
+fn faults(rt: &impl Abort, counter: &mut Counter) {
+    let Some(key) = made(counter, 0, &[]) else {
+        panic!(rt; "a counter was not made")
+    };
+    assert!(rt; key == 0);
+    assert!(rt; called(counter, 2, key, &[]) == UNKNOWN);
+    assert!(rt; called(counter, 0, key, &[Value::Int(1)]) == UNKNOWN);
+    assert!(rt; told(counter, 1, key) == UNKNOWN);
+    assert!(rt; written(counter, 1, key, 1) == UNKNOWN);
+    assert!(rt; written(counter, 0, key, 2_147_483_648) == UNKNOWN);
+}
+
+const WITHOUT_OBJECT: [(Asking, Answer); 4] = [
+    (Asking::Call(0), UNKNOWN),
+    (Asking::CallInt(2, 1), UNKNOWN),
+    (Asking::Read(0), UNKNOWN),
+    (Asking::WriteInt(0, 1), UNKNOWN),
+];
 
 #[test]
 fn a_counter_faults_where_it_is_asked_otherwise(rt: HostRuntime) -> Result<(), AllocError> {
     let mut counter = Counter::new(rt.alloc())?;
-    for (f, argument) in [
-        (0, Value::Int(5)),
-        (1, Value::Uint(5)),
-        (1, Value::Int(2_147_483_648)),
-        (1, Value::Int(-2_147_483_649)),
-        (2, Value::Int(5)),
-    ] {
-        assert_eq!(rt; counter.make(f, &[argument]), Made::Fault(1));
-    }
-    assert_eq!(rt; counter.make(1, &[]), Made::Fault(1));
-    let key = made(&rt, &mut counter, 0, &[], 0);
-    assert_eq!(rt; called(&mut counter, 2, key, &[]), UNKNOWN);
-    assert_eq!(rt; called(&mut counter, 0, key, &[Value::Int(1)]), UNKNOWN);
-    assert_eq!(rt; told(&mut counter, 1, key), UNKNOWN);
-    assert_eq!(rt; written(&mut counter, 1, key, 1), UNKNOWN);
-    assert_eq!(rt; written(&mut counter, 0, key, 2_147_483_648), UNKNOWN);
-    assert_eq!(rt; counter.call(0, None, &[]), UNKNOWN);
-    assert_eq!(rt; counter.call(2, None, &[Value::Int(1)]), UNKNOWN);
-    assert_eq!(rt; counter.read(0, None), UNKNOWN);
-    assert_eq!(rt; counter.write(0, None, Value::Int(1)), UNKNOWN);
+    let is_made = first_made(&mut counter, &NOT_MADE);
+    faults(&rt, &mut counter);
+    let wrong = first_wrong(&mut counter, &WITHOUT_OBJECT);
+    drop(counter);
+    assert_eq!(rt; is_made, None);
+    assert_eq!(rt; wrong, None);
     Ok(())
 }
+
+fn holds_a_number(rt: &impl Abort, cell: &mut Cell) {
+    let Some(key) = made(cell, 0, &[Value::Int(1)]) else {
+        panic!(rt; "a cell was not made")
+    };
+    assert!(rt; key == 0);
+    assert!(rt; called(cell, 0, key, &[]) == int(1));
+    assert!(rt; called(cell, 1, key, &[Value::Int(9)]) == DONE);
+    assert!(rt; called(cell, 0, key, &[]) == int(9));
+    assert!(rt; called(cell, 1, key, &[Value::Int(2_147_483_648)]) == UNKNOWN);
+    assert!(rt; called(cell, 0, key, &[Value::Int(9)]) == UNKNOWN);
+    assert!(rt; told(cell, 0, key) == UNKNOWN);
+    assert!(rt; written(cell, 0, key, 9) == UNKNOWN);
+    assert!(rt; ends(cell, key));
+}
+
+const OF_NO_CELL: [(Asking, Answer); 2] = [
+    (Asking::CallNull(2), Answer::Gave(Value::Key(None))),
+    (Asking::CallInt(2, 0), UNKNOWN),
+];
+
+const NO_CELLS: [Making; 2] = [Making::Int(0, 2_147_483_648), Making::NullAndInt(1, 1)];
 
 #[test]
 fn a_cell_holds_a_number(rt: HostRuntime) -> Result<(), AllocError> {
     let mut cell = Cell::new(rt.alloc())?;
-    assert!(rt; cell.idle());
-    let key = made(&rt, &mut cell, 0, &[Value::Int(1)], 0);
-    assert_eq!(rt; called(&mut cell, 0, key, &[]), int(1));
-    assert_eq!(rt; called(&mut cell, 1, key, &[Value::Int(9)]), DONE);
-    assert_eq!(rt; called(&mut cell, 0, key, &[]), int(9));
-    assert_eq!(rt;
-        called(&mut cell, 1, key, &[Value::Int(2_147_483_648)]),
-        UNKNOWN
-    );
-    assert_eq!(rt; called(&mut cell, 0, key, &[Value::Int(9)]), UNKNOWN);
-    assert_eq!(rt; told(&mut cell, 0, key), UNKNOWN);
-    assert_eq!(rt; written(&mut cell, 0, key, 9), UNKNOWN);
-    ends(&rt, &mut cell, key);
-    assert!(rt; cell.idle());
-    assert_eq!(rt;
-        cell.call(2, None, &[Value::Key(None)]),
-        Answer::Gave(Value::Key(None))
-    );
-    assert_eq!(rt; cell.call(2, None, &[Value::Int(0)]), UNKNOWN);
-    assert_eq!(rt; cell.make(0, &[Value::Int(2_147_483_648)]), Made::Fault(1));
-    assert_eq!(rt;
-        cell.make(1, &[Value::Key(None), Value::Int(1)]),
-        Made::Fault(1)
-    );
+    let is_idle_before = is_idle(&cell);
+    holds_a_number(&rt, &mut cell);
+    let is_idle_after = is_idle(&cell);
+    let wrong = first_wrong(&mut cell, &OF_NO_CELL);
+    let is_made = first_made(&mut cell, &NO_CELLS);
+    drop(cell);
+    assert!(rt; is_idle_before && is_idle_after);
+    assert_eq!(rt; wrong, None);
+    assert_eq!(rt; is_made, None);
     Ok(())
 }
 
-// The value of a new object that is so much above another new one, of the value 9.
-fn above(rt: &impl Abort, cell: &mut Cell, keys: (u64, u64), more: i64) -> Answer {
-    let nine = made(rt, cell, 0, &[Value::Int(9)], keys.0);
-    let from_nine = [Value::Key(Some(nine)), Value::Int(more)];
-    let key = made(rt, cell, 1, &from_nine, keys.1);
-    called(cell, 0, key, &[])
+// The value of a new object that is so much above another new one, of the value 9, and the keys of both.
+fn above(cell: &mut Cell, more: i64) -> Option<(u64, u64, Answer)> {
+    let nine = made(cell, 0, &[Value::Int(9)])?;
+    let key = made(cell, 1, &[Value::Key(Some(nine)), Value::Int(more)])?;
+    Some((nine, key, called(cell, 0, key, &[])))
+}
+
+/// What is picked of a new object, and its key.
+fn picked(cell: &mut Cell) -> Option<(u64, Answer)> {
+    let key = made(cell, 0, &[Value::Int(4)])?;
+    Some((key, cell.call(2, None, &[Value::Key(Some(key))])))
 }
 
 #[test]
 fn a_cell_is_made_from_another(rt: HostRuntime) -> Result<(), AllocError> {
     let mut cell = Cell::new(rt.alloc())?;
-    assert_eq!(rt; above(&rt, &mut cell, (0, 1), -10), int(-1));
-    assert_eq!(rt;
-        above(&rt, &mut cell, (2, 3), 2_147_483_647),
-        int(-2_147_483_640)
-    );
-    assert_eq!(rt; above(&rt, &mut cell, (4, 5), 4_294_967_297), int(10));
-    let key = made(&rt, &mut cell, 0, &[Value::Int(4)], 6);
-    let picked = cell.call(2, None, &[Value::Key(Some(key))]);
-    assert_eq!(rt; picked, Answer::Gave(Value::Key(Some(6))));
+    let below = above(&mut cell, -10);
+    let wrapped = above(&mut cell, 2_147_483_647);
+    let cut = above(&mut cell, 4_294_967_297);
+    let picked = picked(&mut cell);
+    drop(cell);
+    assert!(rt; below == Some((0, 1, int(-1))));
+    assert!(rt; wrapped == Some((2, 3, int(-2_147_483_640))));
+    assert!(rt; cut == Some((4, 5, int(10))));
+    assert!(rt; picked == Some((6, Answer::Gave(Value::Key(Some(6))))));
     Ok(())
 }
 
@@ -184,6 +227,18 @@ fn lives_twice(drivers: &mut Drivers, driver: u32, f: u32, number: i64) -> bool
     drivers.release(driver, key)
 }
 
+fn live_in_the_list(rt: &impl Abort, drivers: &mut Drivers) {
+    assert!(rt; drivers.len() == 3);
+    assert!(rt; lives_twice(drivers, 1, 1, 5));
+    assert!(rt; lives_twice(drivers, 2, 0, 5));
+    assert!(rt; !lives_twice(drivers, 0, 0, 5));
+    assert!(rt; drivers.idle(0) && drivers.idle(1) && drivers.idle(2));
+    let added = drivers.call(1, 2, None, &[]);
+    assert!(rt; added == Answer::Gave(Value::Uint(1)));
+    let picked = drivers.call(2, 2, None, &[Value::Key(None)]);
+    assert!(rt; picked == Answer::Gave(Value::Key(None)));
+}
+
 #[test]
 fn the_list_takes_the_three_drivers(rt: HostRuntime) -> Result<(), AllocError> {
     let alloc = rt.alloc();
@@ -194,16 +249,9 @@ fn the_list_takes_the_three_drivers(rt: HostRuntime) -> Result<(), AllocError> {
     let Ok(mut drivers) = Drivers::new(boxes) else {
         panic!(rt; "three idle drivers were refused")
     };
-    assert!(rt; drivers.len() == 3);
-    assert!(rt; lives_twice(&mut drivers, 1, 1, 5));
-    assert!(rt; lives_twice(&mut drivers, 2, 0, 5));
-    assert!(rt; !lives_twice(&mut drivers, 0, 0, 5));
-    assert!(rt; drivers.idle(0) && drivers.idle(1) && drivers.idle(2));
-    let added = drivers.call(1, 2, None, &[]);
-    assert_eq!(rt; added, Answer::Gave(Value::Uint(1)));
-    let picked = drivers.call(2, 2, None, &[Value::Key(None)]);
-    assert_eq!(rt; picked, Answer::Gave(Value::Key(None)));
-    assert_eq!(rt; drivers.into_boxes().len(), 3);
+    live_in_the_list(&rt, &mut drivers);
+    let count = drivers.into_boxes().len();
+    assert!(rt; count == 3);
     Ok(())
 }
 
@@ -221,11 +269,13 @@ fn refusal(taken: Result<Drivers, (DriversError, Vec<Box<dyn Driver>>)>) -> Opti
 fn the_list_refuses_a_driver_in_use(rt: HostRuntime) -> Result<(), AllocError> {
     let alloc = rt.alloc();
     let mut cell = Cell::new(alloc)?;
-    let _key = made(&rt, &mut cell, 0, &[Value::Int(1)], 0);
+    let key = made(&mut cell, 0, &[Value::Int(1)]);
     let mut boxes: Vec<Box<dyn Driver>> = Vec::new(alloc);
     boxes.push(Box::new(alloc, Counter::new(alloc)?)?)?;
     boxes.push(Box::new(alloc, cell)?)?;
-    assert_eq!(rt; refusal(Drivers::new(boxes)), Some(DriversError::Busy));
+    let refused = refusal(Drivers::new(boxes));
+    assert!(rt; key == Some(0));
+    assert!(rt; refused == Some(DriversError::Busy));
     Ok(())
 }
 
@@ -233,12 +283,14 @@ fn the_list_refuses_a_driver_in_use(rt: HostRuntime) -> Result<(), AllocError> {
 fn the_list_refuses_65_drivers_before_one_in_use(rt: HostRuntime) -> Result<(), AllocError> {
     let alloc = rt.alloc();
     let mut cell = Cell::new(alloc)?;
-    let _key = made(&rt, &mut cell, 0, &[Value::Int(1)], 0);
+    let key = made(&mut cell, 0, &[Value::Int(1)]);
     let mut boxes: Vec<Box<dyn Driver>> = Vec::new(alloc);
     boxes.push(Box::new(alloc, cell)?)?;
     for _ in 0..64 {
         boxes.push(Box::new(alloc, Counter::new(alloc)?)?)?;
     }
-    assert_eq!(rt; refusal(Drivers::new(boxes)), Some(DriversError::TooMany));
+    let refused = refusal(Drivers::new(boxes));
+    assert!(rt; key == Some(0));
+    assert!(rt; refused == Some(DriversError::TooMany));
     Ok(())
 }
