@@ -23,8 +23,11 @@ fn place(line: u32, column: u32) -> Place {
     }
 }
 
-/// Every reserved word and every sign, and one token of each other kind.
-const SPELLINGS: [(&[u8], TokenKind); 106] = [
+/// A token's bytes and its kind.
+type Spelling = (&'static [u8], TokenKind);
+
+/// The words of primitive types.
+const TYPES: [Spelling; 11] = [
     (b"int8", Primitive(Prim::I8)),
     (b"int16", Primitive(Prim::I16)),
     (b"int", Primitive(Prim::I32)),
@@ -36,6 +39,10 @@ const SPELLINGS: [(&[u8], TokenKind); 106] = [
     (b"uint32", Primitive(Prim::U32)),
     (b"uint64", Primitive(Prim::U64)),
     (b"bool", Primitive(Prim::Bool)),
+];
+
+/// The other words of the grammar.
+const WORDS: [Spelling; 32] = [
     (b"void", Void),
     (b"true", True),
     (b"false", False),
@@ -68,6 +75,10 @@ const SPELLINGS: [(&[u8], TokenKind); 106] = [
     (b"in", In),
     (b"out", Out),
     (b"inout", InOut),
+];
+
+/// The reserved words that the grammar does not use.
+const RESERVED: [Spelling; 11] = [
     (b"auto", Reserved),
     (b"float", Reserved),
     (b"double", Reserved),
@@ -79,6 +90,10 @@ const SPELLINGS: [(&[u8], TokenKind); 106] = [
     (b"case", Reserved),
     (b"default", Reserved),
     (b"mixin", Reserved),
+];
+
+/// The signs of several characters, but `!is`.
+const LONG_SIGNS: [Spelling; 24] = [
     (b">>>=", ShiftRightArithmeticAssign),
     (b"<<=", ShiftLeftAssign),
     (b">>=", ShiftRightAssign),
@@ -103,6 +118,10 @@ const SPELLINGS: [(&[u8], TokenKind); 106] = [
     (b"|=", PipeAssign),
     (b"^=", CaretAssign),
     (b"::", Scope),
+];
+
+/// The other signs.
+const SIGNS: [Spelling; 24] = [
     (b"+", Plus),
     (b"-", Minus),
     (b"*", Star),
@@ -127,6 +146,10 @@ const SPELLINGS: [(&[u8], TokenKind); 106] = [
     (b"}", RightBrace),
     (b"@", At),
     (b"!is", NotIs),
+];
+
+/// One token of each other kind.
+const OTHERS: [Spelling; 4] = [
     (b"a_1", Name),
     (b"_", Name),
     (b"0x1F", Number),
@@ -151,51 +174,98 @@ fn is_one_token(alloc: Global, text: &[u8], kind: TokenKind) -> bool {
     }
 }
 
-#[test]
-fn each_spelling_is_one_token(rt: HostRuntime) {
-    for row in &SPELLINGS {
+/// The first that is not one token of its kind.
+fn misread(alloc: Global, rows: &[Spelling]) -> Option<&'static [u8]> {
+    for row in rows {
         let (text, kind) = *row;
-        assert!(rt; is_one_token(rt.alloc(), text, kind), "{text:?}");
+        if !is_one_token(alloc, text, kind) {
+            return Some(text);
+        }
+    }
+    None
+}
+
+#[test]
+fn each_word_is_one_token(rt: HostRuntime) {
+    let types = misread(rt.alloc(), &TYPES);
+    assert!(rt; types.is_none(), "{types:?}");
+    let words = misread(rt.alloc(), &WORDS);
+    assert!(rt; words.is_none(), "{words:?}");
+    let reserved = misread(rt.alloc(), &RESERVED);
+    assert!(rt; reserved.is_none(), "{reserved:?}");
+}
+
+#[test]
+fn each_sign_is_one_token(rt: HostRuntime) {
+    let long = misread(rt.alloc(), &LONG_SIGNS);
+    assert!(rt; long.is_none(), "{long:?}");
+    let signs = misread(rt.alloc(), &SIGNS);
+    assert!(rt; signs.is_none(), "{signs:?}");
+    let others = misread(rt.alloc(), &OTHERS);
+    assert!(rt; others.is_none(), "{others:?}");
+}
+
+/// Why a text has no tokens.
+#[derive(Clone, Copy)]
+enum Why {
+    BadByte,
+    BadNumber,
+    OpenComment,
+    TooLong,
+}
+
+/// How many tokens a text has, or why it has none, with the line and the column of that.
+#[derive(Clone, Copy)]
+enum Want {
+    Tokens(usize),
+    Fault(Why, u32, u32),
+}
+
+fn is_fault(fault: LexError, why: Why, at: Place) -> bool {
+    match (fault, why) {
+        (LexError::BadByte(found), Why::BadByte)
+        | (LexError::BadNumber(found), Why::BadNumber)
+        | (LexError::OpenComment(found), Why::OpenComment)
+        | (LexError::TooLong(found), Why::TooLong) => found == at,
+        _ => false,
     }
 }
 
-/// Why a text has no tokens, if it has none.
-fn fault(alloc: Global, text: &[u8]) -> Option<LexError> {
-    match &lex(alloc, text, 0) {
-        Ok(_) => None,
-        Err(fault) => Some(*fault),
+fn is_wanted(found: &Result<Vec<Token>, LexError>, want: Want) -> bool {
+    match (found, want) {
+        (Ok(tokens), Want::Tokens(count)) => tokens.len() == count,
+        (Err(fault), Want::Fault(why, line, column)) => is_fault(*fault, why, place(line, column)),
+        _ => false,
     }
 }
 
-/// How many tokens a text has.
-fn count(alloc: Global, text: &[u8]) -> Option<usize> {
-    match &lex(alloc, text, 0) {
-        Ok(tokens) => Some(tokens.len()),
-        Err(_) => None,
-    }
+fn is_so(alloc: Global, text: &[u8], want: Want) -> bool {
+    is_wanted(&lex(alloc, text, 0), want)
 }
+
+const FAULTS: [(&[u8], Why, u32, u32); 14] = [
+    (b"int a; # b", Why::BadByte, 1, 8),
+    (b"void m(){ 1x; }", Why::BadNumber, 1, 11),
+    (b"/* cut", Why::OpenComment, 1, 1),
+    (b"a\n /*/", Why::OpenComment, 2, 2),
+    (b"0x", Why::BadNumber, 1, 1),
+    (b"0b2", Why::BadNumber, 1, 1),
+    (b"1.5", Why::BadNumber, 1, 1),
+    (b"1_", Why::BadNumber, 1, 1),
+    (b"18446744073709551616", Why::BadNumber, 1, 1),
+    (b"a \"b", Why::BadByte, 1, 3),
+    (b"\"a\\\"", Why::BadByte, 1, 1),
+    (b"a\r\xEF", Why::BadByte, 1, 3),
+    (b" \xEF\xBB\xBF", Why::BadByte, 1, 2),
+    (b"\xEF\xBB\xBF#", Why::BadByte, 1, 4),
+];
 
 #[test]
 fn faults_have_their_places(rt: HostRuntime) {
-    let faults: [(&[u8], LexError); 14] = [
-        (b"int a; # b", LexError::BadByte(place(1, 8))),
-        (b"void m(){ 1x; }", LexError::BadNumber(place(1, 11))),
-        (b"/* cut", LexError::OpenComment(place(1, 1))),
-        (b"a\n /*/", LexError::OpenComment(place(2, 2))),
-        (b"0x", LexError::BadNumber(place(1, 1))),
-        (b"0b2", LexError::BadNumber(place(1, 1))),
-        (b"1.5", LexError::BadNumber(place(1, 1))),
-        (b"1_", LexError::BadNumber(place(1, 1))),
-        (b"18446744073709551616", LexError::BadNumber(place(1, 1))),
-        (b"a \"b", LexError::BadByte(place(1, 3))),
-        (b"\"a\\\"", LexError::BadByte(place(1, 1))),
-        (b"a\r\xEF", LexError::BadByte(place(1, 3))),
-        (b" \xEF\xBB\xBF", LexError::BadByte(place(1, 2))),
-        (b"\xEF\xBB\xBF#", LexError::BadByte(place(1, 4))),
-    ];
-    for row in &faults {
-        let (text, wanted) = *row;
-        assert!(rt; fault(rt.alloc(), text) == Some(wanted), "{text:?}");
+    for row in &FAULTS {
+        let (text, why, line, column) = *row;
+        let want = Want::Fault(why, line, column);
+        assert!(rt; is_so(rt.alloc(), text, want), "{text:?}");
     }
 }
 
@@ -292,81 +362,65 @@ fn run(
     Ok(text)
 }
 
-/// Whether such a text has so many tokens, or else this fault.
-fn run_has(
-    alloc: Global,
-    ends: (&[u8], &[u8]),
-    b: u8,
-    times: usize,
-    wanted: Result<usize, LexError>,
-) -> bool {
-    let Ok(text) = run(alloc, ends.0, b, times, ends.1) else {
+/// What stands in front of a run of one byte and behind it, the byte, how often it stands there, and what is wanted.
+type Run = (&'static [u8], &'static [u8], u8, usize, Want);
+
+fn run_is_so(alloc: Global, row: Run) -> bool {
+    let (before, behind, b, times, want) = row;
+    let Ok(text) = run(alloc, before, b, times, behind) else {
         return false;
     };
-    match wanted {
-        Ok(tokens) => count(alloc, &text) == Some(tokens),
-        Err(why) => fault(alloc, &text) == Some(why),
-    }
+    is_so(alloc, &text, want)
 }
 
-/// What stands in front of a run of one byte and behind it, the byte, how often it stands there, and how many tokens
-/// there are or why there are none.
-type Run = (
-    (&'static [u8], &'static [u8]),
-    u8,
-    usize,
-    Result<usize, LexError>,
-);
+const RUNS: [Run; 10] = [
+    // a token's bytes behind `int `
+    (b"int ", b";", b'a', 255, Want::Tokens(3)),
+    (b"int ", b";", b'a', 256, Want::Fault(Why::TooLong, 1, 5)),
+    (b"int ", b";", b'0', 255, Want::Tokens(3)),
+    (b"int ", b";", b'9', 255, Want::Fault(Why::BadNumber, 1, 5)),
+    (b"int ", b";", b'9', 256, Want::Fault(Why::TooLong, 1, 5)),
+    // a section's bytes
+    (b"", b"", b'\n', 65_537, Want::Fault(Why::TooLong, 1, 1)),
+    (b"", b"", b'\n', 65_536, Want::Tokens(0)),
+    // texts count their quotes
+    (b"\"", b"", b'a', 254, Want::Fault(Why::BadByte, 1, 1)),
+    (b"\"", b"\"", b'a', 253, Want::Tokens(1)),
+    (b"\"", b"\"", b'a', 254, Want::Fault(Why::TooLong, 1, 1)),
+];
 
 #[test]
 fn limits_are_met_and_no_more(rt: HostRuntime) {
-    let behind = place(1, 5);
-    let first = place(1, 1);
-    let runs: [Run; 10] = [
-        // a token's bytes behind `int `
-        ((b"int ", b";"), b'a', 255, Ok(3)),
-        ((b"int ", b";"), b'a', 256, Err(LexError::TooLong(behind))),
-        ((b"int ", b";"), b'0', 255, Ok(3)),
-        ((b"int ", b";"), b'9', 255, Err(LexError::BadNumber(behind))),
-        ((b"int ", b";"), b'9', 256, Err(LexError::TooLong(behind))),
-        // a section's bytes
-        ((b"", b""), b'\n', 65_537, Err(LexError::TooLong(first))),
-        ((b"", b""), b'\n', 65_536, Ok(0)),
-        // texts count their quotes
-        ((b"\"", b""), b'a', 254, Err(LexError::BadByte(first))),
-        ((b"\"", b"\""), b'a', 253, Ok(1)),
-        ((b"\"", b"\""), b'a', 254, Err(LexError::TooLong(first))),
-    ];
-    for (i, row) in runs.iter().enumerate() {
-        let (ends, b, times, wanted) = *row;
-        assert!(rt; run_has(rt.alloc(), ends, b, times, wanted), "row {i}");
+    for (i, row) in RUNS.iter().enumerate() {
+        assert!(rt; run_is_so(rt.alloc(), *row), "row {i}");
     }
 }
 
+const NUMBERS: [(&[u8], Prim, u64); 15] = [
+    (b"0", Prim::I32, 0),
+    (b"007", Prim::I32, 7),
+    (b"2147483647", Prim::I32, 2_147_483_647),
+    (b"2147483648", Prim::I64, 2_147_483_648),
+    (b"9223372036854775807", Prim::I64, 9_223_372_036_854_775_807),
+    (b"9223372036854775808", Prim::U64, 9_223_372_036_854_775_808),
+    (
+        b"18446744073709551615",
+        Prim::U64,
+        18_446_744_073_709_551_615,
+    ),
+    (b"0d2147483648", Prim::I64, 2_147_483_648),
+    (b"0D10", Prim::I32, 10),
+    (b"0x10", Prim::U32, 16),
+    (b"0XfFFFffff", Prim::U32, 4_294_967_295),
+    (b"0x100000000", Prim::U64, 4_294_967_296),
+    (b"0o17", Prim::U32, 15),
+    (b"0B101", Prim::U32, 5),
+    (b"x", Prim::I32, 0),
+];
+
 #[test]
 fn numbers_have_types_and_values(rt: HostRuntime) {
-    let numbers: [(&[u8], Prim, u64); 15] = [
-        (b"0", Prim::I32, 0),
-        (b"007", Prim::I32, 7),
-        (b"2147483647", Prim::I32, 2_147_483_647),
-        (b"2147483648", Prim::I64, 2_147_483_648),
-        (b"9223372036854775807", Prim::I64, 9_223_372_036_854_775_807),
-        (b"9223372036854775808", Prim::U64, 9_223_372_036_854_775_808),
-        (
-            b"18446744073709551615",
-            Prim::U64,
-            18_446_744_073_709_551_615,
-        ),
-        (b"0d2147483648", Prim::I64, 2_147_483_648),
-        (b"0D10", Prim::I32, 10),
-        (b"0x10", Prim::U32, 16),
-        (b"0XfFFFffff", Prim::U32, 4_294_967_295),
-        (b"0x100000000", Prim::U64, 4_294_967_296),
-        (b"0o17", Prim::U32, 15),
-        (b"0B101", Prim::U32, 5),
-        (b"x", Prim::I32, 0),
-    ];
-    for row in &numbers {
+    for row in &NUMBERS {
         let (text, ty, value) = *row;
         assert!(rt; number(text) == ang_lex::Number { ty, value }, "{text:?}");
     }
@@ -380,19 +434,21 @@ fn is_long_name(alloc: Global, length: usize) -> Option<bool> {
     }
 }
 
+/// Texts, and whether each is a name.
+const NAMES: [(&[u8], bool); 8] = [
+    (b"a", true),
+    (b"_9", true),
+    (b"Int", true),
+    (b"int", false),
+    (b"mixin", false),
+    (b"", false),
+    (b"9a", false),
+    (b"a b", false),
+];
+
 #[test]
 fn names_are_identifiers(rt: HostRuntime) {
-    let texts: [(&[u8], bool); 8] = [
-        (b"a", true),
-        (b"_9", true),
-        (b"Int", true),
-        (b"int", false),
-        (b"mixin", false),
-        (b"", false),
-        (b"9a", false),
-        (b"a b", false),
-    ];
-    for row in &texts {
+    for row in &NAMES {
         let (text, is) = *row;
         assert!(rt; is_name(text) == is, "{text:?}");
     }
