@@ -3,7 +3,7 @@
 use ang_kinds::{ErrorKind, Place, Prim};
 use ang_lex::{Span, Token, TokenKind};
 use ang_operators::{
-    Branches, NamedVariable, Operand, Stop, assignment, binary, conditional, convert, group,
+    Branches, NamedVariable, Operand, Stop, assignment, binary, boxed, conditional, convert, group,
     literal, plain_operand, postfix, prefix,
 };
 use ang_typed::{Expression, Variable};
@@ -26,28 +26,31 @@ fn token(kind: TokenKind, column: u32) -> Token {
     }
 }
 
-fn value(ty: Prim, column: u32) -> Operand {
+/// A value of this type.
+fn value(alloc: Global, ty: Prim, column: u32) -> Result<Operand, Stop> {
     let tree = match ty {
-        Prim::Bool => Expression::Truth(true),
-        _ => Expression::Number { ty, value: 1 },
+        Prim::Bool => boxed(alloc, Expression::Truth(true))?,
+        _ => boxed(alloc, Expression::Number { ty, value: 1 })?,
     };
-    plain_operand(at(column), ArgType::Plain(ty), tree)
+    Ok(plain_operand(at(column), ArgType::Plain(ty), tree))
 }
 
-fn variable(ty: Prim, column: u32, read_only: bool) -> Operand {
+/// A local variable of this type.
+fn variable(alloc: Global, ty: Prim, column: u32, read_only: bool) -> Result<Operand, Stop> {
     let ty = ArgType::Plain(ty);
     let variable = Variable::Local(0);
-    Operand {
+    let tree = boxed(alloc, Expression::Variable { variable, ty })?;
+    Ok(Operand {
         place: at(column),
         ty,
-        tree: Expression::Variable { variable, ty },
+        tree,
         named: Some(NamedVariable {
             variable,
             read_only,
             name: token(TokenKind::Name, column),
             bare: true,
         }),
-    }
+    })
 }
 
 /// The type that was given, or what was refused and in which column.
@@ -63,9 +66,62 @@ fn objects(alloc: Global) -> Lineage {
     Lineage::new(Vec::new(alloc))
 }
 
+/// The operator between values of these types.
+fn between(alloc: Global, left: Prim, operator: TokenKind, right: Prim) -> Result<Operand, Stop> {
+    let left = value(alloc, left, 1)?;
+    let right = value(alloc, right, 5)?;
+    binary(alloc, &objects(alloc), left, operator, right)
+}
+
+/// The operator in front of a value of this type.
+fn in_front(alloc: Global, operator: TokenKind, ty: Prim) -> Result<Operand, Stop> {
+    let operand = value(alloc, ty, 2)?;
+    prefix(alloc, &objects(alloc), &token(operator, 1), operand)
+}
+
+/// `int8(e)` of a value of this type.
+fn narrowed(alloc: Global, ty: Prim) -> Result<Operand, Stop> {
+    let operand = value(alloc, ty, 6)?;
+    let word = token(TokenKind::Primitive(Prim::I8), 1);
+    convert(alloc, &objects(alloc), &word, operand)
+}
+
+/// `++` behind a variable in parentheses.
+fn group_counted_up(alloc: Global) -> Result<Operand, Stop> {
+    let inner = variable(alloc, Prim::I8, 2, false)?;
+    postfix(alloc, group(at(1), inner), TokenKind::Increment)
+}
+
+/// `--` behind a variable that can't be written.
+fn constant_counted_down(alloc: Global) -> Result<Operand, Stop> {
+    let constant = variable(alloc, Prim::I8, 2, true)?;
+    postfix(alloc, constant, TokenKind::Decrement)
+}
+
+/// A value of this type assigned to what is written in front of it.
+fn stored(
+    alloc: Global,
+    written: Result<Operand, Stop>,
+    operator: TokenKind,
+    ty: Prim,
+    column: u32,
+) -> Result<Operand, Stop> {
+    let written = written?;
+    let value = value(alloc, ty, column)?;
+    assignment(alloc, &objects(alloc), written, operator, value)
+}
+
+/// `?:` with values of these types.
+fn chosen(alloc: Global, then: Prim, otherwise: Prim) -> Result<Operand, Stop> {
+    let condition = value(alloc, Prim::Bool, 1)?;
+    let then = value(alloc, then, 5)?;
+    let otherwise = value(alloc, otherwise, 9)?;
+    let branches = Branches { then, otherwise };
+    conditional(alloc, &objects(alloc), condition, branches)
+}
+
 #[test]
 fn two_integers_work_in_their_common_type(rt: HostRuntime) {
-    let objects = objects(rt.alloc());
     let table = [
         (Prim::I8, TokenKind::Plus, Prim::I8, Prim::I32),
         (Prim::U8, TokenKind::Plus, Prim::I8, Prim::U32),
@@ -81,20 +137,13 @@ fn two_integers_work_in_their_common_type(rt: HostRuntime) {
         (Prim::Bool, TokenKind::Or, Prim::Bool, Prim::Bool),
     ];
     for (left, operator, right, ty) in table {
-        let typed = binary(
-            rt.alloc(),
-            &objects,
-            value(left, 1),
-            operator,
-            value(right, 5),
-        );
+        let typed = between(rt.alloc(), left, operator, right);
         assert_eq!(rt; judged(typed), Ok(ArgType::Plain(ty)));
     }
 }
 
 #[test]
 fn the_first_operand_that_cannot_stand_is_named(rt: HostRuntime) {
-    let objects = objects(rt.alloc());
     let table = [
         (
             Prim::I32,
@@ -135,13 +184,7 @@ fn the_first_operand_that_cannot_stand_is_named(rt: HostRuntime) {
         (Prim::Bool, TokenKind::Or, Prim::I32, ErrorKind::NotBool, 5),
     ];
     for (left, operator, right, kind, column) in table {
-        let typed = binary(
-            rt.alloc(),
-            &objects,
-            value(left, 1),
-            operator,
-            value(right, 5),
-        );
+        let typed = between(rt.alloc(), left, operator, right);
         assert_eq!(rt; judged(typed), Err(Some((kind, column))));
     }
 }
@@ -149,88 +192,43 @@ fn the_first_operand_that_cannot_stand_is_named(rt: HostRuntime) {
 #[test]
 fn one_operand_is_raised(rt: HostRuntime) {
     let alloc = rt.alloc();
-    let objects = objects(alloc);
-    let minus = prefix(
-        alloc,
-        &objects,
-        &token(TokenKind::Minus, 1),
-        value(Prim::U8, 2),
-    );
+    let minus = in_front(alloc, TokenKind::Minus, Prim::U8);
     assert_eq!(rt; judged(minus), Ok(ArgType::Plain(Prim::U32)));
-    let tilde = prefix(
-        alloc,
-        &objects,
-        &token(TokenKind::Tilde, 1),
-        value(Prim::I16, 2),
-    );
+    let tilde = in_front(alloc, TokenKind::Tilde, Prim::I16);
     assert_eq!(rt; judged(tilde), Ok(ArgType::Plain(Prim::I32)));
-    let not = prefix(
-        alloc,
-        &objects,
-        &token(TokenKind::Not, 1),
-        value(Prim::I32, 2),
-    );
+    let not = in_front(alloc, TokenKind::Not, Prim::I32);
     assert_eq!(rt; judged(not), Err(Some((ErrorKind::NotBool, 2))));
-    let word = token(TokenKind::Primitive(Prim::I8), 1);
-    let narrowed = convert(alloc, &objects, &word, value(Prim::U64, 6));
-    assert_eq!(rt; judged(narrowed), Ok(ArgType::Plain(Prim::I8)));
-    let truth = convert(alloc, &objects, &word, value(Prim::Bool, 6));
+    let number = narrowed(alloc, Prim::U64);
+    assert_eq!(rt; judged(number), Ok(ArgType::Plain(Prim::I8)));
+    let truth = narrowed(alloc, Prim::Bool);
     assert_eq!(rt; judged(truth), Err(Some((ErrorKind::BadConversion, 6))));
-    let number = literal(&token(TokenKind::Number, 1), b"0xFF");
+    let number = literal(alloc, &token(TokenKind::Number, 1), b"0xFF");
     assert_eq!(rt; judged(number), Ok(ArgType::Plain(Prim::U32)));
 }
 
 #[test]
 fn a_target_is_a_variable_that_can_be_written(rt: HostRuntime) {
     let alloc = rt.alloc();
-    let objects = objects(alloc);
-    let grouped = group(at(1), variable(Prim::I8, 2, false));
-    assert_eq!(rt;
-        judged(postfix(grouped, TokenKind::Increment)),
-        Ok(ArgType::Plain(Prim::I8))
-    );
-    let constant = postfix(variable(Prim::I8, 2, true), TokenKind::Decrement);
+    let grouped = group_counted_up(alloc);
+    assert_eq!(rt; judged(grouped), Ok(ArgType::Plain(Prim::I8)));
+    let constant = constant_counted_down(alloc);
     assert_eq!(rt; judged(constant), Err(Some((ErrorKind::Const, 2))));
-    let stored = assignment(
-        alloc,
-        &objects,
-        variable(Prim::I8, 1, false),
-        TokenKind::PlusAssign,
-        value(Prim::I64, 6),
-    );
-    assert_eq!(rt; judged(stored), Ok(ArgType::Plain(Prim::I8)));
-    let truth = assignment(
-        alloc,
-        &objects,
-        variable(Prim::I32, 1, false),
-        TokenKind::ShiftLeftAssign,
-        value(Prim::Bool, 7),
-    );
+    let local = variable(alloc, Prim::I8, 1, false);
+    let sum = stored(alloc, local, TokenKind::PlusAssign, Prim::I64, 6);
+    assert_eq!(rt; judged(sum), Ok(ArgType::Plain(Prim::I8)));
+    let local = variable(alloc, Prim::I32, 1, false);
+    let truth = stored(alloc, local, TokenKind::ShiftLeftAssign, Prim::Bool, 7);
     assert_eq!(rt; judged(truth), Err(Some((ErrorKind::BadConversion, 7))));
-    let number = assignment(
-        alloc,
-        &objects,
-        value(Prim::I32, 1),
-        TokenKind::Assign,
-        value(Prim::Bool, 5),
-    );
+    let number = value(alloc, Prim::I32, 1);
+    let number = stored(alloc, number, TokenKind::Assign, Prim::Bool, 5);
     assert_eq!(rt; judged(number), Err(Some((ErrorKind::BadConversion, 1))));
 }
 
 #[test]
 fn a_choice_has_the_common_type(rt: HostRuntime) {
     let alloc = rt.alloc();
-    let objects = objects(alloc);
-    let branches = Branches {
-        then: value(Prim::I32, 5),
-        otherwise: value(Prim::U32, 9),
-    };
-    let chosen = conditional(alloc, &objects, value(Prim::Bool, 1), branches);
-    assert_eq!(rt; judged(chosen), Ok(ArgType::Plain(Prim::U32)));
-    let branches = Branches {
-        then: value(Prim::Bool, 5),
-        otherwise: value(Prim::I32, 9),
-    };
-    let mixed = conditional(alloc, &objects, value(Prim::Bool, 1), branches);
+    let integers = chosen(alloc, Prim::I32, Prim::U32);
+    assert_eq!(rt; judged(integers), Ok(ArgType::Plain(Prim::U32)));
+    let mixed = chosen(alloc, Prim::Bool, Prim::I32);
     assert_eq!(rt; judged(mixed), Err(Some((ErrorKind::BadConversion, 9))));
 }
