@@ -1,3 +1,4 @@
 pub mod Statements
 pub mod Bodies
 pub mod Judging
+pub mod View

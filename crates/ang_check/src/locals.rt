@@ -1,11 +1,13 @@
 //! Local variables.
-ghost use Rattle.std.specs.Prelude.{◌≡◌, ◌≤◌, length, map as list_map, OnOk};
+ghost use Rattle.std.specs.Prelude.{◌≡◌, ◌≤◌, ◌++◌, ◌∷◌, [], length, map as list_map, IfOk, OnOk};
 ghost use Rattle.ang_tree.specs.View.{view_init, view_var, view_vars};
-ghost use Rattle.ang_typed.specs.View.{view_local, view_option, view_stmt};
+ghost use Rattle.ang_typed.specs.View.{view_local, view_stmt};
 ghost use Rattle.ang_operators.specs.Refusals.{Gives};
 ghost use Rattle.ang_check.specs.Statements as spec;
+ghost use Rattle.ang_check.specs.View.{view_optional};
 
 use crate::frame::Frame;
+use crate::values::unboxed;
 use ang_kinds::ErrorKind;
 use ang_lex::Token;
 use ang_operators::{Asks, Stop, fault, fit, refused, use_refused};
@@ -14,7 +16,7 @@ use ang_typed::{Expression, Local, Statement};
 use ang_types::ArgType;
 use ang_typing::{Pair, Setting, find_pair, typing, typing_of_all};
 use ang_written::{Text, is_read_only, value_type_of};
-use std::alloc::Global;
+use std::alloc::{AllocError, Global};
 
 /// The most locals that can be alive at once in one function.
 pub const MOST_LOCALS: usize = 1024;
@@ -113,8 +115,8 @@ pub fn initializer(
     declared: &TypeName,
     ty: ArgType,
     written: &Initializer,
-) -> Result<Option<Expression>, Stop>
-    ensures exact { Gives view_option result (spec.initializer_typing setting.now pairs.now declared.now ty (view_init written.now)) }
+) -> Result<Option<Box<Expression>>, Stop>
+    ensures exact { Gives view_optional result (spec.initializer_typing setting.now pairs.now declared.now ty (view_init written.now)) }
 {
     match written {
         Initializer::Absent => Ok(None),
@@ -160,7 +162,19 @@ fn local<'a>(
         ty,
         read_only: is_read_only(declared),
     })?;
-    Ok(Local { ty, initializer })
+    Ok(Local {
+        ty,
+        initializer: unboxed(initializer),
+    })
+}
+
+/// The list with one more local at its end.
+fn with_local(first: Vec<Local>, local: Local) -> Result<Vec<Local>, AllocError>
+    ensures exact { IfOk result (λ v. list_map view_local v.items ≡ list_map view_local first.items ++ (view_local local ∷ [])) }
+{
+    let mut found = first;
+    found.push(local)?;
+    Ok(found)
 }
 
 /// The locals of a declaration, in the block that begins at pair `start`.
@@ -190,7 +204,7 @@ fn locals<'a>(
             ty,
             variable,
         )?;
-        found.push(local)?;
+        found = with_local(found, local)?;
     }
     Ok(found)
 }

@@ -1,14 +1,15 @@
 //! What stands in the parentheses of a `for`.
-ghost use Rattle.std.specs.Prelude.{◌≡◌, ◌≤◌, length, map as list_map, IfOk, OnOk};
+ghost use Rattle.std.specs.Prelude.{◌≡◌, ◌≤◌, ◌∷◌, [], length, map as list_map, IfOk, OnOk};
 ghost use Rattle.ang_tree.specs.View as trees;
 ghost use Rattle.ang_typed.specs.Typed as tree;
-ghost use Rattle.ang_typed.specs.View.{view_block, view_expr, view_option, view_stmt};
+ghost use Rattle.ang_typed.specs.View.{view_block, view_expr, view_stmt};
 ghost use Rattle.ang_operators.specs.Refusals.{Gives};
 ghost use Rattle.ang_check.specs.Statements as spec;
+ghost use Rattle.ang_check.specs.View.{view_boxed, view_optional};
 
 use crate::frame::Frame;
 use crate::locals::locals_statement;
-use crate::values::{expression_statement, optional_condition, steps};
+use crate::values::{expression_statement, optional_condition, steps, unboxed};
 use ang_operators::Stop;
 use ang_tree as written;
 use ang_tree::{Argument, ForStart};
@@ -20,11 +21,19 @@ use std::alloc::{AllocError, Global};
 #[derive(Drop)]
 pub struct LoopHead {
     /// What runs first.
-    pub start: Statement,
+    pub start: Box<Statement>,
     /// The condition of a pass, where one is written.
-    pub condition: Option<Expression>,
+    pub condition: Option<Box<Expression>>,
     /// What runs behind the body.
     pub steps: Vec<Expression>,
+}
+
+/// A statement in a box.
+fn boxed(alloc: Global, statement: Statement) -> Result<Box<Statement>, AllocError>
+    ensures exact { IfOk result (λ b. view_boxed b ≡ view_stmt statement) }
+{
+    let statement = Box::new(alloc, statement)?;
+    Ok(statement)
 }
 
 /// What a `for` begins with, in the block that begins there.
@@ -33,17 +42,21 @@ fn loop_start<'a>(
     frame: &Frame<'a>,
     pairs: &mut Vec<Pair<'a>>,
     written: &ForStart,
-) -> Result<Statement, Stop>
+) -> Result<Box<Statement>, Stop>
     requires parameters { frame.now.parameters ≤ length pairs.old.items }
-    ensures exact { Gives (λ x. (pairs.new.items, view_stmt x)) result (spec.start_typing frame.now pairs.old.items (trees.view_start written.now)) }
+    ensures exact { Gives (λ x. (pairs.new.items, view_boxed x)) result (spec.start_typing frame.now pairs.old.items (trees.view_start written.now)) }
     ensures kept { OnOk result (spec.Keeps pairs.old.items pairs.new.items) }
 {
     match written {
         ForStart::Variables(variables) => {
             let start = pairs.len();
-            locals_statement(alloc, frame, start, pairs, variables)
+            let start = locals_statement(alloc, frame, start, pairs, variables)?;
+            Ok(boxed(alloc, start)?)
         }
-        ForStart::Expression { value, .. } => { expression_statement(alloc, frame, pairs, value) }
+        ForStart::Expression { value, .. } => {
+            let start = expression_statement(alloc, frame, pairs, value)?;
+            Ok(boxed(alloc, start)?)
+        }
     }
 }
 
@@ -58,7 +71,7 @@ pub fn loop_head<'a>(
     items: &[Argument],
 ) -> Result<LoopHead, Stop>
     requires parameters { frame.now.parameters ≤ length pairs.old.items }
-    ensures exact { Gives (λ h. (pairs.new.items, view_stmt h.start, view_option h.condition, list_map view_expr h.steps.items)) result
+    ensures exact { Gives (λ h. (pairs.new.items, view_boxed h.start, view_optional h.condition, list_map view_expr h.steps.items)) result
         (spec.head_typing frame.now pairs.old.items (trees.view_start first.now) (trees.view_option test.now) (trees.view_items items.now)) }
     ensures kept { OnOk result (spec.Keeps pairs.old.items pairs.new.items) }
 {
@@ -72,21 +85,29 @@ pub fn loop_head<'a>(
     })
 }
 
+/// A list of one statement.
+pub fn list_of_one(alloc: Global, statement: Statement) -> Result<Vec<Statement>, AllocError>
+    ensures exact { IfOk result (λ v. list_map view_stmt v.items ≡ view_stmt statement ∷ []) }
+{
+    let mut statements = Vec::new(alloc);
+    statements.push(statement)?;
+    Ok(statements)
+}
+
 /// A `for` of these parts.
 pub fn for_of(alloc: Global, head: LoopHead, body: Block) -> Result<Statement, AllocError>
     ensures exact { IfOk result (λ s. view_stmt s
-        ≡ tree.for (tree.«then» (view_stmt head.start) tree.end) (view_option head.condition) (list_map view_expr head.steps.items) (view_block body)) }
+        ≡ tree.for (tree.«then» (view_boxed head.start) tree.end) (view_optional head.condition) (list_map view_expr head.steps.items) (view_block body)) }
 {
     let LoopHead {
         start,
         condition,
         steps,
     } = head;
-    let mut first = Vec::new(alloc);
-    first.push(start)?;
+    let first = list_of_one(alloc, Box::into_inner(start))?;
     Ok(Statement::For {
         start: first,
-        condition,
+        condition: unboxed(condition),
         steps,
         body,
     })

@@ -2,13 +2,15 @@
 ghost use Rattle.std.specs.Prelude.{◌≡◌, ◌≤◌, ◌++◌, ◌∷◌, [], true, length, map as list_map, IfOk, OnOk};
 ghost use Rattle.ang_tree.specs.View as trees;
 ghost use Rattle.ang_typed.specs.Typed as tree;
-ghost use Rattle.ang_typed.specs.View.{view_block, view_expr, view_option, view_stmt};
+ghost use Rattle.ang_typed.specs.View.{view_block, view_expr, view_stmt};
 ghost use Rattle.ang_operators.specs.Refusals.{Gives};
+ghost use Rattle.ang_operators.specs.View.{view_tree};
 ghost use Rattle.ang_check.specs.Statements as spec;
+ghost use Rattle.ang_check.specs.View.{view_boxed, view_optional};
 
 use crate::frame::Frame;
 use crate::locals::locals_statement;
-use crate::loops::{LoopHead, for_of, loop_head};
+use crate::loops::{LoopHead, for_of, list_of_one, loop_head};
 use crate::values::{condition, expression_statement, returned};
 use ang_kinds::ErrorKind;
 use ang_lex::Token;
@@ -34,8 +36,7 @@ fn jump(in_loop: bool, word: &Token, statement: Statement) -> Result<Statement, 
 fn block_of_one(alloc: Global, statement: Statement) -> Result<Block, AllocError>
     ensures exact { IfOk result (λ b. view_block b ≡ tree.«then» (view_stmt statement) tree.end) }
 {
-    let mut statements = Vec::new(alloc);
-    statements.push(statement)?;
+    let statements = list_of_one(alloc, statement)?;
     Ok(Block { statements })
 }
 
@@ -60,16 +61,16 @@ fn with_statement(first: Vec<Statement>, statement: Statement) -> Result<Vec<Sta
 /// A condition, and what runs where it is true.
 #[derive(Drop)]
 struct Tested {
-    condition: Expression,
+    condition: Box<Expression>,
     then: Block,
 }
 
 fn either_of(tested: Tested, otherwise: Block) -> Statement
-    ensures exact { view_stmt result ≡ tree.either (view_expr tested.condition) (view_block tested.«then») (view_block otherwise) }
+    ensures exact { view_stmt result ≡ tree.either (view_tree tested.condition) (view_block tested.«then») (view_block otherwise) }
 {
     let Tested { condition, then } = tested;
     Statement::If {
-        condition,
+        condition: Box::into_inner(condition),
         then,
         otherwise,
     }
@@ -170,7 +171,7 @@ fn first_branch<'a>(
     test: &written::Expression,
 ) -> Result<Tested, Stop>
     requires parameters { frame.now.parameters ≤ length pairs.old.items }
-    ensures exact { Gives (λ x. (view_expr x.condition, view_block x.«then»)) result
+    ensures exact { Gives (λ x. (view_tree x.condition, view_block x.«then»)) result
         (spec.tested_typing frame.now in_loop pairs.old.items (trees.view_expr test.now) (trees.view_stmt «then».now)) }
     ensures same { OnOk result (pairs.new.items ≡ pairs.old.items) }
 {
@@ -197,7 +198,10 @@ fn while_statement<'a>(
 {
     let condition = condition(alloc, &frame.setting, pairs.as_slice(), test)?;
     let body = branch(alloc, frame, true, pairs, body)?;
-    Ok(Statement::While { condition, body })
+    Ok(Statement::While {
+        condition: Box::into_inner(condition),
+        body,
+    })
 }
 
 /// A `do`: its body, then its condition.
@@ -218,7 +222,10 @@ fn do_while_statement<'a>(
 {
     let body = branch(alloc, frame, true, pairs, repeated)?;
     let condition = condition(alloc, &frame.setting, pairs.as_slice(), test)?;
-    Ok(Statement::DoWhile { body, condition })
+    Ok(Statement::DoWhile {
+        body,
+        condition: Box::into_inner(condition),
+    })
 }
 
 /// The body of a `for`, behind what stands in its parentheses.
@@ -232,7 +239,7 @@ fn for_body<'a>(
 ) -> Result<Statement, Stop>
     requires parameters { frame.now.parameters ≤ length pairs.old.items }
     ensures exact { Gives view_stmt result
-        (spec.for_of (view_stmt head.start, view_option head.condition, list_map view_expr head.steps.items)
+        (spec.for_of (view_boxed head.start, view_optional head.condition, list_map view_expr head.steps.items)
         (spec.branch_typing frame.now true pairs.old.items (trees.view_stmt passed.now))) }
     ensures same { OnOk result (pairs.new.items ≡ pairs.old.items) }
 {

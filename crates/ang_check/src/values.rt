@@ -1,10 +1,11 @@
 //! Expressions where they stand in statements.
-ghost use Rattle.std.specs.Prelude.{◌≡◌, map as list_map, IfOk};
+ghost use Rattle.std.specs.Prelude.{◌≡◌, ◌++◌, ◌∷◌, [], map as list_map, IfOk};
 ghost use Rattle.ang_tree.specs.View as trees;
 ghost use Rattle.ang_typed.specs.View.{view_expr, view_option, view_stmt};
 ghost use Rattle.ang_operators.specs.Refusals.{Gives};
-ghost use Rattle.ang_operators.specs.View.{view_operand, view_operands};
+ghost use Rattle.ang_operators.specs.View.{view_operand, view_operands, view_tree};
 ghost use Rattle.ang_check.specs.Statements as spec;
+ghost use Rattle.ang_check.specs.View.{view_optional};
 
 use crate::frame::Frame;
 use ang_kinds::ErrorKind;
@@ -17,13 +18,23 @@ use ang_types::{ArgType, Lineage};
 use ang_typing::{Pair, Setting, typing, typing_of_all};
 use std::alloc::{AllocError, Global};
 
+/// The tree that is in the box, where there is one.
+pub fn unboxed(tree: Option<Box<Expression>>) -> Option<Expression>
+    ensures exact { view_option result ≡ view_optional tree }
+{
+    match tree {
+        None => None,
+        Some(tree) => Some(Box::into_inner(tree)),
+    }
+}
+
 fn optional(
     alloc: Global,
     setting: &Setting<'_>,
     pairs: &[Pair<'_>],
     value: &Option<written::Expression>,
-) -> Result<Option<Expression>, Stop>
-    ensures exact { Gives view_option result (spec.optional_typing setting.now pairs.now (trees.view_option value.now)) }
+) -> Result<Option<Box<Expression>>, Stop>
+    ensures exact { Gives view_optional result (spec.optional_typing setting.now pairs.now (trees.view_option value.now)) }
 {
     match value {
         None => Ok(None),
@@ -45,7 +56,7 @@ pub fn expression_statement(
         (spec.with_same pairs.now (spec.expression_typing frame.now.setting pairs.now (trees.view_option value.now))) }
 {
     let value = optional(alloc, &frame.setting, pairs, value)?;
-    Ok(Statement::Expression(value))
+    Ok(Statement::Expression(unboxed(value)))
 }
 
 /// A condition, which is a truth value; `NotBool` at its first token where it is none.
@@ -54,8 +65,8 @@ pub fn condition(
     setting: &Setting<'_>,
     pairs: &[Pair<'_>],
     value: &written::Expression,
-) -> Result<Expression, Stop>
-    ensures exact { Gives view_expr result (spec.condition_typing setting.now pairs.now (trees.view_expr value.now)) }
+) -> Result<Box<Expression>, Stop>
+    ensures exact { Gives view_tree result (spec.condition_typing setting.now pairs.now (trees.view_expr value.now)) }
 {
     let operand = typing(alloc, setting, pairs, value)?;
     truth(operand)
@@ -67,8 +78,8 @@ pub fn optional_condition(
     setting: &Setting<'_>,
     pairs: &[Pair<'_>],
     value: &Option<written::Expression>,
-) -> Result<Option<Expression>, Stop>
-    ensures exact { Gives view_option result (spec.optional_condition setting.now pairs.now (trees.view_option value.now)) }
+) -> Result<Option<Box<Expression>>, Stop>
+    ensures exact { Gives view_optional result (spec.optional_condition setting.now pairs.now (trees.view_option value.now)) }
 {
     match value {
         None => Ok(None),
@@ -79,12 +90,21 @@ pub fn optional_condition(
     }
 }
 
+/// The list with one more tree at its end.
+fn with_tree(first: Vec<Expression>, tree: Box<Expression>) -> Result<Vec<Expression>, AllocError>
+    ensures exact { IfOk result (λ v. list_map view_expr v.items ≡ list_map view_expr first.items ++ (view_tree tree ∷ [])) }
+{
+    let mut found = first;
+    found.push(Box::into_inner(tree))?;
+    Ok(found)
+}
+
 fn trees_of(alloc: Global, operands: Vec<Operand>) -> Result<Vec<Expression>, AllocError>
     ensures exact { IfOk result (λ v. list_map view_expr v.items ≡ spec.trees_of (view_operands operands.items)) }
 {
     let mut trees = Vec::new(alloc);
     for operand in operands {
-        trees.push(operand.tree)?;
+        trees = with_tree(trees, operand.tree)?;
     }
     Ok(trees)
 }
@@ -108,8 +128,8 @@ fn value_returned(
     lineage: &Lineage,
     ty: ArgType,
     operand: Operand,
-) -> Result<Expression, Stop>
-    ensures exact { Gives view_expr result (spec.value_returned lineage.now ty (view_operand operand)) }
+) -> Result<Box<Expression>, Stop>
+    ensures exact { Gives view_tree result (spec.value_returned lineage.now ty (view_operand operand)) }
 {
     match ty {
         ArgType::Void => Err(fault(ErrorKind::BadConversion, operand.place)),
@@ -119,8 +139,8 @@ fn value_returned(
     }
 }
 
-fn nothing_returned(ty: ArgType, word: &Token) -> Result<Option<Expression>, Stop>
-    ensures exact { Gives view_option result (spec.nothing_returned ty word.now) }
+fn nothing_returned(ty: ArgType, word: &Token) -> Result<Option<Box<Expression>>, Stop>
+    ensures exact { Gives view_optional result (spec.nothing_returned ty word.now) }
 {
     match ty {
         ArgType::Void => Ok(None),
@@ -136,8 +156,8 @@ fn result_value(
     pairs: &[Pair<'_>],
     word: &Token,
     value: &Option<written::Expression>,
-) -> Result<Option<Expression>, Stop>
-    ensures exact { Gives view_option result (spec.result_typing frame.now pairs.now word.now (trees.view_option value.now)) }
+) -> Result<Option<Box<Expression>>, Stop>
+    ensures exact { Gives view_optional result (spec.result_typing frame.now pairs.now word.now (trees.view_option value.now)) }
 {
     match value {
         None => nothing_returned(frame.result, word),
@@ -163,5 +183,5 @@ pub fn returned(
         (spec.with_same pairs.now (spec.return_typing frame.now pairs.now word.now (trees.view_option value.now))) }
 {
     let value = result_value(alloc, frame, pairs, word, value)?;
-    Ok(Statement::Return(value))
+    Ok(Statement::Return(unboxed(value)))
 }

@@ -1,9 +1,8 @@
 //! `?:`
 ghost use Rattle.std.specs.Prelude.{◌≡◌};
-ghost use Rattle.ang_typed.specs.View.{view_expr};
 ghost use Rattle.ang_operators.specs.Operations as spec;
 ghost use Rattle.ang_operators.specs.Refusals.{Gives};
-ghost use Rattle.ang_operators.specs.View.{view_operand};
+ghost use Rattle.ang_operators.specs.View.{view_operand, view_tree};
 
 use crate::fitting::{fit, integer, truth};
 use crate::operand::{Operand, plain_operand};
@@ -27,10 +26,10 @@ fn chosen_in(
     lineage: &Lineage,
     ty: Prim,
     place: Place,
-    condition: Expression,
+    condition: Box<Expression>,
     branches: Branches,
 ) -> Result<Operand, Stop>
-    ensures exact { Gives view_operand result (spec.chosen_in lineage.now ty place (view_expr condition)
+    ensures exact { Gives view_operand result (spec.chosen_in lineage.now ty place (view_tree condition)
         (view_operand branches.«then») (view_operand branches.otherwise)) }
 {
     let Branches { then, otherwise } = branches;
@@ -44,10 +43,10 @@ fn choice_of_integers(
     alloc: Global,
     lineage: &Lineage,
     place: Place,
-    condition: Expression,
+    condition: Box<Expression>,
     branches: Branches,
 ) -> Result<Operand, Stop>
-    ensures exact { Gives view_operand result (spec.choice_of_integers lineage.now place (view_expr condition)
+    ensures exact { Gives view_operand result (spec.choice_of_integers lineage.now place (view_tree condition)
         (view_operand branches.«then») (view_operand branches.otherwise)) }
 {
     let own = integer(&branches.then)?;
@@ -67,10 +66,10 @@ fn choice(
     alloc: Global,
     lineage: &Lineage,
     place: Place,
-    condition: Expression,
+    condition: Box<Expression>,
     branches: Branches,
 ) -> Result<Operand, Stop>
-    ensures exact { Gives view_operand result (spec.choice lineage.now place (view_expr condition)
+    ensures exact { Gives view_operand result (spec.choice lineage.now place (view_tree condition)
         (view_operand branches.«then») (view_operand branches.otherwise)) }
 {
     match branches.then.ty {

@@ -2,13 +2,13 @@
 ghost use Rattle.std.specs.Prelude.{◌≡◌, IfOk};
 ghost use Rattle.ang_kinds.specs.declared.primitive.Primitive.TheVariants.{Bool};
 ghost use Rattle.ang_types.specs.Integers.{IsInteger};
-ghost use Rattle.ang_typed.specs.View.{view_expr};
 ghost use Rattle.ang_operators.specs.Operands as spec;
 ghost use Rattle.ang_operators.specs.Refusals.{Gives};
-ghost use Rattle.ang_operators.specs.View.{view_operand};
+ghost use Rattle.ang_operators.specs.View.{view_operand, view_tree};
 
 use crate::operand::{NamedVariable, Operand};
 use crate::refusal::{Stop, fault, refused};
+use crate::trees::boxed;
 use ang_kinds::{ErrorKind, Place, Prim};
 use ang_typed::{Expression, Variable};
 use ang_types::{ArgType, Lineage, rank};
@@ -19,14 +19,20 @@ fn conversion(
     alloc: Global,
     from: ArgType,
     to: ArgType,
-    tree: Expression,
-) -> Result<Expression, AllocError>
-    ensures exact { IfOk result (λ e. view_expr e ≡ spec.conversion from to (view_expr tree)) }
+    tree: Box<Expression>,
+) -> Result<Box<Expression>, AllocError>
+    ensures exact { IfOk result (λ e. view_tree e ≡ spec.conversion from to (view_tree tree)) }
 {
     match (from, to) {
         (ArgType::Plain(from), ArgType::Plain(to)) => {
-            let operand = Box::new(alloc, tree)?;
-            Ok(Expression::Convert { from, to, operand })
+            boxed(
+                alloc,
+                Expression::Convert {
+                    from,
+                    to,
+                    operand: tree,
+                },
+            )
         }
         _ => Ok(tree),
     }
@@ -41,8 +47,8 @@ pub fn fit(
     lineage: &Lineage,
     ty: ArgType,
     operand: Operand,
-) -> Result<Expression, Stop>
-    ensures exact { Gives view_expr result (spec.fit lineage.now ty (view_operand operand)) }
+) -> Result<Box<Expression>, Stop>
+    ensures exact { Gives view_tree result (spec.fit lineage.now ty (view_operand operand)) }
 {
     match rank(lineage, operand.ty, ty) {
         None => Err(fault(ErrorKind::BadConversion, operand.place)),
@@ -73,8 +79,8 @@ pub fn integer(operand: &Operand) -> Result<Prim, Stop>
 ///
 /// `NotBool` at its first token where it is none. It takes no memory.
 #[tactic(auto, unfolding(crate::specs::Operands::truth))]
-pub fn truth(operand: Operand) -> Result<Expression, Stop>
-    ensures exact { Gives view_expr result (spec.truth (view_operand operand)) }
+pub fn truth(operand: Operand) -> Result<Box<Expression>, Stop>
+    ensures exact { Gives view_tree result (spec.truth (view_operand operand)) }
 {
     match operand.ty {
         ArgType::Plain(Prim::Bool) => Ok(operand.tree),

@@ -22,4 +22,5 @@ pub use fitting::{fit, integer, target, truth};
 pub use one_operand::{convert, group, literal, postfix, prefix};
 pub use operand::{NamedVariable, Operand, plain_operand};
 pub use refusal::{Asks, Refusal, Stop, fault, refused, use_refused};
+pub use trees::boxed;
 pub use two_operands::binary;

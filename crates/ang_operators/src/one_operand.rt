@@ -1,5 +1,5 @@
 //! One operand: literals, operators in front of it and behind it, and conversions.
-ghost use Rattle.std.specs.Prelude.{◌≡◌};
+ghost use Rattle.std.specs.Prelude.{◌≡◌, IfOk};
 ghost use Rattle.ang_typed.specs.Typed as tree;
 ghost use Rattle.ang_operators.specs.Operands as operands;
 ghost use Rattle.ang_operators.specs.Operations as spec;
@@ -9,39 +9,37 @@ ghost use Rattle.ang_operators.specs.View.{view_operand};
 use crate::fitting::{fit, integer, target, truth};
 use crate::operand::{NamedVariable, Operand, plain_operand};
 use crate::refusal::{Stop, fault};
-use crate::trees::{complement, negate, not};
+use crate::trees::{complement, negate, not, number_tree, step_of, truth_tree};
 use ang_kinds::{ErrorKind, Place, Prim};
 use ang_lex::{Token, TokenKind, number};
-use ang_typed::{Expression, StepKind};
+use ang_typed::StepKind;
 use ang_types::{ArgType, Lineage, common};
-use std::alloc::Global;
+use std::alloc::{AllocError, Global};
 
-/// A number, `true` or `false`, of which `text` are the bytes. It takes no memory.
+/// A number, `true` or `false`, of which `text` are the bytes.
 ///
 /// `NotYet` at any other token.
 #[tactic(auto, unfolding(crate::specs::Operations::literal_typing))]
-pub fn literal(token: &Token, text: &[u8]) -> Result<Operand, Stop>
+pub fn literal(alloc: Global, token: &Token, text: &[u8]) -> Result<Operand, Stop>
     ensures exact { Gives view_operand result (spec.literal_typing token.now text.now) }
 {
     match token.kind {
         TokenKind::Number => {
             let written = number(text);
-            let tree = Expression::Number {
-                ty: written.ty,
-                value: written.value,
-            };
+            let tree = number_tree(alloc, written.ty, written.value)?;
             Ok(plain_operand(token.place, ArgType::Plain(written.ty), tree))
         }
-        TokenKind::True => Ok(truth_literal(token.place, true)),
-        TokenKind::False => Ok(truth_literal(token.place, false)),
+        TokenKind::True => Ok(truth_literal(alloc, token.place, true)?),
+        TokenKind::False => Ok(truth_literal(alloc, token.place, false)?),
         _ => Err(fault(ErrorKind::NotYet, token.place)),
     }
 }
 
-fn truth_literal(place: Place, value: bool) -> Operand
-    ensures exact { view_operand result ≡ operands.operand place (ArgType.Plain Prim.Bool) (tree.truth value) }
+fn truth_literal(alloc: Global, place: Place, value: bool) -> Result<Operand, AllocError>
+    ensures exact { IfOk result (λ a. view_operand a ≡ operands.operand place (ArgType.Plain Prim.Bool) (tree.truth value)) }
 {
-    plain_operand(place, ArgType::Plain(Prim::Bool), Expression::Truth(value))
+    let tree = truth_tree(alloc, value)?;
+    Ok(plain_operand(place, ArgType::Plain(Prim::Bool), tree))
 }
 
 #[tactic(auto, unfolding(crate::specs::Operations::negated))]
@@ -101,12 +99,12 @@ fn opposite(alloc: Global, place: Place, operand: Operand) -> Result<Operand, St
 }
 
 #[tactic(auto, unfolding(crate::specs::Operations::stepped))]
-fn stepped(step: StepKind, place: Place, operand: Operand) -> Result<Operand, Stop>
+fn stepped(alloc: Global, step: StepKind, place: Place, operand: Operand) -> Result<Operand, Stop>
     ensures exact { Gives view_operand result (spec.stepped step place (view_operand operand)) }
 {
     let variable = target(&operand)?;
     let ty = integer(&operand)?;
-    let tree = Expression::Step { variable, ty, step };
+    let tree = step_of(alloc, variable, ty, step)?;
     Ok(plain_operand(place, operand.ty, tree))
 }
 
@@ -128,22 +126,21 @@ pub fn prefix(
         TokenKind::Minus => negated(alloc, lineage, operator.place, operand),
         TokenKind::Plus => raised_operand(alloc, lineage, operator.place, operand),
         TokenKind::Tilde => complemented(alloc, lineage, operator.place, operand),
-        TokenKind::Increment => stepped(StepKind::IncrementBefore, operator.place, operand),
-        TokenKind::Decrement => stepped(StepKind::DecrementBefore, operator.place, operand),
+        TokenKind::Increment => stepped(alloc, StepKind::IncrementBefore, operator.place, operand),
+        TokenKind::Decrement => stepped(alloc, StepKind::DecrementBefore, operator.place, operand),
         _ => Err(fault(ErrorKind::NotYet, operator.place)),
     }
 }
 
 /// An operand with `++` or `--` behind it, which have the refusals that they have in front of one.
-/// It takes no memory.
 #[tactic(auto, unfolding(crate::specs::Operations::postfix_typing))]
-pub fn postfix(operand: Operand, operator: TokenKind) -> Result<Operand, Stop>
+pub fn postfix(alloc: Global, operand: Operand, operator: TokenKind) -> Result<Operand, Stop>
     ensures exact { Gives view_operand result (spec.postfix_typing (view_operand operand) operator) }
 {
     let place = operand.place;
     match operator {
-        TokenKind::Increment => stepped(StepKind::IncrementAfter, place, operand),
-        TokenKind::Decrement => stepped(StepKind::DecrementAfter, place, operand),
+        TokenKind::Increment => stepped(alloc, StepKind::IncrementAfter, place, operand),
+        TokenKind::Decrement => stepped(alloc, StepKind::DecrementAfter, place, operand),
         _ => Err(fault(ErrorKind::NotYet, place)),
     }
 }

@@ -1,8 +1,7 @@
 //! Expressions that were typed.
 ghost use Rattle.std.specs.Prelude.{◌≡◌};
-ghost use Rattle.ang_typed.specs.View.{view_expr};
 ghost use Rattle.ang_operators.specs.Operands as spec;
-ghost use Rattle.ang_operators.specs.View.{view_operand};
+ghost use Rattle.ang_operators.specs.View.{view_operand, view_tree};
 
 use ang_kinds::Place;
 use ang_lex::Token;
@@ -30,14 +29,14 @@ pub struct Operand {
     /// Its type.
     pub ty: ArgType,
     /// Its resolved tree.
-    pub tree: Expression,
+    pub tree: Box<Expression>,
     /// The variable whose name it is, in parentheses or not.
     pub named: Option<NamedVariable>,
 }
 
 /// An expression that is no variable's name.
-pub fn plain_operand(place: Place, ty: ArgType, tree: Expression) -> Operand
-    ensures exact { view_operand result ≡ spec.operand place ty (view_expr tree) }
+pub fn plain_operand(place: Place, ty: ArgType, tree: Box<Expression>) -> Operand
+    ensures exact { view_operand result ≡ spec.operand place ty (view_tree tree) }
 {
     Operand {
         place,

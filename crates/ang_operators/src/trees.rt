@@ -1,120 +1,165 @@
-//! Resolved trees made of their parts.
+//! Resolved trees made of their parts, each in a box.
 ghost use Rattle.std.specs.Prelude.{◌≡◌, IfOk};
 ghost use Rattle.ang_typed.specs.Typed as tree;
 ghost use Rattle.ang_typed.specs.View.{view_expr};
+ghost use Rattle.ang_operators.specs.View.{view_tree};
 
 use ang_kinds::Prim;
-use ang_typed::{Comparison, Expression, Operator, Variable};
+use ang_typed::{Comparison, Expression, Operator, StepKind, Variable};
 use ang_types::ArgType;
 use std::alloc::{AllocError, Global};
+
+/// A tree in a box, into which it is put as soon as it is made.
+pub fn boxed(alloc: Global, tree: Expression) -> Result<Box<Expression>, AllocError>
+    ensures exact { IfOk result (λ b. view_tree b ≡ view_expr tree) }
+{
+    let tree = Box::new(alloc, tree)?;
+    Ok(tree)
+}
+
+pub fn number_tree(alloc: Global, ty: Prim, value: u64) -> Result<Box<Expression>, AllocError>
+    ensures { IfOk result (λ e. view_tree e ≡ tree.number ty value) }
+{
+    boxed(alloc, Expression::Number { ty, value })
+}
+
+pub fn truth_tree(alloc: Global, value: bool) -> Result<Box<Expression>, AllocError>
+    ensures { IfOk result (λ e. view_tree e ≡ tree.truth value) }
+{
+    boxed(alloc, Expression::Truth(value))
+}
+
+pub fn step_of(
+    alloc: Global,
+    variable: Variable,
+    ty: Prim,
+    step: StepKind,
+) -> Result<Box<Expression>, AllocError>
+    ensures { IfOk result (λ e. view_tree e ≡ tree.step variable ty step) }
+{
+    boxed(alloc, Expression::Step { variable, ty, step })
+}
 
 pub fn operate(
     alloc: Global,
     operator: Operator,
     ty: Prim,
-    left: Expression,
-    right: Expression,
-) -> Result<Expression, AllocError>
-    ensures { IfOk result (λ e. view_expr e ≡ tree.operate operator ty (view_expr left) (view_expr right)) }
+    left: Box<Expression>,
+    right: Box<Expression>,
+) -> Result<Box<Expression>, AllocError>
+    ensures { IfOk result (λ e. view_tree e ≡ tree.operate operator ty (view_tree left) (view_tree right)) }
 {
-    let left = Box::new(alloc, left)?;
-    let right = Box::new(alloc, right)?;
-    Ok(Expression::Operate {
-        operator,
-        ty,
-        left,
-        right,
-    })
+    boxed(
+        alloc,
+        Expression::Operate {
+            operator,
+            ty,
+            left,
+            right,
+        },
+    )
 }
 
 pub fn compare(
     alloc: Global,
     comparison: Comparison,
     ty: Prim,
-    left: Expression,
-    right: Expression,
-) -> Result<Expression, AllocError>
-    ensures { IfOk result (λ e. view_expr e ≡ tree.compare comparison ty (view_expr left) (view_expr right)) }
+    left: Box<Expression>,
+    right: Box<Expression>,
+) -> Result<Box<Expression>, AllocError>
+    ensures { IfOk result (λ e. view_tree e ≡ tree.compare comparison ty (view_tree left) (view_tree right)) }
 {
-    let left = Box::new(alloc, left)?;
-    let right = Box::new(alloc, right)?;
-    Ok(Expression::Compare {
-        comparison,
-        ty,
-        left,
-        right,
-    })
+    boxed(
+        alloc,
+        Expression::Compare {
+            comparison,
+            ty,
+            left,
+            right,
+        },
+    )
 }
 
-pub fn and(alloc: Global, left: Expression, right: Expression) -> Result<Expression, AllocError>
-    ensures { IfOk result (λ e. view_expr e ≡ tree.and (view_expr left) (view_expr right)) }
+pub fn and(
+    alloc: Global,
+    left: Box<Expression>,
+    right: Box<Expression>,
+) -> Result<Box<Expression>, AllocError>
+    ensures { IfOk result (λ e. view_tree e ≡ tree.and (view_tree left) (view_tree right)) }
 {
-    let left = Box::new(alloc, left)?;
-    let right = Box::new(alloc, right)?;
-    Ok(Expression::And { left, right })
+    boxed(alloc, Expression::And { left, right })
 }
 
-pub fn or(alloc: Global, left: Expression, right: Expression) -> Result<Expression, AllocError>
-    ensures { IfOk result (λ e. view_expr e ≡ tree.or (view_expr left) (view_expr right)) }
+pub fn or(
+    alloc: Global,
+    left: Box<Expression>,
+    right: Box<Expression>,
+) -> Result<Box<Expression>, AllocError>
+    ensures { IfOk result (λ e. view_tree e ≡ tree.or (view_tree left) (view_tree right)) }
 {
-    let left = Box::new(alloc, left)?;
-    let right = Box::new(alloc, right)?;
-    Ok(Expression::Or { left, right })
+    boxed(alloc, Expression::Or { left, right })
 }
 
 pub fn choose(
     alloc: Global,
-    condition: Expression,
-    then: Expression,
-    otherwise: Expression,
-) -> Result<Expression, AllocError>
-    ensures { IfOk result (λ e. view_expr e ≡ tree.choose (view_expr condition) (view_expr «then») (view_expr otherwise)) }
+    condition: Box<Expression>,
+    then: Box<Expression>,
+    otherwise: Box<Expression>,
+) -> Result<Box<Expression>, AllocError>
+    ensures { IfOk result (λ e. view_tree e ≡ tree.choose (view_tree condition) (view_tree «then») (view_tree otherwise)) }
 {
-    let condition = Box::new(alloc, condition)?;
-    let then = Box::new(alloc, then)?;
-    let otherwise = Box::new(alloc, otherwise)?;
-    Ok(Expression::Choose {
-        condition,
-        then,
-        otherwise,
-    })
+    boxed(
+        alloc,
+        Expression::Choose {
+            condition,
+            then,
+            otherwise,
+        },
+    )
 }
 
-pub fn negate(alloc: Global, ty: Prim, operand: Expression) -> Result<Expression, AllocError>
-    ensures { IfOk result (λ e. view_expr e ≡ tree.negate ty (view_expr operand)) }
+pub fn negate(
+    alloc: Global,
+    ty: Prim,
+    operand: Box<Expression>,
+) -> Result<Box<Expression>, AllocError>
+    ensures { IfOk result (λ e. view_tree e ≡ tree.negate ty (view_tree operand)) }
 {
-    let operand = Box::new(alloc, operand)?;
-    Ok(Expression::Negate { ty, operand })
+    boxed(alloc, Expression::Negate { ty, operand })
 }
 
-pub fn complement(alloc: Global, ty: Prim, operand: Expression) -> Result<Expression, AllocError>
-    ensures { IfOk result (λ e. view_expr e ≡ tree.complement ty (view_expr operand)) }
+pub fn complement(
+    alloc: Global,
+    ty: Prim,
+    operand: Box<Expression>,
+) -> Result<Box<Expression>, AllocError>
+    ensures { IfOk result (λ e. view_tree e ≡ tree.complement ty (view_tree operand)) }
 {
-    let operand = Box::new(alloc, operand)?;
-    Ok(Expression::Complement { ty, operand })
+    boxed(alloc, Expression::Complement { ty, operand })
 }
 
-pub fn not(alloc: Global, operand: Expression) -> Result<Expression, AllocError>
-    ensures { IfOk result (λ e. view_expr e ≡ tree.not (view_expr operand)) }
+pub fn not(alloc: Global, operand: Box<Expression>) -> Result<Box<Expression>, AllocError>
+    ensures { IfOk result (λ e. view_tree e ≡ tree.not (view_tree operand)) }
 {
-    let operand = Box::new(alloc, operand)?;
-    Ok(Expression::Not { operand })
+    boxed(alloc, Expression::Not { operand })
 }
 
 pub fn assign(
     alloc: Global,
     variable: Variable,
     ty: ArgType,
-    value: Expression,
-) -> Result<Expression, AllocError>
-    ensures { IfOk result (λ e. view_expr e ≡ tree.assign variable ty (view_expr value)) }
+    value: Box<Expression>,
+) -> Result<Box<Expression>, AllocError>
+    ensures { IfOk result (λ e. view_tree e ≡ tree.assign variable ty (view_tree value)) }
 {
-    let value = Box::new(alloc, value)?;
-    Ok(Expression::Assign {
-        variable,
-        ty,
-        value,
-    })
+    boxed(
+        alloc,
+        Expression::Assign {
+            variable,
+            ty,
+            value,
+        },
+    )
 }
 
 pub fn compound(
@@ -123,16 +168,18 @@ pub fn compound(
     ty: Prim,
     operator: Operator,
     operating: Prim,
-    value: Expression,
-) -> Result<Expression, AllocError>
-    ensures { IfOk result (λ e. view_expr e ≡ tree.compound variable ty operator operating (view_expr value)) }
+    value: Box<Expression>,
+) -> Result<Box<Expression>, AllocError>
+    ensures { IfOk result (λ e. view_tree e ≡ tree.compound variable ty operator operating (view_tree value)) }
 {
-    let value = Box::new(alloc, value)?;
-    Ok(Expression::Compound {
-        variable,
-        ty,
-        operator,
-        operating,
-        value,
-    })
+    boxed(
+        alloc,
+        Expression::Compound {
+            variable,
+            ty,
+            operator,
+            operating,
+            value,
+        },
+    )
 }

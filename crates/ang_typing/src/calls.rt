@@ -1,43 +1,52 @@
 //! Names and calls.
 ghost use Rattle.std.specs.Prelude.{◌≡◌, ◌∷◌, [], map as list_map, IfOk};
 ghost use Rattle.ang_types.specs.declared.arg_type.ArgType.{ArgType};
-ghost use Rattle.ang_typed.specs.View.{view_arg, view_expr};
+ghost use Rattle.ang_typed.specs.View.{view_arg};
 ghost use Rattle.ang_typing.specs.Calls as spec;
 ghost use Rattle.ang_operators.specs.Refusals.{Gives};
-ghost use Rattle.ang_operators.specs.View.{view_operand, view_operands};
+ghost use Rattle.ang_operators.specs.View.{view_operand, view_operands, view_tree};
 
 use crate::scope::Pair;
 use crate::setting::Setting;
 use crate::uses::{Callable, Callee, Meant, resolve_call, resolve_name};
 use ang_kinds::{ErrorKind, List, Pass, Place};
 use ang_lex::Token;
-use ang_operators::{Asks, NamedVariable, Operand, Stop, fault, fit, plain_operand, use_refused};
+use ang_operators::{
+    Asks, NamedVariable, Operand, Stop, boxed, fault, fit, plain_operand, use_refused,
+};
 use ang_typed::{Argument, Expression, Variable};
 use ang_types::{ArgType, Lineage};
 use std::alloc::{AllocError, Global};
 
-fn variable_at(name: &Token, variable: Variable, ty: ArgType, read_only: bool) -> Operand
-    ensures exact { view_operand result ≡ spec.variable_at name.now variable ty read_only }
+fn variable_at(
+    alloc: Global,
+    name: &Token,
+    variable: Variable,
+    ty: ArgType,
+    read_only: bool,
+) -> Result<Operand, AllocError>
+    ensures exact { IfOk result (λ a. view_operand a ≡ spec.variable_at name.now variable ty read_only) }
 {
-    Operand {
+    let tree = boxed(alloc, Expression::Variable { variable, ty })?;
+    Ok(Operand {
         place: name.place,
         ty,
-        tree: Expression::Variable { variable, ty },
+        tree,
         named: Some(NamedVariable {
             variable,
             read_only,
             name: *name,
             bare: true,
         }),
-    }
+    })
 }
 
-fn named_by(name: &Token, meant: Meant) -> Result<Operand, Stop>
+fn named_by(alloc: Global, name: &Token, meant: Meant) -> Result<Operand, Stop>
     ensures exact { Gives view_operand result (spec.named_by name.now meant) }
 {
     match meant {
         Meant::Variable(variable, ty, read_only) => {
-            Ok(variable_at(name, variable, ty, read_only))
+            Ok(variable_at(alloc, name, variable, ty, read_only)?)
         }
         Meant::Call(_) | Meant::Type(_) => {
             Err(use_refused(ErrorKind::UnknownName, name, Asks::Value))
@@ -48,14 +57,19 @@ fn named_by(name: &Token, meant: Meant) -> Result<Operand, Stop>
 
 /// A bare name that is not called.
 ///
-/// `UnknownName` at the name where it is no variable's. It takes no memory.
+/// `UnknownName` at the name where it is no variable's.
 #[tactic(auto, unfolding(crate::specs::Calls::name_typing))]
-pub fn named(setting: &Setting<'_>, pairs: &[Pair<'_>], token: &Token) -> Result<Operand, Stop>
+pub fn named(
+    alloc: Global,
+    setting: &Setting<'_>,
+    pairs: &[Pair<'_>],
+    token: &Token,
+) -> Result<Operand, Stop>
     ensures exact { Gives view_operand result (spec.name_typing setting.now pairs.now token.now) }
 {
     let name = setting.text_at(token);
     let meant = resolve_name(setting, pairs, name.bytes());
-    named_by(token, meant)
+    named_by(alloc, token, meant)
 }
 
 fn is_property(variable: Variable) -> bool
@@ -88,7 +102,10 @@ fn value_for(
     ensures exact { Gives view_arg result (spec.value_for lineage.now ty (view_operand operand)) }
 {
     let value = fit(alloc, lineage, ty, operand)?;
-    Ok(Argument::Value { ty, value })
+    Ok(Argument::Value {
+        ty,
+        value: Box::into_inner(value),
+    })
 }
 
 fn out_for(ty: ArgType, operand: Operand) -> Result<Argument, Stop>
@@ -142,20 +159,31 @@ fn arguments_for(
     Ok(arguments)
 }
 
-fn call_of(callee: Callee, gives: ArgType, arguments: Vec<Argument>) -> Expression
-    ensures exact { view_expr result ≡ spec.call_of callee gives (list_map view_arg arguments.items) }
+fn call_of(
+    alloc: Global,
+    callee: Callee,
+    gives: ArgType,
+    arguments: Vec<Argument>,
+) -> Result<Box<Expression>, AllocError>
+    ensures exact { IfOk result (λ e. view_tree e ≡ spec.call_of callee gives (list_map view_arg arguments.items)) }
 {
     match callee {
-        Callee::Script(function) => Expression::Call {
-            function,
-            result: gives,
-            arguments,
-        },
-        Callee::Host(host) => Expression::HostCall {
-            host,
-            result: gives,
-            arguments,
-        },
+        Callee::Script(function) => boxed(
+            alloc,
+            Expression::Call {
+                function,
+                result: gives,
+                arguments,
+            },
+        ),
+        Callee::Host(host) => boxed(
+            alloc,
+            Expression::HostCall {
+                host,
+                result: gives,
+                arguments,
+            },
+        ),
     }
 }
 
@@ -174,7 +202,7 @@ fn called(
         callable.candidate.params.as_slice(),
         operands,
     )?;
-    let tree = call_of(callable.callee, callable.result, arguments);
+    let tree = call_of(alloc, callable.callee, callable.result, arguments)?;
     Ok(plain_operand(place, callable.result, tree))
 }
 

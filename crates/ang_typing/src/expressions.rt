@@ -65,8 +65,8 @@ pub fn typing(
     ensures exact { Gives view_operand result (spec.typing_of setting.now pairs.now (trees.view_expr expression.now)) }
 {
     match expression {
-        Expression::Literal(token) => literal(token, setting.text_at(token).bytes()),
-        Expression::Name(token) => named(setting, pairs, token),
+        Expression::Literal(token) => literal(alloc, token, setting.text_at(token).bytes()),
+        Expression::Name(token) => named(alloc, setting, pairs, token),
         Expression::Call { name, arguments } => {
             let operands = typing_of_all(alloc, setting, pairs, arguments.items.as_slice())?;
             call(alloc, setting, name, operands)
@@ -111,7 +111,7 @@ fn typing_over_one(
         }
         Expression::Postfix { operand, operator } => {
             let operand = typing(alloc, setting, pairs, operand)?;
-            postfix(operand, operator.kind)
+            postfix(alloc, operand, operator.kind)
         }
         Expression::Prefix { operator, operand } => {
             let operand = typing(alloc, setting, pairs, operand)?;

@@ -3,7 +3,7 @@
 use ang_kinds::{ErrorKind, Place, Prim};
 use ang_lex::{Span, Token, TokenKind};
 use ang_operators::{
-    Branches, NamedVariable, Operand, Stop, assignment, binary, conditional, convert, group,
+    Branches, NamedVariable, Operand, Stop, assignment, binary, boxed, conditional, convert, group,
     literal, plain_operand, postfix, prefix,
 };
 use ang_typed::{Expression, Variable};
@@ -26,28 +26,31 @@ fn token(kind: TokenKind, column: u32) -> Token {
     }
 }
 
-fn value(ty: Prim, column: u32) -> Operand {
+/// A value of this type.
+fn value(alloc: Global, ty: Prim, column: u32) -> Result<Operand, Stop> {
     let tree = match ty {
-        Prim::Bool => Expression::Truth(true),
-        _ => Expression::Number { ty, value: 1 },
+        Prim::Bool => boxed(alloc, Expression::Truth(true))?,
+        _ => boxed(alloc, Expression::Number { ty, value: 1 })?,
     };
-    plain_operand(at(column), ArgType::Plain(ty), tree)
+    Ok(plain_operand(at(column), ArgType::Plain(ty), tree))
 }
 
-fn variable(ty: Prim, column: u32, read_only: bool) -> Operand {
+/// A local variable of this type.
+fn variable(alloc: Global, ty: Prim, column: u32, read_only: bool) -> Result<Operand, Stop> {
     let ty = ArgType::Plain(ty);
     let variable = Variable::Local(0);
-    Operand {
+    let tree = boxed(alloc, Expression::Variable { variable, ty })?;
+    Ok(Operand {
         place: at(column),
         ty,
-        tree: Expression::Variable { variable, ty },
+        tree,
         named: Some(NamedVariable {
             variable,
             read_only,
             name: token(TokenKind::Name, column),
             bare: true,
         }),
-    }
+    })
 }
 
 type Judged = Result<ArgType, Option<(ErrorKind, u32)>>;
@@ -65,10 +68,58 @@ fn objects(alloc: Global) -> Lineage {
     Lineage::new(Vec::new(alloc))
 }
 
-/// `left operator right`
-fn of_two(alloc: Global, left: Prim, operator: TokenKind, right: Prim) -> Judged {
-    let objects = objects(alloc);
-    judged(binary(alloc, &objects, value(left, 1), operator, value(right, 5)))
+/// The operator between values of these types.
+fn between(alloc: Global, left: Prim, operator: TokenKind, right: Prim) -> Result<Operand, Stop> {
+    let left = value(alloc, left, 1)?;
+    let right = value(alloc, right, 5)?;
+    binary(alloc, &objects(alloc), left, operator, right)
+}
+
+/// The operator in front of a value of this type.
+fn in_front(alloc: Global, operator: TokenKind, ty: Prim) -> Result<Operand, Stop> {
+    let operand = value(alloc, ty, 2)?;
+    prefix(alloc, &objects(alloc), &token(operator, 1), operand)
+}
+
+/// `int8(e)` of a value of this type.
+fn narrowed(alloc: Global, ty: Prim) -> Result<Operand, Stop> {
+    let operand = value(alloc, ty, 6)?;
+    let word = token(TokenKind::Primitive(Prim::I8), 1);
+    convert(alloc, &objects(alloc), &word, operand)
+}
+
+/// `++` behind a variable in parentheses.
+fn group_counted_up(alloc: Global) -> Result<Operand, Stop> {
+    let inner = variable(alloc, Prim::I8, 2, false)?;
+    postfix(alloc, group(at(1), inner), TokenKind::Increment)
+}
+
+/// `--` behind a variable that can't be written.
+fn constant_counted_down(alloc: Global) -> Result<Operand, Stop> {
+    let constant = variable(alloc, Prim::I8, 2, true)?;
+    postfix(alloc, constant, TokenKind::Decrement)
+}
+
+/// A value of this type assigned to what is written in front of it.
+fn stored(
+    alloc: Global,
+    written: Result<Operand, Stop>,
+    operator: TokenKind,
+    ty: Prim,
+    column: u32,
+) -> Result<Operand, Stop> {
+    let written = written?;
+    let value = value(alloc, ty, column)?;
+    assignment(alloc, &objects(alloc), written, operator, value)
+}
+
+/// `?:` with values of these types.
+fn chosen(alloc: Global, then: Prim, otherwise: Prim) -> Result<Operand, Stop> {
+    let condition = value(alloc, Prim::Bool, 1)?;
+    let then = value(alloc, then, 5)?;
+    let otherwise = value(alloc, otherwise, 9)?;
+    let branches = Branches { then, otherwise };
+    conditional(alloc, &objects(alloc), condition, branches)
 }
 
 /// Two operands, the operator between them, and the type that they have together.
@@ -90,7 +141,7 @@ const TYPES: [(Prim, TokenKind, Prim, Prim); 12] = [
 #[test]
 fn two_integers_work_in_their_common_type(rt: HostRuntime) {
     for (left, operator, right, ty) in TYPES {
-        let found = of_two(rt.alloc(), left, operator, right);
+        let found = judged(between(rt.alloc(), left, operator, right));
         assert!(rt;
             found == Ok(ArgType::Plain(ty)),
             "{left:?} {operator:?} {right:?}"
@@ -142,7 +193,7 @@ const REFUSALS: [(Prim, TokenKind, Prim, ErrorKind, u32); 7] = [
 #[test]
 fn the_first_operand_that_cannot_stand_is_named(rt: HostRuntime) {
     for (left, operator, right, kind, column) in REFUSALS {
-        let found = of_two(rt.alloc(), left, operator, right);
+        let found = judged(between(rt.alloc(), left, operator, right));
         assert!(rt;
             found == Err(Some((kind, column))),
             "{left:?} {operator:?} {right:?}"
@@ -150,82 +201,43 @@ fn the_first_operand_that_cannot_stand_is_named(rt: HostRuntime) {
     }
 }
 
-/// An operator and the operand behind it.
-fn of_one(alloc: Global, operator: TokenKind, operand: Prim) -> Judged {
-    let objects = objects(alloc);
-    judged(prefix(alloc, &objects, &token(operator, 1), value(operand, 2)))
-}
-
-/// `to(operand)`
-fn converted(alloc: Global, to: Prim, operand: Prim) -> Judged {
-    let objects = objects(alloc);
-    let word = token(TokenKind::Primitive(to), 1);
-    judged(convert(alloc, &objects, &word, value(operand, 6)))
-}
-
 #[test]
 fn one_operand_is_raised(rt: HostRuntime) {
     let alloc = rt.alloc();
-    let minus = of_one(alloc, TokenKind::Minus, Prim::U8);
+    let minus = judged(in_front(alloc, TokenKind::Minus, Prim::U8));
     assert!(rt; minus == Ok(ArgType::Plain(Prim::U32)));
-    let tilde = of_one(alloc, TokenKind::Tilde, Prim::I16);
+    let tilde = judged(in_front(alloc, TokenKind::Tilde, Prim::I16));
     assert!(rt; tilde == Ok(ArgType::Plain(Prim::I32)));
-    let not = of_one(alloc, TokenKind::Not, Prim::I32);
+    let not = judged(in_front(alloc, TokenKind::Not, Prim::I32));
     assert!(rt; not == Err(Some((ErrorKind::NotBool, 2))));
-    let narrowed = converted(alloc, Prim::I8, Prim::U64);
-    assert!(rt; narrowed == Ok(ArgType::Plain(Prim::I8)));
-    let truth = converted(alloc, Prim::I8, Prim::Bool);
+    let byte = judged(narrowed(alloc, Prim::U64));
+    assert!(rt; byte == Ok(ArgType::Plain(Prim::I8)));
+    let truth = judged(narrowed(alloc, Prim::Bool));
     assert!(rt; truth == Err(Some((ErrorKind::BadConversion, 6))));
-    let number = judged(literal(&token(TokenKind::Number, 1), b"0xFF"));
+    let number = judged(literal(alloc, &token(TokenKind::Number, 1), b"0xFF"));
     assert!(rt; number == Ok(ArgType::Plain(Prim::U32)));
-}
-
-/// `(x)++`
-fn counted_in_parentheses() -> Judged {
-    let grouped = group(at(1), variable(Prim::I8, 2, false));
-    judged(postfix(grouped, TokenKind::Increment))
-}
-
-/// `x--` of a variable that can't be written
-fn counted_constant() -> Judged {
-    judged(postfix(variable(Prim::I8, 2, true), TokenKind::Decrement))
-}
-
-/// `target operator value`, with the value in that column
-fn stored(alloc: Global, target: Operand, operator: TokenKind, ty: Prim, column: u32) -> Judged {
-    let objects = objects(alloc);
-    judged(assignment(alloc, &objects, target, operator, value(ty, column)))
 }
 
 #[test]
 fn a_target_is_a_variable_that_can_be_written(rt: HostRuntime) {
     let alloc = rt.alloc();
-    assert!(rt; counted_in_parentheses() == Ok(ArgType::Plain(Prim::I8)));
-    assert!(rt; counted_constant() == Err(Some((ErrorKind::Const, 2))));
-    let byte = variable(Prim::I8, 1, false);
-    let found = stored(alloc, byte, TokenKind::PlusAssign, Prim::I64, 6);
+    assert!(rt; judged(group_counted_up(alloc)) == Ok(ArgType::Plain(Prim::I8)));
+    assert!(rt; judged(constant_counted_down(alloc)) == Err(Some((ErrorKind::Const, 2))));
+    let byte = variable(alloc, Prim::I8, 1, false);
+    let found = judged(stored(alloc, byte, TokenKind::PlusAssign, Prim::I64, 6));
     assert!(rt; found == Ok(ArgType::Plain(Prim::I8)));
-    let int = variable(Prim::I32, 1, false);
-    let truth = stored(alloc, int, TokenKind::ShiftLeftAssign, Prim::Bool, 7);
+    let int = variable(alloc, Prim::I32, 1, false);
+    let truth = judged(stored(alloc, int, TokenKind::ShiftLeftAssign, Prim::Bool, 7));
     assert!(rt; truth == Err(Some((ErrorKind::BadConversion, 7))));
-    let number = stored(alloc, value(Prim::I32, 1), TokenKind::Assign, Prim::Bool, 5);
+    let one = value(alloc, Prim::I32, 1);
+    let number = judged(stored(alloc, one, TokenKind::Assign, Prim::Bool, 5));
     assert!(rt; number == Err(Some((ErrorKind::BadConversion, 1))));
-}
-
-/// `b ? then : otherwise`
-fn chosen(alloc: Global, then: Prim, otherwise: Prim) -> Judged {
-    let objects = objects(alloc);
-    let branches = Branches {
-        then: value(then, 5),
-        otherwise: value(otherwise, 9),
-    };
-    judged(conditional(alloc, &objects, value(Prim::Bool, 1), branches))
 }
 
 #[test]
 fn a_choice_has_the_common_type(rt: HostRuntime) {
-    let integers = chosen(rt.alloc(), Prim::I32, Prim::U32);
+    let integers = judged(chosen(rt.alloc(), Prim::I32, Prim::U32));
     assert!(rt; integers == Ok(ArgType::Plain(Prim::U32)));
-    let mixed = chosen(rt.alloc(), Prim::Bool, Prim::I32);
+    let mixed = judged(chosen(rt.alloc(), Prim::Bool, Prim::I32));
     assert!(rt; mixed == Err(Some((ErrorKind::BadConversion, 9))));
 }
