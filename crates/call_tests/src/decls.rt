@@ -6,6 +6,7 @@ use ang_lex::lex;
 use ang_names::{Names, ScriptFunction, declare};
 use ang_parse::parse;
 use ang_registry::{RegError, Registry, View};
+use ang_tree::Script;
 use std::alloc::{AllocError, Global};
 
 /// The functions 0 to 7. Those named `f` differ in one thing each.
@@ -28,11 +29,14 @@ fn view(alloc: Global) -> Option<View> {
     registry.seen(alloc, Mask(1)).ok()
 }
 
+fn script_in(alloc: Global, text: &[u8]) -> Option<Script> {
+    let tokens = lex(alloc, text, 0).ok()?;
+    parse(alloc, text, tokens.as_slice()).ok()
+}
+
 /// The names of one section, or nothing where it has an error.
 fn names_in(alloc: Global, view: &View, text: &[u8]) -> Option<Names> {
-    let tokens = lex(alloc, text, 0).ok()?;
-    let script = parse(alloc, text, tokens.as_slice()).ok()?;
-    let scripts = [script];
+    let scripts = [script_in(alloc, text)?];
     declare(alloc, view, &scripts).ok()
 }
 

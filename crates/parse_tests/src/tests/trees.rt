@@ -304,10 +304,10 @@ fn is_so(alloc: Global, text: &[u8], fact: Fact) -> bool {
     let Ok(tokens) = lex(alloc, text, 3) else {
         return false;
     };
-    let Ok(script) = parse(alloc, text, &tokens) else {
-        return false;
-    };
-    script.source.as_slice() == text && has(&script, fact)
+    match &parse(alloc, text, &tokens) {
+        Ok(script) => script.source.as_slice() == text && has(script, fact),
+        Err(_) => false,
+    }
 }
 
 /// `void`
