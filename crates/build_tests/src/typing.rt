@@ -227,7 +227,7 @@ fn pairs(alloc: Global, known: &'static [Known]) -> Result<Vec<Pair<'static>>, A
     Ok(pairs)
 }
 
-fn scope_of(alloc: Global, known: &'static [Known]) -> Result<Scope, RegError> {
+fn scope_with(alloc: Global, known: &'static [Known]) -> Result<Scope, RegError> {
     let pairs = pairs(alloc, known)?;
     let names = names_of(alloc, &FUNCTIONS)?;
     let view = view(alloc)?;
@@ -258,7 +258,7 @@ fn judged_alone(
     text: &str,
     form: Form,
 ) -> Result<Judged, RegError> {
-    let scope = scope_of(alloc, known)?;
+    let scope = scope_with(alloc, known)?;
     Ok(judged_in(alloc, &scope, text, form)?)
 }
 
@@ -380,7 +380,7 @@ fn wrong_name(alloc: Global, scope: &Scope) -> Result<Option<&'static str>, Allo
 }
 
 fn wrong_among_nested(alloc: Global) -> Result<Option<&'static str>, RegError> {
-    let scope = scope_of(alloc, NESTED)?;
+    let scope = scope_with(alloc, NESTED)?;
     Ok(wrong_name(alloc, &scope)?)
 }
 
