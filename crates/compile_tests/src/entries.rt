@@ -25,11 +25,19 @@ const ENTRIES: [(u32, bool); 6] = [
     (5, false),
 ];
 
+/// Whether there is an entry of this number, and it is plain or not as wanted.
+fn is_so(registry: &Registry, number: u32, want: bool) -> bool {
+    match registry.get(EntityNo(number)) {
+        Some(entry) => is_plain_entry(entry) == want,
+        None => false,
+    }
+}
+
 /// The first entry that is missing or plain otherwise.
 fn first_wrong(alloc: Global) -> Result<Option<u32>, RegError> {
     let registry = registry(alloc)?;
     for (number, want) in ENTRIES {
-        if registry.get(EntityNo(number)).map(is_plain_entry) != Some(want) {
+        if !is_so(&registry, number, want) {
             return Ok(Some(number));
         }
     }
