@@ -8,20 +8,20 @@ use crate::driver::Driver;
 use ang_kinds::Value;
 
 fn idle_in(d: &dyn Driver) -> bool
-    ensures { IsIdleTest ((⟦<dyn Driver as Driver>⟧ d.now.0).meaning.state d.now.1) result }
+    ensures idle { IsIdleTest ((⟦<dyn Driver as Driver>⟧ d.now.0).meaning.state d.now.1) result }
 {
     d.idle()
 }
 
 pub fn idle_at(b: &Box<dyn Driver>) -> bool
-    ensures { IsIdleTest ((⟦<dyn Driver as Driver>⟧ b.now.vtable).meaning.state b.now.value) result }
+    ensures idle { IsIdleTest ((⟦<dyn Driver as Driver>⟧ b.now.vtable).meaning.state b.now.value) result }
 {
     let d: &dyn Driver = b.as_ref();
     idle_in(d)
 }
 
 fn make_in(d: &mut dyn Driver, f: u32, args: &[Value]) -> Made
-    requires { AreLive ((⟦<dyn Driver as Driver>⟧ d.old.0).meaning.state d.old.1) args.now }
+    requires args_live { AreLive ((⟦<dyn Driver as Driver>⟧ d.old.0).meaning.state d.old.1) args.now }
     ensures law { WasMade (⟦<dyn Driver as Driver>⟧ d.old.0).meaning.fits ((⟦<dyn Driver as Driver>⟧ d.old.0).meaning.state d.old.1)
         (make f args.now) result ((⟦<dyn Driver as Driver>⟧ d.new.0).meaning.state d.new.1) }
     ensures kind { d.new.0 ≡ d.old.0 }
@@ -30,7 +30,7 @@ fn make_in(d: &mut dyn Driver, f: u32, args: &[Value]) -> Made
 }
 
 pub fn make_at(b: &mut Box<dyn Driver>, f: u32, args: &[Value]) -> Made
-    requires { AreLive ((⟦<dyn Driver as Driver>⟧ b.old.vtable).meaning.state b.old.value) args.now }
+    requires args_live { AreLive ((⟦<dyn Driver as Driver>⟧ b.old.vtable).meaning.state b.old.value) args.now }
     ensures law { WasMade (⟦<dyn Driver as Driver>⟧ b.old.vtable).meaning.fits ((⟦<dyn Driver as Driver>⟧ b.old.vtable).meaning.state b.old.value)
         (make f args.now) result ((⟦<dyn Driver as Driver>⟧ b.new.vtable).meaning.state b.new.value) }
     ensures kind { b.new.vtable ≡ b.old.vtable }
@@ -61,7 +61,7 @@ pub fn call_at(b: &mut Box<dyn Driver>, f: u32, object: Option<u64>, args: &[Val
 }
 
 fn read_in(d: &mut dyn Driver, f: u32, object: Option<u64>) -> Answer
-    requires { IsLiveOption ((⟦<dyn Driver as Driver>⟧ d.old.0).meaning.state d.old.1) object }
+    requires object_live { IsLiveOption ((⟦<dyn Driver as Driver>⟧ d.old.0).meaning.state d.old.1) object }
     ensures law { Answered (⟦<dyn Driver as Driver>⟧ d.old.0).meaning.fits ((⟦<dyn Driver as Driver>⟧ d.old.0).meaning.state d.old.1)
         (read f object) result ((⟦<dyn Driver as Driver>⟧ d.new.0).meaning.state d.new.1) }
     ensures kind { d.new.0 ≡ d.old.0 }
@@ -70,7 +70,7 @@ fn read_in(d: &mut dyn Driver, f: u32, object: Option<u64>) -> Answer
 }
 
 pub fn read_at(b: &mut Box<dyn Driver>, f: u32, object: Option<u64>) -> Answer
-    requires { IsLiveOption ((⟦<dyn Driver as Driver>⟧ b.old.vtable).meaning.state b.old.value) object }
+    requires object_live { IsLiveOption ((⟦<dyn Driver as Driver>⟧ b.old.vtable).meaning.state b.old.value) object }
     ensures law { Answered (⟦<dyn Driver as Driver>⟧ b.old.vtable).meaning.fits ((⟦<dyn Driver as Driver>⟧ b.old.vtable).meaning.state b.old.value)
         (read f object) result ((⟦<dyn Driver as Driver>⟧ b.new.vtable).meaning.state b.new.value) }
     ensures kind { b.new.vtable ≡ b.old.vtable }
@@ -101,7 +101,7 @@ pub fn write_at(b: &mut Box<dyn Driver>, f: u32, object: Option<u64>, value: Val
 }
 
 fn add_ref_in(d: &mut dyn Driver, key: u64) -> bool
-    requires { IsLive ((⟦<dyn Driver as Driver>⟧ d.old.0).meaning.state d.old.1) key }
+    requires key_live { IsLive ((⟦<dyn Driver as Driver>⟧ d.old.0).meaning.state d.old.1) key }
     ensures law { WasAdded ((⟦<dyn Driver as Driver>⟧ d.old.0).meaning.state d.old.1) key result ((⟦<dyn Driver as Driver>⟧ d.new.0).meaning.state d.new.1) }
     ensures kind { d.new.0 ≡ d.old.0 }
 {
@@ -109,7 +109,7 @@ fn add_ref_in(d: &mut dyn Driver, key: u64) -> bool
 }
 
 pub fn add_ref_at(b: &mut Box<dyn Driver>, key: u64) -> bool
-    requires { IsLive ((⟦<dyn Driver as Driver>⟧ b.old.vtable).meaning.state b.old.value) key }
+    requires key_live { IsLive ((⟦<dyn Driver as Driver>⟧ b.old.vtable).meaning.state b.old.value) key }
     ensures law { WasAdded ((⟦<dyn Driver as Driver>⟧ b.old.vtable).meaning.state b.old.value) key result ((⟦<dyn Driver as Driver>⟧ b.new.vtable).meaning.state b.new.value) }
     ensures kind { b.new.vtable ≡ b.old.vtable }
 {
@@ -118,7 +118,7 @@ pub fn add_ref_at(b: &mut Box<dyn Driver>, key: u64) -> bool
 }
 
 fn release_in(d: &mut dyn Driver, key: u64) -> bool
-    requires { IsLive ((⟦<dyn Driver as Driver>⟧ d.old.0).meaning.state d.old.1) key }
+    requires key_live { IsLive ((⟦<dyn Driver as Driver>⟧ d.old.0).meaning.state d.old.1) key }
     ensures law { WasReleased (⟦<dyn Driver as Driver>⟧ d.old.0).meaning.fits ((⟦<dyn Driver as Driver>⟧ d.old.0).meaning.state d.old.1) key result ((⟦<dyn Driver as Driver>⟧ d.new.0).meaning.state d.new.1) }
     ensures kind { d.new.0 ≡ d.old.0 }
 {
@@ -126,7 +126,7 @@ fn release_in(d: &mut dyn Driver, key: u64) -> bool
 }
 
 pub fn release_at(b: &mut Box<dyn Driver>, key: u64) -> bool
-    requires { IsLive ((⟦<dyn Driver as Driver>⟧ b.old.vtable).meaning.state b.old.value) key }
+    requires key_live { IsLive ((⟦<dyn Driver as Driver>⟧ b.old.vtable).meaning.state b.old.value) key }
     ensures law { WasReleased (⟦<dyn Driver as Driver>⟧ b.old.vtable).meaning.fits ((⟦<dyn Driver as Driver>⟧ b.old.vtable).meaning.state b.old.value) key result ((⟦<dyn Driver as Driver>⟧ b.new.vtable).meaning.state b.new.value) }
     ensures kind { b.new.vtable ≡ b.old.vtable }
 {

@@ -4,8 +4,9 @@ use Rattle.ang_host.specs.Laws.{AreLive, WasMade}
 use Rattle.ang_host.proofs.one.make_at.Goals as goal
 
 pub make_in-requires : goal.make_in-requires
-make_in-requires g c =
-    subst (λ p. AreLive ((goal.Driver-dyn g p).meaning.state p.1) c.args.args.now) (sym c.as_mut.ensures.value.1) c.requires
+make_in-requires g c = record {
+  args_live = subst (λ p. AreLive ((goal.Driver-dyn g p).meaning.state p.1) c.args.args.now) (sym c.as_mut.ensures.value.1) c.requires.args_live;
+}
 
 pub returns-clause-law : goal.returns-clause-law
 returns-clause-law g c =

@@ -4,8 +4,9 @@ use Rattle.ang_host.specs.Laws.{IsLiveOption, Answered}
 use Rattle.ang_host.proofs.one.read_at.Goals as goal
 
 pub read_in-requires : goal.read_in-requires
-read_in-requires g c =
-    subst (λ p. IsLiveOption ((goal.Driver-dyn g p).meaning.state p.1) c.args.object) (sym c.as_mut.ensures.value.1) c.requires
+read_in-requires g c = record {
+  object_live = subst (λ p. IsLiveOption ((goal.Driver-dyn g p).meaning.state p.1) c.args.object) (sym c.as_mut.ensures.value.1) c.requires.object_live;
+}
 
 pub returns-clause-law : goal.returns-clause-law
 returns-clause-law g c =

@@ -3,8 +3,9 @@ use Rattle.ang_host.specs.Laws.{IsLive, WasReleased}
 use Rattle.ang_host.proofs.one.release_at.Goals as goal
 
 pub release_in-requires : goal.release_in-requires
-release_in-requires g c =
-    subst (λ p. IsLive ((goal.Driver-dyn g p).meaning.state p.1) c.args.key) (sym c.as_mut.ensures.value.1) c.requires
+release_in-requires g c = record {
+  key_live = subst (λ p. IsLive ((goal.Driver-dyn g p).meaning.state p.1) c.args.key) (sym c.as_mut.ensures.value.1) c.requires.key_live;
+}
 
 pub returns-clause-law : goal.returns-clause-law
 returns-clause-law g c =
