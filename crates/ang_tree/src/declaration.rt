@@ -17,26 +17,36 @@ pub struct Script {
 /// A declaration of a script.
 #[derive(Drop)]
 pub enum Declaration {
+    /// A class.
     Class(Class),
+    /// An interface.
     Interface(Interface),
+    /// A function that another module is to give.
     Import(Import),
+    /// A function of the script.
     Function(Function),
-    /// Global variables.
+    /// Global variables, one or several of one type.
     Globals(Variables),
-    /// `";"`
+    /// A `;` by itself, which declares nothing.
     Empty(Token),
 }
 
 /// `[ "final" ] "class" NAME [ ":" NAME { "," NAME } ] "{" { member } "}"`
 #[derive(Drop)]
 pub struct Class {
+    /// The word `final`, where it is written.
     pub final_word: Option<Token>,
+    /// The word `class`.
     pub word: Token,
+    /// The class's name.
     pub name: Token,
-    /// The class and the interfaces that it is derived from.
+    /// The class and the interfaces that it is derived from. Without a `:` there are none.
     pub bases: Vec<BaseName>,
+    /// The `{` in front of the members.
     pub open: Token,
+    /// The fields, methods and constructors, in the order of the text.
     pub members: Vec<Member>,
+    /// The `}` behind the members.
     pub close: Token,
 }
 
@@ -45,6 +55,7 @@ pub struct Class {
 pub struct BaseName {
     /// `:` in front of the first name, `,` in front of each other.
     pub separator: Token,
+    /// The name of the class or interface that is derived from.
     pub name: Token,
 }
 
@@ -53,31 +64,45 @@ pub struct BaseName {
 pub enum Member {
     /// `access type NAME { "," NAME } ";"`
     Fields {
-        /// `private` or `protected`.
+        /// The word `private` or `protected`, where one is written.
         access: Option<Token>,
+        /// The type of all these fields.
         declared_type: TypeName,
+        /// The fields' names, at least one, in the order of the text.
         names: Vec<FieldName>,
+        /// The `;` at the end.
         semicolon: Token,
     },
     /// `access type NAME params [ "const" ] { "final" | "override" } block`
     Method {
-        /// `private` or `protected`.
+        /// The word `private` or `protected`, where one is written.
         access: Option<Token>,
+        /// The type of what the method returns, `void` for nothing.
         result: TypeName,
+        /// The method's name.
         name: Token,
+        /// The method's parameters, with their parentheses.
         parameters: Parameters,
+        /// The word `const` behind the parameters, where it is written.
         constant: Option<Token>,
         /// The words `final` and `override`, as often as they are written.
         attributes: Vec<Token>,
+        /// The method's statements, with their braces.
         body: Block,
     },
     /// `NAME params "{" [ "super" args ";" ] { stmt } "}"`
     Constructor {
+        /// The constructor's name, which is to be that of its class. The grammar does not compare the two.
         name: Token,
+        /// The constructor's parameters, with their parentheses.
         parameters: Parameters,
+        /// The `{` in front of the body.
         open: Token,
+        /// The call of the base class's constructor, where it is written.
         super_call: Option<SuperCall>,
+        /// The statements of the body behind that call, in the order of the text.
         statements: Vec<Statement>,
+        /// The `}` behind the body.
         close: Token,
     },
 }
@@ -87,67 +112,95 @@ pub enum Member {
 pub struct FieldName {
     /// The comma in front of it. The first has none.
     pub comma: Option<Token>,
+    /// The field's name.
     pub name: Token,
 }
 
 /// The call of the base class's constructor: `"super" args ";"`.
 #[derive(Drop)]
 pub struct SuperCall {
+    /// The word `super`.
     pub word: Token,
+    /// What the base class's constructor is handed.
     pub arguments: Arguments,
+    /// The `;` at the end.
     pub semicolon: Token,
 }
 
 /// `"interface" NAME [ ":" NAME { "," NAME } ] "{" { method } "}"`
 #[derive(Drop)]
 pub struct Interface {
+    /// The word `interface`.
     pub word: Token,
+    /// The interface's name.
     pub name: Token,
-    /// The interfaces that it is derived from.
+    /// The interfaces that it is derived from. Without a `:` there are none.
     pub bases: Vec<BaseName>,
+    /// The `{` in front of the methods.
     pub open: Token,
+    /// The methods, in the order of the text.
     pub methods: Vec<InterfaceMethod>,
+    /// The `}` behind the methods.
     pub close: Token,
 }
 
 /// `type NAME params [ "const" ] ";"`
 #[derive(Drop)]
 pub struct InterfaceMethod {
+    /// The type of what the method returns, `void` for nothing.
     pub result: TypeName,
+    /// The method's name.
     pub name: Token,
+    /// The method's parameters, with their parentheses.
     pub parameters: Parameters,
+    /// The word `const` behind the parameters, where it is written.
     pub constant: Option<Token>,
+    /// The `;` at the end.
     pub semicolon: Token,
 }
 
 /// `"import" type NAME params "from" TEXT ";"`
 #[derive(Drop)]
 pub struct Import {
+    /// The word `import`.
     pub word: Token,
+    /// The type of what the function returns, `void` for nothing.
     pub result: TypeName,
+    /// The name of the function that is imported.
     pub name: Token,
+    /// The function's parameters, with their parentheses.
     pub parameters: Parameters,
+    /// The word `from`.
     pub from_word: Token,
+    /// The text that names the other module, with both its quotes.
     pub module: Token,
+    /// The `;` at the end.
     pub semicolon: Token,
 }
 
 /// `type NAME params block`
 #[derive(Drop)]
 pub struct Function {
+    /// The type of what the function returns, `void` for nothing.
     pub result: TypeName,
+    /// The function's name.
     pub name: Token,
+    /// The function's parameters, with their parentheses.
     pub parameters: Parameters,
+    /// The function's statements, with their braces.
     pub body: Block,
 }
 
 /// `"(" [ "void" | param { "," param } ] ")"`
 #[derive(Drop)]
 pub struct Parameters {
+    /// The `(` in front of the list.
     pub open: Token,
     /// The word of `(void)`, which has no items.
     pub void_word: Option<Token>,
+    /// The parameters, in the order of the text. There are none in `()` and `(void)`.
     pub items: Vec<Parameter>,
+    /// The `)` behind the list.
     pub close: Token,
 }
 
@@ -156,15 +209,19 @@ pub struct Parameters {
 pub struct Parameter {
     /// The comma in front of it. The first has none.
     pub comma: Option<Token>,
+    /// The parameter's type, without the `&`.
     pub declared_type: TypeName,
+    /// How it is passed by reference. Without it the parameter is passed by value.
     pub reference: Option<Reference>,
+    /// The parameter's name. One without a name can't be used in the body.
     pub name: Option<Token>,
 }
 
 /// `"&" [ "in" | "out" | "inout" ]`
 #[derive(Clone, Copy, PartialEq, Eq, Debug)]
 pub struct Reference {
+    /// The `&`.
     pub ampersand: Token,
-    /// `in`, `out` or `inout`. `&` alone is `&inout`.
+    /// The word `in`, `out` or `inout`, where one is written. `&` alone is `&inout`.
     pub direction: Option<Token>,
 }

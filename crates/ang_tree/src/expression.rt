@@ -11,82 +11,124 @@ pub enum Expression {
     Literal(Token),
     /// A name that is not called.
     Name(Token),
-    /// `NAME args`
+    /// A call of a function by its bare name, or of a type's name: `NAME args`
     Call {
+        /// The name that is called.
         name: Token,
+        /// The arguments, with their parentheses.
         arguments: Arguments,
     },
     /// `NAME "::" NAME args`: the first name is a class, the second its method.
     ScopedCall {
+        /// The name of the class.
         class: Token,
+        /// The `::`.
         scope: Token,
+        /// The name of its method.
         name: Token,
+        /// The arguments, with their parentheses.
         arguments: Arguments,
     },
-    /// `"cast" "<" type ">" "(" assign ")"`
+    /// A handle cast to another type: `"cast" "<" type ">" "(" assign ")"`
     Cast {
+        /// The word `cast`.
         word: Token,
+        /// The `<` in front of the type.
         less: Token,
+        /// The type that is cast to.
         target: TypeName,
+        /// The `>` behind the type.
         greater: Token,
+        /// The `(` in front of the operand.
         open: Token,
+        /// What is cast.
         operand: Box<Expression>,
+        /// The `)` behind the operand.
         close: Token,
     },
-    /// `PRIMITIVE "(" assign ")"`
+    /// A conversion to a primitive type: `PRIM "(" assign ")"`
     Convert {
+        /// The word of the type that is converted to.
         primitive: Token,
+        /// The `(` in front of the operand.
         open: Token,
+        /// What is converted.
         operand: Box<Expression>,
+        /// The `)` behind the operand.
         close: Token,
     },
-    /// `"(" assign ")"`
+    /// An expression in parentheses, which mean nothing else: `"(" assign ")"`
     Parenthesized {
+        /// The `(` in front of it.
         open: Token,
+        /// The expression between the parentheses.
         inner: Box<Expression>,
+        /// The `)` behind it.
         close: Token,
     },
     /// An operand with `++` or `--` behind it.
     Postfix {
+        /// What is changed by one.
         operand: Box<Expression>,
+        /// The `++` or `--` behind it.
         operator: Token,
     },
-    /// `post "." NAME`
+    /// A member of an object: `post "." NAME`
     Member {
+        /// The object whose member it is.
         object: Box<Expression>,
+        /// The `.`.
         dot: Token,
+        /// The member's name.
         name: Token,
     },
-    /// `post "." NAME args`
+    /// A call of an object's method: `post "." NAME args`
     MethodCall {
+        /// The object whose method is called.
         object: Box<Expression>,
+        /// The `.`.
         dot: Token,
+        /// The method's name.
         name: Token,
+        /// The arguments, with their parentheses.
         arguments: Arguments,
     },
     /// An operand with `!`, `-`, `+`, `~`, `@`, `++` or `--` in front of it.
     Prefix {
+        /// The operator's sign, or the word `not` for `!`.
         operator: Token,
+        /// What stands behind the operator.
         operand: Box<Expression>,
     },
     /// Two operands with a binary operator between them. Operators group to the left.
     Binary {
+        /// The operand in front of the operator.
         left: Box<Expression>,
+        /// The operator's sign, or its word: `and`, `or`, `xor`, `is` or `!is`.
         operator: Token,
+        /// The operand behind the operator.
         right: Box<Expression>,
     },
-    /// `binary "?" assign ":" assign`
+    /// One of two expressions, by a condition: `binary "?" assign ":" assign`
     Conditional {
+        /// The truth value that decides.
         condition: Box<Expression>,
+        /// The `?`.
         question: Token,
+        /// What is evaluated where the condition is true.
         then: Box<Expression>,
+        /// The `:`.
         colon: Token,
+        /// What is evaluated where the condition is false. It is as long as it can be.
         otherwise: Box<Expression>,
     },
     /// A target and its value, with `=` or a compound assignment between them.
     Assignment {
+        /// What is changed.
         target: Box<Expression>,
+        /// The sign: `=`, or that of a compound assignment, such as `+=`.
         operator: Token,
+        /// What is stored, or what the compound operator works with.
         value: Box<Expression>,
     },
 }
@@ -95,8 +137,11 @@ pub enum Expression {
 #[cycle(expression)]
 #[derive(Drop)]
 pub struct Arguments {
+    /// The `(` in front of the list.
     pub open: Token,
+    /// The arguments, in the order of the text.
     pub items: Vec<Argument>,
+    /// The `)` behind the list.
     pub close: Token,
 }
 
@@ -106,5 +151,6 @@ pub struct Arguments {
 pub struct Argument {
     /// The comma in front of it. The first has none.
     pub comma: Option<Token>,
+    /// The expression itself.
     pub value: Expression,
 }

@@ -8,67 +8,103 @@ use ang_lex::Token;
 #[cycle(statement)]
 #[derive(Drop)]
 pub enum Statement {
-    /// `"{" { stmt } "}"`
+    /// Statements in a block of their own: `"{" { stmt } "}"`
     Block(Block),
-    /// Local variables.
+    /// Local variables, one or several of one type.
     Variables(Variables),
-    /// `[ assign ] ";"`
+    /// An expression for what it does, or a `;` by itself: `[ assign ] ";"`
     Expression {
+        /// The expression. A `;` by itself has none.
         value: Option<Expression>,
+        /// The `;` at the end.
         semicolon: Token,
     },
-    /// `"break" ";"`
+    /// Leaves the innermost loop: `"break" ";"`
     Break {
+        /// The word `break`.
         word: Token,
+        /// The `;` at the end.
         semicolon: Token,
     },
-    /// `"continue" ";"`
+    /// Goes on with the next pass of the innermost loop: `"continue" ";"`
     Continue {
+        /// The word `continue`.
         word: Token,
+        /// The `;` at the end.
         semicolon: Token,
     },
-    /// `"return" [ assign ] ";"`
+    /// Ends the function: `"return" [ assign ] ";"`
     Return {
+        /// The word `return`.
         word: Token,
+        /// What is returned, where a value is written.
         value: Option<Expression>,
+        /// The `;` at the end.
         semicolon: Token,
     },
-    /// `"if" "(" assign ")" stmt [ "else" stmt ]`
+    /// One of two branches, by a condition: `"if" "(" assign ")" stmt [ "else" stmt ]`
     If {
+        /// The word `if`.
         word: Token,
+        /// The `(` in front of the condition.
         open: Token,
+        /// The truth value that decides.
         condition: Expression,
+        /// The `)` behind the condition.
         close: Token,
+        /// The statement that runs where the condition is true.
         then: Box<Statement>,
+        /// The other branch, where an `else` is written. It goes with the nearest `if`.
         otherwise: Option<Else>,
     },
-    /// `"while" "(" assign ")" stmt`
+    /// A loop with its test in front: `"while" "(" assign ")" stmt`
     While {
+        /// The word `while`.
         word: Token,
+        /// The `(` in front of the condition.
         open: Token,
+        /// The truth value that is tested before each pass.
         condition: Expression,
+        /// The `)` behind the condition.
         close: Token,
+        /// The statement that is repeated.
         body: Box<Statement>,
     },
-    /// `"do" stmt "while" "(" assign ")" ";"`
+    /// A loop with its test behind: `"do" stmt "while" "(" assign ")" ";"`
     DoWhile {
+        /// The word `do`.
         word: Token,
+        /// The statement that is repeated.
         body: Box<Statement>,
+        /// The word `while` behind the body.
         while_word: Token,
+        /// The `(` in front of the condition.
         open: Token,
+        /// The truth value that is tested after each pass.
         condition: Expression,
+        /// The `)` behind the condition.
         close: Token,
+        /// The `;` at the end.
         semicolon: Token,
     },
+    /// A loop with a start and steps of its own:
     /// `"for" "(" ( vars | [ assign ] ";" ) [ assign ] ";" [ assign { "," assign } ] ")" stmt`
     For {
+        /// The word `for`.
         word: Token,
+        /// The `(` in front of the start.
         open: Token,
+        /// What runs once before the first test, with its `;`.
         start: ForStart,
+        /// The truth value that is tested before each pass. One that is not written is true.
         condition: Option<Expression>,
+        /// The `;` behind the condition.
         semicolon: Token,
+        /// What is evaluated after each pass, in the order of the text.
         steps: Vec<Argument>,
+        /// The `)` behind the steps.
         close: Token,
+        /// The statement that is repeated.
         body: Box<Statement>,
     },
 }
@@ -77,8 +113,11 @@ pub enum Statement {
 #[cycle(statement)]
 #[derive(Drop)]
 pub struct Block {
+    /// The `{` in front of the statements.
     pub open: Token,
+    /// The statements, in the order of the text.
     pub statements: Vec<Statement>,
+    /// The `}` behind the statements.
     pub close: Token,
 }
 
@@ -86,17 +125,22 @@ pub struct Block {
 #[cycle(statement)]
 #[derive(Drop)]
 pub struct Else {
+    /// The word `else`.
     pub word: Token,
+    /// The statement that runs where the condition is false.
     pub branch: Box<Statement>,
 }
 
 /// What a `for` begins with, up to its first `;`.
 #[derive(Drop)]
 pub enum ForStart {
+    /// Local variables, which the whole `for` knows.
     Variables(Variables),
-    /// `[ assign ] ";"`
+    /// An expression for what it does, or nothing: `[ assign ] ";"`
     Expression {
+        /// The expression, where one is written.
         value: Option<Expression>,
+        /// The `;` behind it.
         semicolon: Token,
     },
 }
@@ -104,8 +148,11 @@ pub enum ForStart {
 /// Variables of one type: `type NAME [ "=" assign | args ] { "," NAME [ "=" assign | args ] } ";"`.
 #[derive(Drop)]
 pub struct Variables {
+    /// The type of all these variables.
     pub declared_type: TypeName,
+    /// The variables, at least one, in the order of the text.
     pub items: Vec<Variable>,
+    /// The `;` at the end.
     pub semicolon: Token,
 }
 
@@ -114,7 +161,9 @@ pub struct Variables {
 pub struct Variable {
     /// The comma in front of it. The first has none.
     pub comma: Option<Token>,
+    /// The variable's name.
     pub name: Token,
+    /// What it begins with.
     pub initializer: Initializer,
 }
 
@@ -123,8 +172,8 @@ pub struct Variable {
 pub enum Initializer {
     /// Nothing is written.
     Absent,
-    /// `"=" assign`
+    /// A value: `"=" assign`
     Value { equals: Token, value: Expression },
-    /// `args`
+    /// Arguments for the type's constructor: `args`
     Constructor(Arguments),
 }

@@ -5,7 +5,7 @@ use ang_lex::Token;
 /// A type: `[ "const" ] ( PRIMITIVE | "void" | NAME ) [ "@" [ "const" ] ]`.
 #[derive(Clone, Copy, PartialEq, Eq, Debug)]
 pub struct TypeName {
-    /// The word `const`, where it is written.
+    /// The word `const` in front of the type, where it is written.
     pub constant: Option<Token>,
     /// The word of a primitive type, `void`, or a name.
     pub name: Token,
@@ -18,6 +18,6 @@ pub struct TypeName {
 pub struct Handle {
     /// `@`
     pub at: Token,
-    /// The word `const`, where it is written.
+    /// The word `const` behind the `@`, where it is written.
     pub constant: Option<Token>,
 }

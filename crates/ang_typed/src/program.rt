@@ -17,7 +17,7 @@ pub struct Typed {
 /// A function of the module.
 #[derive(Drop)]
 pub struct Function {
-    /// In order.
+    /// The parameters, in the order in which they are written. Their numbers as locals are 0 and up.
     pub parameters: List<Parameter>,
     /// The type of what it returns.
     pub result: ArgType,
@@ -28,15 +28,17 @@ pub struct Function {
 /// A parameter.
 #[derive(Clone, Copy, PartialEq, Eq, Debug)]
 pub struct Parameter {
+    /// The type of the values that it holds.
     pub ty: ArgType,
-    /// A parameter by `&out` begins as 0 or `false`; the others begin with their argument.
+    /// How it is passed. A parameter by `&out` begins as 0 or `false`; the others begin with their argument.
     pub pass: Pass,
 }
 
 /// A global variable.
 #[derive(Drop)]
 pub struct Global {
+    /// The type of the values that it holds.
     pub ty: ArgType,
-    /// A value of that type. Without one it stays 0 or `false`.
+    /// What it begins with, a value of that type. Without one it stays 0 or `false`.
     pub initializer: Option<Expression>,
 }

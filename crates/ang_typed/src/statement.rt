@@ -7,7 +7,7 @@ use ang_types::ArgType;
 #[cycle(statement)]
 #[derive(Drop)]
 pub enum Statement {
-    /// `{ .. }`
+    /// Statements in a block of their own.
     Block(Block),
     /// One local after the other, in the block in which the statement stands.
     Locals(Vec<Local>),
@@ -19,28 +19,39 @@ pub enum Statement {
     Continue,
     /// Ends the function. The value is of the function's result type; `void` functions have none.
     Return(Option<Expression>),
-    /// `otherwise` is an empty block where no `else` is written.
+    /// One of two blocks, by a condition. `otherwise` is an empty block where no `else` is written.
     If {
+        /// The truth value that decides.
         condition: Expression,
+        /// What runs where the condition is true.
         then: Block,
+        /// What runs where the condition is false.
         otherwise: Block,
     },
-    /// A tick is taken before each test.
+    /// A loop that goes on as long as its condition is true. A tick is taken before each test.
     While {
+        /// The truth value that is tested before each pass.
         condition: Expression,
+        /// What runs in each pass.
         body: Block,
     },
     /// As `While`, but the body runs before the first test. A tick is taken before each test, after the body.
     DoWhile {
+        /// What runs in each pass.
         body: Block,
+        /// The truth value that is tested after each pass.
         condition: Expression,
     },
     /// A block of its own: `start`, one `Locals` or `Expression`, runs once in it; then as `While`, with the
     /// steps behind the body of each pass. A condition that is not written is true.
     For {
+        /// What runs once before the first test: no statement, or one.
         start: Vec<Statement>,
+        /// The truth value that is tested before each pass. Without one each test is passed.
         condition: Option<Expression>,
+        /// What is evaluated after each pass, from left to right. Nobody takes the values.
         steps: Vec<Expression>,
+        /// What runs in each pass.
         body: Block,
     },
 }
@@ -50,14 +61,15 @@ pub enum Statement {
 #[cycle(statement)]
 #[derive(Drop)]
 pub struct Block {
+    /// The statements, in the order in which they run.
     pub statements: Vec<Statement>,
 }
 
 /// A new local, which is known behind its own initializer.
 #[derive(Drop)]
 pub struct Local {
-    /// Its type.
+    /// The type of the values that it holds.
     pub ty: ArgType,
-    /// A value of that type. Without one a local begins as 0 or `false`.
+    /// What it begins with, a value of that type. Without one it begins as 0 or `false`.
     pub initializer: Option<Expression>,
 }
