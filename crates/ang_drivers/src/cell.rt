@@ -48,14 +48,14 @@ pub struct Cell {
 }
 
 impl Cell {
-    ghost use Rattle.ang_drivers.specs.ObjectsLedger.{ledger};
+    ghost use Rattle.ang_drivers.specs.CellState.{cell_ledger};
 
     /// A cell driver without objects, which was never asked.
     ///
     /// # Errors
     /// Want of memory.
     pub fn new(alloc: Global) -> Result<Cell, AllocError>
-        ensures fresh { IfOk result (λ c. ledger c.cells ≡ fresh) }
+        ensures fresh { IfOk result (λ c. cell_ledger c ≡ fresh) }
     {
         Ok(Cell {
             cells: Objects::new(alloc),
@@ -65,7 +65,7 @@ impl Cell {
 
 // The low 32 bits of a number, with their sign.
 fn low_32(number: i64) -> i32
-    ensures { result ≡ int_wrap w32 number }
+    ensures exact { result ≡ int_wrap w32 number }
 {
     let rest = number.rem_euclid(4_294_967_296);
     let bits = rest.unsigned_abs();
@@ -76,7 +76,7 @@ impl CellMaking {
     ghost use Rattle.ang_drivers.specs.Cell.{cell_making};
 
     fn read(f: u32, args: &[Value]) -> CellMaking
-        ensures { result ≡ cell_making f args.now }
+        ensures exact { result ≡ cell_making f args.now }
     {
         match f {
             0 => match read_one_int_32(args) {
@@ -97,7 +97,7 @@ impl CellCall {
 
     // A call of an object.
     fn method(f: u32, key: u64, args: &[Value]) -> CellCall
-        ensures { result ≡ cell_method f key args.now }
+        ensures exact { result ≡ cell_method f key args.now }
     {
         match f {
             0 if args.is_empty() => CellCall::Tell(key),
@@ -111,7 +111,7 @@ impl CellCall {
 
     // A call without an object.
     fn function(f: u32, args: &[Value]) -> CellCall
-        ensures { result ≡ cell_function f args.now }
+        ensures exact { result ≡ cell_function f args.now }
     {
         match args {
             [Value::Key(key)] if f == 2 => CellCall::Pick(*key),
@@ -120,7 +120,7 @@ impl CellCall {
     }
 
     fn read(f: u32, object: Option<u64>, args: &[Value]) -> CellCall
-        ensures { result ≡ cell_call f object args.now }
+        ensures exact { result ≡ cell_call f object args.now }
     {
         match object {
             Some(key) => CellCall::method(f, key, args),

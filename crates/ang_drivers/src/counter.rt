@@ -44,14 +44,14 @@ pub struct Counter {
 }
 
 impl Counter {
-    ghost use Rattle.ang_drivers.specs.ObjectsLedger.{ledger};
+    ghost use Rattle.ang_drivers.specs.CounterState.{counter_ledger};
 
     /// A counter without objects, which was never asked.
     ///
     /// # Errors
     /// Want of memory.
     pub fn new(alloc: Global) -> Result<Counter, AllocError>
-        ensures fresh { IfOk result (λ c. ledger c.counts ≡ fresh) }
+        ensures fresh { IfOk result (λ c. counter_ledger c ≡ fresh) }
     {
         Ok(Counter {
             counts: Objects::new(alloc),
@@ -63,13 +63,13 @@ impl Count {
     ghost use Rattle.ang_drivers.specs.Counter.{bumped, from_value};
 
     fn from_value(value: i32) -> Count
-        ensures { result ≡ from_value value }
+        ensures exact { result ≡ from_value value }
     {
         Count { value, step: 1 }
     }
 
     fn bumped(self) -> Count
-        ensures { result ≡ bumped self }
+        ensures exact { result ≡ bumped self }
     {
         Count {
             value: self.value.wrapping_add(self.step),
@@ -78,7 +78,7 @@ impl Count {
     }
 
     fn with_step(self, step: i32) -> Count
-        ensures { result ≡ record { value = self.value; step = step } }
+        ensures exact { result ≡ record { value = self.value; step = step } }
     {
         Count { step, ..self }
     }
@@ -87,7 +87,7 @@ impl Count {
 
     // The object that a factory makes.
     fn first(f: u32, args: &[Value]) -> Option<Count>
-        ensures { result ≡ first_count f args.now }
+        ensures exact { result ≡ first_count f args.now }
     {
         match f {
             0 if args.is_empty() => Some(Count::from_value(0)),
@@ -101,7 +101,7 @@ impl CounterCall {
     ghost use Rattle.ang_drivers.specs.Counter.{counter_call};
 
     fn read(f: u32, object: Option<u64>, args: &[Value]) -> CounterCall
-        ensures { result ≡ counter_call f object args.now }
+        ensures exact { result ≡ counter_call f object args.now }
     {
         if !args.is_empty() {
             return CounterCall::Unknown;

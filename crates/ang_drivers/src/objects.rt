@@ -42,7 +42,7 @@ impl<T: Copy> Objects<T> {
 
     /// No objects, and nothing was asked.
     pub fn new(alloc: Global) -> Objects<T>
-        ensures { ledger result ≡ fresh }
+        ensures fresh { ledger result ≡ fresh }
     {
         Objects {
             live: BTreeMap::new(alloc),
@@ -55,21 +55,21 @@ impl<T: Copy> Objects<T> {
 
     /// Whether no object is live.
     pub fn is_empty(&self) -> bool
-        ensures { IsTrue result ↔ ((ledger self.now).counts ≡ map.empty) }
+        ensures exact { IsTrue result ↔ ((ledger self.now).counts ≡ map.empty) }
     {
         self.live.is_empty()
     }
 
     /// How many references were added so far.
     pub fn added(&self) -> u64
-        ensures { result ≡ (ledger self.now).tally.added }
+        ensures exact { result ≡ (ledger self.now).tally.added }
     {
         self.added
     }
 
     /// Counts an asking. False, with nothing done, where 2^63 - 1 are counted.
     pub fn ask(&mut self) -> bool
-        ensures { Asks (ledger self.old) result (ledger self.new) }
+        ensures asked { Asks (ledger self.old) result (ledger self.new) }
     {
         if self.asked == LIMIT {
             return false;
@@ -81,8 +81,8 @@ impl<T: Copy> Objects<T> {
     /// Makes an object of this value, with one reference: answers its key, or want of memory with
     /// nothing done. The asking for it has to be counted first (`ask`).
     pub fn make(&mut self, value: T) -> Made
-        requires { (ledger self.old).tally.made < (ledger self.old).tally.asked }
-        ensures { MakesOne (ledger self.old) value result (ledger self.new) }
+        requires asking_left { (ledger self.old).tally.made < (ledger self.old).tally.asked }
+        ensures made { MakesOne (ledger self.old) value result (ledger self.new) }
     {
         match self.insert(value) {
             Ok(key) => Made::Key(key),
@@ -92,7 +92,7 @@ impl<T: Copy> Objects<T> {
 
     // The key of the new object.
     fn insert(&mut self, value: T) -> Result<u64, AllocError>
-        requires { (ledger self.old).tally.made < (ledger self.old).tally.asked }
+        requires asking_left { (ledger self.old).tally.made < (ledger self.old).tally.asked }
         ensures inserted { IfOk result (λ key. Inserts (ledger self.old) value key (ledger self.new)) }
         ensures unchanged { OnErr result (ledger self.new ≡ ledger self.old) }
     {
@@ -104,16 +104,16 @@ impl<T: Copy> Objects<T> {
 
     /// The value of a live object.
     pub fn value(&self, key: u64) -> T
-        requires { IsHeld (ledger self.now) key }
-        ensures { map.get (ledger self.now).table.values key ≡ Some result }
+        requires held { IsHeld (ledger self.now) key }
+        ensures exact { map.get (ledger self.now).table.values key ≡ Some result }
     {
         object_at(&self.live, key).value
     }
 
     /// Gives a live object another value.
     pub fn set_value(&mut self, key: u64, value: T)
-        requires { IsHeld (ledger self.old) key }
-        ensures { IsRevalued (ledger self.old) key value (ledger self.new) }
+        requires held { IsHeld (ledger self.old) key }
+        ensures revalued { IsRevalued (ledger self.old) key value (ledger self.new) }
     {
         let count = object_at(&self.live, key).count;
         replace(&mut self.live, key, Counted { count, value });
@@ -121,8 +121,8 @@ impl<T: Copy> Objects<T> {
 
     /// Adds a reference to a live object. False, with nothing done, where 2^63 - 1 were added.
     pub fn add_ref(&mut self, key: u64) -> bool
-        requires { IsHeld (ledger self.old) key }
-        ensures { AddsOne (ledger self.old) key result (ledger self.new) }
+        requires held { IsHeld (ledger self.old) key }
+        ensures added { AddsOne (ledger self.old) key result (ledger self.new) }
     {
         if self.added == LIMIT {
             return false;
@@ -143,8 +143,8 @@ impl<T: Copy> Objects<T> {
     /// Releases a reference to a live object, and tells whether it was the last: then the object is
     /// gone.
     pub fn release(&mut self, key: u64) -> bool
-        requires { IsHeld (ledger self.old) key }
-        ensures { ReleasesOne (ledger self.old) key result (ledger self.new) }
+        requires held { IsHeld (ledger self.old) key }
+        ensures released { ReleasesOne (ledger self.old) key result (ledger self.new) }
     {
         let Counted { count, value } = object_at(&self.live, key);
         self.released += 1;
@@ -166,8 +166,8 @@ impl<T: Copy> Objects<T> {
 
 // The object of a live key. A look-up takes time as the logarithm of the number of objects.
 fn object_at<T: Copy>(live: &BTreeMap<u64, Counted<T>>, key: u64) -> Counted<T>
-    requires { IsSome (get nat_cmp live.now key) }
-    ensures { get nat_cmp live.now key ≡ Some result }
+    requires held { IsSome (get nat_cmp live.now key) }
+    ensures exact { get nat_cmp live.now key ≡ Some result }
 {
     match live.get(&key) {
         Some(object) => *object,
@@ -177,8 +177,8 @@ fn object_at<T: Copy>(live: &BTreeMap<u64, Counted<T>>, key: u64) -> Counted<T>
 
 // Puts an object in the place of that of a live key.
 fn replace<T: Copy>(live: &mut BTreeMap<u64, Counted<T>>, key: u64, object: Counted<T>)
-    requires { IsSome (get nat_cmp live.old key) }
-    ensures { (q : ℕ) → get nat_cmp live.new q ≡ cond (is_at (nat_cmp key) q) (Some object) (get nat_cmp live.old q) }
+    requires held { IsSome (get nat_cmp live.old key) }
+    ensures replaced { (q : ℕ) → get nat_cmp live.new q ≡ cond (is_at (nat_cmp key) q) (Some object) (get nat_cmp live.old q) }
 {
     match live.get_mut(&key) {
         Some(place) => *place = object,

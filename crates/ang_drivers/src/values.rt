@@ -12,7 +12,7 @@ pub const UNKNOWN: u32 = 1;
 
 /// An `Int` that fits into 32 bits.
 pub fn read_int_32(value: Value) -> Option<i32>
-    ensures { result ≡ int_32 value }
+    ensures exact { result ≡ int_32 value }
 {
     match value {
         Value::Int(number) => i32::try_from(number).ok(),
@@ -22,7 +22,7 @@ pub fn read_int_32(value: Value) -> Option<i32>
 
 /// An `Int` that fits into 32 bits, where it is the only argument.
 pub fn read_one_int_32(args: &[Value]) -> Option<i32>
-    ensures { result ≡ one_int_32 args.now }
+    ensures exact { result ≡ one_int_32 args.now }
 {
     match args {
         [value] => read_int_32(*value),
@@ -32,7 +32,7 @@ pub fn read_one_int_32(args: &[Value]) -> Option<i32>
 
 /// The object whose property is meant, where there is one and only the property 0 is known.
 pub fn read_property_0(f: u32, object: Option<u64>) -> Option<u64>
-    ensures { result ≡ property_0 f object }
+    ensures exact { result ≡ property_0 f object }
 {
     if f == 0 { object } else { None }
 }

@@ -49,7 +49,7 @@ fn is_spelled(text: &[u8]) -> bool
 ///
 /// A name is a letter or `_`, then letters, digits and `_` (docs/LANGUAGE.md, "Tokens").
 pub fn is_name(text: &[u8]) -> bool
-    ensures { result ≡ spec.is_identifier text.now }
+    ensures exact { result ≡ spec.is_identifier text.now }
 {
     is_spelled(text) && !is_reserved(text) && text.len() <= MOST_TOKEN_BYTES
 }

@@ -122,7 +122,7 @@ pub fn spelled_number(text: &[u8]) -> Option<Number>
 /// up to 2^64-1. Digits behind `0x`, `0o` and `0b` are a `uint` up to 2^32-1, else a `uint64`. A text
 /// that is no number, or one of 2^64 or more, gives the `int` 0; no token has one (docs/LANGUAGE.md).
 pub fn number(text: &[u8]) -> Number
-    ensures { result ≡ spec.number_of text.now }
+    ensures exact { result ≡ spec.number_of text.now }
 {
     spelled_number(text).unwrap_or(Number {
         ty: Prim::I32,

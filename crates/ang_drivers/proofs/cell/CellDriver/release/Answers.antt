@@ -7,6 +7,6 @@ use Rattle.ang_drivers.proofs.cell.CellDriver.release.Goals as goal
 pub returns : goal.returns
 returns c = record {
   law =
-      released value_code CellMoves (ledger c.args.self.now.cells) (ledger c.release.new.self) c.args.key c.release.result c.release.ensures (refl, refl)
+      released value_code CellMoves (ledger c.args.self.now.cells) (ledger c.release.new.self) c.args.key c.release.result c.release.ensures.released (refl, refl)
       (sound_of value_code c.release.new.self);
 }

@@ -11,6 +11,6 @@ returns c =
     let t = ledger c.ask.new.self in
     record {
       law =
-          answered value_code CellMoves (ledger c.args.self.now.cells) t t (write c.args._f c.args._object c.args._value) (Fault 1) c.if-not-ask.ensures (kept t) tt (refl, refl) tt
+          answered value_code CellMoves (ledger c.args.self.now.cells) t t (write c.args._f c.args._object c.args._value) (Fault 1) c.if-not-ask.ensures.asked (kept t) tt (refl, refl) tt
           (sound_of value_code c.ask.new.self);
     }

@@ -12,12 +12,12 @@ pub returns-in-Some : goal.returns-in-Some
 returns-in-Some c = record {
   law =
       made_value count_code CounterMoves (ledger c.args.self.now.counts) (ledger c.ask.new.self) (ledger c.make.new.self) (make c.args.f c.args.args.now) c.in-Some.first c.make.result
-      c.if-not-ask.ensures c.make.ensures (λ r y m. subst (λ o. MakesValue (ledger c.ask.new.self).table o r y) c.in-Some.ensures m) (sound_of count_code c.make.new.self);
+      c.if-not-ask.ensures.asked c.make.ensures.made (λ r y m. subst (λ o. MakesValue (ledger c.ask.new.self).table o r y) c.in-Some.ensures.exact m) (sound_of count_code c.make.new.self);
 }
 
 pub returns-in-None : goal.returns-in-None
 returns-in-None c = record {
   law =
       made_fault count_code CounterMoves (ledger c.args.self.now.counts) (ledger c.ask.new.self) (make c.args.f c.args.args.now) 1
-      c.if-not-ask.ensures (subst (λ o. MakesValue (ledger c.ask.new.self).table o (Making (MadeFault 1)) (ledger c.ask.new.self).table) c.in-None.ensures (refl, refl)) (sound_of count_code c.ask.new.self);
+      c.if-not-ask.ensures.asked (subst (λ o. MakesValue (ledger c.ask.new.self).table o (Making (MadeFault 1)) (ledger c.ask.new.self).table) c.in-None.ensures.exact (refl, refl)) (sound_of count_code c.ask.new.self);
 }

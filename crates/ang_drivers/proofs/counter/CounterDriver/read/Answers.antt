@@ -17,9 +17,9 @@ returns-in-Some c =
     let e : z ≡ c.value-count.result.step = first_of (search rules, omega (arith, ints)) in
     record {
       law =
-          answered count_code CounterMoves (ledger c.args.self.now.counts) t t (read c.args.f c.args.object) (Gave (Int z)) c.if-not-ask.ensures (kept t) tt
-          (subst (λ o. ReadMoves t.table o (Asking (Gave (Int z))) t.table) c.in-Some.ensures
-          (c.value-count.result, c.value-count.ensures, ap (λ n. Asking (Gave (Int n))) e, refl)) tt (sound_of count_code c.ask.new.self);
+          answered count_code CounterMoves (ledger c.args.self.now.counts) t t (read c.args.f c.args.object) (Gave (Int z)) c.if-not-ask.ensures.asked (kept t) tt
+          (subst (λ o. ReadMoves t.table o (Asking (Gave (Int z))) t.table) c.in-Some.ensures.exact
+          (c.value-count.result, c.value-count.ensures.exact, ap (λ n. Asking (Gave (Int n))) e, refl)) tt (sound_of count_code c.ask.new.self);
     }
 
 pub returns-in-None : goal.returns-in-None
@@ -27,6 +27,6 @@ returns-in-None c =
     let t = ledger c.ask.new.self in
     record {
       law =
-          answered count_code CounterMoves (ledger c.args.self.now.counts) t t (read c.args.f c.args.object) (Fault 1) c.if-not-ask.ensures (kept t) tt
-          (subst (λ o. ReadMoves t.table o (Asking (Fault 1)) t.table) c.in-None.ensures (refl, refl)) tt (sound_of count_code c.ask.new.self);
+          answered count_code CounterMoves (ledger c.args.self.now.counts) t t (read c.args.f c.args.object) (Fault 1) c.if-not-ask.ensures.asked (kept t) tt
+          (subst (λ o. ReadMoves t.table o (Asking (Fault 1)) t.table) c.in-None.ensures.exact (refl, refl)) tt (sound_of count_code c.ask.new.self);
     }

@@ -7,6 +7,6 @@ use Rattle.ang_drivers.proofs.counter.CounterDriver.release.Goals as goal
 pub returns : goal.returns
 returns c = record {
   law =
-      released count_code CounterMoves (ledger c.args.self.now.counts) (ledger c.release.new.self) c.args.key c.release.result c.release.ensures (refl, refl)
+      released count_code CounterMoves (ledger c.args.self.now.counts) (ledger c.release.new.self) c.args.key c.release.result c.release.ensures.released (refl, refl)
       (sound_of count_code c.release.new.self);
 }

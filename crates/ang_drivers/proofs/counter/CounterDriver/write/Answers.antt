@@ -21,14 +21,14 @@ returns-in-Some-read_int_32 c =
     let count = c.value-count.result in
     let new : Count = record { value = count.value; step = z } in
     let fits : FitsSigned w32 z = search rules in
-    let stepped : c.with_step.result ≡ new = c.with_step.ensures ∙ (λ i. record { value = count.value; step = to_z-of_z w32 z fits i }) in
+    let stepped : c.with_step.result ≡ new = c.with_step.ensures.exact ∙ (λ i. record { value = count.value; step = to_z-of_z w32 z fits i }) in
     record {
       law =
-          answered count_code CounterMoves (ledger c.args.self.now.counts) t u (write c.args.f c.args.object c.args.value) Void c.if-not-ask.ensures
-          (revalued t u k c.with_step.result c.set_value.ensures) tt
-          (subst (λ o. WriteMoves t.table o (int_32 c.args.value) (Asking Void) u.table) c.in-Some.ensures
-          (subst (λ n. WriteMoves t.table (Some k) n (Asking Void) u.table) c.in-Some-read_int_32.ensures
-          (count, c.value-count.ensures, refl, revalued_table t u k c.with_step.result new c.set_value.ensures stepped))) tt
+          answered count_code CounterMoves (ledger c.args.self.now.counts) t u (write c.args.f c.args.object c.args.value) Void c.if-not-ask.ensures.asked
+          (revalued t u k c.with_step.result c.set_value.ensures.revalued) tt
+          (subst (λ o. WriteMoves t.table o (int_32 c.args.value) (Asking Void) u.table) c.in-Some.ensures.exact
+          (subst (λ n. WriteMoves t.table (Some k) n (Asking Void) u.table) c.in-Some-read_int_32.ensures.exact
+          (count, c.value-count.ensures.exact, refl, revalued_table t u k c.with_step.result new c.set_value.ensures.revalued stepped))) tt
           (sound_of count_code c.set_value.new.self);
     }
 
@@ -37,9 +37,9 @@ returns-in-None-read_int_32 c =
     let t = ledger c.ask.new.self in
     record {
       law =
-          answered count_code CounterMoves (ledger c.args.self.now.counts) t t (write c.args.f c.args.object c.args.value) (Fault 1) c.if-not-ask.ensures (kept t) tt
-          (subst (λ o. WriteMoves t.table o (int_32 c.args.value) (Asking (Fault 1)) t.table) c.in-Some.ensures
-          (subst (λ n. WriteMoves t.table (Some c.in-Some.key) n (Asking (Fault 1)) t.table) c.in-None-read_int_32.ensures (refl, refl))) tt
+          answered count_code CounterMoves (ledger c.args.self.now.counts) t t (write c.args.f c.args.object c.args.value) (Fault 1) c.if-not-ask.ensures.asked (kept t) tt
+          (subst (λ o. WriteMoves t.table o (int_32 c.args.value) (Asking (Fault 1)) t.table) c.in-Some.ensures.exact
+          (subst (λ n. WriteMoves t.table (Some c.in-Some.key) n (Asking (Fault 1)) t.table) c.in-None-read_int_32.ensures.exact (refl, refl))) tt
           (sound_of count_code c.ask.new.self);
     }
 
@@ -48,7 +48,7 @@ returns-in-None c =
     let t = ledger c.ask.new.self in
     record {
       law =
-          answered count_code CounterMoves (ledger c.args.self.now.counts) t t (write c.args.f c.args.object c.args.value) (Fault 1) c.if-not-ask.ensures (kept t) tt
-          (subst (λ o. WriteMoves t.table o (int_32 c.args.value) (Asking (Fault 1)) t.table) c.in-None.ensures (refl, refl)) tt
+          answered count_code CounterMoves (ledger c.args.self.now.counts) t t (write c.args.f c.args.object c.args.value) (Fault 1) c.if-not-ask.ensures.asked (kept t) tt
+          (subst (λ o. WriteMoves t.table o (int_32 c.args.value) (Asking (Fault 1)) t.table) c.in-None.ensures.exact (refl, refl)) tt
           (sound_of count_code c.ask.new.self);
     }

@@ -10,7 +10,7 @@ invariant_of-self-2 g c =
     let new = counted-new (by_key (λ (o : Counted g.row.T.Denot). o.count) s.live.entries) _ s.made s.added s.released
     (by_key-inserted (λ (o : Counted g.row.T.Denot). o.count) _ _ s.made (record { count = 1; value = c.args.value }) c.in_ok-insert.ensures.updates.0)
     (record { sums = s.sums; positive = s.positive; unused = s.unused }) in
-    record { sums = new.sums; positive = new.positive; unused = new.unused; makings = omega (arith, c.requires); few_asked = s.few_asked; few_added = s.few_added }
+    record { sums = new.sums; positive = new.positive; unused = new.unused; makings = omega (arith, c.requires.asking_left); few_asked = s.few_asked; few_added = s.few_added }
 
 pub returns-clause-inserted : goal.returns-clause-inserted
 returns-clause-inserted g c =

@@ -10,7 +10,9 @@ invariant_of-result g c =
     record { sums = none.sums; positive = none.positive; unused = none.unused; makings = omega arith; few_asked = omega arith; few_added = omega arith }
 
 pub returns : goal.returns
-returns g c =
-    same_ledger _ _ 0 _ _ (record { asked = 0; made = 0; added = 0; released = 0 })
-    (ap (by_key (λ (o : Counted g.row.T.Denot). o.count)) c.new.ensures.empty ∙ by_key-nil (λ (o : Counted g.row.T.Denot). o.count))
-    (ap (by_key (λ (o : Counted g.row.T.Denot). o.value)) c.new.ensures.empty ∙ by_key-nil (λ (o : Counted g.row.T.Denot). o.value))
+returns g c = record {
+  fresh =
+      same_ledger _ _ 0 _ _ (record { asked = 0; made = 0; added = 0; released = 0 })
+      (ap (by_key (λ (o : Counted g.row.T.Denot). o.count)) c.new.ensures.empty ∙ by_key-nil (λ (o : Counted g.row.T.Denot). o.count))
+      (ap (by_key (λ (o : Counted g.row.T.Denot). o.value)) c.new.ensures.empty ∙ by_key-nil (λ (o : Counted g.row.T.Denot). o.value));
+}
