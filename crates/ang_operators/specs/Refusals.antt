@@ -18,13 +18,6 @@ abbrev pub ◌>>=◌ : {A B : Type 0} → Judged A → (A → Judged B) → Judg
 (Ok a) >>= f = f a
 (Err r) >>= f = Err r
 
--- the first of two and then the second
-abbrev pub both_typed : {A B : Type 0} → Judged A → Judged B → Judged (A × B)
-both_typed x y = do
-  a ← x
-  b ← y
-  Ok (a, b)
-
 -- a refusal without a name
 abbrev pub fault_at : ErrorKind → Place → Refusal
 fault_at k place = record { kind = k; place = place; name = None; asks = None }

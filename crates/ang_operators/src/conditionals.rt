@@ -16,7 +16,9 @@ use std::alloc::Global;
 /// The two values of a `?:`.
 #[derive(Drop)]
 pub struct Branches {
+    /// The value where the condition is true.
     pub then: Operand,
+    /// The value where the condition is false.
     pub otherwise: Operand,
 }
 

@@ -10,6 +10,10 @@ use ang_types::ArgType;
 use std::alloc::{AllocError, Global};
 
 /// A tree in a box, into which it is put as soon as it is made.
+///
+/// # Errors
+///
+/// Want of memory alone.
 pub fn boxed(alloc: Global, tree: Expression) -> Result<Box<Expression>, AllocError>
     ensures exact { IfOk result (λ b. view_tree b ≡ view_expr tree) }
 {
@@ -17,18 +21,33 @@ pub fn boxed(alloc: Global, tree: Expression) -> Result<Box<Expression>, AllocEr
     Ok(tree)
 }
 
+/// A number as it is written: `value`, of the integer type `ty`.
+///
+/// # Errors
+///
+/// Want of memory alone.
 pub fn number_tree(alloc: Global, ty: Prim, value: u64) -> Result<Box<Expression>, AllocError>
     ensures { IfOk result (λ e. view_tree e ≡ tree.number ty value) }
 {
     boxed(alloc, Expression::Number { ty, value })
 }
 
+/// The word `true` or `false`, by its truth value.
+///
+/// # Errors
+///
+/// Want of memory alone.
 pub fn truth_tree(alloc: Global, value: bool) -> Result<Box<Expression>, AllocError>
     ensures { IfOk result (λ e. view_tree e ≡ tree.truth value) }
 {
     boxed(alloc, Expression::Truth(value))
 }
 
+/// `++` or `--` of a variable of the integer type `ty`.
+///
+/// # Errors
+///
+/// Want of memory alone.
 pub fn step_of(
     alloc: Global,
     variable: Variable,
@@ -40,6 +59,11 @@ pub fn step_of(
     boxed(alloc, Expression::Step { variable, ty, step })
 }
 
+/// An operator on two integers of type `ty`, which is the type of its result too.
+///
+/// # Errors
+///
+/// Want of memory alone.
 pub fn operate(
     alloc: Global,
     operator: Operator,
@@ -60,6 +84,11 @@ pub fn operate(
     )
 }
 
+/// A comparison of two values of type `ty`. Its result is a `bool`.
+///
+/// # Errors
+///
+/// Want of memory alone.
 pub fn compare(
     alloc: Global,
     comparison: Comparison,
@@ -80,6 +109,11 @@ pub fn compare(
     )
 }
 
+/// `&&` of two truth values.
+///
+/// # Errors
+///
+/// Want of memory alone.
 pub fn and(
     alloc: Global,
     left: Box<Expression>,
@@ -90,6 +124,11 @@ pub fn and(
     boxed(alloc, Expression::And { left, right })
 }
 
+/// `||` of two truth values.
+///
+/// # Errors
+///
+/// Want of memory alone.
 pub fn or(
     alloc: Global,
     left: Box<Expression>,
@@ -100,6 +139,11 @@ pub fn or(
     boxed(alloc, Expression::Or { left, right })
 }
 
+/// `?:`: of two values of one type the first where the condition is true, else the second.
+///
+/// # Errors
+///
+/// Want of memory alone.
 pub fn choose(
     alloc: Global,
     condition: Box<Expression>,
@@ -118,6 +162,11 @@ pub fn choose(
     )
 }
 
+/// `-` of an integer of type `ty`, which is the type of its result too.
+///
+/// # Errors
+///
+/// Want of memory alone.
 pub fn negate(
     alloc: Global,
     ty: Prim,
@@ -128,6 +177,11 @@ pub fn negate(
     boxed(alloc, Expression::Negate { ty, operand })
 }
 
+/// `~` of an integer of type `ty`, which is the type of its result too.
+///
+/// # Errors
+///
+/// Want of memory alone.
 pub fn complement(
     alloc: Global,
     ty: Prim,
@@ -138,12 +192,22 @@ pub fn complement(
     boxed(alloc, Expression::Complement { ty, operand })
 }
 
+/// `!` of a truth value.
+///
+/// # Errors
+///
+/// Want of memory alone.
 pub fn not(alloc: Global, operand: Box<Expression>) -> Result<Box<Expression>, AllocError>
     ensures { IfOk result (λ e. view_tree e ≡ tree.not (view_tree operand)) }
 {
     boxed(alloc, Expression::Not { operand })
 }
 
+/// `=`: a value of type `ty` stored in a variable of that type.
+///
+/// # Errors
+///
+/// Want of memory alone.
 pub fn assign(
     alloc: Global,
     variable: Variable,
@@ -162,6 +226,12 @@ pub fn assign(
     )
 }
 
+/// A compound assignment to a variable of the integer type `ty`, such as `+=`. The operator works in the type
+/// `operating`, of which the value is.
+///
+/// # Errors
+///
+/// Want of memory alone.
 pub fn compound(
     alloc: Global,
     variable: Variable,

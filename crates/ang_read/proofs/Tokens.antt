@@ -4,7 +4,7 @@ use Rattle.ang_lex.specs.declared.token.Token.{Token}
 use Rattle.ang_lex.specs.declared.token.TokenKind.{TokenKind}
 use Rattle.ang_lex.specs.declared.token.TokenKind.TheVariants as k
 use Rattle.ang_read.specs.Read.{Parser, pure, refuse, Choice, given, chosen, look}
-use Rattle.ang_read.specs.Tokens.{a_token, perhaps, is_name, is_left_paren, is_right_paren, is_left_brace, is_right_brace, is_semicolon, is_colon, is_scope, is_less, is_greater, is_while, is_from, is_text, is_const}
+use Rattle.ang_read.specs.Tokens.{a_token, perhaps, is_name, is_left_paren, is_right_paren, is_left_brace, is_right_brace, is_semicolon, is_colon, is_less, is_greater, is_while, is_from, is_text, is_const}
 use Rattle.ang_read.proofs.Outcomes.{Reads, From-self, From-one, look_reads, given_reads}
 use Rattle.ang_read.proofs.Tame.{Tame, tame_pure, tame_refuse, tame_look, both_given}
 
@@ -108,10 +108,6 @@ semicolon_is _ h = absurd cc
 pub colon_is : (kind : TokenKind) → is_colon kind ≡ true → kind ≡ k.Colon
 colon_is k.Colon h = refl
 colon_is _ h = absurd cc
-
-pub scope_is : (kind : TokenKind) → is_scope kind ≡ true → kind ≡ k.Scope
-scope_is k.Scope h = refl
-scope_is _ h = absurd cc
 
 pub less_is : (kind : TokenKind) → is_less kind ≡ true → kind ≡ k.Less
 less_is k.Less h = refl

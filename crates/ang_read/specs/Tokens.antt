@@ -41,10 +41,6 @@ abbrev pub is_colon : TokenKind → Bool
 is_colon k.Colon = true
 is_colon _ = false
 
-abbrev pub is_scope : TokenKind → Bool
-is_scope k.Scope = true
-is_scope _ = false
-
 abbrev pub is_less : TokenKind → Bool
 is_less k.Less = true
 is_less _ = false

@@ -10,5 +10,5 @@ mod single;
 pub use error::ReadError;
 pub use single::{
     a_colon, a_from, a_greater, a_left_brace, a_left_paren, a_less, a_name, a_right_brace,
-    a_right_paren, a_scope, a_semicolon, a_text, a_while, perhaps_const,
+    a_right_paren, a_semicolon, a_text, a_while, perhaps_const,
 };

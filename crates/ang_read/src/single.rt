@@ -2,7 +2,7 @@
 //! first token where that is of another kind.
 ghost use Rattle.std.specs.Prelude.{◌≡◌, Ok};
 ghost use Rattle.ang_read.specs.Gives.{Gives, NeedsNoMemory};
-ghost use Rattle.ang_read.specs.Tokens.{a_token, perhaps, is_const, is_name, is_left_paren, is_right_paren, is_left_brace, is_right_brace, is_semicolon, is_colon, is_scope, is_less, is_greater, is_while, is_from, is_text};
+ghost use Rattle.ang_read.specs.Tokens.{a_token, perhaps, is_const, is_name, is_left_paren, is_right_paren, is_left_brace, is_right_brace, is_semicolon, is_colon, is_less, is_greater, is_while, is_from, is_text};
 
 use crate::error::ReadError;
 use ang_lex::{Token, TokenKind};
@@ -87,18 +87,6 @@ pub fn a_colon(tokens: &[Token]) -> Result<(Token, &[Token]), ReadError<'_>>
 {
     match tokens {
         [token, rest @ ..] if matches!(token.kind, TokenKind::Colon) => Ok((*token, rest)),
-        _ => Err(ReadError::Syntax(tokens)),
-    }
-}
-
-/// Reads `::`.
-#[tactic(auto, unfolding(crate::specs::Tokens::a_token))]
-pub fn a_scope(tokens: &[Token]) -> Result<(Token, &[Token]), ReadError<'_>>
-    ensures reads { Gives (λ x. (x.0, x.1.now)) result (a_token is_scope tokens.now) }
-    ensures no_memory { NeedsNoMemory result }
-{
-    match tokens {
-        [token, rest @ ..] if matches!(token.kind, TokenKind::Scope) => Ok((*token, rest)),
         _ => Err(ReadError::Syntax(tokens)),
     }
 }

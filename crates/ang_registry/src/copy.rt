@@ -31,7 +31,7 @@ fn copy_type(alloc: Global, ty: &TypeRef) -> Result<TypeRef, AllocError>
     }
 }
 
-fn copy_param(alloc: Global, param: &Param) -> Result<Param, AllocError>
+fn copy_parameter(alloc: Global, param: &Param) -> Result<Param, AllocError>
     ensures exact { IfOk result (λ copy. copy ≡ param.now) }
 {
     let ty = copy_type(alloc, &param.ty)?;
@@ -44,12 +44,12 @@ fn copy_param(alloc: Global, param: &Param) -> Result<Param, AllocError>
     })
 }
 
-fn copy_params(alloc: Global, params: &[Param]) -> Result<Vec<Param>, AllocError>
+fn copy_parameters(alloc: Global, params: &[Param]) -> Result<Vec<Param>, AllocError>
     ensures exact { IfOk result (λ copies. copies.items ≡ params.now) }
 {
     let mut copies = Vec::new(alloc);
     for param in params {
-        let copy = copy_param(alloc, param)?;
+        let copy = copy_parameter(alloc, param)?;
         copies.push(copy)?;
     }
     Ok(copies)
@@ -60,7 +60,7 @@ fn copy_signature(alloc: Global, signature: &Signature) -> Result<Signature, All
 {
     let name = copy_name(alloc, &signature.name)?;
     let result = copy_type(alloc, &signature.result)?;
-    let params = copy_params(alloc, signature.params.as_slice())?;
+    let params = copy_parameters(alloc, signature.params.as_slice())?;
     Ok(Signature {
         name,
         result,

@@ -67,10 +67,12 @@ impl Registry {
     /// Registers a type of host objects for a driver, and answers its number. Its objects are the driver's, and
     /// so are the functions that count their references.
     ///
-    /// Refused by the first of these: `Limit` where 1,024 entries are there, `EmptyMask` where the default
-    /// mask is 0, `BadDeclaration` where the name is no identifier, `WrongDriver` where `driver` is above 63 or
-    /// has a type already, and `Duplicate` where a type, a function or a global property has the name. `Memory`
-    /// may come in the place of any answer. After a refusal the registry is as it was.
+    /// # Errors
+    ///
+    /// The first of these that applies: `Limit` where 1,024 entries are there; `EmptyMask` where the default mask
+    /// is 0; `BadDeclaration` where the name is no identifier; `WrongDriver` where `driver` is above 63 or has a
+    /// type already; `Duplicate` where a type, a function or a global property has the name. `Memory`, where a
+    /// growth was refused, may come in the place of any answer. After an error the registry is as it was.
     #[tactic(auto, using(crate::proofs::Values::type_values))]
     pub fn type_(&mut self, name: &[u8], driver: u32) -> Result<EntityNo, RegError>
         ensures accepted { OnOk result
@@ -90,12 +92,14 @@ impl Registry {
     /// Registers a factory of a type, and answers its number: function `f` of the type's driver, which makes
     /// objects of the type. The declaration is `T@ NAME params`, where `T` is the type.
     ///
-    /// Refused by the first of these: `Limit` where 1,024 entries are there or the declaration has more than
-    /// 32 parameters, `EmptyMask` where the default mask is 0, `BadDeclaration` where the text is of another
-    /// form or gives another type, `UnknownType` where the type or one that a parameter names is not registered,
-    /// `WrongDriver` where a parameter names a type of another driver, and `Duplicate` where the type has a
-    /// factory with the same parameters. `Memory` may come in the place of any answer. After a refusal the
-    /// registry is as it was.
+    /// # Errors
+    ///
+    /// The first of these that applies: `Limit` where 1,024 entries are there or the declaration has more than 32
+    /// parameters; `EmptyMask` where the default mask is 0; `BadDeclaration` where the text is of another form or
+    /// gives another type; `UnknownType` where the type or one that a parameter names is not registered;
+    /// `WrongDriver` where a parameter names a type of another driver; `Duplicate` where the type has a factory
+    /// with the same parameters. `Memory`, where a growth was refused, may come in the place of any answer. After
+    /// an error the registry is as it was.
     #[tactic(auto, using(crate::proofs::Values::factory_values))]
     pub fn factory(&mut self, type_name: &[u8], f: u32, decl: &[u8]) -> Result<EntityNo, RegError>
         ensures accepted { OnOk result
@@ -115,8 +119,14 @@ impl Registry {
     /// Registers a method of a type, and answers its number: function `f` of the type's driver. The
     /// declaration is `type NAME params`, with `const` behind it for a method that does not change its object.
     ///
-    /// Refused as `factory` is, but that the method may give any type that a function may; `Duplicate` comes
-    /// where the type has a property of the name, or a method of the name with the same parameters and `const`.
+    /// # Errors
+    ///
+    /// The first of these that applies: `Limit` where 1,024 entries are there or the declaration has more than 32
+    /// parameters; `EmptyMask` where the default mask is 0; `BadDeclaration` where the text is of another form;
+    /// `UnknownType` where the type or one that the text names is not registered; `WrongDriver` where the text
+    /// names a type of another driver; `Duplicate` where the type has a property of the name, or a method of the
+    /// name with the same parameters and `const`. `Memory`, where a growth was refused, may come in the place of
+    /// any answer. After an error the registry is as it was.
     #[tactic(auto, using(crate::proofs::Values::method_values))]
     pub fn method(&mut self, type_name: &[u8], f: u32, decl: &[u8]) -> Result<EntityNo, RegError>
         ensures accepted { OnOk result
@@ -137,7 +147,13 @@ impl Registry {
     /// The declaration is `type NAME`, where the type is a primitive one; with `const` in front of it scripts
     /// can't write the property.
     ///
-    /// Refused as `factory` is; `Duplicate` comes where the type has a method or a property of the name.
+    /// # Errors
+    ///
+    /// The first of these that applies: `Limit` where 1,024 entries are there; `EmptyMask` where the default mask
+    /// is 0; `BadDeclaration` where the text is of another form or its type is no primitive one; `UnknownType`
+    /// where the type of the objects is not registered; `Duplicate` where that type has a method or a property of
+    /// the name. `Memory`, where a growth was refused, may come in the place of any answer. After an error the
+    /// registry is as it was.
     #[tactic(auto, using(crate::proofs::Values::property_values))]
     pub fn property(&mut self, type_name: &[u8], f: u32, decl: &[u8]) -> Result<EntityNo, RegError>
         ensures accepted { OnOk result
@@ -156,12 +172,14 @@ impl Registry {
 
     /// Registers a function of a driver, and answers its number. The declaration is `type NAME params`.
     ///
-    /// Refused by the first of these: `Limit` where 1,024 entries are there or the declaration has more than
-    /// 32 parameters, `EmptyMask` where the default mask is 0, `BadDeclaration` where the text is of another
-    /// form, `UnknownType` where it names a type that is not registered, `WrongDriver` where `driver` is above
-    /// 63 or the text names a type of another driver, and `Duplicate` where a type or a global property has the
-    /// name, or a function with the same parameters. `Memory` may come in the place of any answer. After a
-    /// refusal the registry is as it was.
+    /// # Errors
+    ///
+    /// The first of these that applies: `Limit` where 1,024 entries are there or the declaration has more than 32
+    /// parameters; `EmptyMask` where the default mask is 0; `BadDeclaration` where the text is of another form;
+    /// `UnknownType` where it names a type that is not registered; `WrongDriver` where `driver` is above 63 or the
+    /// text names a type of another driver; `Duplicate` where a type or a global property has the name, or a
+    /// function of the name has the same parameters. `Memory`, where a growth was refused, may come in the place
+    /// of any answer. After an error the registry is as it was.
     #[tactic(auto, using(crate::proofs::Values::function_values))]
     pub fn function(&mut self, driver: u32, f: u32, decl: &[u8]) -> Result<EntityNo, RegError>
         ensures accepted { OnOk result
@@ -182,7 +200,13 @@ impl Registry {
     /// declaration is `type NAME`, where the type is a primitive one; with `const` in front of it scripts
     /// can't write the property.
     ///
-    /// Refused as `function` is; `Duplicate` comes where a type, a function or a global property has the name.
+    /// # Errors
+    ///
+    /// The first of these that applies: `Limit` where 1,024 entries are there; `EmptyMask` where the default mask
+    /// is 0; `BadDeclaration` where the text is of another form or its type is no primitive one; `WrongDriver`
+    /// where `driver` is above 63; `Duplicate` where a type, a function or a global property has the name.
+    /// `Memory`, where a growth was refused, may come in the place of any answer. After an error the registry is
+    /// as it was.
     #[tactic(auto, using(crate::proofs::Values::global_values))]
     pub fn global_property(
         &mut self,
@@ -207,8 +231,10 @@ impl Registry {
     /// Adds a blank, which no mask sees, and answers its number: what is registered behind it keeps the
     /// number that it has in a list with an entry there.
     ///
-    /// Refused `Limit` where 1,024 entries are there. `Memory` may come in the place of any answer. After
-    /// a refusal the registry is as it was.
+    /// # Errors
+    ///
+    /// `Limit` where 1,024 entries are there. `Memory`, where a growth was refused, may come in the place of any
+    /// answer. After an error the registry is as it was.
     pub fn blank(&mut self) -> Result<EntityNo, RegError>
         ensures accepted { OnOk result (refusal_of_blank self.old ≡ None) }
         ensures number { IfOk result (λ number. number.0 ≡ length self.old.entries) }
@@ -335,7 +361,9 @@ impl Registry {
     /// What a module of the mask sees of the list. No declaration in it has an `&out` parameter, and each property
     /// is of a primitive type.
     ///
-    /// The only error is want of memory.
+    /// # Errors
+    ///
+    /// Want of memory alone. The registry stays as it was.
     pub fn seen(&self, alloc: Global, mask: Mask) -> Result<View, AllocError>
         ensures exact { IfOk result (λ view. view ≡ seen self.now.entries mask.0) }
         ensures values { IfOk result (λ view. TakesValues view) }

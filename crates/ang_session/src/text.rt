@@ -19,7 +19,7 @@ pub fn push_bad_line(out: &mut Vec<u8>, number: u64) -> Result<(), AllocError>
 }
 
 #[tactic(auto, unfolding(crate::specs::Whole::why_text))]
-fn reg_error_name(why: RegError) -> &'static str
+fn registration_error_name(why: RegError) -> &'static str
     ensures exact { result.now ≡ why_text why }
 {
     match why {
@@ -47,7 +47,7 @@ pub fn push_profile_fault(out: &mut Vec<u8>, fault: ProfileFault) -> Result<(), 
         ProfileFault::Refused(number, why) => {
             push_number(out, number)?;
             push_text(out, " ")?;
-            push_text(out, reg_error_name(why))?;
+            push_text(out, registration_error_name(why))?;
             push_text(out, "\n")
         }
     }

@@ -9,7 +9,7 @@ use Rattle.ang_typed.specs.Typed as t
 use Rattle.ang_names.specs.declared.names.ScriptFunction.{ScriptFunction}
 use Rattle.ang_names.specs.declared.names.ScriptGlobal.{ScriptGlobal}
 use Rattle.ang_names.specs.declared.names.ScriptParameter.{ScriptParameter}
-use Rattle.ang_written.specs.NotYet.{is_init_beyond, is_body_beyond}
+use Rattle.ang_written.specs.NotYet.{is_initializer_beyond, is_body_beyond}
 use Rattle.ang_typing.specs.declared.scope.Pair.{Pair}
 use Rattle.ang_typing.specs.Scope.{Setting}
 use Rattle.ang_paths.specs.Paths.{body_ends}
@@ -70,7 +70,7 @@ module _ (s : Setting) (plain : IsPlainSetting s) where
       (λ ss h. ending_sound f x (body_ends b) ss h)
 
   -- an initializer has no locals
-  pub global_sound : (g : ScriptGlobal) (y : TypeName) (i : Init) → is_init_beyond s.view s.text i ≡ false
+  pub global_sound : (g : ScriptGlobal) (y : TypeName) (i : Init) → is_initializer_beyond s.view s.text i ≡ false
       → IfOk (global_typing s g y i) (λ x. SoundOption (Here s) 0 x.initializer)
   unfolding global_typing
   global_sound g y i e =

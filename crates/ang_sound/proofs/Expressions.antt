@@ -3,7 +3,7 @@ use Rattle.std.specs.Prelude.{◌≡◌, ℕ, false, length, List, Ok, Err, IfOk
 use Rattle.ang_registry.specs.Registration.{RegistrationList}
 use Rattle.ang_tree.specs.Tree.{Tree, Args, Trees, literal, name, call, scoped_call, cast, convert, group, postfix, member, method_call, prefix, binary, conditional, assignment, arguments, none, more}
 use Rattle.ang_written.specs.Sources.{text_of}
-use Rattle.ang_written.specs.NotYet.{is_identity, is_handle_sign, is_host_type, is_object_call, is_beyond, are_args_beyond, are_beyond}
+use Rattle.ang_written.specs.NotYet.{is_identity, is_handle_sign, is_host_type, is_object_call, is_beyond, are_arguments_beyond, are_beyond}
 use Rattle.ang_operators.specs.Refusals.{Judged}
 use Rattle.ang_operators.specs.Operands.{Operand}
 use Rattle.ang_typing.specs.declared.scope.Pair.{Pair}
@@ -38,7 +38,7 @@ module _ (s : Setting) (ps : List Pair) (plain : IsPlainSetting s) (all_plain : 
     typed (literal x) b = literal_sound M n x (text_of s.text x)
     typed (name x) b = name_typed s ps x plain all_plain
     typed (call x es) b =
-        let accepted = three_false (is_host_type V s.text x) (is_object_call V s.text x) (are_args_beyond V s.text es) b in
+        let accepted = three_false (is_host_type V s.text x) (is_object_call V s.text x) (are_arguments_beyond V s.text es) b in
         holds (Every Typed) Typed (typing_of_args s ps es) _ (args_typed es accepted.2) (λ operands all. call_typed s n x operands plain accepted.1 all)
     typed (scoped_call c scope x es) b = tt
     typed (cast word less y greater left e right) b = tt
@@ -64,7 +64,7 @@ module _ (s : Setting) (ps : List Pair) (plain : IsPlainSetting s) (all_plain : 
         holds Typed Typed (typing_of s ps l) _ (typed l accepted.0)
         (λ x sx. holds Typed Typed (typing_of s ps r) _ (typed r accepted.1) (λ y sy. assignment_sound M n s.lines x op.kind y sx sy))
 
-    pub args_typed : (es : Args) → are_args_beyond s.view s.text es ≡ false → IfOk (typing_of_args s ps es) (Every (SoundOperand (Here s) (length ps)))
+    pub args_typed : (es : Args) → are_arguments_beyond s.view s.text es ≡ false → IfOk (typing_of_args s ps es) (Every (SoundOperand (Here s) (length ps)))
     args_typed (arguments left es right) b = all_typed es b
 
     -- expressions with commas between them

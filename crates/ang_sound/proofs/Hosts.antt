@@ -13,7 +13,7 @@ use Rattle.ang_types.specs.declared.arg_type.ArgType.{ArgType}
 use Rattle.ang_typed.specs.declared.expression.HostEntity.{HostEntity}
 use Rattle.ang_written.specs.declared.host.HostFunction.{HostFunction}
 use Rattle.ang_written.specs.declared.host.HostGlobal.{HostGlobal}
-use Rattle.ang_written.specs.HostNames.{host_type, in_front, host_params, host_function, function_in, is_function_named, function_in_entry, functions_from, view_functions_named, is_global, is_global_named, global_with, global_in_entry, or_else, globals_from, view_global_named}
+use Rattle.ang_written.specs.HostNames.{host_type, in_front, host_parameters, host_function, function_in, is_function_named, function_in_entry, functions_from, view_functions_named, is_global, is_global_named, global_with, global_in_entry, or_else, globals_from, view_global_named}
 use Rattle.ang_written.specs.NotYet.{is_object, is_object_function}
 use Rattle.ang_tree.specs.Stmt.{Every}
 use Rattle.ang_source.specs.Sound.{AreNoObjects, GivesNoObject, IsEntity, IsHostFunction}
@@ -63,9 +63,9 @@ front_like V p ps (Some ty) (Some qs) e h = record {
   plain = λ v. (plain_reference V p.ty ty e v.0, h.plain v.1);
 }
 
-params_like : (V : RegistrationList) (ps : List Param) → IfSome (host_params V ps) (Like ps)
+params_like : (V : RegistrationList) (ps : List Param) → IfSome (host_parameters V ps) (Like ps)
 params_like V [] = record { count = refl; values = λ v. tt; plain = λ v. tt }
-params_like V (p ∷ ps) = front_like V p ps (host_type V p.ty) (host_params V ps) refl (params_like V ps)
+params_like V (p ∷ ps) = front_like V p ps (host_type V p.ty) (host_parameters V ps) refl (params_like V ps)
 
 -- ---- functions
 
@@ -108,7 +108,7 @@ entry_host : (V : RegistrationList) (name : List ℕ) (n : ℕ) (x : Option Entr
 entry_host V name n None at values none = tt
 entry_host V name n (Some x) at values none =
     tested (IsHost V) (is_function_named name x) (function_in V n x)
-    (λ e. function_host V n x (host_type V x.signature.result) (host_params V x.signature.params) (sym at)
+    (λ e. function_host V n x (host_type V x.signature.result) (host_parameters V x.signature.params) (sym at)
     (function_kind x.kind (first_true (is_function x.kind) (bytes_eq x.signature.name name) e)) refl
     (third_false (is_function x.kind) (bytes_eq x.signature.name name) (is_object x.signature.result) e none)
     values.params (params_like V x.signature.params))

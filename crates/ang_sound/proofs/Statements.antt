@@ -9,7 +9,7 @@ use Rattle.ang_tree.specs.declared.type_name.TypeName.{TypeName}
 use Rattle.ang_tree.specs.Tree.{Tree, Trees}
 use Rattle.ang_tree.specs.Stmt.{Init, absent, value, constructor, Var, Vars, Start, with_variables, with_expression, Stmt, Body, Stmts, block, variables, expression, break, continue, return, when, either, while, do_while, for, body, end, Every}
 use Rattle.ang_tree.specs.Stmt as written
-use Rattle.ang_written.specs.NotYet.{is_beyond, are_beyond, is_option_beyond, is_init_beyond, are_vars_beyond, is_type_beyond, are_locals_beyond, is_start_beyond, is_stmt_beyond, is_body_beyond, are_stmts_beyond}
+use Rattle.ang_written.specs.NotYet.{is_beyond, are_beyond, is_option_beyond, is_initializer_beyond, are_variables_beyond, is_type_beyond, are_locals_beyond, is_start_beyond, is_statement_beyond, is_body_beyond, are_statements_beyond}
 use Rattle.ang_written.specs.Types.{Meaning, value_type_of}
 use Rattle.ang_typed.specs.Typed as t
 use Rattle.ang_operators.specs.Refusals.{Judged}
@@ -56,7 +56,7 @@ module _ (s : Setting) (plain : IsPlainSetting s) (ps : List Pair) (pairs : AreP
   steps_sound es b =
       holds (Every (SoundOperand N n)) (SoundEach N n) (typing_of_all s ps es) _ (all_typed s ps plain pairs es b) (λ operands all. each_sound operands all)
 
-  pub initializer_sound : (y : TypeName) (ty : ArgType) (i : Init) → is_init_beyond s.view s.text i ≡ false
+  pub initializer_sound : (y : TypeName) (ty : ArgType) (i : Init) → is_initializer_beyond s.view s.text i ≡ false
       → IfOk (initializer_typing s ps y ty i) (SoundOption (Here s) (length ps))
   initializer_sound y ty absent b = tt
   initializer_sound y ty (value equals e) b =
@@ -112,7 +112,7 @@ module _ (f : Frame) (plain : IsPlainSetting f.setting) where
   one_longer ps p = omega (arith, length-append ps (p ∷ []))
 
   local_sound : (start : ℕ) (ps : List Pair) (y : TypeName) (ty : ArgType) (v : Var) → ArePlainPairs ps → IsPlainType ty
-      → is_init_beyond V text v.initializer ≡ false → IfOk (local_typing f start ps y ty v) (LeavesLocal (length ps))
+      → is_initializer_beyond V text v.initializer ≡ false → IfOk (local_typing f start ps y ty v) (LeavesLocal (length ps))
   unfolding local_typing
   local_sound start ps y ty v all one b =
       holds (λ (name : List ℕ). Unit {0}) (LeavesLocal (length ps)) (local_name f start ps v.name) _ (any (local_name f start ps v.name))
@@ -124,10 +124,10 @@ module _ (f : Frame) (plain : IsPlainSetting f.setting) where
   LeavesLocals n r = SoundLocals M n r.1 × (length r.0 ≡ length r.1 + n) × ArePlainPairs r.0
 
   each_local_sound : (start : ℕ) (ps : List Pair) (y : TypeName) (ty : ArgType) (vs : List Var) → ArePlainPairs ps → IsPlainType ty
-      → are_vars_beyond V text vs ≡ false → IfOk (each_local f start ps y ty vs) (LeavesLocals (length ps))
+      → are_variables_beyond V text vs ≡ false → IfOk (each_local f start ps y ty vs) (LeavesLocals (length ps))
   each_local_sound start ps y ty [] all one b = (tt, let e : length ps ≡ 0 + length ps = omega arith in e, all)
   each_local_sound start ps y ty (v ∷ vs) all one b =
-      let accepted = two_false (is_init_beyond V text v.initializer) (are_vars_beyond V text vs) b in
+      let accepted = two_false (is_initializer_beyond V text v.initializer) (are_variables_beyond V text vs) b in
       holds (LeavesLocal (length ps)) (LeavesLocals (length ps)) (local_typing f start ps y ty v) _ (local_sound start ps y ty v all one accepted.0)
       (λ l sl. holds (LeavesLocals (length l.0)) (LeavesLocals (length ps)) (each_local f start l.0 y ty vs) _
       (each_local_sound start l.0 y ty vs sl.2 one accepted.1)
@@ -143,7 +143,7 @@ module _ (f : Frame) (plain : IsPlainSetting f.setting) where
       → IfOk (locals_typing f start ps vs) (LeavesLocals (length ps))
   unfolding locals_typing
   locals_sound start ps vs all b =
-      let accepted = two_false (is_type_beyond V text vs.declared_type) (are_vars_beyond V text vs.items) b in
+      let accepted = two_false (is_type_beyond V text vs.declared_type) (are_variables_beyond V text vs.items) b in
       holds IsPlainType (LeavesLocals (length ps)) (local_type f.setting vs.declared_type) _ (local_plain vs.declared_type)
       (λ ty one. each_local_sound start ps vs.declared_type ty vs.items all one accepted.1)
 
@@ -272,7 +272,7 @@ module _ (f : Frame) (plain : IsPlainSetting f.setting) where
   -- ---- statements
 
   mutual
-    pub statement_sound : (x : Stmt) (loop : Bool) (start : ℕ) (ps : List Pair) → ArePlainPairs ps → is_stmt_beyond V text x ≡ false
+    pub statement_sound : (x : Stmt) (loop : Bool) (start : ℕ) (ps : List Pair) → ArePlainPairs ps → is_statement_beyond V text x ≡ false
         → IfOk (stmt_typing f loop start ps x) (Leaves loop (length ps))
     statement_sound (block b) loop start ps all accepted =
         same_sound loop ps (block_of (block_typing f loop ps b)) all (block_of_sound loop (length ps) (block_typing f loop ps b) (block_sound b loop ps all accepted))
@@ -283,27 +283,27 @@ module _ (f : Frame) (plain : IsPlainSetting f.setting) where
     statement_sound (continue word semicolon) loop start ps all accepted = same_sound loop ps (jump loop word t.continue) all (continue_sound loop (length ps) word)
     statement_sound (return word e semicolon) loop start ps all accepted = same_sound loop ps (return_typing f ps word e) all (return_sound loop ps word e all accepted)
     statement_sound (when word left c right x) loop start ps all accepted =
-        let both = two_false (is_beyond V text c) (is_stmt_beyond V text x) accepted in
+        let both = two_false (is_beyond V text c) (is_statement_beyond V text x) accepted in
         let go = alone_sound loop (length ps) (stmt_typing f loop (length ps) ps x) (statement_sound x loop (length ps) ps all both.1) in
         same_sound loop ps _ all
         (either_sound loop (length ps) _ (Ok t.end) (tested_sound loop (length ps) _ _ (condition_sound f.setting plain ps all c both.0) go) tt)
     statement_sound (either word left c right x otherwise u) loop start ps all accepted =
-        let each = three_false (is_beyond V text c) (is_stmt_beyond V text x) (is_stmt_beyond V text u) accepted in
+        let each = three_false (is_beyond V text c) (is_statement_beyond V text x) (is_statement_beyond V text u) accepted in
         let go = alone_sound loop (length ps) (stmt_typing f loop (length ps) ps x) (statement_sound x loop (length ps) ps all each.1) in
         let other = alone_sound loop (length ps) (stmt_typing f loop (length ps) ps u) (statement_sound u loop (length ps) ps all each.2) in
         same_sound loop ps _ all
         (either_sound loop (length ps) _ _ (tested_sound loop (length ps) _ _ (condition_sound f.setting plain ps all c each.0) go) other)
     statement_sound (while word left c right x) loop start ps all accepted =
-        let both = two_false (is_beyond V text c) (is_stmt_beyond V text x) accepted in
+        let both = two_false (is_beyond V text c) (is_statement_beyond V text x) accepted in
         same_sound loop ps _ all (while_sound loop (length ps) _ _ (condition_sound f.setting plain ps all c both.0)
         (alone_sound true (length ps) (stmt_typing f true (length ps) ps x) (statement_sound x true (length ps) ps all both.1)))
     statement_sound (do_while word x again left c right semicolon) loop start ps all accepted =
-        let both = two_false (is_stmt_beyond V text x) (is_beyond V text c) accepted in
+        let both = two_false (is_statement_beyond V text x) (is_beyond V text c) accepted in
         same_sound loop ps _ all (do_while_sound loop (length ps) _ _
         (alone_sound true (length ps) (stmt_typing f true (length ps) ps x) (statement_sound x true (length ps) ps all both.0))
         (condition_sound f.setting plain ps all c both.1))
     statement_sound (for word left b c semicolon steps right x) loop start ps all accepted =
-        let each = four_false (is_start_beyond V text b) (is_option_beyond V text c) (are_beyond V text steps) (is_stmt_beyond V text x) accepted in
+        let each = four_false (is_start_beyond V text b) (is_option_beyond V text c) (are_beyond V text steps) (is_statement_beyond V text x) accepted in
         holds (Head loop (length ps)) (Leaves loop (length ps)) (head_typing f ps b c steps) _ (head_sound loop ps b c steps all each.0 each.1 each.2)
         (λ h sh. same_sound loop ps _ all (for_sound loop (length ps) h _ sh
         (alone_sound true (length h.0) (stmt_typing f true (length h.0) h.0 x) (statement_sound x true (length h.0) h.0 sh.pairs each.3))))
@@ -312,11 +312,11 @@ module _ (f : Frame) (plain : IsPlainSetting f.setting) where
         → IfOk (block_typing f loop ps b) (SoundStatements M loop (length ps))
     block_sound (body left ss right) loop ps all accepted = statements_sound ss loop (length ps) ps all accepted
 
-    pub statements_sound : (ss : Stmts) (loop : Bool) (start : ℕ) (ps : List Pair) → ArePlainPairs ps → are_stmts_beyond V text ss ≡ false
+    pub statements_sound : (ss : Stmts) (loop : Bool) (start : ℕ) (ps : List Pair) → ArePlainPairs ps → are_statements_beyond V text ss ≡ false
         → IfOk (stmts_typing f loop start ps ss) (SoundStatements M loop (length ps))
     statements_sound end loop start ps all accepted = tt
     statements_sound (written.then x ss) loop start ps all accepted =
-        let both = two_false (is_stmt_beyond V text x) (are_stmts_beyond V text ss) accepted in
+        let both = two_false (is_statement_beyond V text x) (are_statements_beyond V text ss) accepted in
         holds (Leaves loop (length ps)) (SoundStatements M loop (length ps)) (stmt_typing f loop start ps x) _ (statement_sound x loop start ps all both.0)
         (λ y sy. holds (SoundStatements M loop (length y.0)) (SoundStatements M loop (length ps)) (stmts_typing f loop start y.0 ss) _
         (statements_sound ss loop start y.0 sy.2 both.1) (λ xs sxs. (sy.0, subst (λ j. SoundStatements M loop j xs) sy.1 sxs)))

@@ -18,7 +18,7 @@ use Rattle.ang_types.specs.declared.arg_type.ArgType.{ArgType}
 use Rattle.ang_types.specs.declared.arg_type.ArgType.TheVariants as type
 use Rattle.ang_written.specs.Sources.{Source, text_of}
 use Rattle.ang_written.specs.Types.{Meaning, without_handle, object_type, type_by, type_of, no_void, value_type_of, pass_of, changed, passed, parameter_type_of}
-use Rattle.ang_written.specs.NotYet.{is_host_type, is_type_beyond, is_init_beyond, is_body_beyond, are_parameters_beyond, is_function_beyond, is_global_beyond, refused_where, global_errors, declaration_errors, section_errors, not_yet, first_of_type}
+use Rattle.ang_written.specs.NotYet.{is_host_type, is_type_beyond, is_initializer_beyond, is_body_beyond, are_parameters_beyond, is_function_beyond, is_global_beyond, refused_where, global_errors, declaration_errors, section_errors, not_yet, first_of_type}
 use Rattle.ang_names.specs.declared.listed.Declared.{Declared}
 use Rattle.ang_names.specs.declared.names.ScriptGlobal.{ScriptGlobal}
 use Rattle.ang_names.specs.declared.names.ScriptParameter.{ScriptParameter}
@@ -109,7 +109,7 @@ module _ (V : RegistrationList) where
   globals_plain script text n y i [] ds e h = h
   globals_plain script text n y i (v ∷ vs) ds e h =
       let first = nothing_joined (global_errors V text y v) (flat_map (global_errors V text y) vs) e in
-      let accepted = two_false (is_type_beyond V text y) (is_init_beyond V text v.initializer)
+      let accepted = two_false (is_type_beyond V text y) (is_initializer_beyond V text v.initializer)
       (accepted_where (is_global_beyond V text y v.initializer) (first_of_type y) first.0) in
       let rest = globals_plain script text n y (i + 1) vs ds first.1 h in
       (rest.0, (value_plain V text y accepted.0, rest.1))
@@ -150,14 +150,14 @@ module _ (V : RegistrationList) where
   -- it is not beyond what is built
   abbrev pub IsWithin : Part → Type 0
   IsWithin (a_body text x b) = is_body_beyond V text b ≡ false
-  IsWithin (an_initializer text y i) = is_init_beyond V text i ≡ false
+  IsWithin (an_initializer text y i) = is_initializer_beyond V text i ≡ false
 
   globals_within : (text : List ℕ) (y : TypeName) (vs : List Var) → flat_map (global_errors V text y) vs ≡ []
       → Every IsWithin (map (λ v. an_initializer text y v.initializer) vs)
   globals_within text y [] e = tt
   globals_within text y (v ∷ vs) e =
       let first = nothing_joined (global_errors V text y v) (flat_map (global_errors V text y) vs) e in
-      let accepted = two_false (is_type_beyond V text y) (is_init_beyond V text v.initializer)
+      let accepted = two_false (is_type_beyond V text y) (is_initializer_beyond V text v.initializer)
       (accepted_where (is_global_beyond V text y v.initializer) (first_of_type y) first.0) in
       (accepted.1, globals_within text y vs first.1)
 

@@ -42,9 +42,9 @@ in_front None pass rest = None
 in_front (Some t) pass None = None
 in_front (Some t) pass (Some rest) = Some ((t, pass) ∷ rest)
 
-abbrev pub host_params : RegistrationList → List Param → Option (List (ArgType × Pass))
-host_params V [] = Some []
-host_params V (p ∷ ps) = in_front (host_type V p.ty) p.pass (host_params V ps)
+abbrev pub host_parameters : RegistrationList → List Param → Option (List (ArgType × Pass))
+host_parameters V [] = Some []
+host_parameters V (p ∷ ps) = in_front (host_type V p.ty) p.pass (host_parameters V ps)
 
 abbrev pub host_function : ℕ → Entry → Option ArgType → Option (List (ArgType × Pass)) → Option HostFunction
 host_function n x None params = None
@@ -53,7 +53,7 @@ host_function n x (Some t) (Some params) = Some (record { entity = record { 0 = 
 
 -- the function of an entry
 abbrev pub function_in : RegistrationList → ℕ → Entry → Option HostFunction
-function_in V n x = host_function n x (host_type V x.signature.result) (host_params V x.signature.params)
+function_in V n x = host_function n x (host_type V x.signature.result) (host_parameters V x.signature.params)
 
 abbrev pub is_function_named : List ℕ → Entry → Bool
 is_function_named name x = is_function x.kind && bytes_eq x.signature.name name

@@ -98,7 +98,7 @@ module _ (V : RegistrationList) (text : List ℕ) where
     pub is_beyond : Tree → Bool
     is_beyond (literal t) = is_object_word t.kind
     is_beyond (name x) = false
-    is_beyond (call x es) = is_host_type x || is_object_call x || are_args_beyond es
+    is_beyond (call x es) = is_host_type x || is_object_call x || are_arguments_beyond es
     is_beyond (scoped_call c s x es) = true
     is_beyond (cast word less y greater left e right) = true
     is_beyond (convert p left e right) = is_beyond e
@@ -111,8 +111,8 @@ module _ (V : RegistrationList) (text : List ℕ) where
     is_beyond (conditional c question l colon r) = is_beyond c || is_beyond l || is_beyond r
     is_beyond (assignment l op r) = is_beyond l || is_beyond r
 
-    pub are_args_beyond : Args → Bool
-    are_args_beyond (arguments left es right) = are_beyond es
+    pub are_arguments_beyond : Args → Bool
+    are_arguments_beyond (arguments left es right) = are_beyond es
 
     pub are_beyond : Trees → Bool
     are_beyond none = false
@@ -123,43 +123,43 @@ module _ (V : RegistrationList) (text : List ℕ) where
   is_option_beyond None = false
   is_option_beyond (Some e) = is_beyond e
 
-  abbrev pub is_init_beyond : Init → Bool
-  is_init_beyond absent = false
-  is_init_beyond (value equals e) = is_beyond e
-  is_init_beyond (constructor es) = are_args_beyond es
+  abbrev pub is_initializer_beyond : Init → Bool
+  is_initializer_beyond absent = false
+  is_initializer_beyond (value equals e) = is_beyond e
+  is_initializer_beyond (constructor es) = are_arguments_beyond es
 
-  abbrev pub are_vars_beyond : List Var → Bool
-  are_vars_beyond vs = list_any (λ v. is_init_beyond v.initializer) vs
+  abbrev pub are_variables_beyond : List Var → Bool
+  are_variables_beyond vs = list_any (λ v. is_initializer_beyond v.initializer) vs
 
   -- variables of one type
   abbrev pub are_locals_beyond : Vars → Bool
-  are_locals_beyond vs = is_type_beyond vs.declared_type || are_vars_beyond vs.items
+  are_locals_beyond vs = is_type_beyond vs.declared_type || are_variables_beyond vs.items
 
   abbrev pub is_start_beyond : Start → Bool
   is_start_beyond (with_variables vs) = are_locals_beyond vs
   is_start_beyond (with_expression e semicolon) = is_option_beyond e
 
   abbrev mutual
-    pub is_stmt_beyond : Stmt → Bool
-    is_stmt_beyond (block b) = is_body_beyond b
-    is_stmt_beyond (variables vs) = are_locals_beyond vs
-    is_stmt_beyond (expression e semicolon) = is_option_beyond e
-    is_stmt_beyond (break word semicolon) = false
-    is_stmt_beyond (continue word semicolon) = false
-    is_stmt_beyond (return word e semicolon) = is_option_beyond e
-    is_stmt_beyond (when word left c right s) = is_beyond c || is_stmt_beyond s
-    is_stmt_beyond (either word left c right s other r) = is_beyond c || is_stmt_beyond s || is_stmt_beyond r
-    is_stmt_beyond (while word left c right s) = is_beyond c || is_stmt_beyond s
-    is_stmt_beyond (do_while word s again left c right semicolon) = is_stmt_beyond s || is_beyond c
-    is_stmt_beyond (for word left b c semicolon steps right s) =
-        is_start_beyond b || is_option_beyond c || are_beyond steps || is_stmt_beyond s
+    pub is_statement_beyond : Stmt → Bool
+    is_statement_beyond (block b) = is_body_beyond b
+    is_statement_beyond (variables vs) = are_locals_beyond vs
+    is_statement_beyond (expression e semicolon) = is_option_beyond e
+    is_statement_beyond (break word semicolon) = false
+    is_statement_beyond (continue word semicolon) = false
+    is_statement_beyond (return word e semicolon) = is_option_beyond e
+    is_statement_beyond (when word left c right s) = is_beyond c || is_statement_beyond s
+    is_statement_beyond (either word left c right s other r) = is_beyond c || is_statement_beyond s || is_statement_beyond r
+    is_statement_beyond (while word left c right s) = is_beyond c || is_statement_beyond s
+    is_statement_beyond (do_while word s again left c right semicolon) = is_statement_beyond s || is_beyond c
+    is_statement_beyond (for word left b c semicolon steps right s) =
+        is_start_beyond b || is_option_beyond c || are_beyond steps || is_statement_beyond s
 
     pub is_body_beyond : Body → Bool
-    is_body_beyond (body left ss right) = are_stmts_beyond ss
+    is_body_beyond (body left ss right) = are_statements_beyond ss
 
-    pub are_stmts_beyond : Stmts → Bool
-    are_stmts_beyond end = false
-    are_stmts_beyond (then s ss) = is_stmt_beyond s || are_stmts_beyond ss
+    pub are_statements_beyond : Stmts → Bool
+    are_statements_beyond end = false
+    are_statements_beyond (then s ss) = is_statement_beyond s || are_statements_beyond ss
 
   abbrev pub are_parameters_beyond : List Parameter → Bool
   are_parameters_beyond ps = list_any (λ p. is_type_beyond p.declared_type) ps
@@ -168,7 +168,7 @@ module _ (V : RegistrationList) (text : List ℕ) where
   is_function_beyond y ps b = is_type_beyond y || are_parameters_beyond ps || is_body_beyond b
 
   abbrev pub is_global_beyond : TypeName → Init → Bool
-  is_global_beyond y i = is_type_beyond y || is_init_beyond i
+  is_global_beyond y i = is_type_beyond y || is_initializer_beyond i
 
   abbrev pub global_errors : TypeName → Var → List Error
   global_errors y v = refused_where (is_global_beyond y v.initializer) (first_of_type y)

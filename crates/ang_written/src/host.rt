@@ -67,12 +67,12 @@ fn host_type(view: &View, ty: &TypeRef) -> Option<ArgType>
     }
 }
 
-fn host_params(
+fn host_parameters(
     alloc: Global,
     view: &View,
     params: &[Param],
 ) -> Result<Option<List<(ArgType, Pass)>>, AllocError>
-    ensures exact { IfOk result (λ found. found ≡ spec.host_params view.now params.now) }
+    ensures exact { IfOk result (λ found. found ≡ spec.host_parameters view.now params.now) }
 {
     let mut found = Vec::new(alloc);
     for param in params {
@@ -96,7 +96,7 @@ fn function_in(
     let Some(result) = host_type(view, &entry.signature.result) else {
         return Ok(None);
     };
-    let Some(params) = host_params(alloc, view, entry.signature.params.as_slice())? else {
+    let Some(params) = host_parameters(alloc, view, entry.signature.params.as_slice())? else {
         return Ok(None);
     };
     Ok(Some(HostFunction {

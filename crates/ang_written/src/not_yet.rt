@@ -116,7 +116,7 @@ fn is_beyond(view: &View, text: &[u8], expression: &Expression) -> bool
         Expression::Call { name, arguments } => {
             is_host_type(view, text, name)
                 || is_object_call(view, text, name)
-                || are_args_beyond(view, text, arguments)
+                || are_arguments_beyond(view, text, arguments)
         }
         Expression::ScopedCall { .. }
         | Expression::Cast { .. }
@@ -154,8 +154,8 @@ fn is_beyond(view: &View, text: &[u8], expression: &Expression) -> bool
 }
 
 #[cycle(expression)]
-fn are_args_beyond(view: &View, text: &[u8], arguments: &Arguments) -> bool
-    ensures exact { result ≡ spec.are_args_beyond view.now text.now (view_args arguments.now) }
+fn are_arguments_beyond(view: &View, text: &[u8], arguments: &Arguments) -> bool
+    ensures exact { result ≡ spec.are_arguments_beyond view.now text.now (view_args arguments.now) }
 {
     are_beyond(view, text, arguments.items.as_slice())
 }
@@ -181,21 +181,21 @@ fn is_option_beyond(view: &View, text: &[u8], expression: &Option<Expression>) -
     }
 }
 
-fn is_init_beyond(view: &View, text: &[u8], initializer: &Initializer) -> bool
-    ensures exact { result ≡ spec.is_init_beyond view.now text.now (view_init initializer.now) }
+fn is_initializer_beyond(view: &View, text: &[u8], initializer: &Initializer) -> bool
+    ensures exact { result ≡ spec.is_initializer_beyond view.now text.now (view_init initializer.now) }
 {
     match initializer {
         Initializer::Absent => false,
         Initializer::Value { value, .. } => is_beyond(view, text, value),
-        Initializer::Constructor(arguments) => are_args_beyond(view, text, arguments),
+        Initializer::Constructor(arguments) => are_arguments_beyond(view, text, arguments),
     }
 }
 
 fn are_items_beyond(view: &View, text: &[u8], items: &[Variable]) -> bool
-    ensures exact { result ≡ spec.are_vars_beyond view.now text.now (list_map view_var items.now) }
+    ensures exact { result ≡ spec.are_variables_beyond view.now text.now (list_map view_var items.now) }
 {
     for item in items {
-        if is_init_beyond(view, text, &item.initializer) {
+        if is_initializer_beyond(view, text, &item.initializer) {
             return true;
         }
     }
@@ -221,8 +221,8 @@ fn is_start_beyond(view: &View, text: &[u8], start: &ForStart) -> bool
 
 /// Whether a statement uses what is not built.
 #[cycle(statement)]
-fn is_stmt_beyond(view: &View, text: &[u8], statement: &Statement) -> bool
-    ensures exact { result ≡ spec.is_stmt_beyond view.now text.now (view_stmt statement.now) }
+fn is_statement_beyond(view: &View, text: &[u8], statement: &Statement) -> bool
+    ensures exact { result ≡ spec.is_statement_beyond view.now text.now (view_stmt statement.now) }
 {
     match statement {
         Statement::Block(block) => is_body_beyond(view, text, block),
@@ -235,7 +235,7 @@ fn is_stmt_beyond(view: &View, text: &[u8], statement: &Statement) -> bool
             then,
             otherwise: None,
             ..
-        } => is_beyond(view, text, condition) || is_stmt_beyond(view, text, then),
+        } => is_beyond(view, text, condition) || is_statement_beyond(view, text, then),
         Statement::If {
             condition,
             then,
@@ -243,19 +243,19 @@ fn is_stmt_beyond(view: &View, text: &[u8], statement: &Statement) -> bool
             ..
         } => {
             is_beyond(view, text, condition)
-                || is_stmt_beyond(view, text, then)
-                || is_stmt_beyond(view, text, &other.branch)
+                || is_statement_beyond(view, text, then)
+                || is_statement_beyond(view, text, &other.branch)
         }
         Statement::While {
             condition,
             body,
             ..
-        } => is_beyond(view, text, condition) || is_stmt_beyond(view, text, body),
+        } => is_beyond(view, text, condition) || is_statement_beyond(view, text, body),
         Statement::DoWhile {
             body,
             condition,
             ..
-        } => is_stmt_beyond(view, text, body) || is_beyond(view, text, condition),
+        } => is_statement_beyond(view, text, body) || is_beyond(view, text, condition),
         Statement::For {
             start,
             condition,
@@ -266,7 +266,7 @@ fn is_stmt_beyond(view: &View, text: &[u8], statement: &Statement) -> bool
             is_start_beyond(view, text, start)
                 || is_option_beyond(view, text, condition)
                 || are_beyond(view, text, steps.as_slice())
-                || is_stmt_beyond(view, text, body)
+                || is_statement_beyond(view, text, body)
         }
     }
 }
@@ -275,15 +275,15 @@ fn is_stmt_beyond(view: &View, text: &[u8], statement: &Statement) -> bool
 fn is_body_beyond(view: &View, text: &[u8], block: &Block) -> bool
     ensures exact { result ≡ spec.is_body_beyond view.now text.now (view_body block.now) }
 {
-    are_stmts_beyond(view, text, block.statements.as_slice())
+    are_statements_beyond(view, text, block.statements.as_slice())
 }
 
 #[cycle(statement)]
-fn are_stmts_beyond(view: &View, text: &[u8], statements: &[Statement]) -> bool
-    ensures exact { result ≡ spec.are_stmts_beyond view.now text.now (view_stmts statements.now) }
+fn are_statements_beyond(view: &View, text: &[u8], statements: &[Statement]) -> bool
+    ensures exact { result ≡ spec.are_statements_beyond view.now text.now (view_stmts statements.now) }
 {
     for statement in statements {
-        if is_stmt_beyond(view, text, statement) {
+        if is_statement_beyond(view, text, statement) {
             return true;
         }
     }
@@ -313,7 +313,7 @@ fn is_global_beyond(
 ) -> bool
     ensures exact { result ≡ spec.is_global_beyond view.now text.now declared.now (view_init initializer.now) }
 {
-    is_type_beyond(view, text, declared) || is_init_beyond(view, text, initializer)
+    is_type_beyond(view, text, declared) || is_initializer_beyond(view, text, initializer)
 }
 
 /// One more error, at this token, where something is refused.

@@ -368,7 +368,7 @@ const FUNCTION: Entity = Entity {
 };
 
 /// Entities, each with whether it is plain.
-const ENTITIES: [(&str, Entity, bool); 7] = [
+const ENTITIES: [(&str, Entity, bool); 8] = [
     ("a function", FUNCTION, true),
     ("a property", INT_PROPERTY, true),
     (
@@ -412,9 +412,19 @@ const ENTITIES: [(&str, Entity, bool); 7] = [
         false,
     ),
     (
-        "a method",
+        "a property of an object",
         Entity {
             role: Role::Property(0),
+            member: true,
+            params: &[],
+            result: INT,
+        },
+        false,
+    ),
+    (
+        "a method",
+        Entity {
+            role: Role::Calling(0),
             member: true,
             params: &[],
             result: INT,

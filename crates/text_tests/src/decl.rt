@@ -240,17 +240,17 @@ fn is_type(ty: &TypeRef, want: Want) -> bool {
     }
 }
 
-fn is_param(param: &Param, want: Want, name: &str) -> bool {
+fn is_parameter(param: &Param, want: Want, name: &str) -> bool {
     is_type(&param.ty, want)
         && param.pass == Pass::Value
         && !param.read_only
         && param.name.as_slice() == name.as_bytes()
 }
 
-fn are_params(params: &[Param], wanted: &[(Want, &str)]) -> bool {
+fn are_parameters(params: &[Param], wanted: &[(Want, &str)]) -> bool {
     for (i, param) in params.iter().enumerate() {
         match wanted.get(i) {
-            Some((want, name)) if is_param(param, *want, name) => {}
+            Some((want, name)) if is_parameter(param, *want, name) => {}
             _ => return false,
         }
     }
@@ -266,7 +266,7 @@ fn is_signature(
 ) -> bool {
     signature.name.as_slice() == name.as_bytes()
         && is_type(&signature.result, gives)
-        && are_params(signature.params.as_slice(), params)
+        && are_parameters(signature.params.as_slice(), params)
         && signature.read_only == read_only
 }
 
