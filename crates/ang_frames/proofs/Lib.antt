@@ -1,6 +1,7 @@
+pub mod Calling
+pub mod Going
+pub mod Leaving
+pub mod Resuming
+pub mod Running
 pub mod Stepping
 pub mod Weighing
-pub mod Calling
-pub mod Leaving
-pub mod Running
-pub mod Resuming

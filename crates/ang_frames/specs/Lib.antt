@@ -1,2 +1,3 @@
-pub mod Legs
+pub mod Crossings
 pub mod Halts
+pub mod Legs

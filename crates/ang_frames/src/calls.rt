@@ -1,5 +1,5 @@
 //! Calls: what stands before a body, and room for its frame.
-ghost use Rattle.std.specs.Prelude.{◌≡◌, ℕ, ◌+◌, ◌<◌, ◌≤◌, ◌^◌, List, length, reverse, IfOk, IfSome};
+ghost use Rattle.std.specs.Prelude.{◌≡◌, ℕ, ◌+◌, ◌<◌, ◌≤◌, ◌^◌, List, length, reverse, Some, None, IfOk, IfSome, MatchOption};
 ghost use Rattle.ang_meaning.specs.World.{World, with_inputs};
 ghost use Rattle.ang_meaning.specs.Setting.{has_objects, target};
 ghost use Rattle.ang_meaning.specs.Told.{Told};
@@ -7,18 +7,19 @@ ghost use Rattle.ang_code.specs.declared.instruction.Frame.{Frame};
 ghost use Rattle.ang_code.specs.Machine.{Texts, begins, enters, found_enters};
 ghost use Rattle.ang_fuse.specs.Parameters.{by_value as are_by_value};
 ghost use Rattle.ang_steps.specs.Stacks.{values};
-ghost use Rattle.ang_steps.specs.Tables.{setting_of, texts_of};
-ghost use Rattle.ang_frames.specs.Legs.{Fits, begun, caller_at, misses};
+ghost use Rattle.ang_steps.specs.Tables.{body_of, setting_of, texts_of};
+ghost use Rattle.ang_frames.specs.Legs.{Fits, begun, caller_at, misses, standing_in};
 
 use crate::lookups::params_and_height;
 use ang_code::Frame;
+use ang_fuse::body::Body;
 use ang_kinds::Fault;
 use ang_meaning::{Callee, Passing, Routine, Slot};
 use ang_steps::handles::is_null;
 use ang_steps::place::{Place, Standing};
 use ang_steps::stack::peek;
 use ang_steps::stop::Stop;
-use ang_steps::table::{Table, callee_of};
+use ang_steps::table::{Table, body_at, callee_of};
 
 /// Whether a parameter misses its object.
 #[inline(always)]
@@ -96,6 +97,7 @@ fn begin_above(
         → Told (λ is. begins code body (values stack.old.items top) frames ticks (with_inputs is w))
         (λ is. begun result top stack.new.items frames (with_inputs is w)) }
     ensures in_room { IfOk result (λ s. (s.place.top ≤ s.room) × (s.room ≤ length stack.new.items)) }
+    ensures body { IfOk result (λ s. s.body ≡ body) }
     ensures grows { length stack.old.items ≤ length stack.new.items }
 {
     match reserve(stack, top, height) {
@@ -134,6 +136,7 @@ pub fn begin(
 ///
 /// # Errors
 /// `Null`, `Depth`, `Budget` and `Memory`, the first of them that applies.
+#[inline(always)]
 pub fn enter_body(
     table: &Table,
     nesting: usize,
@@ -149,6 +152,7 @@ pub fn enter_body(
         (reverse frames.old.items) (caller_at from) from.place.ticks (with_inputs is w))
         (λ is. begun result from.place.top stack.new.items (reverse frames.new.items) (with_inputs is w)) }
     ensures fits { IfOk result (λ s. Fits s stack.new.items frames.new.items) }
+    ensures body { IfOk result (λ s. s.body ≡ body) }
     ensures grows { length stack.old.items ≤ length stack.new.items }
 {
     let top = from.place.top;
@@ -176,30 +180,38 @@ pub fn enter_body(
     }
 }
 
-/// `Enter`: the function that a call names is entered.
+/// `Enter`: the function that a call names is entered. With where it stands comes its code, if it has any.
 ///
 /// # Errors
 /// `Unbound`, `Null`, `Depth`, `Budget` and `Memory`, the first of them that applies.
-pub fn enter(
-    table: &Table,
+#[inline(always)]
+pub fn enter<'t>(
+    table: &'t Table,
     nesting: usize,
     stack: &mut Vec<Slot>,
     frames: &mut Vec<Frame>,
     from: Standing,
     callee: Callee,
-) -> Result<Standing, Stop>
+) -> Result<(Standing, Option<&'t Body>), Stop>
     requires fits { Fits from stack.old.items frames.old.items }
     requires inside { from.place.at + 1 < 2 ^ 64 }
     ensures told { (w : World)
         → Told (λ is. found_enters (setting_of table.now nesting) (texts_of table.now)
         (target (setting_of table.now nesting) from.body.home callee (values stack.old.items from.place.top) (with_inputs is w))
         (values stack.old.items from.place.top) (reverse frames.old.items) (caller_at from) from.place.ticks (with_inputs is w))
-        (λ is. begun result from.place.top stack.new.items (reverse frames.new.items) (with_inputs is w)) }
-    ensures fits { IfOk result (λ s. Fits s stack.new.items frames.new.items) }
+        (λ is. begun (standing_in result) from.place.top stack.new.items (reverse frames.new.items) (with_inputs is w)) }
+    ensures fits { IfOk result (λ r. Fits r.0 stack.new.items frames.new.items) }
+    ensures code { IfOk result (λ r. MatchOption r.1 (body_of table.now r.0.body ≡ None) (λ code. body_of table.now r.0.body ≡ Some code.now)) }
     ensures grows { length stack.old.items ≤ length stack.new.items }
 {
     match callee_of(table, from.body.home, callee) {
-        Ok(body) => enter_body(table, nesting, stack, frames, from, body),
+        Ok(body) => {
+            let code = body_at(table, body);
+            match enter_body(table, nesting, stack, frames, from, body) {
+                Ok(next) => Ok((next, code)),
+                Err(stop) => Err(stop),
+            }
+        }
         Err(fault) => Err(Stop::Fails(fault)),
     }
 }

@@ -1,26 +1,11 @@
-//! What a run looks up of a body, each time in one look at the table.
+//! What a run looks up of a body that it enters, in one look at the table.
 ghost use Rattle.std.specs.Prelude.{◌≡◌, ℕ};
 ghost use Rattle.ang_meaning.specs.Setting.{params_of};
 ghost use Rattle.ang_fuse.specs.Parameters.{by_value as are_by_value};
-ghost use Rattle.ang_fuse.specs.Sequences.{AreSteps};
 ghost use Rattle.ang_steps.specs.Tables.{setting_of, texts_of};
 
-use ang_code::Instruction;
-use ang_fuse::step::Step;
 use ang_meaning::{Passing, Routine};
 use ang_steps::table::{Table, body_at};
-
-/// The instructions of a body and its steps, none where there is no such body.
-#[inline(always)]
-pub fn text_and_steps(table: &Table, body: Routine) -> (&[Instruction], &[Step])
-    ensures text { result.0.now ≡ (texts_of table.now).text body }
-    ensures fits { AreSteps result.1.now ((texts_of table.now).text body) }
-{
-    match body_at(table, body) {
-        Some(code) => (code.text(), code.steps()),
-        None => (&[], &[]),
-    }
-}
 
 /// How a body's parameters take their arguments, the last parameter first, how many values the body puts above
 /// them at most, and whether all of them take values.
@@ -34,14 +19,4 @@ pub fn params_and_height(table: &Table, body: Routine) -> (&[Passing], usize, bo
         Some(code) => (code.params(), code.height(), code.by_value()),
         None => (&[], 0, true),
     }
-}
-
-/// How a body's parameters take their arguments, the last parameter first, and whether all of them take values.
-#[inline(always)]
-pub fn params_by_value(table: &Table, body: Routine) -> (&[Passing], bool)
-    ensures params { (nesting : ℕ) → result.0.now ≡ params_of (setting_of table.now nesting) body }
-    ensures by_value { result.1 ≡ are_by_value result.0.now }
-{
-    let (params, _, by_value) = params_and_height(table, body);
-    (params, by_value)
 }

@@ -8,11 +8,11 @@ ghost use Rattle.ang_code.specs.declared.instruction.Instruction.TheVariants.{Re
 ghost use Rattle.ang_code.specs.Machine.{act, back};
 ghost use Rattle.ang_fuse.specs.Parameters.{by_value as are_by_value};
 ghost use Rattle.ang_steps.specs.Stacks.{values};
-ghost use Rattle.ang_steps.specs.Tables.{setting_of, texts_of};
+ghost use Rattle.ang_steps.specs.Tables.{body_of, setting_of, texts_of};
 ghost use Rattle.ang_frames.specs.Legs.{Fits, AllFit, given_by, with_out, Unmoved, left};
 
-use crate::lookups::params_by_value;
 use ang_code::Frame;
+use ang_fuse::body::Body;
 use ang_meaning::{Passing, Slot};
 use ang_steps::many::give_top;
 use ang_steps::place::{Ending, Place, Standing};
@@ -153,14 +153,17 @@ fn leave_params<S: Store>(
 
 /// `Return`: the body gives up so many locals and its parameters, and its caller goes on with the top value,
 /// above those of the `&out` parameters.
+#[inline(always)]
 pub fn leave_body<S: Store>(
     table: &Table,
+    code: &Body,
     stack: &mut [Slot],
     frames: &mut Vec<Frame>,
     store: &mut S,
     from: Standing,
     count: usize,
 ) -> Result<Standing, Ending>
+    requires there { body_of table.now from.body ≡ Some code.now }
     requires fits { Fits from stack.old frames.old.items }
     ensures told { (nesting : ℕ) → Told (λ is. act (setting_of table.now nesting) (texts_of table.now) (Some (Return count)) from.body from.place.at
         from.room (values stack.old from.place.top) (reverse frames.old.items) from.place.ticks (with_inputs is (S.world store.old)))
@@ -175,13 +178,13 @@ pub fn leave_body<S: Store>(
     if count > top - 1 {
         return Err(Ending::Lost);
     }
-    let (params, by_value) = params_by_value(table, from.body);
+    let params = code.params();
     let base = top - 1 - count;
     if params.len() > base {
         return Err(Ending::Lost);
     }
     let value = peek(stack, top, 0);
     give_top(stack, store, top - 1, count);
-    let kept = leave_params(by_value, params, stack, store, base);
+    let kept = leave_params(code.by_value(), params, stack, store, base);
     hand_back(stack, frames, store, value, kept, from.place.ticks)
 }

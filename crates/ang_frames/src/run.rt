@@ -1,29 +1,31 @@
 //! Runs from halt to halt.
-ghost use Rattle.std.specs.Prelude.{◌≡◌, ℕ, ◌≤◌, List, length, reverse, Err, Some, IfOk};
+ghost use Rattle.std.specs.Prelude.{◌≡◌, ℕ, ◌≤◌, List, length, reverse, Err, Some, None, IfOk, MatchOption};
 ghost use Rattle.ang_code.specs.declared.instruction.Frame.{Frame};
 ghost use Rattle.ang_code.specs.declared.instruction.Instruction.TheVariants.{Return};
 ghost use Rattle.ang_meaning.specs.World.{with_inputs};
 ghost use Rattle.ang_meaning.specs.Told.{Told};
 ghost use Rattle.ang_code.specs.Machine.{Over, act, fault as faulted};
 ghost use Rattle.ang_steps.specs.Stacks.{values};
-ghost use Rattle.ang_steps.specs.Tables.{setting_of, texts_of};
-ghost use Rattle.ang_steps.specs.Turns.{Pauses};
-ghost use Rattle.ang_frames.specs.Legs.{Fits, begun, left, outcome};
+ghost use Rattle.ang_steps.specs.Tables.{body_of, setting_of, texts_of};
+ghost use Rattle.ang_frames.specs.Legs.{Fits, begun, left, outcome, standing_in};
+ghost use Rattle.ang_frames.specs.Crossings.{Comes};
 ghost use Rattle.ang_frames.specs.Halts.{Led, HaltsAt, halt_of};
 
 use crate::calls::enter;
+use crate::crossing::{Crossing, Interruption};
 use crate::entities::operands_at;
 use crate::halts::{Asking, Halt};
 use crate::returns::leave_body;
 use crate::turns::run_body;
 use ang_code::Frame;
+use ang_fuse::body::Body;
 use ang_kinds::Fault;
 use ang_meaning::Slot;
 use ang_steps::many::give_top;
-use ang_steps::place::{Ending, Pause, Standing};
+use ang_steps::place::{Ending, Place, Standing};
 use ang_steps::stop::Stop;
 use ang_steps::store::Store;
-use ang_steps::table::Table;
+use ang_steps::table::{Table, body_at};
 
 /// The run faults: all values in use are given up, the top one first.
 pub fn fail<S: Store>(stack: &Vec<Slot>, store: &mut S, top: usize, fault: Fault) -> Ending
@@ -48,21 +50,25 @@ pub fn give_up<S: Store>(stack: &Vec<Slot>, store: &mut S, top: usize, stop: Sto
 }
 
 /// The running body, over the whole stack.
+#[inline(always)]
 fn run_within<S: Store>(
     table: &Table,
+    code: &Body,
     stack: &mut Vec<Slot>,
     store: &mut S,
     from: Standing,
-) -> Pause
+) -> Result<(Place, Crossing), Interruption>
+    requires there { body_of table.now from.body ≡ Some code.now }
     requires in_room { from.place.top ≤ from.room }
     requires within { from.room ≤ length stack.old.items }
-    ensures pauses { Pauses table.now from.body from.room from.place stack.old.items (S.world store.old) result stack.new.items (S.world store.new) }
+    ensures comes { Comes table.now from.body from.room from.place stack.old.items (S.world store.old) result stack.new.items (S.world store.new) }
     ensures same { length stack.new.items ≡ length stack.old.items }
     ensures quiet { (S.world store.new).events ≡ (S.world store.old).events }
 {
     run_body(
         table,
         from.body,
+        code,
         stack.as_mut_slice(),
         store,
         from.room,
@@ -71,14 +77,17 @@ fn run_within<S: Store>(
 }
 
 /// The running body is left, over the whole stack.
+#[inline(always)]
 fn leave_within<S: Store>(
     table: &Table,
+    code: &Body,
     stack: &mut Vec<Slot>,
     frames: &mut Vec<Frame>,
     store: &mut S,
     from: Standing,
     count: usize,
 ) -> Result<Standing, Ending>
+    requires there { body_of table.now from.body ≡ Some code.now }
     requires fits { Fits from stack.old.items frames.old.items }
     ensures told { (nesting : ℕ) → Told (λ is. act (setting_of table.now nesting) (texts_of table.now) (Some (Return count)) from.body from.place.at
         from.room (values stack.old.items from.place.top) (reverse frames.old.items) from.place.ticks (with_inputs is (S.world store.old)))
@@ -86,45 +95,66 @@ fn leave_within<S: Store>(
     ensures fits { IfOk result (λ s. Fits s stack.new.items frames.new.items) }
     ensures quiet { (S.world store.new).events ≡ (S.world store.old).events }
 {
-    leave_body(table, stack.as_mut_slice(), frames, store, from, count)
+    leave_body(
+        table,
+        code,
+        stack.as_mut_slice(),
+        frames,
+        store,
+        from,
+        count,
+    )
 }
 
-/// A run that is over halts.
-fn or_ended(next: Result<Standing, Ending>) -> Result<Standing, Halt>
-    ensures exact { result ≡ halt_of next }
+/// A run that is over halts, and one that goes on has the code of the body in which it does.
+#[inline(always)]
+fn or_ended<'t>(
+    table: &'t Table,
+    next: Result<Standing, Ending>,
+) -> Result<(Standing, Option<&'t Body>), Halt>
+    ensures exact { standing_in result ≡ halt_of next }
+    ensures code { IfOk result (λ r. MatchOption r.1 (body_of table.now r.0.body ≡ None) (λ code. body_of table.now r.0.body ≡ Some code.now)) }
 {
     match next {
-        Ok(standing) => Ok(standing),
+        Ok(standing) => Ok((standing, body_at(table, standing.body))),
         Err(ending) => Err(Halt::Ended(ending)),
     }
 }
 
-/// The running body until its next pause, and what that pause is for.
-fn leg<S: Store>(
-    table: &Table,
+/// The running body until it calls, returns or is interrupted, and what comes of that.
+#[inline(always)]
+fn leg<'t, S: Store>(
+    table: &'t Table,
     nesting: usize,
     stack: &mut Vec<Slot>,
     frames: &mut Vec<Frame>,
     store: &mut S,
     from: Standing,
-) -> Result<Standing, Halt>
+    code: &Body,
+) -> Result<(Standing, Option<&'t Body>), Halt>
+    requires there { body_of table.now from.body ≡ Some code.now }
     requires fits { Fits from stack.old.items frames.old.items }
-    ensures led { Led table.now nesting from stack.old.items frames.old.items (S.world store.old) result stack.new.items frames.new.items (S.world store.new) }
+    ensures led { Led table.now nesting from stack.old.items frames.old.items (S.world store.old) (standing_in result) stack.new.items frames.new.items (S.world store.new) }
+    ensures code { IfOk result (λ r. MatchOption r.1 (body_of table.now r.0.body ≡ None) (λ code. body_of table.now r.0.body ≡ Some code.now)) }
     ensures quiet { (S.world store.new).events ≡ (S.world store.old).events }
 {
-    match run_within(table, stack, store, from) {
-        Pause::Enters(place, callee) => {
-            let at_call = Standing { place, ..from };
-            match enter(table, nesting, stack, frames, at_call, callee) {
-                Ok(next) => Ok(next),
-                Err(stop) => Err(Halt::Ended(give_up(stack, store, place.top, stop))),
+    match run_within(table, code, stack, store, from) {
+        Ok((place, crossing)) => {
+            let here = Standing { place, ..from };
+            match crossing {
+                Crossing::Enters(callee) => match enter(
+                    table, nesting, stack, frames, here, callee,
+                ) {
+                    Ok(next) => Ok(next),
+                    Err(stop) => Err(Halt::Ended(give_up(stack, store, place.top, stop))),
+                },
+                Crossing::Returns(count) => {
+                    let next = leave_within(table, code, stack, frames, store, here, count);
+                    or_ended(table, next)
+                }
             }
         }
-        Pause::Returns(place, count) => {
-            let at_end = Standing { place, ..from };
-            or_ended(leave_within(table, stack, frames, store, at_end, count))
-        }
-        Pause::Asks(place, operation) => {
+        Err(Interruption::Asks(place, operation)) => {
             let at = Standing { place, ..from };
             match operands_at(table, at, operation) {
                 Some(count) => Err(Halt::Asks(Asking {
@@ -135,8 +165,8 @@ fn leg<S: Store>(
                 None => Err(Halt::Ended(Ending::Lost)),
             }
         }
-        Pause::Faults(top, fault) => Err(Halt::Ended(fail(stack, store, top, fault))),
-        Pause::Lost => Err(Halt::Ended(Ending::Lost)),
+        Err(Interruption::Faults(top, fault)) => Err(Halt::Ended(fail(stack, store, top, fault))),
+        Err(Interruption::Lost) => Err(Halt::Ended(Ending::Lost)),
     }
 }
 
@@ -155,9 +185,17 @@ pub fn run_from<S: Store>(
     ensures quiet { (S.world store.new).events ≡ (S.world store.old).events }
 {
     let mut here = from;
+    let mut code = body_at(table, from.body);
     loop {
-        match leg(table, nesting, stack, frames, store, here) {
-            Ok(next) => here = next,
+        let there = match code {
+            Some(there) => there,
+            None => return Halt::Ended(Ending::Lost),
+        };
+        match leg(table, nesting, stack, frames, store, here, there) {
+            Ok((next, its)) => {
+                here = next;
+                code = its;
+            }
             Err(halt) => return halt,
         }
     }

@@ -3,12 +3,10 @@ ghost use Rattle.std.specs.Prelude.{◌≡◌, ℕ, List, Some, None, MatchOptio
 ghost use Rattle.ang_meaning.specs.declared.slot.Slot.{Slot};
 ghost use Rattle.ang_meaning.specs.World.{World};
 ghost use Rattle.ang_meaning.specs.Setting.{params_of, target, bound as bound_to};
-ghost use Rattle.ang_fuse.specs.Sequences.{AreSteps};
 ghost use Rattle.ang_steps.specs.Tables.{body_of, import_of, setting_of, texts_of, found};
 
 use ang_code::Instruction;
 use ang_fuse::body::Body;
-use ang_fuse::step::Step;
 use ang_kinds::Fault;
 use ang_meaning::{Callee, HostUse, Passing, Routine};
 
@@ -61,28 +59,6 @@ pub fn text_at(table: &Table, body: Routine) -> &[Instruction]
     }
 }
 
-/// The steps of a body, none where there is no such body.
-#[inline(always)]
-pub fn steps_at(table: &Table, body: Routine) -> &[Step]
-    ensures fits { AreSteps result.now ((texts_of table.now).text body) }
-{
-    match body_at(table, body) {
-        Some(code) => code.steps(),
-        None => &[],
-    }
-}
-
-/// How many values a body puts above its parameters at most.
-#[inline(always)]
-pub fn height_at(table: &Table, body: Routine) -> usize
-    ensures exact { result ≡ (texts_of table.now).height body }
-{
-    match body_at(table, body) {
-        Some(code) => code.height(),
-        None => 0,
-    }
-}
-
 /// How a body's parameters take their arguments, the last parameter first.
 #[inline(always)]
 pub fn params_at(table: &Table, body: Routine) -> &[Passing]
@@ -107,6 +83,7 @@ pub fn import_at(table: &Table, home: u32, number: u32) -> Option<&Import>
 ///
 /// # Errors
 /// `Unbound` where an import is bound to none.
+#[inline(always)]
 pub fn callee_of(table: &Table, home: u32, callee: Callee) -> Result<Routine, Fault>
     ensures exact { (nesting : ℕ) (arguments : List Slot) (w : World)
         → target (setting_of table.now nesting) home callee arguments w ≡ found result }
@@ -120,6 +97,7 @@ pub fn callee_of(table: &Table, home: u32, callee: Callee) -> Result<Routine, Fa
     }
 }
 
+#[inline(always)]
 fn bound_or_fault(bound: Option<Routine>) -> Result<Routine, Fault>
     ensures exact { bound_to bound ≡ found result }
 {

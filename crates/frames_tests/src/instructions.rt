@@ -11,7 +11,7 @@ use ang_steps::place::{Pause, Place};
 use ang_steps::stack::peek;
 use ang_steps::stop::Stop;
 use ang_steps::table::{
-    Import, ModuleCode, Table, body_at, callee_of, height_at, import_at, params_at, text_at,
+    Import, ModuleCode, Table, body_at, callee_of, import_at, params_at, text_at,
 };
 use std::alloc::{AllocError, Global};
 use std::test::Fail;
@@ -115,7 +115,6 @@ fn code_by_number(rt: HostRuntime) -> Result<(), Fail> {
     assert!(rt; body_at(&table, nowhere).is_none());
     assert_eq!(rt; text_at(&table, there).len(), 2);
     assert_eq!(rt; text_at(&table, nowhere).len(), 0);
-    assert_eq!(rt; height_at(&table, there), 4);
     assert_eq!(rt; params_at(&table, there).len(), 1);
     assert!(rt; import_at(&table, 0, 2).is_none());
     assert_eq!(rt;

@@ -2,7 +2,7 @@
 use ang_fuse::step::Step;
 use ang_fused::fused::take;
 use ang_kinds::Prim;
-use ang_meaning::{Arithmetic, Change, Comparison, Slot};
+use ang_meaning::{Arithmetic, Callee, Change, Comparison, Slot};
 use ang_steps::place::Place;
 
 const ADD_LATER: Change = Change {
@@ -76,6 +76,22 @@ fn numbers_move(rt: HostRuntime) {
     assert_eq!(rt; taken(Step::Load(1)), led(8, 3, 9, [5, 3, 5]));
     assert_eq!(rt; taken(Step::Keep(0)), led(9, 1, 9, [3, 3, 0]));
     assert_eq!(rt; taken(Step::Move(1, 0)), led(10, 2, 9, [5, 5, 0]));
+}
+
+/// A number that is odd is 1 as a truth value.
+#[test]
+fn numbers_are_converted(rt: HostRuntime) {
+    let loaded = taken(Step::LoadConverted(Prim::Bool, 1));
+    assert_eq!(rt; loaded, led(9, 3, 9, [5, 3, 1]));
+    let top = taken(Step::Convert(Prim::Bool));
+    assert_eq!(rt; top, led(8, 2, 9, [5, 1, 0]));
+}
+
+/// Calls and returns are left to the run.
+#[test]
+fn calls_and_returns_are_not_taken(rt: HostRuntime) {
+    assert_eq!(rt; taken(Step::Enter(Callee::Own(0))), None);
+    assert_eq!(rt; taken(Step::Return(0)), None);
 }
 
 /// Where a comparison does not hold, four instructions more are passed.

@@ -1,4 +1,4 @@
-use Rattle.std.proofs.Common.{◌≡◌, ◌+◌, length, sym, ap, ◌∙◌, arith}
+use Rattle.std.proofs.Common.{◌≡◌, ◌+◌, length, refl, sym, ap, ◌∙◌, arith}
 use Rattle.ang_steps.specs.Stacks.{values}
 use Rattle.ang_steps.proofs.Values.{values_length}
 use Rattle.ang_frames.proofs.Calling.{begins_there, begins_refused}
@@ -12,6 +12,7 @@ returns-in-Some c =
           let high : c.in-Some.room ≡ length (values c.args.stack.now.items c.args.top) + code.height c.args.body = omega (arith, c.in-Some.ensures.exact.0, h, size) in
           begins_there code c.args.body c.args.stack.now.items c.args.top fr c.args.ticks w c.reserve.new.stack.items c.in-Some.room c.in-Some.ensures.same high;
       in_room = (omega (arith, c.in-Some.ensures.exact.0), c.in-Some.ensures.exact.1);
+      body = refl;
       grows = c.in-Some.ensures.grows;
     }
 
@@ -19,5 +20,6 @@ pub returns-in-None : goal.returns-in-None
 returns-in-None c = record {
   told = λ code fr w h. begins_refused code c.args.body c.args.stack.now.items c.args.top fr c.args.ticks w c.reserve.new.stack.items c.in-None.ensures.same;
   in_room = tt;
+  body = tt;
   grows = c.in-None.ensures.grows;
 }

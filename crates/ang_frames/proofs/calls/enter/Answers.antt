@@ -8,16 +8,19 @@ use Rattle.ang_frames.specs.Legs.{caller_at}
 use Rattle.std.specs.Prelude.{reverse}
 use Rattle.ang_frames.proofs.calls.enter.Goals as goal
 
-pub returns-in-Ok : goal.returns-in-Ok
-returns-in-Ok c =
+pub returns-in-Ok-enter_body-clause-told : goal.returns-in-Ok-enter_body-clause-told
+returns-in-Ok-enter_body-clause-told c = λ w.
     let z = setting_of c.args.table.now c.args.nesting in
     let s = values c.args.stack.now.items c.args.from.place.top in
-    record {
-      told = λ w. told_then (told_same (λ is. ap (λ e. found_enters z (texts_of c.args.table.now) e s (reverse c.args.frames.now.items) (caller_at c.args.from) c.args.from.place.ticks (with_inputs is w)) (c.in-Ok.ensures.exact c.args.nesting s (with_inputs is w))))
-          (c.enter_body.ensures.told w);
-      fits = c.enter_body.ensures.fits;
-      grows = c.enter_body.ensures.grows;
-    }
+    told_then (told_same (λ is. ap (λ e. found_enters z (texts_of c.args.table.now) e s (reverse c.args.frames.now.items) (caller_at c.args.from) c.args.from.place.ticks (with_inputs is w)) (c.in-Ok.ensures.exact c.args.nesting s (with_inputs is w))))
+    (c.in-Ok-enter_body.ensures.told w)
+
+pub returns-in-Err-enter_body-clause-told : goal.returns-in-Err-enter_body-clause-told
+returns-in-Err-enter_body-clause-told c = λ w.
+    let z = setting_of c.args.table.now c.args.nesting in
+    let s = values c.args.stack.now.items c.args.from.place.top in
+    told_then (told_same (λ is. ap (λ e. found_enters z (texts_of c.args.table.now) e s (reverse c.args.frames.now.items) (caller_at c.args.from) c.args.from.place.ticks (with_inputs is w)) (c.in-Ok.ensures.exact c.args.nesting s (with_inputs is w))))
+    (c.in-Err-enter_body.ensures.told w)
 
 pub returns-in-Err : goal.returns-in-Err
 returns-in-Err c =
@@ -26,5 +29,6 @@ returns-in-Err c =
     record {
       told = λ w. told_same (λ is. ap (λ e. found_enters z (texts_of c.args.table.now) e s (reverse c.args.frames.now.items) (caller_at c.args.from) c.args.from.place.ticks (with_inputs is w)) (c.in-Err.ensures.exact c.args.nesting s (with_inputs is w)));
       fits = tt;
+      code = tt;
       grows = omega arith;
     }

@@ -23,6 +23,7 @@ returns-then-params-top c =
     record {
       told = λ w. told_same (λ is. enters_lost z code c.args.body stack f.place.top frames (caller_at f) f.place.ticks deep (omega (arith, count)) (with_inputs is w));
       fits = tt;
+      body = tt;
       grows = omega arith;
     }
 
@@ -40,6 +41,7 @@ returns-then-not-objects_there c =
     record {
       told = λ w. told_same (λ is. enters_null z code c.args.body stack f.place.top frames (caller_at f) f.place.ticks deep few objects (with_inputs is w));
       fits = tt;
+      body = tt;
       grows = omega arith;
     }
 
@@ -58,6 +60,7 @@ returns-then-len-nesting c =
     record {
       told = λ w. told_same (λ is. enters_deep z code c.args.body stack f.place.top frames (caller_at f) f.place.ticks deep few objects (omega (arith, callers, c.len.ensures, c.args.frames.now.ok.0)) (with_inputs is w));
       fits = tt;
+      body = tt;
       grows = omega arith;
     }
 
@@ -77,6 +80,7 @@ returns-then-from-eq0 c =
     record {
       told = λ w. told_same (λ is. enters_spent z code c.args.body stack f.place.top frames (caller_at f) f.place.ticks deep few objects nests (omega arith) (with_inputs is w));
       fits = tt;
+      body = tt;
       grows = omega arith;
     }
 
@@ -96,6 +100,7 @@ returns-in-Err c =
     record {
       told = λ w. told_then (told_same (λ is. enters_begins z code c.args.body stack f.place.top frames (caller_at f) f.place.ticks deep few objects nests (omega arith) (with_inputs is w))) (begins_refused code c.args.body stack f.place.top (caller_at f ∷ frames) (f.place.ticks - 1) w stack refl);
       fits = tt;
+      body = tt;
       grows = omega arith;
     }
 
@@ -116,5 +121,6 @@ returns-in-Ok c =
     record {
       told = λ w. told_then (told_same (λ is. enters_begins z code c.args.body stack f.place.top frames (caller_at f) f.place.ticks deep few objects nests (omega arith) (with_inputs is w) ∙ ap (λ fr. begins code c.args.body (values stack f.place.top) fr (f.place.ticks - 1) (with_inputs is w)) (sym pushed))) (c.begin_above.ensures.told code (reverse c.push.new.self.items) w c.params_and_height-height.ensures.height);
       fits = fits_begun c.begin_above.result c.begin_above.new.stack.items c.push.new.self.items c.begin_above.ensures.in_room (subst (AllFit (length c.begin_above.new.stack.items)) (sym pushed) (omega (arith, c.requires.fits.body, c.begin_above.ensures.grows), fit_more frames (length stack) (length c.begin_above.new.stack.items) c.begin_above.ensures.grows c.requires.fits.callers));
+      body = c.begin_above.ensures.body;
       grows = c.begin_above.ensures.grows;
     }
