@@ -1,4 +1,4 @@
-use Rattle.std.proofs.Common.{◌≡◌, ◌+◌, length, refl, sym, ap, ◌∙◌, arith}
+use Rattle.std.proofs.Common.{◌≡◌, ◌+◌, length, refl, arith}
 use Rattle.ang_steps.specs.Stacks.{values}
 use Rattle.ang_steps.proofs.Values.{values_length}
 use Rattle.ang_frames.proofs.Calling.{begins_there, begins_refused}

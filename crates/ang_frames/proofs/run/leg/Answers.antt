@@ -1,4 +1,4 @@
-use Rattle.std.proofs.Common.{ap, ◌≤◌, length, arith, ◌∙◌}
+use Rattle.std.proofs.Common.{ap, ◌≤◌, length, arith}
 use Rattle.std.specs.Prelude.{reverse}
 use Rattle.ang_meaning.proofs.Telling.{told_then}
 use Rattle.ang_steps.specs.Tables.{texts_of}
