@@ -4,11 +4,11 @@
     python3 bench/sections.py FOLDER
 
 ordinary    functions, classes and variables as a game's script has them
-parens      63 parentheses in each expression, the most that a function's body may open
+parens      62 parentheses in each expression
 operators   256 operators in each statement, the most that there may be
 names       one list of names as long as the section
 groups      what may be parameters or arguments up to its last parenthesis
-nested      statements in one another, as deep as they may lie
+nested      statements in one another, 30 deep
 functions   4,096 functions, the most of a module, of which the first ones call a host function each
 """
 
@@ -54,7 +54,7 @@ def filled(head, piece, tail):
 
 
 def nested(n):
-    """Blocks and loops in one another: 60 braces and parentheses are open at the deepest."""
+    """Blocks and loops in one another: 32 braces and parentheses are open at the deepest."""
     deep = 30
     return "void f%d()" % n + "{ if (b) { while (c) " * (deep // 2) + "{ x = (1); }" + " } }" * (deep // 2) + "\n"
 
