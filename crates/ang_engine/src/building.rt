@@ -45,7 +45,7 @@ pub enum BuildRefused {
 
 /// What a build is refused by that comes to no program.
 fn refused_by(unbuilt: Unbuilt) -> BuildRefused
-    ensures { result ≡ refused_by unbuilt }
+    ensures exact { result ≡ refused_by unbuilt }
 {
     match unbuilt {
         Unbuilt::Errors(errors) => BuildRefused::Errors(errors),

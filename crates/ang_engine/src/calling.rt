@@ -77,7 +77,7 @@ fn choose(
 
 /// How a call of the function ended.
 fn call_outcome(function: &ScriptFunction, ended: Result<Slot, Fault>) -> Outcome
-    ensures { result ≡ outcome_by function.now ended }
+    ensures exact { result ≡ outcome_by function.now ended }
 {
     match ended {
         Ok(value) => Outcome::Done(result_value(function, value)),

@@ -37,7 +37,7 @@ pub struct Engine {
 
 /// Whether each entry's driver is in a list of so many.
 fn have_drivers(registry: &Registry, count: usize) -> bool
-    ensures { IsTrue result ↔ HaveDrivers registry.now.entries count }
+    ensures exact { IsTrue result ↔ HaveDrivers registry.now.entries count }
 {
     for number in 0..registry.len() as u32 {
         if let Some(entry) = registry.get(EntityNo(number)) {

@@ -10,7 +10,8 @@ mod modules;
 mod replies;
 mod reply;
 
-pub use ang_written::laws;
+pub use ang_host::HostEvent;
+pub use ang_registry::Registry;
 pub use command::Command;
 pub use engine::Engine;
 pub use reply::{NewError, NewRefused, Outcome, Refusal, Reply};

@@ -22,7 +22,7 @@ const MOST_TICKS: u64 = 2_147_483_647;
 
 /// Whether a budget is within its bounds.
 pub fn may_run(budget: u64) -> bool
-    ensures { result ≡ is_budget budget }
+    ensures exact { result ≡ is_budget budget }
 {
     1 <= budget && budget <= MOST_TICKS
 }
@@ -43,7 +43,7 @@ pub fn find(modules: &[Module], name: &[u8]) -> Option<usize>
 /// Puts these values in the place of a module's globals.
 #[tactic(auto, using(crate::proofs::Worlds::map_set))]
 pub fn put_globals(globals: &mut Globals, i: usize, values: Vec<Slot>)
-    ensures { values_in globals.new ≡ slice_set (values_in globals.old) i values.items }
+    ensures set { values_in globals.new ≡ slice_set (values_in globals.old) i values.items }
 {
     if i < globals.modules.len() {
         globals.modules[i] = values;

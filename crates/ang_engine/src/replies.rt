@@ -12,7 +12,7 @@ use std::alloc::Global;
 
 /// A reply without denials.
 fn reply(alloc: Global, outcome: Outcome, events: Vec<HostEvent>, errors: List<Error>) -> Reply
-    ensures { result ≡ reply_of outcome events.items errors }
+    ensures exact { result ≡ reply_of outcome events.items errors }
 {
     Reply {
         outcome,
@@ -24,21 +24,21 @@ fn reply(alloc: Global, outcome: Outcome, events: Vec<HostEvent>, errors: List<E
 
 /// A reply after a run.
 fn with_events(alloc: Global, outcome: Outcome, events: Vec<HostEvent>) -> Reply
-    ensures { result ≡ reply_of outcome events.items [] }
+    ensures exact { result ≡ reply_of outcome events.items [] }
 {
     reply(alloc, outcome, events, List::from_vec(Vec::new(alloc)))
 }
 
 /// A reply without events and errors.
 pub fn answer(alloc: Global, outcome: Outcome) -> Reply
-    ensures { result ≡ reply_of outcome [] [] }
+    ensures exact { result ≡ reply_of outcome [] [] }
 {
     with_events(alloc, outcome, Vec::new(alloc))
 }
 
 /// How a command without an answer ended.
 pub fn ended(done: Result<(), Refusal>) -> Outcome
-    ensures { result ≡ outcome_of done }
+    ensures exact { result ≡ outcome_of done }
 {
     match done {
         Ok(()) => Outcome::Done(None),
@@ -48,7 +48,7 @@ pub fn ended(done: Result<(), Refusal>) -> Outcome
 
 /// The reply to a build.
 pub fn build_reply(alloc: Global, done: Result<Vec<HostEvent>, BuildRefused>) -> Reply
-    ensures { result ≡ reply_to_build done }
+    ensures exact { result ≡ reply_to_build done }
 {
     match done {
         Ok(events) => with_events(alloc, Outcome::Done(None), events),
@@ -67,7 +67,7 @@ pub fn build_reply(alloc: Global, done: Result<Vec<HostEvent>, BuildRefused>) ->
 
 /// The reply to a call.
 pub fn call_reply(alloc: Global, done: Result<Called, Refusal>) -> Reply
-    ensures { result ≡ reply_to_call done }
+    ensures exact { result ≡ reply_to_call done }
 {
     match done {
         Ok(called) => with_events(alloc, called.outcome, called.events),

@@ -2,6 +2,7 @@
 use ang_host::{Drivers, HostEvent};
 use ang_kinds::{Denial, Error, Fault, List, Value};
 use ang_registry::Registry;
+use thiserror::Error;
 
 /// The answer to one command: what the host was asked meanwhile, what a build refused, and how the
 /// command ended (docs/EMBEDDING.md, "Replies").
@@ -72,10 +73,12 @@ pub struct NewRefused {
 }
 
 /// The causes for which no engine is made.
-#[derive(Clone, Copy, PartialEq, Eq, Debug)]
+#[derive(Clone, Copy, PartialEq, Eq, Debug, Error)]
 pub enum NewError {
     /// An entry names a driver that is not in the list.
+    #[error("an entry's driver is not in the list")]
     NoDriver,
     /// A growth of memory was refused.
+    #[error("out of memory")]
     Memory,
 }

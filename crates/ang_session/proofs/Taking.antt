@@ -1,5 +1,5 @@
 -- Engines that take drivers, and give them back.
-use Rattle.std.proofs.Common.{◌≡◌, ℕ, ◌<◌, List, length, Option, Some, None, IfSome, Result, Ok, Err, inl, inr, refl, ◌∙◌}
+use Rattle.std.proofs.Common.{◌≡◌, ℕ, ◌<◌, ◌⊎◌, List, length, Option, Some, None, IfSome, Result, Ok, Err, inl, inr, refl, ◌∙◌}
 use Rattle.std.specs.Io.KnownBytes.{Appends}
 use Rattle.std.specs.Result.{IfOk, IfErr, OnOk, OnErr}
 use Rattle.std.specs.declared.alloc.Global.{Global}
@@ -8,13 +8,14 @@ use Rattle.ang_host.specs.Laws.{Meaning}
 use Rattle.ang_registry.specs.Registration.{RegistrationList}
 use Rattle.ang_engine.specs.Sound.{HaveDrivers}
 use Rattle.ang_engine.specs.World.{no_modules}
-use Rattle.ang_session.specs.Drivers.{AreListed, AreTaken, AreBalanced, EngineRefusal, IsRefused, engine_text}
+use Rattle.ang_session.specs.Drivers.{AreListed, AreTaken, AreBalanced, EngineRefusal, IsRefused, AreRefused, engine_text}
 use Rattle.ang_session.specs.Reading.{unread}
 use Rattle.ang_session.specs.Whole.{Untouched, Ends, Stops, RunsSession, StopsSession, most_session, long_session_text}
-use Rattle.ang_session.specs.Writing.{HasFront}
+use Rattle.ang_session.specs.Writing.{HasFront, unwritten}
 use Rattle.ang_session.specs.declared.ending.Status.{Status}
 use Rattle.ang_session.specs.declared.ending.Status.TheVariants.{BadInput}
 use Rattle.ang_session.specs.declared.ending.Stop.{Stop}
+use Rattle.ang_session.specs.declared.ending.Stop.TheVariants.{Memory}
 use Rattle.ang_session.specs.Lines.{lines_of}
 use Rattle.ang_session.specs.Session.{session_from}
 use Rattle.ang_session.proofs.Doing.{cut_nothing}
@@ -47,6 +48,19 @@ pub stops_refused : {V : Type 0} {P : V → Type 0} (m : (v : V) → Meaning (P 
 stops_refused m R xs ys old new text budget why (Ok status) back refused front = tt
 stops_refused m R xs ys old new None budget why (Err stop) back refused front = tt
 stops_refused m R xs ys old new (Some s) budget why (Err stop) back refused front = inr (inl (why, refused, front, back))
+
+-- a write fault then comes behind drivers that were refused
+pub read_refused : {V : Type 0} {P : V → Type 0} (m : (v : V) → Meaning (P v)) (R : RegistrationList) (xs : List (DynBox V Global P)) (A : Type 0)
+    (why : EngineRefusal) (ended : Result Status Stop) → IsRefused m R xs why → IfErr ended (λ e. e ≡ unwritten → A ⊎ AreRefused m R xs)
+read_refused m R xs A why (Ok status) refused = tt
+read_refused m R xs A why (Err stop) refused = λ _. inr (why, refused)
+
+-- want of memory is no write fault
+memory_written : Memory ≡ unwritten → ⊥
+memory_written e = cc
+
+pub read_memory : (A : Type 0) (ended : Result Status Stop) → ended ≡ Err Memory → IfErr ended (λ e. e ≡ unwritten → A)
+read_memory A ended is = rw is (λ e. absurd (memory_written e))
 
 module _ {V : Type 0} {P : V → Type 0} (m : (v : V) → Meaning (P v)) (R R' : RegistrationList) (xs xs' ys ys' : List (DynBox V Global P)) where
   -- an engine over the list that it was given has the drivers that it was given

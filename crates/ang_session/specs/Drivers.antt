@@ -34,6 +34,10 @@ abbrev pub IsRefused : {V : Type 0} {P : V → Type 0} → ((v : V) → Meaning 
 IsRefused m R xs (NotListed why) = IsRefusal why (states_of m xs)
 IsRefused m R xs NoDriver = AreListed m xs × (HaveDrivers R (length xs) → ⊥)
 
+-- no engine over the list R takes them
+abbrev pub AreRefused : {V : Type 0} {P : V → Type 0} → ((v : V) → Meaning (P v)) → RegistrationList → List (DynBox V Global P) → Type 0
+AreRefused m R xs = (why : EngineRefusal) × IsRefused m R xs why
+
 -- what is printed then
 abbrev pub engine_text : EngineRefusal → List ℕ
 engine_text (NotListed TooMany) = codes "engine TooMany\n"

@@ -1,5 +1,5 @@
 -- Reading a text whole (docs/EMBEDDING.md, "The program").
-use Rattle.std.specs.Prelude.{◌≡◌, ◌<◌, ◌≤◌, ◌+◌, ℕ, List, length, Option}
+use Rattle.std.specs.Prelude.{◌≡◌, ◌<◌, ◌≤◌, ◌+◌, ℕ, List, length, drop, Option, Some, IfSome}
 use Rattle.std.specs.Io.KnownBytes.{Consumes, IsAtEnd}
 use Rattle.ang_session.specs.declared.ending.IoFault.TheVariants as io
 use Rattle.ang_session.specs.declared.ending.Stop.{Stop}
@@ -16,6 +16,10 @@ WasRead limit old new TooLong = (taken : List ℕ) × Consumes old new taken × 
 abbrev pub IsTextOf : ℕ → Text → List ℕ → Type 0
 IsTextOf limit (Whole text) bytes = (text.items ≡ bytes) × (length bytes ≤ limit)
 IsTextOf limit TooLong bytes = limit < length bytes
+
+-- The text was read as far as reading goes: what is left is what stands behind one byte above the limit, and nothing of a text within it.
+abbrev pub IsReadThrough : ℕ → Option (List ℕ) → Option (List ℕ) → Type 0
+IsReadThrough limit old new = IfSome old (λ bytes. new ≡ Some (drop (limit + 1) bytes))
 
 -- a text could not be read
 abbrev pub unread : Stop

@@ -18,11 +18,15 @@ pub record Act : Type 0 where
 abbrev pub command : Command → Option Act
 command c = Some (record { action = action.Command c; lines = 0 })
 
+-- the first `lines` lines of those behind are a section of the module: nothing where they are too few
+abbrev pub section_act : List (List ℕ) → List ℕ → ℕ → Option Act
+section_act behind name lines =
+    if nat_le lines (length behind) then Some (record { action = action.Command (AddSection name (concat (take lines behind))); lines = lines }) else None
+
 -- what a line does, where `behind` are the lines that follow it: nothing where they are too few for its section
 abbrev pub act_of : ℕ → List (List ℕ) → SessionLine → Option Act
 act_of budget behind (line.Module name mask) = command (NewModule name mask)
-act_of budget behind (line.Section name lines) =
-    if nat_le lines (length behind) then Some (record { action = action.Command (AddSection name (concat (take lines behind))); lines = lines }) else None
+act_of budget behind (line.Section name lines) = section_act behind name lines
 act_of budget behind (line.Build name) = command (Build name budget)
 act_of budget behind (line.Call name args decl) = command (Call name decl args budget)
 act_of budget behind (line.Budget ticks) = Some (record { action = action.Budget ticks; lines = 0 })

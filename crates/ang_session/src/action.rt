@@ -2,9 +2,8 @@
 ghost use Rattle.std.specs.Prelude.{◌+◌, ◌≤◌, IfOk, length, option_and_then};
 ghost use Rattle.ang_session.specs.Acts.{Gives};
 ghost use Rattle.ang_session.specs.Lines.{lines_of};
-ghost use Rattle.ang_session.specs.Session.{act_of};
+ghost use Rattle.ang_session.specs.Session.{act_of, section_act};
 ghost use Rattle.ang_session.specs.SessionLines.{session_line_of};
-ghost use Rattle.ang_session.specs.declared.session_line.SessionLine.TheVariants.{Section};
 
 use crate::lines::first_lines;
 use crate::session_line::{LineError, SessionLine, session_line};
@@ -32,17 +31,11 @@ pub struct Act<'a> {
     pub rest: &'a [u8],
 }
 
-fn section(
-    alloc: Global,
-    budget: u64,
-    name: List<u8>,
-    lines: u64,
-    rest: &[u8],
-) -> Result<Act<'_>, LineError>
-    ensures exact { Gives result (lines_of rest.now) (act_of budget (lines_of rest.now) (Section name lines)) }
+/// A command that adds a section, whose text is the first `lines` lines of `rest`.
+fn section(alloc: Global, name: List<u8>, lines: u64, rest: &[u8]) -> Result<Act<'_>, LineError>
+    ensures exact { Gives result (lines_of rest.now) (section_act (lines_of rest.now) name lines) }
     ensures room { IfOk result (λ act. act.lines + length act.rest.now ≤ length rest.now) }
 {
-    let _ = budget;
     let (text, rest) = first_lines(rest, lines).ok_or(LineError::BadLine)?;
     let text = List::from_vec(Vec::from_slice(alloc, text)?);
     Ok(Act {
@@ -55,7 +48,8 @@ fn section(
 /// What the line does, where `rest` follows it and its commands may take `budget` ticks.
 ///
 /// # Errors
-/// `BadLine` where the line is of another form or `rest` has too few lines for its section.
+/// `BadLine` where the line is of another form or `rest` has too few lines for its section; and `Memory` where a
+/// growth of memory was refused.
 pub fn read_act<'a>(
     alloc: Global,
     budget: u64,
@@ -67,7 +61,7 @@ pub fn read_act<'a>(
     ensures room { IfOk result (λ act. act.lines + length act.rest.now ≤ length rest.now) }
 {
     let action = match session_line(alloc, line)? {
-        SessionLine::Section { name, lines } => return section(alloc, budget, name, lines, rest),
+        SessionLine::Section { name, lines } => return section(alloc, name, lines, rest),
         SessionLine::Module { name, mask } => Action::Command(Command::NewModule { name, mask }),
         SessionLine::Build { name } => Action::Command(Command::Build { name, budget }),
         SessionLine::Call { name, args, decl } => Action::Command(Command::Call {

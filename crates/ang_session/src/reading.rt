@@ -1,7 +1,8 @@
 //! Reading a text whole.
-ghost use Rattle.std.specs.Prelude.{◌≡◌, ◌≤◌, ◌<◌, ◌^◌, ◌+◌, ◌++◌, ℕ, List, length, IfOk, IfSome};
+ghost use Rattle.std.specs.Prelude.{◌≡◌, ◌≢◌, ◌≤◌, ◌<◌, ◌^◌, ◌+◌, ◌++◌, ℕ, List, length, IfOk, IfErr, IfSome};
 ghost use Rattle.std.specs.Io.KnownBytes.{Consumes, IsAtEnd};
-ghost use Rattle.ang_session.specs.Reading.{WasRead, IsTextOf};
+ghost use Rattle.ang_session.specs.Reading.{WasRead, IsReadThrough, IsTextOf};
+ghost use Rattle.ang_session.specs.Writing.{unwritten};
 
 use crate::ending::{IoFault, Stop};
 use std::alloc::Global;
@@ -29,6 +30,7 @@ fn read_more<R: Read>(reader: &mut R, text: &mut Vec<u8>, room: usize) -> Result
         × Consumes (R.remaining reader.old) (R.remaining reader.new) bytes) }
     ensures few { IfOk result (λ count. count ≤ room) }
     ensures end { IfOk result (λ count. count ≡ 0 → IsAtEnd (R.remaining reader.new)) }
+    ensures fault { IfErr result (λ e. e ≢ unwritten) }
 {
     let mut chunk = [0; CHUNK];
     let most = room.min(CHUNK);
@@ -49,6 +51,8 @@ pub fn read_text<R: Read>(alloc: Global, reader: &mut R, limit: usize) -> Result
     requires small { limit < 2 ^ 32 }
     ensures read { IfOk result (WasRead limit (R.remaining reader.old) (R.remaining reader.new)) }
     ensures text { IfOk result (λ text. IfSome (R.remaining reader.old) (IsTextOf limit text)) }
+    ensures through { IfOk result (λ _. IsReadThrough limit (R.remaining reader.old) (R.remaining reader.new)) }
+    ensures fault { IfErr result (λ e. e ≢ unwritten) }
 {
     let mut text = Vec::new(alloc);
     for _ in 0..MOST_READS {

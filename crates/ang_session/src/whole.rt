@@ -5,12 +5,12 @@ ghost use Rattle.ang_host.specs.Boxes.{members};
 ghost use Rattle.ang_engine.specs.Engines.{registrations, world_in, drivers_in};
 ghost use Rattle.ang_engine.specs.Sound.{IsSound};
 ghost use Rattle.ang_engine.specs.World.{no_modules};
-ghost use Rattle.ang_session.specs.Drivers.{kinds_of, AreListed, AreBalanced, NotListed, NoDriver, engine_text};
+ghost use Rattle.ang_session.specs.Drivers.{kinds_of, AreListed, AreRefused, AreBalanced, NotListed, NoDriver, engine_text};
 ghost use Rattle.ang_session.specs.Lines.{lines_of};
 ghost use Rattle.ang_session.specs.Profile.{loaded};
-ghost use Rattle.ang_session.specs.Reading.{unread};
-ghost use Rattle.ang_session.specs.Whole.{profile_fault_text, registered_by, start_of, Starts, Tells, RunsSession, StopsSession, StartStops, Ends, Stops, Untouched, outcome_of, fresh};
-ghost use Rattle.ang_session.specs.Writing.{HasFront};
+ghost use Rattle.ang_session.specs.Reading.{unread, IsReadThrough};
+ghost use Rattle.ang_session.specs.Whole.{profile_fault_text, registered_by, most_profile, most_session, start_of, Starts, Tells, RunsSession, StopsSession, StartStops, Ends, Stops, Untouched, outcome_of, fresh};
+ghost use Rattle.ang_session.specs.Writing.{HasFront, unwritten};
 
 use crate::ending::{IoFault, Status, Stop};
 use crate::profile::{ProfileFault, ProfileStop, load};
@@ -64,6 +64,7 @@ fn load_text<W: Write>(
     requires few { length text.now < 2 ^ 32 }
     ensures done { IfOk result (Starts (registered_by (loaded 1 registry.old (lines_of text.now))) registry.new.entries (W.contents writer.old) (W.contents writer.new)) }
     ensures cut { OnErr result (StartStops (registered_by (loaded 1 registry.old (lines_of text.now))) (W.contents writer.old) (W.contents writer.new)) }
+    ensures refused { IfErr result (λ e. e ≡ unwritten → IfOk (registered_by (loaded 1 registry.old (lines_of text.now))) (λ _. ⊥)) }
     ensures fault { IfErr result (λ e. e ≢ unread) }
 {
     match load(registry, text) {
@@ -86,6 +87,9 @@ fn load_profile<R: Read, W: Write>(
     requires new { registry.old ≡ fresh }
     ensures done { IfOk result (λ ok. IfSome (R.remaining reader.old) (λ text. Starts (start_of text) registry.new.entries (W.contents writer.old) (W.contents writer.new) ok)) }
     ensures cut { OnErr result (IfSome (R.remaining reader.old) (λ text. StartStops (start_of text) (W.contents writer.old) (W.contents writer.new))) }
+    ensures through { IfOk result (λ _. IsReadThrough most_profile (R.remaining reader.old) (R.remaining reader.new)) }
+    ensures read { IfErr result (λ e. e ≡ unwritten → IsReadThrough most_profile (R.remaining reader.old) (R.remaining reader.new)) }
+    ensures refused { IfErr result (λ e. e ≡ unwritten → IfSome (R.remaining reader.old) (λ text. IfOk (start_of text) (λ _. ⊥))) }
     ensures fault { IfErr result (λ e. e ≡ unread → W.contents writer.new ≡ W.contents writer.old) }
 {
     match read_text(alloc, reader, MOST_PROFILE)? {
@@ -111,6 +115,7 @@ fn run_text<R: Read, W: Write>(
     ensures order { kinds_of (drivers_in engine.new) ≡ kinds_of (drivers_in engine.old) }
     ensures done { IfOk result (λ status. IfSome (R.remaining reader.old) (λ text. RunsSession (λ v. (⟦<dyn Driver as Driver>⟧ v).meaning) (drivers_in engine.old) (drivers_in engine.new) (W.contents writer.old) (W.contents writer.new) (registrations engine.old) text budget status)) }
     ensures cut { OnErr result (IfSome (R.remaining reader.old) (λ text. StopsSession (λ v. (⟦<dyn Driver as Driver>⟧ v).meaning) (drivers_in engine.old) (drivers_in engine.new) (W.contents writer.old) (W.contents writer.new) (registrations engine.old) text budget)) }
+    ensures read { IfErr result (λ e. e ≡ unwritten → IsReadThrough most_session (R.remaining reader.old) (R.remaining reader.new)) }
     ensures fault { IfErr result (λ e. e ≡ unread → Untouched (λ v. (⟦<dyn Driver as Driver>⟧ v).meaning) (drivers_in engine.old) (drivers_in engine.new) (W.contents writer.old) (W.contents writer.new)) }
 {
     match read_text(alloc, reader, MOST_SESSION)? {
@@ -159,6 +164,7 @@ fn run_engine<R: Read, W: Write>(
     requires listed { AreListed (λ v. (⟦<dyn Driver as Driver>⟧ v).meaning) (members drivers) }
     ensures done { IfOk result.0 (λ status. IfSome (R.remaining reader.old) (λ text. Ends (λ v. (⟦<dyn Driver as Driver>⟧ v).meaning) (members drivers) result.1.items (W.contents writer.old) (W.contents writer.new) (Ok registry.entries) text budget status)) }
     ensures cut { OnErr result.0 (IfSome (R.remaining reader.old) (λ text. Stops (λ v. (⟦<dyn Driver as Driver>⟧ v).meaning) (members drivers) result.1.items (W.contents writer.old) (W.contents writer.new) (Ok registry.entries) text budget)) }
+    ensures read { IfErr result.0 (λ e. e ≡ unwritten → IsReadThrough most_session (R.remaining reader.old) (R.remaining reader.new) ⊎ AreRefused (λ v. (⟦<dyn Driver as Driver>⟧ v).meaning) registry.entries (members drivers)) }
     ensures order { kinds_of result.1.items ≡ kinds_of (members drivers) }
     ensures returned { (result.1.items ≡ members drivers)
         ⊎ AreBalanced (λ v. (⟦<dyn Driver as Driver>⟧ v).meaning) result.1.items }
@@ -198,6 +204,7 @@ fn run_drivers<R: Read, W: Write>(
     requires few { length drivers.items < 2 ^ 60 }
     ensures done { IfOk result.0 (λ status. IfSome (R.remaining reader.old) (λ text. Ends (λ v. (⟦<dyn Driver as Driver>⟧ v).meaning) drivers.items result.1.items (W.contents writer.old) (W.contents writer.new) (Ok registry.entries) text budget status)) }
     ensures cut { OnErr result.0 (IfSome (R.remaining reader.old) (λ text. Stops (λ v. (⟦<dyn Driver as Driver>⟧ v).meaning) drivers.items result.1.items (W.contents writer.old) (W.contents writer.new) (Ok registry.entries) text budget)) }
+    ensures read { IfErr result.0 (λ e. e ≡ unwritten → IsReadThrough most_session (R.remaining reader.old) (R.remaining reader.new) ⊎ AreRefused (λ v. (⟦<dyn Driver as Driver>⟧ v).meaning) registry.entries drivers.items) }
     ensures order { kinds_of result.1.items ≡ kinds_of drivers.items }
     ensures returned { (result.1.items ≡ drivers.items)
         ⊎ (AreListed (λ v. (⟦<dyn Driver as Driver>⟧ v).meaning) drivers.items × AreBalanced (λ v. (⟦<dyn Driver as Driver>⟧ v).meaning) result.1.items) }
@@ -240,6 +247,10 @@ pub fn session<P: Read, S: Read, W: Write>(
     ensures output { IfSome (P.remaining profile.old) (λ p. IfSome (S.remaining session.old) (λ s.
         Tells (λ v. (⟦<dyn Driver as Driver>⟧ v).meaning) drivers.items result.drivers.items (W.contents out.old) (W.contents out.new)
         (start_of p) s budget result.outcome)) }
+    // A write fault comes only behind a profile that was read, and behind a session that was, unless the profile or the drivers were refused.
+    ensures profile_read { IfErr result.outcome (λ e. e ≡ IoFault.Write → IsReadThrough most_profile (P.remaining profile.old) (P.remaining profile.new)) }
+    ensures session_read { IfErr result.outcome (λ e. e ≡ IoFault.Write → IsReadThrough most_session (S.remaining session.old) (S.remaining session.new)
+        ⊎ IfSome (P.remaining profile.old) (λ p. IfOk (start_of p) (λ R. AreRefused (λ v. (⟦<dyn Driver as Driver>⟧ v).meaning) R drivers.items))) }
     ensures order { kinds_of result.drivers.items ≡ kinds_of drivers.items }
     // They come back as they were, or, where an engine may have taken them, with nothing alive.
     ensures returned { (result.drivers.items ≡ drivers.items)

@@ -9,7 +9,10 @@ use ang_kinds::{Denial, Error, ErrorKind, Fault, Mask, Place, Value};
 use itoa::Buffer;
 use std::alloc::AllocError;
 
-/// The bytes of a text, put behind what stands in `out`. Fails where a growth is refused, and `out` then has no promise.
+/// The bytes of a text, put behind what stands in `out`.
+///
+/// # Errors
+/// A growth of memory was refused. Nothing is promised of `out` then.
 pub fn push_text(out: &mut Vec<u8>, text: &str) -> Result<(), AllocError>
     ensures added { OnOk result (out.new.items ≡ out.old.items ++ text.now) }
 {
@@ -17,6 +20,9 @@ pub fn push_text(out: &mut Vec<u8>, text: &str) -> Result<(), AllocError>
 }
 
 /// A number in decimal digits, put behind what stands in `out`.
+///
+/// # Errors
+/// A growth of memory was refused. Nothing is promised of `out` then.
 pub fn push_number(out: &mut Vec<u8>, n: u64) -> Result<(), AllocError>
     ensures added { OnOk result (out.new.items ≡ out.old.items ++ decimal n) }
 {
@@ -367,6 +373,9 @@ fn push_outcome(out: &mut Vec<u8>, outcome: Outcome) -> Result<(), AllocError>
 
 /// The text of a reply, put behind what stands in `out`: events, errors, denials and the outcome, a
 /// line for each.
+///
+/// # Errors
+/// A growth of memory was refused. Nothing is promised of `out` then.
 #[tactic(auto, using(crate::proofs::Texts::texts), unfolding(crate::specs::Text::reply_text))]
 pub fn push_reply(out: &mut Vec<u8>, reply: &Reply) -> Result<(), AllocError>
     ensures added { OnOk result (out.new.items ≡ out.old.items ++ reply_text reply.now) }

@@ -1,13 +1,17 @@
 -- The exit status (docs/FORMATS.md, "Exit status").
-use Rattle.std.specs.Prelude.{ℕ, Result, Ok, Err}
-use Rattle.ang_session.specs.declared.ending.IoFault.{IoFault}
-use Rattle.ang_session.specs.declared.ending.Status.{Status}
+use Rattle.std.specs.Prelude.{ℕ, Ok, Err}
 use Rattle.ang_session.specs.declared.ending.Status.TheVariants.{AllOk, SomeRefused, BadInput, Memory}
+use Rattle.asrun.specs.declared.ending.Ending.{Ending}
+use Rattle.asrun.specs.declared.ending.Ending.TheVariants.{Ran, Helped, BadCommandLine, CannotOpen, NoMemory}
 
--- the status of each outcome of a session
-abbrev pub status_of : Result Status IoFault → ℕ
-status_of (Ok AllOk) = 0
-status_of (Ok SomeRefused) = 1
-status_of (Ok BadInput) = 2
-status_of (Ok Memory) = 3
-status_of (Err fault) = 2
+-- the status of each way in which the program ends
+abbrev pub status_of : Ending → ℕ
+status_of (Ran (Ok AllOk)) = 0
+status_of (Ran (Ok SomeRefused)) = 1
+status_of (Ran (Ok BadInput)) = 2
+status_of (Ran (Ok Memory)) = 3
+status_of (Ran (Err fault)) = 2
+status_of Helped = 0
+status_of BadCommandLine = 2
+status_of CannotOpen = 2
+status_of NoMemory = 3

@@ -2,15 +2,14 @@
 //! (docs/EMBEDDING.md, "The program").
 #![tactic(auto)]
 
-ghost use Rattle.std.specs.Prelude.{◌≡◌};
-ghost use Rattle.asrun.specs.Exit.{status_of};
-
 mod command;
+mod ending;
 mod options;
 #[cfg(test)]
 mod tests;
 
 use crate::command::Options;
+use crate::ending::{Ending, code_of};
 use ang_drivers::{Cell, Console, Counter};
 use ang_host::Driver;
 pub use ang_session::{IoFault, SessionEnd, Status, session};
@@ -19,33 +18,33 @@ use std::fs::File;
 use std::process::ExitCode;
 use std::{env, io};
 
-/// The exit status of each outcome of a session.
-fn code_of(outcome: Result<Status, IoFault>) -> u8
-    ensures exact { result ≡ status_of outcome }
-{
+fn print_no_memory(rt: &impl Eprint) {
+    let _ = eprintln!(rt; "asrun: no memory");
+}
+
+/// Says on standard error what a session's outcome is, if it is one that the session can't print.
+fn print_outcome(rt: &impl Eprint, outcome: Result<Status, IoFault>) {
     match outcome {
-        Ok(Status::AllOk) => 0,
-        Ok(Status::SomeRefused) => 1,
-        Ok(Status::BadInput) => 2,
-        Ok(Status::Memory) => 3,
-        Err(_) => 2,
+        Ok(Status::Memory) => print_no_memory(rt),
+        Ok(_) => {}
+        Err(fault) => {
+            let _ = eprintln!(rt; "asrun: {fault}");
+        }
     }
 }
 
-fn no_memory(rt: &impl Eprint) -> u8 {
-    let _ = eprintln!(rt; "asrun: no memory");
-    3
-}
-
-/// Opens the files and runs the session. Gives the exit status.
-fn run_files(rt: &HostRuntime, options: &Options) -> Result<u8, AllocError> {
+/// Opens the files and runs the session.
+///
+/// # Errors
+/// A growth of memory was refused before the session.
+fn run_files(rt: &HostRuntime, options: &Options) -> Result<Ending, AllocError> {
     let Ok(mut profile) = File::open(rt, options.profile.as_str()) else {
         let _ = eprintln!(rt; "asrun: cannot open {}", options.profile);
-        return Ok(2);
+        return Ok(Ending::CannotOpen);
     };
     let Ok(mut session) = File::open(rt, options.session.as_str()) else {
         let _ = eprintln!(rt; "asrun: cannot open {}", options.session);
-        return Ok(2);
+        return Ok(Ending::CannotOpen);
     };
     let alloc = rt.alloc();
     let mut boxes: Vec<Box<dyn Driver>> = Vec::new(alloc);
@@ -62,35 +61,42 @@ fn run_files(rt: &HostRuntime, options: &Options) -> Result<u8, AllocError> {
         options.budget,
     );
     drop(drivers);
-    match outcome {
-        Ok(Status::Memory) => Ok(no_memory(rt)),
-        Ok(_) => Ok(code_of(outcome)),
-        Err(fault) => {
-            let _ = eprintln!(rt; "asrun: {fault}");
-            Ok(code_of(outcome))
-        }
-    }
+    print_outcome(rt, outcome);
+    Ok(Ending::Ran(outcome))
 }
 
-/// Reads the command line. Gives the exit status.
-fn run_words(rt: &HostRuntime) -> io::Result<u8> {
+/// Reads the command line, and runs the files that it names.
+///
+/// # Errors
+/// A growth of memory was refused before the session.
+fn run_words(rt: &HostRuntime) -> io::Result<Ending> {
     let alloc = rt.alloc();
     let words: Vec<String> = env::args(rt)?.collect(alloc)?;
     let words: Vec<&str> = words.iter().map(|word| word.as_str()).collect(alloc)?;
     match options::options(alloc, words.as_slice()) {
         Ok(options) => Ok(run_files(rt, &options)?),
-        Err(error) if error.kind() == clap::error::ErrorKind::OutOfMemory => Ok(no_memory(rt)),
+        Err(error) if error.kind() == clap::error::ErrorKind::OutOfMemory => {
+            print_no_memory(rt);
+            Ok(Ending::NoMemory)
+        }
         Err(error) => {
             let _ = error.print(rt);
-            Ok(error.exit_code() as u8)
+            Ok(if error.use_stderr() {
+                Ending::BadCommandLine
+            } else {
+                Ending::Helped
+            })
         }
     }
 }
 
 fn main(rt: HostRuntime) -> ExitCode {
-    let code = match run_words(&rt) {
-        Ok(code) => code,
-        Err(_) => no_memory(&rt),
+    let ending = match run_words(&rt) {
+        Ok(ending) => ending,
+        Err(_) => {
+            print_no_memory(&rt);
+            Ending::NoMemory
+        }
     };
-    ExitCode::from(code)
+    ExitCode::from(code_of(ending))
 }

@@ -57,14 +57,14 @@ impl<'a> Pieces<'a> {
 }
 
 impl Read for Pieces<'_> {
-    fn read(&mut self, buf: &mut [u8]) -> io::Result<usize> {
+    fn read(&mut self, buffer: &mut [u8]) -> io::Result<usize> {
         self.calls = self.calls.saturating_add(1);
         if self.calls == self.fails {
             return Err(Error::from(ErrorKind::Interrupted));
         }
-        let count = self.left.len().min(buf.len()).min(self.step);
+        let count = self.left.len().min(buffer.len()).min(self.step);
         let (front, rest) = self.left.split_at(count);
-        buf[..count].copy_from_slice(front);
+        buffer[..count].copy_from_slice(front);
         self.left = rest;
         Ok(count)
     }
@@ -93,7 +93,7 @@ impl Sink {
 }
 
 impl Write for Sink {
-    fn write(&mut self, buf: &[u8]) -> io::Result<usize> {
+    fn write(&mut self, buffer: &[u8]) -> io::Result<usize> {
         self.calls = self.calls.saturating_add(1);
         if self.calls == self.stops {
             return if self.fails {
@@ -102,8 +102,8 @@ impl Write for Sink {
                 Ok(0)
             };
         }
-        let count = buf.len().min(self.step);
-        self.kept.extend_from_slice(&buf[..count])?;
+        let count = buffer.len().min(self.step);
+        self.kept.extend_from_slice(&buffer[..count])?;
         Ok(count)
     }
 

@@ -11,11 +11,11 @@ use std::test::Fail;
 struct LineFeeds;
 
 impl Read for LineFeeds {
-    fn read(&mut self, buf: &mut [u8]) -> io::Result<usize> {
-        if buf.is_empty() {
+    fn read(&mut self, buffer: &mut [u8]) -> io::Result<usize> {
+        if buffer.is_empty() {
             return Ok(0);
         }
-        buf[0] = b'\n';
+        buffer[0] = b'\n';
         Ok(1)
     }
 }
@@ -67,11 +67,12 @@ fn a_reader_fails_at_each_call(rt: HostRuntime) -> Result<(), Fail> {
     Ok(())
 }
 
-/// Each call of `write` fails or takes nothing in turn; what stands written is a front of the output.
+/// Each of the 12 calls of `write` fails or takes nothing in turn, which is a write fault each time; what stands
+/// written is a front of the output.
 #[test]
 fn a_writer_stops_at_each_call(rt: HostRuntime) -> Result<(), Fail> {
     for fails in [false, true] {
-        for stops in 1..=11u64 {
+        for stops in 1..=12u64 {
             let mut out = Sink::new(rt.alloc(), 3, stops, fails);
             let mut profile = Pieces::new(PROFILE, 4096, 0);
             let mut text = Pieces::new(SESSION, 4096, 0);

@@ -14,8 +14,8 @@ returns-in-Err-clause-done g c modules =
     build-refused _ modules (values_in c.args.machine.now.globals) _ c.args.i (state_of c.args.into.now) _ c.args.budget _ _
     (compiled-same c.args.registry.now.entries (Err c.in-Err.unbuilt) _ _ _ _ c.take_sections-sections.ensures.mask (c.deref.ensures.value ∙ c.take_sections-sections.ensures.sections)
     c.in-Err.ensures.compiled)
-    c.refused_by.ensures c.take_sections-sections.ensures.emptied
-    (c.put_globals.ensures ∙ ap (slice_set (values_in c.args.machine.now.globals) c.args.i) c.new.ensures.items)
+    c.refused_by.ensures.exact c.take_sections-sections.ensures.emptied
+    (c.put_globals.ensures.set ∙ ap (slice_set (values_in c.args.machine.now.globals) c.args.i) c.new.ensures.items)
 
 pub initialize-requires : goal.initialize-requires
 initialize-requires g c =
@@ -26,7 +26,7 @@ initialize-requires g c =
 pub returns-in_default-clause-done : goal.returns-in_default-clause-done
 returns-in_default-clause-done g c modules =
     build-memory _ modules (values_in c.args.machine.now.globals) _ c.args.i (state_of c.args.into.now) _ c.args.budget c.take_sections-sections.ensures.emptied
-    (c.in_default.ensures.globals ∙ c.put_globals.ensures ∙ ap (slice_set (values_in c.args.machine.now.globals) c.args.i) c.new.ensures.items)
+    (c.in_default.ensures.globals ∙ c.put_globals.ensures.set ∙ ap (slice_set (values_in c.args.machine.now.globals) c.args.i) c.new.ensures.items)
 
 pub returns-in-Ok-result-clause-done : goal.returns-in-Ok-result-clause-done
 returns-in-Ok-result-clause-done g c modules =
@@ -36,7 +36,7 @@ returns-in-Ok-result-clause-done g c modules =
     (compiled-same c.args.registry.now.entries (Ok c.in-Ok.loaded) _ _ _ _ c.take_sections-sections.ensures.mask (c.deref.ensures.value ∙ c.take_sections-sections.ensures.sections)
     c.in-Ok.ensures.compiled)
     c.take_sections-sections.ensures.emptied
-    (c.put_globals.ensures ∙ ap (slice_set (values_in c.args.machine.now.globals) c.args.i) c.new.ensures.items)
+    (c.put_globals.ensures.set ∙ ap (slice_set (values_in c.args.machine.now.globals) c.args.i) c.new.ensures.items)
     c.in-Ok-initialize.ensures.means
 
 pub returns-in-Ok-result-clause-asked : goal.returns-in-Ok-result-clause-asked
@@ -53,8 +53,8 @@ returns-clause-done g c modules =
     (compiled-same c.args.registry.now.entries (Ok c.in-Ok.loaded) _ _ _ _ c.take_sections-sections.ensures.mask (c.deref.ensures.value ∙ c.take_sections-sections.ensures.sections)
     c.in-Ok.ensures.compiled)
     c.take_sections-sections.ensures.emptied
-    (c.put_globals.ensures ∙ ap (slice_set (values_in c.args.machine.now.globals) c.args.i) c.new.ensures.items)
-    (c.put_globals-in-Err-result.ensures ∙ ap (slice_set _ c.args.i) c.new-in-Err-result.ensures.items)
+    (c.put_globals.ensures.set ∙ ap (slice_set (values_in c.args.machine.now.globals) c.args.i) c.new.ensures.items)
+    (c.put_globals-in-Err-result.ensures.set ∙ ap (slice_set _ c.args.i) c.new-in-Err-result.ensures.items)
     c.in-Ok-initialize.ensures.means
 
 pub returns-clause-asked : goal.returns-clause-asked

@@ -1,5 +1,5 @@
 use Rattle.ang_session.specs.Drivers.{NotListed}
-use Rattle.ang_session.proofs.Taking.{ends_refused, stops_refused}
+use Rattle.ang_session.proofs.Taking.{ends_refused, stops_refused, read_refused}
 use Rattle.ang_session.proofs.whole.run_drivers.Goals as goal
 
 pub returns-in-Ok-clause-done : goal.returns-in-Ok-clause-done
@@ -22,3 +22,11 @@ returns-in-Err-clause-cut g c =
 
 pub returns-in-Ok-clause-fault : goal.returns-in-Ok-clause-fault
 returns-in-Ok-clause-fault g c = rw c.in-Ok.ensures.kept at c.run_engine.ensures.fault
+
+pub returns-in-Ok-clause-read : goal.returns-in-Ok-clause-read
+returns-in-Ok-clause-read g c = rw c.in-Ok.ensures.kept at c.run_engine.ensures.read
+
+pub returns-in-Err-clause-read : goal.returns-in-Err-clause-read
+returns-in-Err-clause-read g c =
+    read_refused (λ v. (g.dyn-1.0.entry v).1.meaning) c.args.registry.entries c.args.drivers.items _ (NotListed c.in-Err.why) c.print_drivers_error.result
+    c.in-Err.ensures.why

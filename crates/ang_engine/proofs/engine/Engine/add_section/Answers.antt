@@ -6,4 +6,4 @@ use Rattle.ang_engine.proofs.engine.Engine.add_section.Goals as goal
 pub returns-clause-applied : goal.returns-clause-applied
 returns-clause-applied g c =
     applied-done (λ v. (g.dyn-1.0.entry v).1.meaning) (registrations c.args.self.now) (world_in c.args.self.now) _ (drivers_in c.args.self.now) _ _ c.add_section-done.result c.ended.result
-    c.ended.ensures c.answer.ensures (c.add_section-done.ensures.done (values_in c.args.self.now.machine.globals))
+    c.ended.ensures.exact c.answer.ensures.exact (c.add_section-done.ensures.done (values_in c.args.self.now.machine.globals))
