@@ -19,7 +19,7 @@ const OVERFLOW: u32 = 2;
 /// - `read` and `write` 0 are a register that holds an `Int`, at first 0.
 ///
 /// Anything else is `Fault(1)`, and so is every `make`. Its core is the register, and then what it
-/// noted, in order.
+/// noted, in order. What it noted stays until it is dropped, and nothing gives it out.
 #[derive(Drop)]
 pub struct Console {
     register: i64,

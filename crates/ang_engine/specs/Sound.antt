@@ -20,10 +20,12 @@ pub record IsLoaded (R : RegistrationList) (caller : List ℕ) (mask : ℕ) (l :
   pub sections : List (List ℕ)
   pub built : build_of (seen R mask) sections ≡ Compiled (resolved_in l)
 
+-- this holds of what is loaded, if something is
 abbrev pub IfBuilt : Option Loaded → (Loaded → Type 0) → Type 0
 IfBuilt None P = Unit {0}
 IfBuilt (Some l) P = P l
 
+-- a module that is built has what sections build to over what its built mask sees
 abbrev pub IsSoundModule : RegistrationList → Module → Type 0
 IsSoundModule R m = IfBuilt m.program (IsLoaded R m.name m.built_mask.0)
 
@@ -31,7 +33,8 @@ IsSoundModule R m = IfBuilt m.program (IsLoaded R m.name m.built_mask.0)
 abbrev pub HaveDrivers : RegistrationList → ℕ → Type 0
 HaveDrivers R n = (number : ℕ) (x : Entry) → entry_at R number ≡ Some x → x.driver < n
 
--- Each module has what its last build made of it, and there is one module at most; each entry's driver is in the list; and no driver has a live object.
+-- Each built module has some sections' program, and there is one module at most; each entry's driver is in the list; and no driver has a live key, and each has
+-- its tallies.
 pub record IsSound {V : Type 0} {P : V → Type 0} (m : (v : V) → Meaning (P v)) (e : Engine V P) : Type 0 where
   pub modules : All (IsSoundModule (registrations e)) e.modules.items
   pub one : length e.modules.items ≤ most_modules

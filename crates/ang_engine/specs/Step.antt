@@ -44,9 +44,11 @@ pub record Stepped : Type 0 where
   pub world : World
   pub left : List Input
 
+-- a reply without denials, which no build gives yet
 abbrev pub reply_of : Outcome → List HostEvent → List Error → Reply
 reply_of outcome events errors = record { outcome = outcome; events = events; errors = errors; denials = [] }
 
+-- answered at once: nobody was asked
 abbrev pub answered : Outcome → World → List Input → Option Stepped
 answered outcome world left = Some (record { reply = reply_of outcome [] []; world = world; left = left })
 
@@ -60,6 +62,7 @@ after_run outcome modules globals after = record { reply = reply_of outcome afte
 
 -- ---- NewModule
 
+-- a module without sections, unbuilt, whose built mask is its mask until it is built
 abbrev pub fresh_module : List ℕ → ℕ → ModuleState
 fresh_module name mask = record { name = name; mask = mask; built_mask = mask; sections = []; program = None }
 
@@ -67,12 +70,14 @@ fresh_module name mask = record { name = name; mask = mask; built_mask = mask; s
 abbrev pub with_new_module : List ℕ → ℕ → World → World
 with_new_module name mask w = record { modules = w.modules ++ fresh_module name mask ∷ []; globals = w.globals ++ [] ∷ [] }
 
+-- the name is an identifier: it is to be free, and there is to be room for a module
 abbrev pub where_free : Option ℕ → List ℕ → ℕ → World → List Input → Option Stepped
 where_free (Some i) name mask w inputs = refused ModuleExists w inputs
 where_free None name mask w inputs =
     if nat_le most_modules (length w.modules) then refused Limit w inputs
     else answered (Done None) (with_new_module name mask w) inputs
 
+-- a new module, or the first reason why there is none: its name, another of that name, too many
 abbrev pub added_module : List ℕ → ℕ → World → List Input → Option Stepped
 added_module name mask w inputs =
     if is_identifier name then where_free (module_named name w) name mask w inputs
@@ -85,6 +90,7 @@ abbrev pub section_added : List ℕ → ModuleState → Option ModuleState
 section_added text m =
     if nat_le most_sections (length m.sections) then None else Some (record m { sections = m.sections ++ text ∷ [] })
 
+-- one section too many is refused
 abbrev pub or_limit : Option ModuleState → World → ℕ → List Input → Option Stepped
 or_limit None w i inputs = refused Limit w inputs
 or_limit (Some m) w i inputs = answered (Done None) (with_module w i m) inputs
@@ -107,6 +113,7 @@ abbrev pub initialized : Result Slot Fault → RunWorld → World → ℕ → Mo
 initialized (Ok v) after w i m r = after_run (Done None) (slice_set w.modules i (record (emptied m) { program = Some r })) after.globals after
 initialized (Err f) after w i m r = after_run (Refused (InitFailed f)) (slice_set w.modules i (emptied m)) (slice_set after.globals i []) after
 
+-- what the end of the initializers leaves
 abbrev pub started : Ended → World → ℕ → ModuleState → Resolved → Stepped
 started e w i m r = initialized e.result e.world w i m r
 
@@ -114,15 +121,19 @@ started e w i m r = initialized e.result e.world w i m r
 abbrev pub initializers_end : RegistrationList → World → ℕ → ModuleState → Resolved → ℕ → List Input → Ended
 initializers_end V w i m r budget inputs = end_of (initialization_of m.name V r.tree budget (slice_set w.globals i (first_globals r.tree)) inputs)
 
+-- The sections have errors, which are listed, and the module is left emptied; or they are a program, whose initializers run.
 abbrev pub after_build : RegistrationList → Built → World → ℕ → ModuleState → ℕ → List Input → Option Stepped
 after_build V (Errors es) w i m budget inputs = Some (record { reply = reply_of (Refused BuildErrors) [] es; world = world_emptied w i m; left = inputs })
 after_build V (Compiled r) w i m budget inputs = Some (started (initializers_end V w i m r budget inputs) w i m r)
 
+-- A build over what the module's mask sees now. The first input says whether there is memory to build, the others are those of the initializers. Without
+-- memory no initializer runs, and the module is left emptied.
 abbrev pub build : RegistrationList → World → ℕ → ModuleState → ℕ → List Input → Option Stepped
 build R w i m budget (Room true ∷ inputs) = after_build (seen R m.mask) (build_of (seen R m.mask) m.sections) w i m budget inputs
 build R w i m budget (Room false ∷ inputs) = answered (Refused BuildMemory) (world_emptied w i m) inputs
 build R w i m budget _ = None
 
+-- the budget is judged before anything is done
 abbrev pub build_within : ℕ → RegistrationList → World → ℕ → ModuleState → List Input → Option Stepped
 build_within budget R w i m inputs = if is_budget budget then build R w i m budget inputs else refused BadBudget w inputs
 
@@ -133,10 +144,12 @@ pub data Choice : Type 0 where
   Chosen : ℕ → ScriptFunction → List Slot → Choice
   Not : Refusal → Choice
 
+-- the values are to be those of the function's parameters
 abbrev pub with_arguments : ℕ → ScriptFunction → Option (List Slot) → Choice
 with_arguments n f None = Not BadArguments
 with_arguments n f (Some slots) = Chosen n f slots
 
+-- there is to be such a function, and the host is to be able to call it
 abbrev pub of_function : ℕ → Option ScriptFunction → List Value → Choice
 of_function n None args = Not NoFunction
 of_function n (Some f) args = if is_callable f then with_arguments n f (arguments_of f args) else Not NotCallable
@@ -154,6 +167,7 @@ abbrev pub called : Result Slot Fault → RunWorld → World → ScriptFunction 
 called (Ok v) after w f = after_run (Done (result_of f v)) w.modules after.globals after
 called (Err fault) after w f = after_run (Failed fault) w.modules after.globals after
 
+-- what the end of a call leaves
 abbrev pub call_ended : Ended → World → ScriptFunction → Stepped
 call_ended e w f = called e.result e.world w f
 
@@ -161,25 +175,31 @@ call_ended e w f = called e.result e.world w f
 abbrev pub call_end : RegistrationList → World → ModuleState → Resolved → ℕ → ℕ → List Slot → List Input → Ended
 call_end V w m r budget n slots inputs = end_of (call_of m.name V r.tree budget n slots w.globals inputs)
 
+-- a call of the function that was chosen, or the reason why none was
 abbrev pub call_chosen : RegistrationList → Choice → World → ModuleState → Resolved → ℕ → List Input → Option Stepped
 call_chosen V (Not why) w m r budget inputs = refused why w inputs
 call_chosen V (Chosen n f slots) w m r budget inputs = Some (call_ended (call_end V w m r budget n slots inputs) w f)
 
+-- A call of a function of a module's program, which sees what its built mask meets. That the module is built, that the budget is one, and the choice of the
+-- function are judged in this order.
 abbrev pub call_program : RegistrationList → Option Resolved → List ℕ → List Value → ℕ → World → ModuleState → List Input → Option Stepped
 call_program R None decl args budget w m inputs = refused NotBuilt w inputs
 call_program R (Some r) decl args budget w m inputs =
     if is_budget budget then call_chosen (seen R m.built_mask) (choice_of (seen R m.built_mask) r.names decl args) w m r budget inputs
     else refused BadBudget w inputs
 
+-- a call of a module's function
 abbrev pub call : List ℕ → List Value → ℕ → RegistrationList → World → ℕ → ModuleState → List Input → Option Stepped
 call decl args budget R w i m inputs = call_program R m.program decl args budget w m inputs
 
 -- ---- a command
 
+-- what is done with the module of a name, where there is one
 abbrev pub on_module : Option ℕ → World → List Input → (ℕ → ModuleState → List Input → Option Stepped) → Option Stepped
 on_module None w inputs go = refused NoModule w inputs
 on_module (Some i) w inputs go = go i (module_at w i) inputs
 
+-- a command, judged and done, where memory was there to begin
 abbrev pub judged : RegistrationList → World → Command → List Input → Option Stepped
 judged R w (NewModule name mask) inputs = added_module name mask.0 w inputs
 judged R w (AddSection name text) inputs = on_module (module_named name w) w inputs (add_section text w)

@@ -3,7 +3,8 @@ use ang_kinds::{List, Mask, Value};
 
 /// One command to the engine (docs/EMBEDDING.md, "Commands").
 ///
-/// Names and texts are bytes. A `budget` is a number of ticks, from 1 to 2,147,483,647.
+/// Names and texts are bytes. A `budget` is a number of ticks, from 1 to 2,147,483,647: a tick is an entry
+/// of a script function, or a test of a loop.
 #[derive(Drop, Debug)]
 pub enum Command {
     /// Makes a module without sections, which sees what `mask` meets.
@@ -13,14 +14,17 @@ pub enum Command {
         /// The module's mask. A mask of 0 sees nothing.
         mask: Mask,
     },
-    /// Adds one section to those that wait for the module's next build.
+    /// Adds one section to those that wait for the module's next build. 64 may wait. The text may have any
+    /// length here; above 65,536 bytes it is an error of the build.
     AddSection {
         /// The module.
         name: List<u8>,
         /// The section's text.
         text: List<u8>,
     },
-    /// Builds the sections that wait, over what the module's mask meets now.
+    /// Builds the sections that wait, over what the module's mask meets now. Unless it is refused as
+    /// `NoModule`, `BadBudget` or `Memory`, what the module had is gone whatever the build answers: its
+    /// program, its globals and the sections that waited.
     Build {
         /// The module.
         name: List<u8>,

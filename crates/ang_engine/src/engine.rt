@@ -105,7 +105,8 @@ impl Engine {
         }
     }
 
-    /// Does one command, and answers how it ended.
+    /// Does one command, and answers how it ended. It returns when the command has ended: a run is within
+    /// its budget, and can't be interrupted. After a refusal or a fault the engine takes the next command.
     ///
     /// The reply and the modules after it are those of the source meaning, where each build sees what
     /// the module's mask meets, told what the drivers answered and whether there was memory. Each host

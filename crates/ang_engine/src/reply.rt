@@ -38,7 +38,7 @@ pub enum Refusal {
     BadName,
     /// There is a module of that name.
     ModuleExists,
-    /// One module or one waiting section too many.
+    /// A second module: this version takes one. Or a 65th waiting section.
     Limit,
     /// There is no module of that name.
     NoModule,
@@ -46,17 +46,18 @@ pub enum Refusal {
     NotBuilt,
     /// The budget is 0 or above 2,147,483,647.
     BadBudget,
-    /// A growth of memory was refused while the module was built.
+    /// A growth of memory was refused before the first initializer ran.
     BuildMemory,
     /// The sections have errors, which the reply lists.
     BuildErrors,
-    /// An initializer of a global failed.
+    /// An initializer of a global ended with this fault. What the drivers were asked until then stands.
     InitFailed(Fault),
     /// The module has no function of that declaration.
     NoFunction,
-    /// A parameter or the result of the function can't come from or go to the host.
+    /// The function has a parameter that is a reference: only numbers and truth values pass, by value.
     NotCallable,
-    /// The arguments are not values of the parameters.
+    /// Another number of values than there are parameters, or one that is not of its parameter's type
+    /// and range. Nothing is converted.
     BadArguments,
     /// A growth of memory was refused before anything was changed.
     Memory,

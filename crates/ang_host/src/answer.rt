@@ -17,6 +17,10 @@ pub enum Made {
 }
 
 /// What a driver answers to a call, a read or a write.
+///
+/// An entry wants `Void` where it is a `void` function and where a property is written, and else `Gave`: of an
+/// `Int` for a signed type, of a `Uint` for an unsigned one, of a `Bool` for `bool`, in the type's range.
+/// Anything else ends the script with the fault `BadAnswer`.
 #[derive(Clone, Copy, PartialEq, Eq, Debug)]
 pub enum Answer {
     /// It is done, and there is no value.

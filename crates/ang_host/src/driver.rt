@@ -18,6 +18,9 @@ use ang_kinds::Value;
 /// tally stands at 2^63 - 1. No call changes `fits`.
 ///
 /// Each key that is handed in has to be live, and each key that is answered is live.
+///
+/// `f` is the number that was given where the entry was registered. The engine asks only such numbers, with as
+/// many arguments as the entry declares; that is no `requires`, so a driver answers something to all others too.
 pub trait Driver: Drop {
     ghost meaning: { Meaning Self };
 

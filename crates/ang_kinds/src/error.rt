@@ -2,40 +2,43 @@
 use crate::{EntityNo, List, Mask, Place};
 use thiserror::Error;
 
-/// What is wrong at one place of a script (docs/LANGUAGE.md).
+/// What is wrong at one place of a script (docs/LANGUAGE.md). Those marked "not yet" come from no build of this
+/// version.
 #[derive(Clone, Copy, PartialEq, Eq, Debug)]
 pub enum ErrorKind {
-    /// A section or a token has too many bytes.
+    /// A section has more than 65,536 bytes, or a token more than 255.
     TooLong,
     /// A byte that begins no token.
     BadByte,
-    /// A number without digits, above its type, or directly followed by a letter, digit, `_` or `.`.
+    /// A number without digits, of 2^64 or more, or directly followed by a letter, digit, `_` or `.`.
     BadNumber,
     /// A comment that is not closed.
     OpenComment,
-    /// Too many brackets open at once, or too many operators in one statement.
+    /// More than 64 of `(` and `{` are open, or more than 256 operators stand since the last `;`, `{` or `}`.
     TooDeep,
     /// A token that no script can have there.
     Syntax,
     /// A name that is declared already.
     Duplicate,
-    /// One declaration, member, parameter or local too many.
+    /// One declaration too many (4,096 functions, as many globals), or parameter (32), or local (1,024 alive at
+    /// once).
     Limit,
     /// A type that neither the script declares nor the module sees.
     UnknownType,
     /// A type that cannot stand there.
     BadType,
-    /// An object type where only a handle can stand.
+    /// An object type where only a handle can stand. Not yet.
     ByValue,
-    /// A base that is no class or interface to be derived from, or that leads back to the class itself.
+    /// A base that is no class or interface to be derived from, or that leads back to the class itself. Not
+    /// yet.
     BadBase,
-    /// A type that an import cannot have.
+    /// A type that an import cannot have. Not yet.
     BadImport,
-    /// An `override` of nothing, of a `final` method, or with another result.
+    /// An `override` of nothing, of a `final` method, or with another result. Not yet.
     BadOverride,
-    /// A class that lacks a method of an interface above it.
+    /// A class that lacks a method of an interface above it. Not yet.
     MissingMethod,
-    /// A class whose handle fields lead back to the class itself.
+    /// A class whose handle fields lead back to the class itself. Not yet.
     Cyclic,
     /// A name that nothing has.
     UnknownName,
@@ -45,21 +48,21 @@ pub enum ErrorKind {
     Ambiguous,
     /// A change of what is `const`.
     Const,
-    /// A private member used outside its class.
+    /// A private member used outside its class. Not yet.
     Private,
-    /// A protected member used outside its class and those derived from it.
+    /// A protected member used outside its class and those derived from it. Not yet.
     Protected,
-    /// A condition that is no `bool`.
+    /// A condition, or an operand of a logical operator, that is no `bool`.
     NotBool,
     /// An expression whose type does not convert to what is wanted.
     BadConversion,
     /// An `&out` argument that is not the name of a variable which can be written.
     BadOut,
-    /// An assignment of objects or handles by value.
+    /// An assignment of objects or handles by value. Not yet.
     NoAssign,
     /// A `break` or `continue` outside a loop.
     Jump,
-    /// A type that has no constructor or factory without parameters.
+    /// A type that has no constructor or factory without parameters. Not yet.
     NoDefault,
     /// A path through a function with a result that does not return.
     NoReturn,

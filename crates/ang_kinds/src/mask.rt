@@ -2,10 +2,10 @@
 ghost use Rattle.std.specs.Prelude.{◌≡◌, IsTrue, ◌↔◌};
 ghost use Rattle.ang_kinds.specs.Masks.{Meets, meets};
 
-/// An access mask: 32 bit positions, of which each stands for one profile of scripts.
+/// An access mask: 32 bit positions, of which each stands for one group of scripts, as the host chooses.
 ///
 /// A registered entity carries the mask that was the default when it was registered, and a module
-/// carries the mask that it is built with (the AngelScript manual's chapter on access masks).
+/// carries the mask that it was made with (the AngelScript manual's chapter on access masks).
 #[derive(Clone, Copy, PartialEq, Eq, Debug)]
 pub struct Mask(pub u32);
 

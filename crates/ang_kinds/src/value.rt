@@ -1,6 +1,7 @@
 //! Values that pass between a script and its host.
 
-/// A value that is handed to a driver or that comes from one.
+/// A value that is handed to a driver or that comes from one, and an argument or the result of a call from
+/// outside.
 #[derive(Clone, Copy, PartialEq, Eq, Debug)]
 pub enum Value {
     /// A value of a signed integer type.

@@ -79,12 +79,13 @@ params_in None = []
 abbrev pub params_of : Setting → Routine → List Passing
 params_of z g = params_in (z.params g)
 
--- whether an entity is asked by a call: a function or method, or a factory, which makes an object and has no receiver
+-- an object or null
 abbrev pub is_handle : HostType → Bool
 is_handle Nothing = false
 is_handle (Plain p) = false
 is_handle Handle = true
 
+-- whether an entity is asked by a call: a function or method, or a factory, which makes an object and has no receiver
 abbrev pub is_called_by : Role → Bool → HostType → Bool
 is_called_by (MakingRole f) member result = not member && is_handle result
 is_called_by (CallingRole f) member result = true

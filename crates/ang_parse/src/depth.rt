@@ -9,7 +9,8 @@ use ang_lex::{Token, TokenKind};
 /// The most of `(` and `{` that may be open.
 const MOST_OPEN: u32 = 64;
 
-/// The most operators, and words that nest statements, between two of `;`, `{` and `}`.
+/// The most operators, and words of those below, between two of `;`, `{` and `}`. It is no bound on how deep
+/// statements nest: the `;` in the head of a `for` begins the count anew.
 const MOST_OPERATORS: u32 = 256;
 
 /// How many of `(` and `{` are open behind a token.

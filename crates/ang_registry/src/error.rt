@@ -16,8 +16,8 @@ pub enum RegError {
     /// The default mask is 0, so that no module could ever see the entry.
     #[error("the default mask is 0")]
     EmptyMask,
-    /// The text is no declaration of the call's form, a type's name is no identifier, or a factory gives
-    /// another type than its own.
+    /// The text is no declaration of the call's form, or is one that hosts can't use (a reference or an object
+    /// by value, say); a name is no identifier; or a factory gives another type than its own.
     #[error("no such declaration")]
     BadDeclaration,
     /// The type that the entry is to belong to, or one that its declaration names, is not registered.

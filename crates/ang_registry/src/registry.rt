@@ -95,8 +95,8 @@ impl Registry {
     /// # Errors
     ///
     /// The first of these that applies: `Limit` where 1,024 entries are there or the declaration has more than 32
-    /// parameters; `EmptyMask` where the default mask is 0; `BadDeclaration` where the text is of another form or
-    /// gives another type; `UnknownType` where the type or one that a parameter names is not registered;
+    /// parameters; `EmptyMask` where the default mask is 0; `BadDeclaration` where the text is of another form,
+    /// is one that hosts can't use, or gives another type; `UnknownType` where the type or one that a parameter names is not registered;
     /// `WrongDriver` where a parameter names a type of another driver; `Duplicate` where the type has a factory
     /// with the same parameters. `Memory`, where a growth was refused, may come in the place of any answer. After
     /// an error the registry is as it was.
@@ -122,9 +122,9 @@ impl Registry {
     /// # Errors
     ///
     /// The first of these that applies: `Limit` where 1,024 entries are there or the declaration has more than 32
-    /// parameters; `EmptyMask` where the default mask is 0; `BadDeclaration` where the text is of another form;
-    /// `UnknownType` where the type or one that the text names is not registered; `WrongDriver` where the text
-    /// names a type of another driver; `Duplicate` where the type has a property of the name, or a method of the
+    /// parameters; `EmptyMask` where the default mask is 0; `BadDeclaration` where the text is of another form or
+    /// is one that hosts can't use; `UnknownType` where the type or one that the text names is not registered;
+    /// `WrongDriver` where the text names a type of another driver; `Duplicate` where the type has a property of the name, or a method of the
     /// name with the same parameters and `const`. `Memory`, where a growth was refused, may come in the place of
     /// any answer. After an error the registry is as it was.
     #[tactic(auto, using(crate::proofs::Values::method_values))]
@@ -170,13 +170,14 @@ impl Registry {
         self.add_member(EntryKind::Property, type_name, f, declared)
     }
 
-    /// Registers a function of a driver, and answers its number. The declaration is `type NAME params`.
+    /// Registers a function of a driver, and answers its number: function `f` of the driver. The declaration is
+    /// `type NAME params`.
     ///
     /// # Errors
     ///
     /// The first of these that applies: `Limit` where 1,024 entries are there or the declaration has more than 32
-    /// parameters; `EmptyMask` where the default mask is 0; `BadDeclaration` where the text is of another form;
-    /// `UnknownType` where it names a type that is not registered; `WrongDriver` where `driver` is above 63 or the
+    /// parameters; `EmptyMask` where the default mask is 0; `BadDeclaration` where the text is of another form or
+    /// is one that hosts can't use; `UnknownType` where it names a type that is not registered; `WrongDriver` where `driver` is above 63 or the
     /// text names a type of another driver; `Duplicate` where a type or a global property has the name, or a
     /// function of the name has the same parameters. `Memory`, where a growth was refused, may come in the place
     /// of any answer. After an error the registry is as it was.
@@ -394,7 +395,8 @@ impl Registry {
         number_of_type(&self.entries, name)
     }
 
-    /// The number of the first function of the name that a module of the mask sees.
+    /// The number of the first function of the name that a module of the mask sees, or none where it sees none.
+    /// It takes no memory.
     pub fn find_function(&self, mask: Mask, name: &[u8]) -> Option<EntityNo>
         ensures exact { option_map (λ number. number.0) result
             ≡ function_named (seen self.now.entries mask.0) name.now }

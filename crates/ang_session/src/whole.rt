@@ -32,9 +32,9 @@ const MOST_SESSION: usize = 16_777_216;
 
 /// How a run ended.
 pub struct SessionEnd {
-    /// Its status, or the fault of a reader or the writer.
+    /// Its status, want of memory and a refused profile included; or the fault of a reader or the writer.
     pub outcome: Result<Status, IoFault>,
-    /// The drivers, in their order.
+    /// The drivers, in their order: as they were handed in, or with no live key.
     pub drivers: Vec<Box<dyn Driver>>,
 }
 
@@ -232,9 +232,17 @@ fn outcome_of(ended: Result<Status, Stop>) -> Result<Status, IoFault>
 /// Runs a session over a profile with these drivers, and writes the text of each reply before the next
 /// command (docs/EMBEDDING.md, "The program").
 ///
-/// It reads the profile whole and runs its lines, makes the engine, reads the session whole and runs its
-/// lines. The drivers come back in their order; on every exit the engine, where there was one, has been
-/// discarded.
+/// It reads the profile whole (at most 1,048,576 bytes) and runs its lines, makes the engine, reads the
+/// session whole (at most 16,777,216 bytes) and runs its lines. A line of the profile that is not taken,
+/// drivers that no engine takes, and a line of the session of another form are written as one line, and end
+/// the run with `Status::BadInput`. The drivers come back in their order; on every exit the engine, where
+/// there was one, has been discarded.
+///
+/// `budget` is the number of ticks of each command until a `budget` line gives another. It is not judged
+/// here: a build or a call with one that is 0 or above 2,147,483,647 is refused.
+///
+/// Nothing here is an error by `Result`: `outcome` has a failure of `read` or `write` as an `IoFault`, and
+/// want of memory as `Status::Memory`.
 pub fn session<P: Read, S: Read, W: Write>(
     alloc: Global,
     profile: &mut P,

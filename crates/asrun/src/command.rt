@@ -21,7 +21,7 @@ const PROFILE_HELP: &str = "The file of what the host registers, each under a ma
 const SESSION_HELP: &str = "The file of commands: modules, their scripts, builds and calls";
 
 const BUDGET_HELP: &str =
-    "The ticks that each command may take, from 1 to 2147483647, if not 1000000";
+    "The ticks that each command may take, from 1 to 2147483647 (1000000 if left out)";
 
 /// Where the formats are described.
 const FORMATS: &str = "Both files are text, one entry or command a line. docs/FORMATS.md has their \

@@ -6,12 +6,18 @@ use std::io;
 use std::io::Read;
 use std::test::Fail;
 
-/// Gives one LF for ever.
+/// The calls of `read` after which a text that has not ended is given up.
+const MOST_READS: u64 = 1_048_576;
+
+/// Gives one LF for ever, and counts how often it was asked.
 #[derive(Drop)]
-struct LineFeeds;
+struct LineFeeds {
+    calls: u64,
+}
 
 impl Read for LineFeeds {
     fn read(&mut self, buffer: &mut [u8]) -> io::Result<usize> {
+        self.calls = self.calls.saturating_add(1);
         if buffer.is_empty() {
             return Ok(0);
         }
@@ -23,13 +29,17 @@ impl Read for LineFeeds {
 #[test]
 fn line_feeds_for_ever_are_a_read_fault(rt: HostRuntime) -> Result<(), Fail> {
     let mut out = Sink::new(rt.alloc(), 4096, 0, false);
+    let mut endless = LineFeeds { calls: 0 };
     let mut text = Pieces::new(SESSION, 4096, 0);
-    let outcome = run(rt.alloc(), &mut LineFeeds, &mut text, &mut out)?;
+    let outcome = run(rt.alloc(), &mut endless, &mut text, &mut out)?;
     assert_eq!(rt; outcome, Err(IoFault::Read));
+    assert_eq!(rt; endless.calls, MOST_READS);
     assert_eq!(rt; out.kept.len(), 0);
     let mut profile = Pieces::new(PROFILE, 4096, 0);
-    let outcome = run(rt.alloc(), &mut profile, &mut LineFeeds, &mut out)?;
+    endless.calls = 0;
+    let outcome = run(rt.alloc(), &mut profile, &mut endless, &mut out)?;
     assert_eq!(rt; outcome, Err(IoFault::Read));
+    assert_eq!(rt; endless.calls, MOST_READS);
     assert_eq!(rt; out.kept.len(), 0);
     Ok(())
 }
@@ -45,7 +55,7 @@ fn byte_by_byte(rt: HostRuntime) -> Result<(), Fail> {
     Ok(())
 }
 
-/// Each call of `read` fails in turn: of the profile at most 4, of the session at most 9.
+/// Each call of `read` fails in turn: 4 of the profile, 7 of the session.
 #[test]
 fn a_reader_fails_at_each_call(rt: HostRuntime) -> Result<(), Fail> {
     for fails in 1..=4u64 {
