@@ -8,7 +8,6 @@ ghost use Rattle.ang_check.specs.Bodies as spec;
 use crate::frame::Frame;
 use crate::locals::initializer;
 use crate::statements::block;
-use crate::values::unboxed;
 use ang_kinds::{ErrorKind, List};
 use ang_lex::Token;
 use ang_names::{ScriptFunction, ScriptGlobal, ScriptParameter};
@@ -137,6 +136,6 @@ pub fn global_typing(
     let initializer = initializer(alloc, setting, &[], declared, global.ty, written)?;
     Ok(TypedGlobal {
         ty: global.ty,
-        initializer: unboxed(initializer),
+        initializer,
     })
 }

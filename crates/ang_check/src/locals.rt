@@ -1,13 +1,11 @@
 //! Local variables.
 ghost use Rattle.std.specs.Prelude.{◌≡◌, ◌≤◌, ◌++◌, ◌∷◌, [], length, map as list_map, IfOk, OnOk};
 ghost use Rattle.ang_tree.specs.View.{view_init, view_var, view_vars};
-ghost use Rattle.ang_typed.specs.View.{view_local, view_stmt};
+ghost use Rattle.ang_typed.specs.View.{view_local, view_option, view_stmt};
 ghost use Rattle.ang_operators.specs.Refusals.{Gives};
 ghost use Rattle.ang_check.specs.Statements as spec;
-ghost use Rattle.ang_check.specs.View.{view_optional};
 
 use crate::frame::Frame;
-use crate::values::unboxed;
 use ang_kinds::ErrorKind;
 use ang_lex::Token;
 use ang_operators::{Asks, Stop, fault, fit, refused, use_refused};
@@ -116,7 +114,7 @@ pub fn initializer(
     ty: ArgType,
     written: &Initializer,
 ) -> Result<Option<Box<Expression>>, Stop>
-    ensures exact { Gives view_optional result (spec.initializer_typing setting.now pairs.now declared.now ty (view_init written.now)) }
+    ensures exact { Gives view_option result (spec.initializer_typing setting.now pairs.now declared.now ty (view_init written.now)) }
 {
     match written {
         Initializer::Absent => Ok(None),
@@ -162,10 +160,7 @@ fn local<'a>(
         ty,
         read_only: is_read_only(declared),
     })?;
-    Ok(Local {
-        ty,
-        initializer: unboxed(initializer),
-    })
+    Ok(Local { ty, initializer })
 }
 
 /// The list with one more local at its end.

@@ -2,14 +2,14 @@
 ghost use Rattle.std.specs.Prelude.{◌≡◌, ◌≤◌, ◌∷◌, [], length, map as list_map, IfOk, OnOk};
 ghost use Rattle.ang_tree.specs.View as trees;
 ghost use Rattle.ang_typed.specs.Typed as tree;
-ghost use Rattle.ang_typed.specs.View.{view_block, view_expr, view_stmt};
+ghost use Rattle.ang_typed.specs.View.{view_block, view_expr, view_option, view_stmt};
 ghost use Rattle.ang_operators.specs.Refusals.{Gives};
 ghost use Rattle.ang_check.specs.Statements as spec;
-ghost use Rattle.ang_check.specs.View.{view_boxed, view_optional};
+ghost use Rattle.ang_check.specs.View.{view_boxed};
 
 use crate::frame::Frame;
 use crate::locals::locals_statement;
-use crate::values::{expression_statement, optional_condition, steps, unboxed};
+use crate::values::{expression_statement, optional_condition, steps};
 use ang_operators::Stop;
 use ang_tree as written;
 use ang_tree::{Argument, ForStart};
@@ -71,7 +71,7 @@ pub fn loop_head<'a>(
     items: &[Argument],
 ) -> Result<LoopHead, Stop>
     requires parameters { frame.now.parameters ≤ length pairs.old.items }
-    ensures exact { Gives (λ h. (pairs.new.items, view_boxed h.start, view_optional h.condition, list_map view_expr h.steps.items)) result
+    ensures exact { Gives (λ h. (pairs.new.items, view_boxed h.start, view_option h.condition, list_map view_expr h.steps.items)) result
         (spec.head_typing frame.now pairs.old.items (trees.view_start first.now) (trees.view_option test.now) (trees.view_items items.now)) }
     ensures kept { OnOk result (spec.Keeps pairs.old.items pairs.new.items) }
 {
@@ -97,7 +97,7 @@ pub fn list_of_one(alloc: Global, statement: Statement) -> Result<Vec<Statement>
 /// A `for` of these parts.
 pub fn for_of(alloc: Global, head: LoopHead, body: Block) -> Result<Statement, AllocError>
     ensures exact { IfOk result (λ s. view_stmt s
-        ≡ tree.for (tree.«then» (view_boxed head.start) tree.end) (view_optional head.condition) (list_map view_expr head.steps.items) (view_block body)) }
+        ≡ tree.for (tree.«then» (view_boxed head.start) tree.end) (view_option head.condition) (list_map view_expr head.steps.items) (view_block body)) }
 {
     let LoopHead {
         start,
@@ -107,7 +107,7 @@ pub fn for_of(alloc: Global, head: LoopHead, body: Block) -> Result<Statement, A
     let first = list_of_one(alloc, Box::into_inner(start))?;
     Ok(Statement::For {
         start: first,
-        condition: unboxed(condition),
+        condition,
         steps,
         body,
     })

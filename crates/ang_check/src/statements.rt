@@ -2,11 +2,10 @@
 ghost use Rattle.std.specs.Prelude.{◌≡◌, ◌≤◌, ◌++◌, ◌∷◌, [], true, length, map as list_map, IfOk, OnOk};
 ghost use Rattle.ang_tree.specs.View as trees;
 ghost use Rattle.ang_typed.specs.Typed as tree;
-ghost use Rattle.ang_typed.specs.View.{view_block, view_expr, view_stmt};
+ghost use Rattle.ang_typed.specs.View.{view_block, view_expr, view_option, view_stmt, view_tree};
 ghost use Rattle.ang_operators.specs.Refusals.{Gives};
-ghost use Rattle.ang_operators.specs.View.{view_tree};
 ghost use Rattle.ang_check.specs.Statements as spec;
-ghost use Rattle.ang_check.specs.View.{view_boxed, view_optional};
+ghost use Rattle.ang_check.specs.View.{view_boxed};
 
 use crate::frame::Frame;
 use crate::locals::locals_statement;
@@ -70,7 +69,7 @@ fn either_of(tested: Tested, otherwise: Block) -> Statement
 {
     let Tested { condition, then } = tested;
     Statement::If {
-        condition: Box::into_inner(condition),
+        condition,
         then,
         otherwise,
     }
@@ -198,10 +197,7 @@ fn while_statement<'a>(
 {
     let condition = condition(alloc, &frame.setting, pairs.as_slice(), test)?;
     let body = branch(alloc, frame, true, pairs, body)?;
-    Ok(Statement::While {
-        condition: Box::into_inner(condition),
-        body,
-    })
+    Ok(Statement::While { condition, body })
 }
 
 /// A `do`: its body, then its condition.
@@ -222,10 +218,7 @@ fn do_while_statement<'a>(
 {
     let body = branch(alloc, frame, true, pairs, repeated)?;
     let condition = condition(alloc, &frame.setting, pairs.as_slice(), test)?;
-    Ok(Statement::DoWhile {
-        body,
-        condition: Box::into_inner(condition),
-    })
+    Ok(Statement::DoWhile { body, condition })
 }
 
 /// The body of a `for`, behind what stands in its parentheses.
@@ -239,7 +232,7 @@ fn for_body<'a>(
 ) -> Result<Statement, Stop>
     requires parameters { frame.now.parameters ≤ length pairs.old.items }
     ensures exact { Gives view_stmt result
-        (spec.for_of (view_boxed head.start, view_optional head.condition, list_map view_expr head.steps.items)
+        (spec.for_of (view_boxed head.start, view_option head.condition, list_map view_expr head.steps.items)
         (spec.branch_typing frame.now true pairs.old.items (trees.view_stmt passed.now))) }
     ensures same { OnOk result (pairs.new.items ≡ pairs.old.items) }
 {

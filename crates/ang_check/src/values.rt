@@ -1,11 +1,10 @@
 //! Expressions where they stand in statements.
 ghost use Rattle.std.specs.Prelude.{◌≡◌, ◌++◌, ◌∷◌, [], map as list_map, IfOk};
 ghost use Rattle.ang_tree.specs.View as trees;
-ghost use Rattle.ang_typed.specs.View.{view_expr, view_option, view_stmt};
+ghost use Rattle.ang_typed.specs.View.{view_expr, view_option, view_stmt, view_tree};
 ghost use Rattle.ang_operators.specs.Refusals.{Gives};
-ghost use Rattle.ang_operators.specs.View.{view_operand, view_operands, view_tree};
+ghost use Rattle.ang_operators.specs.View.{view_operand, view_operands};
 ghost use Rattle.ang_check.specs.Statements as spec;
-ghost use Rattle.ang_check.specs.View.{view_optional};
 
 use crate::frame::Frame;
 use ang_kinds::ErrorKind;
@@ -18,23 +17,13 @@ use ang_types::{ArgType, Lineage};
 use ang_typing::{Pair, Setting, typing, typing_of_all};
 use std::alloc::{AllocError, Global};
 
-/// The tree that is in the box, where there is one.
-pub fn unboxed(tree: Option<Box<Expression>>) -> Option<Expression>
-    ensures exact { view_option result ≡ view_optional tree }
-{
-    match tree {
-        None => None,
-        Some(tree) => Some(Box::into_inner(tree)),
-    }
-}
-
 fn optional(
     alloc: Global,
     setting: &Setting<'_>,
     pairs: &[Pair<'_>],
     value: &Option<written::Expression>,
 ) -> Result<Option<Box<Expression>>, Stop>
-    ensures exact { Gives view_optional result (spec.optional_typing setting.now pairs.now (trees.view_option value.now)) }
+    ensures exact { Gives view_option result (spec.optional_typing setting.now pairs.now (trees.view_option value.now)) }
 {
     match value {
         None => Ok(None),
@@ -56,7 +45,7 @@ pub fn expression_statement(
         (spec.with_same pairs.now (spec.expression_typing frame.now.setting pairs.now (trees.view_option value.now))) }
 {
     let value = optional(alloc, &frame.setting, pairs, value)?;
-    Ok(Statement::Expression(unboxed(value)))
+    Ok(Statement::Expression(value))
 }
 
 /// A condition, which is a truth value; `NotBool` at its first token where it is none.
@@ -79,7 +68,7 @@ pub fn optional_condition(
     pairs: &[Pair<'_>],
     value: &Option<written::Expression>,
 ) -> Result<Option<Box<Expression>>, Stop>
-    ensures exact { Gives view_optional result (spec.optional_condition setting.now pairs.now (trees.view_option value.now)) }
+    ensures exact { Gives view_option result (spec.optional_condition setting.now pairs.now (trees.view_option value.now)) }
 {
     match value {
         None => Ok(None),
@@ -140,7 +129,7 @@ fn value_returned(
 }
 
 fn nothing_returned(ty: ArgType, word: &Token) -> Result<Option<Box<Expression>>, Stop>
-    ensures exact { Gives view_optional result (spec.nothing_returned ty word.now) }
+    ensures exact { Gives view_option result (spec.nothing_returned ty word.now) }
 {
     match ty {
         ArgType::Void => Ok(None),
@@ -157,7 +146,7 @@ fn result_value(
     word: &Token,
     value: &Option<written::Expression>,
 ) -> Result<Option<Box<Expression>>, Stop>
-    ensures exact { Gives view_optional result (spec.result_typing frame.now pairs.now word.now (trees.view_option value.now)) }
+    ensures exact { Gives view_option result (spec.result_typing frame.now pairs.now word.now (trees.view_option value.now)) }
 {
     match value {
         None => nothing_returned(frame.result, word),
@@ -183,5 +172,5 @@ pub fn returned(
         (spec.with_same pairs.now (spec.return_typing frame.now pairs.now word.now (trees.view_option value.now))) }
 {
     let value = result_value(alloc, frame, pairs, word, value)?;
-    Ok(Statement::Return(unboxed(value)))
+    Ok(Statement::Return(value))
 }

@@ -259,7 +259,7 @@ pub fn lower_or(
     alloc: Global,
     alive: usize,
     number: u64,
-    e: &Option<typed::Expression>,
+    e: &Option<Box<typed::Expression>>,
 ) -> Result<Expression, AllocError>
     ensures exact { IfOk result (λ x. plain_expr x ≡ spec.lowered_or alive number (view_option e.now)) }
 {

@@ -45,7 +45,7 @@ fn add_locals(
 }
 
 /// An expression whose value nobody takes, or nothing.
-fn simple(alloc: Global, alive: usize, e: &Option<Expression>) -> Result<Statement, AllocError>
+fn simple(alloc: Global, alive: usize, e: &Option<Box<Expression>>) -> Result<Statement, AllocError>
     ensures exact { IfOk result (λ s. plain_stmt s ≡ spec.lowered_simple alive (view_option e.now)) }
 {
     match e {
@@ -84,7 +84,7 @@ fn steps(alloc: Global, alive: usize, items: &[Expression]) -> Result<Statement,
 fn loop_head(
     alloc: Global,
     alive: usize,
-    condition: &Option<Expression>,
+    condition: &Option<Box<Expression>>,
     items: &[Expression],
 ) -> Result<LoopHead, AllocError>
     ensures test { IfOk result (λ h. plain_expr h.test ≡ spec.lowered_or alive 1 (view_option condition.now)) }

@@ -2,7 +2,8 @@
 ghost use Rattle.std.specs.Prelude.{◌≡◌};
 ghost use Rattle.ang_operators.specs.Operations as spec;
 ghost use Rattle.ang_operators.specs.Refusals.{Gives};
-ghost use Rattle.ang_operators.specs.View.{view_operand, view_tree};
+ghost use Rattle.ang_typed.specs.View.{view_tree};
+ghost use Rattle.ang_operators.specs.View.{view_operand};
 
 use crate::fitting::{fit, integer, truth};
 use crate::operand::{Operand, plain_operand};

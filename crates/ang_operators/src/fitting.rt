@@ -4,7 +4,8 @@ ghost use Rattle.ang_kinds.specs.declared.primitive.Primitive.TheVariants.{Bool}
 ghost use Rattle.ang_types.specs.Integers.{IsInteger};
 ghost use Rattle.ang_operators.specs.Operands as spec;
 ghost use Rattle.ang_operators.specs.Refusals.{Gives};
-ghost use Rattle.ang_operators.specs.View.{view_operand, view_tree};
+ghost use Rattle.ang_typed.specs.View.{view_tree};
+ghost use Rattle.ang_operators.specs.View.{view_operand};
 
 use crate::operand::{NamedVariable, Operand};
 use crate::refusal::{Stop, fault, refused};

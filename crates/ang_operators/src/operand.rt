@@ -1,7 +1,8 @@
 //! Expressions that were typed.
 ghost use Rattle.std.specs.Prelude.{◌≡◌};
 ghost use Rattle.ang_operators.specs.Operands as spec;
-ghost use Rattle.ang_operators.specs.View.{view_operand, view_tree};
+ghost use Rattle.ang_typed.specs.View.{view_tree};
+ghost use Rattle.ang_operators.specs.View.{view_operand};
 
 use ang_kinds::Place;
 use ang_lex::Token;

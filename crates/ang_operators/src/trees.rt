@@ -1,8 +1,7 @@
 //! Resolved trees made of their parts, each in a box.
 ghost use Rattle.std.specs.Prelude.{◌≡◌, IfOk};
 ghost use Rattle.ang_typed.specs.Typed as tree;
-ghost use Rattle.ang_typed.specs.View.{view_expr};
-ghost use Rattle.ang_operators.specs.View.{view_tree};
+ghost use Rattle.ang_typed.specs.View.{view_expr, view_tree};
 
 use ang_kinds::Prim;
 use ang_typed::{Comparison, Expression, Operator, StepKind, Variable};

@@ -1,5 +1,7 @@
 -- A resolved tree of the program without where it lies in memory.
 use Rattle.std.specs.Prelude.{List, map, Option, option_map}
+use Rattle.std.specs.declared.boxed.Box.{Box}
+use Rattle.std.specs.declared.alloc.Global.{Global}
 use Rattle.ang_typed.specs.declared.expression.Expression.{Expression}
 use Rattle.ang_typed.specs.declared.expression.Argument.{Argument}
 use Rattle.ang_typed.specs.declared.expression.Argument.TheOpen.{Expression-F, Argument-F}
@@ -48,8 +50,11 @@ view_arg = fold-Argument t.Arg t.Expr argument_step expression_step
 abbrev pub view_args : List Argument → t.Args
 view_args es = t.args (map view_arg es)
 
-abbrev pub view_option : Option Expression → Option t.Expr
-view_option = option_map view_expr
+abbrev pub view_tree : Box Expression Global → t.Expr
+view_tree b = view_expr b.value
+
+abbrev pub view_option : Option (Box Expression Global) → Option t.Expr
+view_option = option_map view_tree
 
 -- ---- statements
 
@@ -63,9 +68,9 @@ statement_step (Statement-F.Expression e) = t.expression (view_option e)
 statement_step Statement-F.Break = t.break
 statement_step Statement-F.Continue = t.continue
 statement_step (Statement-F.Return e) = t.return (view_option e)
-statement_step (Statement-F.If c ss otherwise) = t.either (view_expr c) ss otherwise
-statement_step (Statement-F.While c ss) = t.while (view_expr c) ss
-statement_step (Statement-F.DoWhile ss c) = t.do_while ss (view_expr c)
+statement_step (Statement-F.If c ss otherwise) = t.either (view_tree c) ss otherwise
+statement_step (Statement-F.While c ss) = t.while (view_tree c) ss
+statement_step (Statement-F.DoWhile ss c) = t.do_while ss (view_tree c)
 statement_step (Statement-F.For start c steps ss) = t.for (t.stmts start.items) (view_option c) (map view_expr steps.items) ss
 
 abbrev pub block_step : Block-F t.Stmt t.Stmts → t.Stmts

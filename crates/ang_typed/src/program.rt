@@ -40,5 +40,5 @@ pub struct Global {
     /// The type of the values that it holds.
     pub ty: ArgType,
     /// What it begins with, a value of that type. Without one it stays 0 or `false`.
-    pub initializer: Option<Expression>,
+    pub initializer: Option<Box<Expression>>,
 }

@@ -12,17 +12,17 @@ pub enum Statement {
     /// One local after the other, in the block in which the statement stands.
     Locals(Vec<Local>),
     /// An expression, whose value nobody takes; nothing for a lone `;`.
-    Expression(Option<Expression>),
+    Expression(Option<Box<Expression>>),
     /// Leaves the innermost loop.
     Break,
     /// Goes on with the innermost loop: with the steps of a `for`, else with its condition.
     Continue,
     /// Ends the function. The value is of the function's result type; `void` functions have none.
-    Return(Option<Expression>),
+    Return(Option<Box<Expression>>),
     /// One of two blocks, by a condition. `otherwise` is an empty block where no `else` is written.
     If {
         /// The truth value that decides.
-        condition: Expression,
+        condition: Box<Expression>,
         /// What runs where the condition is true.
         then: Block,
         /// What runs where the condition is false.
@@ -31,7 +31,7 @@ pub enum Statement {
     /// A loop that goes on as long as its condition is true. A tick is taken before each test.
     While {
         /// The truth value that is tested before each pass.
-        condition: Expression,
+        condition: Box<Expression>,
         /// What runs in each pass.
         body: Block,
     },
@@ -40,7 +40,7 @@ pub enum Statement {
         /// What runs in each pass.
         body: Block,
         /// The truth value that is tested after each pass.
-        condition: Expression,
+        condition: Box<Expression>,
     },
     /// A block of its own: `start`, one `Locals` or `Expression`, runs once in it; then as `While`, with the
     /// steps behind the body of each pass. A condition that is not written is true.
@@ -48,7 +48,7 @@ pub enum Statement {
         /// What runs once before the first test: no statement, or one.
         start: Vec<Statement>,
         /// The truth value that is tested before each pass. Without one each test is passed.
-        condition: Option<Expression>,
+        condition: Option<Box<Expression>>,
         /// What is evaluated after each pass, from left to right. Nobody takes the values.
         steps: Vec<Expression>,
         /// What runs in each pass.
@@ -71,5 +71,5 @@ pub struct Local {
     /// The type of the values that it holds.
     pub ty: ArgType,
     /// What it begins with, a value of that type. Without one it begins as 0 or `false`.
-    pub initializer: Option<Expression>,
+    pub initializer: Option<Box<Expression>>,
 }

@@ -1,10 +1,10 @@
 //! Names and calls.
 ghost use Rattle.std.specs.Prelude.{◌≡◌, ◌∷◌, [], map as list_map, IfOk};
 ghost use Rattle.ang_types.specs.declared.arg_type.ArgType.{ArgType};
-ghost use Rattle.ang_typed.specs.View.{view_arg};
+ghost use Rattle.ang_typed.specs.View.{view_arg, view_tree};
 ghost use Rattle.ang_typing.specs.Calls as spec;
 ghost use Rattle.ang_operators.specs.Refusals.{Gives};
-ghost use Rattle.ang_operators.specs.View.{view_operand, view_operands, view_tree};
+ghost use Rattle.ang_operators.specs.View.{view_operand, view_operands};
 
 use crate::scope::Pair;
 use crate::setting::Setting;

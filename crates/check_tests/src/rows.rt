@@ -209,13 +209,21 @@ fn worked_scripts_are_built(rt: HostRuntime) {
     }
 }
 
+/// The entry that an expression calls.
+fn host_called(e: &Expression) -> Option<EntityNo> {
+    match e {
+        Expression::HostCall { host, .. } => Some(host.entity),
+        _ => None,
+    }
+}
+
 /// The entry that the one statement of the one function of a module calls.
 fn entry_called(module: &Typed) -> Option<EntityNo> {
     let [function] = module.functions.as_slice() else {
         return None;
     };
     match function.body.statements.as_slice() {
-        [Statement::Expression(Some(Expression::HostCall { host, .. }))] => Some(host.entity),
+        [Statement::Expression(Some(e))] => host_called(e),
         _ => None,
     }
 }

@@ -48,12 +48,15 @@ fn local(alloc: Global, i: usize) -> Tree {
 fn declared(alloc: Global) -> Row {
     let left = local(alloc, 0)?;
     let right = number(alloc, 1)?;
-    let sum = Expression::Operate {
-        operator: Operator::Add,
-        ty: Prim::I32,
-        left,
-        right,
-    };
+    let sum = leaf(
+        alloc,
+        Expression::Operate {
+            operator: Operator::Add,
+            ty: Prim::I32,
+            left,
+            right,
+        },
+    )?;
     let locals = vec![in alloc;
         Local {
             ty: INT,
@@ -66,19 +69,20 @@ fn declared(alloc: Global) -> Row {
 /// `b = c;`
 fn stored(alloc: Global) -> Row {
     let value = local(alloc, 2)?;
-    row(
+    let stored = leaf(
         alloc,
-        Statement::Expression(Some(Expression::Assign {
+        Expression::Assign {
             variable: Variable::Local(1),
             ty: INT,
             value,
-        })),
-    )
+        },
+    )?;
+    row(alloc, Statement::Expression(Some(stored)))
 }
 
 /// `return c;`
 fn given_back(alloc: Global) -> Row {
-    let value = Box::into_inner(local(alloc, 2)?);
+    let value = local(alloc, 2)?;
     row(alloc, Statement::Return(Some(value)))
 }
 
@@ -86,24 +90,26 @@ fn given_back(alloc: Global) -> Row {
 fn counted_down(alloc: Global) -> Row {
     let left = local(alloc, 0)?;
     let right = number(alloc, 0)?;
-    let step = Expression::Step {
-        variable: Variable::Local(0),
-        ty: Prim::I32,
-        step: StepKind::DecrementBefore,
-    };
-    let statements = vec![in alloc; Statement::Expression(Some(step))]?;
-    row(
+    let condition = leaf(
         alloc,
-        Statement::While {
-            condition: Expression::Compare {
-                comparison: Comparison::Greater,
-                ty: Prim::I32,
-                left,
-                right,
-            },
-            body: Block { statements },
+        Expression::Compare {
+            comparison: Comparison::Greater,
+            ty: Prim::I32,
+            left,
+            right,
         },
-    )
+    )?;
+    let step = leaf(
+        alloc,
+        Expression::Step {
+            variable: Variable::Local(0),
+            ty: Prim::I32,
+            step: StepKind::DecrementBefore,
+        },
+    )?;
+    let statements = vec![in alloc; Statement::Expression(Some(step))]?;
+    let body = Block { statements };
+    row(alloc, Statement::While { condition, body })
 }
 
 fn add(statements: &mut Vec<Statement>, statement: Row) -> Result<(), AllocError> {
@@ -163,10 +169,7 @@ fn globals(alloc: Global) -> Result<Vec<GlobalVariable>, AllocError> {
     })?;
     globals.push(GlobalVariable {
         ty: INT,
-        initializer: Some(Expression::Number {
-            ty: Prim::I32,
-            value: 5,
-        }),
+        initializer: Some(number(alloc, 5)?),
     })?;
     Ok(globals)
 }

@@ -183,7 +183,7 @@ pub fn only(alloc: Global, statement: Row) -> Rows {
 }
 
 pub fn evaluate(alloc: Global, e: Tree) -> Row {
-    row(alloc, Statement::Expression(Some(Box::into_inner(e?))))
+    row(alloc, Statement::Expression(Some(e?)))
 }
 
 pub fn nothing(alloc: Global) -> Row {
@@ -191,7 +191,7 @@ pub fn nothing(alloc: Global) -> Row {
 }
 
 pub fn give_back(alloc: Global, e: Tree) -> Row {
-    row(alloc, Statement::Return(Some(Box::into_inner(e?))))
+    row(alloc, Statement::Return(Some(e?)))
 }
 
 pub fn go_on(alloc: Global) -> Row {
@@ -204,7 +204,7 @@ pub fn leave(alloc: Global) -> Row {
 
 /// `int x = initializer;`
 pub fn one_local(alloc: Global, initializer: Tree) -> Row {
-    let initializer = Some(Box::into_inner(initializer?));
+    let initializer = Some(initializer?);
     let ty = INT;
     row(
         alloc,
@@ -236,7 +236,7 @@ pub fn choice(alloc: Global, condition: Tree, then: Rows, otherwise: Rows) -> Ro
     row(
         alloc,
         Statement::If {
-            condition: Box::into_inner(condition),
+            condition,
             then: Block { statements: then },
             otherwise: Block {
                 statements: otherwise,
@@ -251,7 +251,7 @@ pub fn while_loop(alloc: Global, condition: Tree, statements: Rows) -> Row {
     row(
         alloc,
         Statement::While {
-            condition: Box::into_inner(condition),
+            condition,
             body: Block { statements },
         },
     )
@@ -264,7 +264,7 @@ pub fn do_loop(alloc: Global, statements: Rows, condition: Tree) -> Row {
         alloc,
         Statement::DoWhile {
             body: Block { statements },
-            condition: Box::into_inner(condition),
+            condition,
         },
     )
 }
@@ -279,7 +279,7 @@ pub fn for_loop(alloc: Global, start: Rows, condition: Tree, step: Tree, body: R
         alloc,
         Statement::For {
             start,
-            condition: Some(Box::into_inner(condition)),
+            condition: Some(condition),
             steps,
             body: Block { statements },
         },
