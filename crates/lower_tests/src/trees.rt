@@ -249,11 +249,11 @@ fn globals(alloc: Global) -> Result<Vec<GlobalVariable>, AllocError> {
     })?;
     globals.push(GlobalVariable {
         ty: INT,
-        initializer: Some(Box::into_inner(five)),
+        initializer: Some(five),
     })?;
     globals.push(GlobalVariable {
         ty: INT,
-        initializer: Some(Box::into_inner(sum)),
+        initializer: Some(sum),
     })?;
     Ok(globals)
 }
