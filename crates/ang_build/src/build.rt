@@ -16,7 +16,7 @@ use std::alloc::Global;
 
 /// The one error at which a build stops.
 fn one_error(alloc: Global, stop: Stop) -> Unbuilt
-    ensures { IsOneError result stop }
+    ensures exact { IsOneError result stop }
 {
     let Stop::Fault(error) = stop else {
         return Unbuilt::Memory;
@@ -30,7 +30,7 @@ fn one_error(alloc: Global, stop: Stop) -> Unbuilt
 
 /// The program that the scripts build to, over what their module sees of the host, or why they do not.
 fn build_scripts(alloc: Global, view: &View, scripts: &[Script]) -> Result<Program, Unbuilt>
-    ensures { IsBuilt result (build_of_scripts view.now (list_map source_of scripts.now)) }
+    ensures exact { IsBuilt result (build_of_scripts view.now (list_map source_of scripts.now)) }
 {
     let names = declare(alloc, view, scripts)?;
     let tree = check(alloc, view, &names, scripts)?;

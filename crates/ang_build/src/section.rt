@@ -14,7 +14,7 @@ use std::alloc::Global;
 
 /// An error without a name.
 fn nameless(alloc: Global, kind: ErrorKind, place: Place) -> Error
-    ensures { result ≡ fault_at kind place }
+    ensures exact { result ≡ fault_at kind place }
 {
     Error {
         kind,
@@ -25,7 +25,7 @@ fn nameless(alloc: Global, kind: ErrorKind, place: Place) -> Error
 
 /// The error that a section's first fault is, unless it is want of memory.
 fn lexical(alloc: Global, fault: LexError) -> Stop
-    ensures { IsFault result fault }
+    ensures exact { IsFault result fault }
 {
     match fault {
         LexError::TooLong(place) => Stop::Fault(nameless(alloc, ErrorKind::TooLong, place)),
@@ -38,7 +38,7 @@ fn lexical(alloc: Global, fault: LexError) -> Stop
 
 /// The error that a parser's answer is, unless it is want of memory.
 fn grammatical(alloc: Global, fault: ParseError) -> Stop
-    ensures { IsUnparsed result fault }
+    ensures exact { IsUnparsed result fault }
 {
     match fault {
         ParseError::TooDeep(place) => Stop::Fault(nameless(alloc, ErrorKind::TooDeep, place)),
@@ -53,7 +53,7 @@ fn grammatical(alloc: Global, fault: ParseError) -> Stop
 
 /// The declarations of one section.
 fn read_section(alloc: Global, sect: u32, text: &[u8]) -> Result<Script, Stop>
-    ensures { IsSource result (source_from sect text.now) }
+    ensures exact { IsSource result (source_from sect text.now) }
 {
     let tokens = match lex(alloc, text, sect) {
         Ok(tokens) => tokens,
@@ -67,8 +67,8 @@ fn read_section(alloc: Global, sect: u32, text: &[u8]) -> Result<Script, Stop>
 
 /// The declarations of all sections, in order.
 pub fn read_sections(alloc: Global, sections: &[List<u8>]) -> Result<Vec<Script>, Stop>
-    requires { length sections.now < 2 ^ 32 }
-    ensures { AreSources result (sources_of 0 sections.now) }
+    requires few { length sections.now < 2 ^ 32 }
+    ensures exact { AreSources result (sources_of 0 sections.now) }
 {
     let mut scripts = Vec::new(alloc);
     for (i, text) in sections.iter().enumerate() {

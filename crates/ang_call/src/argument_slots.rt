@@ -25,7 +25,7 @@ fn arguments_for(
     params: &[ScriptParameter],
     values: &[Value],
 ) -> Result<Option<Vec<Slot>>, AllocError>
-    requires { length values.now ≡ length params.now }
+    requires as_many { length values.now ≡ length params.now }
     ensures exact { IfOk result (λ found. spec.AreArguments found (spec.arguments_for params.now values.now)) }
 {
     let mut slots = Vec::with_capacity(alloc, values.len())?;

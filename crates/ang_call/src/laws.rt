@@ -12,7 +12,7 @@ ghost use Rattle.ang_call.specs.Named.{IsNamedBy, function_named_by};
 
 /// The test by which headings are compared says whether they are equal.
 pub fn headings_are_compared()
-    ensures { (f g : ScriptFunction) → (same_heading f g ≡ true) ↔ (heading_of f ≡ heading_of g) }
+    ensures same { (f g : ScriptFunction) → (same_heading f g ≡ true) ↔ (heading_of f ≡ heading_of g) }
 {}
 
 /// The number that a text names is that of a function with the heading of the function that the text

@@ -22,7 +22,7 @@ use std::alloc::Global;
 
 #[tactic(auto, unfolding(ang_read::specs::Tokens::perhaps))]
 fn perhaps_plus(tokens: &[Token]) -> (Option<Token>, &[Token])
-    ensures { perhaps read.is_plus tokens.now ≡ Ok (result.0, result.1.now) }
+    ensures reads { perhaps read.is_plus tokens.now ≡ Ok (result.0, result.1.now) }
 {
     match tokens {
         [token, rest @ ..] if matches!(token.kind, TokenKind::Plus) => (Some(*token), rest),
@@ -32,7 +32,7 @@ fn perhaps_plus(tokens: &[Token]) -> (Option<Token>, &[Token])
 
 #[tactic(auto, unfolding(ang_read::specs::Tokens::perhaps))]
 fn perhaps_name(tokens: &[Token]) -> (Option<Token>, &[Token])
-    ensures { perhaps is_name tokens.now ≡ Ok (result.0, result.1.now) }
+    ensures reads { perhaps is_name tokens.now ≡ Ok (result.0, result.1.now) }
 {
     match tokens {
         [token, rest @ ..] if matches!(token.kind, TokenKind::Name) => (Some(*token), rest),
@@ -42,7 +42,7 @@ fn perhaps_name(tokens: &[Token]) -> (Option<Token>, &[Token])
 
 #[tactic(auto, unfolding(ang_read::specs::Tokens::perhaps))]
 fn perhaps_direction(tokens: &[Token]) -> (Option<Token>, &[Token])
-    ensures { perhaps direction_kind tokens.now ≡ Ok (result.0, result.1.now) }
+    ensures reads { perhaps direction_kind tokens.now ≡ Ok (result.0, result.1.now) }
 {
     match tokens {
         [token, rest @ ..]
@@ -57,7 +57,7 @@ fn perhaps_direction(tokens: &[Token]) -> (Option<Token>, &[Token])
 /// Reads `[ "@" [ "+" ] [ "const" ] ]`.
 #[tactic(auto, unfolding(crate::specs::Read::a_handle))]
 fn handle(tokens: &[Token]) -> (Option<HostHandle>, &[Token])
-    ensures { read.a_handle tokens.now ≡ Ok (result.0, result.1.now) }
+    ensures reads { read.a_handle tokens.now ≡ Ok (result.0, result.1.now) }
 {
     match tokens {
         [at, rest @ ..] if matches!(at.kind, TokenKind::At) => {
@@ -77,7 +77,7 @@ fn handle(tokens: &[Token]) -> (Option<HostHandle>, &[Token])
 /// Reads a type.
 #[tactic(auto, unfolding(crate::specs::Read::a_type, ang_read::specs::Tokens::a_token))]
 fn host_type(tokens: &[Token]) -> Result<(HostType, &[Token]), ReadError<'_>>
-    ensures { Gives (λ x. (x.0, x.1.now)) result (read.a_type tokens.now) }
+    ensures reads { Gives (λ x. (x.0, x.1.now)) result (read.a_type tokens.now) }
 {
     let (constant, rest) = perhaps_const(tokens);
     match rest {
@@ -103,7 +103,7 @@ fn host_type(tokens: &[Token]) -> Result<(HostType, &[Token]), ReadError<'_>>
 /// Reads `[ "&" [ "in" | "out" | "inout" ] ]`.
 #[tactic(auto, unfolding(crate::specs::Read::a_reference))]
 fn reference(tokens: &[Token]) -> (Option<Reference>, &[Token])
-    ensures { read.a_reference tokens.now ≡ Ok (result.0, result.1.now) }
+    ensures reads { read.a_reference tokens.now ≡ Ok (result.0, result.1.now) }
 {
     match tokens {
         [ampersand, rest @ ..] if matches!(ampersand.kind, TokenKind::Ampersand) => {
@@ -124,7 +124,7 @@ fn parameter(
     comma: Option<Token>,
     tokens: &[Token],
 ) -> Result<(HostParameter, &[Token]), ReadError<'_>>
-    ensures { Gives (λ x. (x.0, x.1.now)) result (read.a_param comma tokens.now) }
+    ensures reads { Gives (λ x. (x.0, x.1.now)) result (read.a_param comma tokens.now) }
 {
     let (declared_type, rest) = host_type(tokens)?;
     let (reference, rest) = reference(rest);
@@ -145,7 +145,7 @@ fn another_parameter<'a>(
     comma: Token,
     tokens: &'a [Token],
 ) -> Result<((Vec<HostParameter>, bool), &'a [Token]), ReadError<'a>>
-    ensures { Gives (λ x. ((x.0.0.items, x.0.1), x.1.now)) result (read.another_param first.items comma tokens.now) }
+    ensures reads { Gives (λ x. ((x.0.0.items, x.0.1), x.1.now)) result (read.another_param first.items comma tokens.now) }
 {
     let (parameter, rest) = parameter(Some(comma), tokens)?;
     let mut longer = first;
@@ -159,7 +159,7 @@ fn other_parameter(
     first: Vec<HostParameter>,
     tokens: &[Token],
 ) -> Result<((Vec<HostParameter>, bool), &[Token]), ReadError<'_>>
-    ensures { Gives (λ x. ((x.0.0.items, x.0.1), x.1.now)) result (read.other_param first.items tokens.now) }
+    ensures reads { Gives (λ x. ((x.0.0.items, x.0.1), x.1.now)) result (read.other_param first.items tokens.now) }
 {
     match tokens {
         [comma, rest @ ..] if matches!(comma.kind, TokenKind::Comma) => {
@@ -174,7 +174,7 @@ fn other_parameters(
     tokens: &[Token],
     limit: usize,
 ) -> Result<(Vec<HostParameter>, &[Token]), ReadError<'_>>
-    ensures { Gives (λ x. (x.0.items, x.1.now)) result (repeat read.other_param limit first.items tokens.now) }
+    ensures reads { Gives (λ x. (x.0.items, x.1.now)) result (repeat read.other_param limit first.items tokens.now) }
 {
     let mut found = first;
     let mut rest = tokens;
@@ -190,7 +190,7 @@ fn other_parameters(
 }
 
 fn is_bare_void(parameter: &HostParameter) -> bool
-    ensures { result ≡ is_bare_void parameter.now }
+    ensures exact { result ≡ is_bare_void parameter.now }
 {
     matches!(parameter.declared_type.name.kind, TokenKind::Void)
         && parameter.declared_type.constant.is_none()
@@ -201,7 +201,7 @@ fn is_bare_void(parameter: &HostParameter) -> bool
 
 /// The parameters between the parentheses. The word `void` alone is the empty list.
 fn settled(alloc: Global, open: Token, items: Vec<HostParameter>, close: Token) -> HostParameters
-    ensures { result ≡ read.settled «open» items.items close }
+    ensures exact { result ≡ read.settled «open» items.items close }
 {
     if let [only] = items.as_slice()
         && is_bare_void(only)
@@ -229,7 +229,7 @@ fn some_parameters(
     tokens: &[Token],
     limit: usize,
 ) -> Result<(HostParameters, &[Token]), ReadError<'_>>
-    ensures { Gives (λ x. (x.0, x.1.now)) result (read.some_params limit «open» tokens.now) }
+    ensures reads { Gives (λ x. (x.0, x.1.now)) result (read.some_params limit «open» tokens.now) }
 {
     let (parameter, rest) = parameter(None, tokens)?;
     let mut first = Vec::new(alloc);
@@ -247,7 +247,7 @@ fn parameters(
     tokens: &[Token],
     limit: usize,
 ) -> Result<(HostParameters, &[Token]), ReadError<'_>>
-    ensures { Gives (λ x. (x.0, x.1.now)) result (read.params limit «open» tokens.now) }
+    ensures reads { Gives (λ x. (x.0, x.1.now)) result (read.params limit «open» tokens.now) }
 {
     match tokens {
         [close, rest @ ..] if matches!(close.kind, TokenKind::RightParen) => {
@@ -270,7 +270,7 @@ fn function(
     tokens: &[Token],
     limit: usize,
 ) -> Result<(HostFunction, &[Token]), ReadError<'_>>
-    ensures { Gives (λ x. (x.0, x.1.now)) result (read.a_function limit tokens.now) }
+    ensures reads { Gives (λ x. (x.0, x.1.now)) result (read.a_function limit tokens.now) }
 {
     let (result, rest) = host_type(tokens)?;
     let (name, rest) = a_name(rest)?;
@@ -289,7 +289,7 @@ fn function(
 /// Reads `type NAME`.
 #[tactic(auto, unfolding(crate::specs::Read::a_property))]
 fn property(tokens: &[Token]) -> Result<(HostProperty, &[Token]), ReadError<'_>>
-    ensures { Gives (λ x. (x.0, x.1.now)) result (read.a_property tokens.now) }
+    ensures reads { Gives (λ x. (x.0, x.1.now)) result (read.a_property tokens.now) }
 {
     let (declared_type, rest) = host_type(tokens)?;
     let (name, rest) = a_name(rest)?;
@@ -305,7 +305,7 @@ fn property(tokens: &[Token]) -> Result<(HostProperty, &[Token]), ReadError<'_>>
 /// The declaration `type NAME params [ "const" ]` that all of the tokens are.
 #[tactic(auto, unfolding(ang_read::specs::Law::all_of))]
 pub fn whole_function(alloc: Global, tokens: &[Token]) -> Result<HostFunction, ReadError<'_>>
-    ensures { Gives (λ x. (x, [])) result (all_of read.a_function tokens.now) }
+    ensures reads { Gives (λ x. (x, [])) result (all_of read.a_function tokens.now) }
 {
     let (found, rest) = function(alloc, tokens, tokens.len() + 1)?;
     if !rest.is_empty() {
@@ -317,7 +317,7 @@ pub fn whole_function(alloc: Global, tokens: &[Token]) -> Result<HostFunction, R
 /// The declaration `type NAME` that all of the tokens are.
 #[tactic(auto, unfolding(ang_read::specs::Law::all_of))]
 pub fn whole_property(tokens: &[Token]) -> Result<HostProperty, ReadError<'_>>
-    ensures { Gives (λ x. (x, [])) result (all_of (λ n. read.a_property) tokens.now) }
+    ensures reads { Gives (λ x. (x, [])) result (all_of (λ n. read.a_property) tokens.now) }
 {
     let (found, rest) = property(tokens)?;
     if !rest.is_empty() {
@@ -329,7 +329,7 @@ pub fn whole_property(tokens: &[Token]) -> Result<HostProperty, ReadError<'_>>
 /// The type that all of the tokens are.
 #[tactic(auto, unfolding(ang_read::specs::Law::all_of))]
 pub fn whole_type(tokens: &[Token]) -> Result<HostType, ReadError<'_>>
-    ensures { Gives (λ x. (x, [])) result (all_of (λ n. read.a_type) tokens.now) }
+    ensures reads { Gives (λ x. (x, [])) result (all_of (λ n. read.a_type) tokens.now) }
 {
     let (found, rest) = host_type(tokens)?;
     if !rest.is_empty() {

@@ -10,7 +10,7 @@ use std::alloc::{AllocError, Global};
 
 /// The bytes of a token of the text.
 fn text_of(text: &[u8], token: Token) -> &[u8]
-    ensures { result.now ≡ spec.text_of text.now token }
+    ensures exact { result.now ≡ spec.text_of text.now token }
 {
     let end = text.len().min(token.span.end as usize);
     let start = end.min(token.span.start as usize);
@@ -18,7 +18,7 @@ fn text_of(text: &[u8], token: Token) -> &[u8]
 }
 
 fn name_of(alloc: Global, text: &[u8], name: &Option<Token>) -> Result<List<u8>, AllocError>
-    ensures { IfOk result (λ x. x ≡ spec.name_of text.now name.now) }
+    ensures exact { IfOk result (λ x. x ≡ spec.name_of text.now name.now) }
 {
     match name {
         None => Ok(List::from_vec(Vec::new(alloc))),
@@ -27,7 +27,7 @@ fn name_of(alloc: Global, text: &[u8], name: &Option<Token>) -> Result<List<u8>,
 }
 
 fn shape_of(handle: &Option<HostHandle>) -> Shape
-    ensures { result ≡ spec.shape_of handle.now }
+    ensures exact { result ≡ spec.shape_of handle.now }
 {
     match handle {
         None => Shape::ByValue,
@@ -42,7 +42,7 @@ fn shape_of(handle: &Option<HostHandle>) -> Shape
 }
 
 fn is_const_handle(handle: &Option<HostHandle>) -> bool
-    ensures { result ≡ spec.is_const_handle handle.now }
+    ensures exact { result ≡ spec.is_const_handle handle.now }
 {
     match handle {
         None => false,
@@ -51,7 +51,7 @@ fn is_const_handle(handle: &Option<HostHandle>) -> bool
 }
 
 fn object_of(alloc: Global, text: &[u8], host_type: &HostType) -> Result<TypeRef, AllocError>
-    ensures { IfOk result (λ t. t ≡ spec.object_of text.now host_type.now) }
+    ensures exact { IfOk result (λ t. t ≡ spec.object_of text.now host_type.now) }
 {
     let name = Vec::from_slice(alloc, text_of(text, host_type.name))?;
     Ok(TypeRef::Object {
@@ -63,7 +63,7 @@ fn object_of(alloc: Global, text: &[u8], host_type: &HostType) -> Result<TypeRef
 }
 
 fn type_of(alloc: Global, text: &[u8], host_type: &HostType) -> Result<TypeRef, AllocError>
-    ensures { IfOk result (λ t. t ≡ spec.type_of text.now host_type.now) }
+    ensures exact { IfOk result (λ t. t ≡ spec.type_of text.now host_type.now) }
 {
     match host_type.name.kind {
         TokenKind::Primitive(primitive) => Ok(TypeRef::Plain(primitive)),
@@ -73,7 +73,7 @@ fn type_of(alloc: Global, text: &[u8], host_type: &HostType) -> Result<TypeRef, 
 }
 
 fn param_of(alloc: Global, text: &[u8], parameter: &HostParameter) -> Result<Param, AllocError>
-    ensures { IfOk result (λ p. p ≡ spec.param_of text.now parameter.now) }
+    ensures exact { IfOk result (λ p. p ≡ spec.param_of text.now parameter.now) }
 {
     let ty = type_of(alloc, text, &parameter.declared_type)?;
     let name = name_of(alloc, text, &parameter.name)?;
@@ -86,7 +86,7 @@ fn param_of(alloc: Global, text: &[u8], parameter: &HostParameter) -> Result<Par
 }
 
 fn params_of(alloc: Global, text: &[u8], items: &[HostParameter]) -> Result<Vec<Param>, AllocError>
-    ensures { IfOk result (λ v. v.items ≡ map (spec.param_of text.now) items.now) }
+    ensures exact { IfOk result (λ v. v.items ≡ map (spec.param_of text.now) items.now) }
 {
     let mut params = Vec::new(alloc);
     for item in items {
@@ -102,7 +102,7 @@ pub fn function_signature(
     text: &[u8],
     function: &HostFunction,
 ) -> Result<Signature, AllocError>
-    ensures { IfOk result (λ s. s ≡ spec.function_signature text.now function.now) }
+    ensures exact { IfOk result (λ s. s ≡ spec.function_signature text.now function.now) }
 {
     let name = Vec::from_slice(alloc, text_of(text, function.name))?;
     let result = type_of(alloc, text, &function.result)?;
@@ -116,7 +116,7 @@ pub fn function_signature(
 }
 
 fn is_const_primitive(host_type: &HostType) -> bool
-    ensures { result ≡ spec.is_const_primitive host_type.now }
+    ensures exact { result ≡ spec.is_const_primitive host_type.now }
 {
     is_primitive(host_type.name.kind) && host_type.constant.is_some()
 }
@@ -127,7 +127,7 @@ pub fn property_signature(
     text: &[u8],
     property: &HostProperty,
 ) -> Result<Signature, AllocError>
-    ensures { IfOk result (λ s. s ≡ spec.property_signature text.now property.now) }
+    ensures exact { IfOk result (λ s. s ≡ spec.property_signature text.now property.now) }
 {
     let name = Vec::from_slice(alloc, text_of(text, property.name))?;
     let result = type_of(alloc, text, &property.declared_type)?;
@@ -145,7 +145,7 @@ pub fn type_signature(
     text: &[u8],
     host_type: &HostType,
 ) -> Result<Signature, AllocError>
-    ensures { IfOk result (λ s. s ≡ spec.type_signature text.now host_type.now) }
+    ensures exact { IfOk result (λ s. s ≡ spec.type_signature text.now host_type.now) }
 {
     let result = type_of(alloc, text, host_type)?;
     Ok(Signature {

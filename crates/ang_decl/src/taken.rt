@@ -10,13 +10,13 @@ use ang_lex::TokenKind;
 
 /// Whether the token is the word of a primitive type.
 pub fn is_primitive(kind: TokenKind) -> bool
-    ensures { result ≡ primitive_kind kind }
+    ensures exact { result ≡ primitive_kind kind }
 {
     matches!(kind, TokenKind::Primitive(_))
 }
 
 fn is_auto_handle(handle: &Option<HostHandle>) -> bool
-    ensures { result ≡ spec.is_auto_handle handle.now }
+    ensures exact { result ≡ spec.is_auto_handle handle.now }
 {
     match handle {
         None => false,
@@ -25,7 +25,7 @@ fn is_auto_handle(handle: &Option<HostHandle>) -> bool
 }
 
 fn is_bare_handle(handle: &Option<HostHandle>) -> bool
-    ensures { result ≡ grammar.is_bare_handle handle.now }
+    ensures exact { result ≡ grammar.is_bare_handle handle.now }
 {
     match handle {
         None => false,
@@ -35,7 +35,7 @@ fn is_bare_handle(handle: &Option<HostHandle>) -> bool
 
 /// Whether the type is `T@`.
 fn is_plain_handle(host_type: &HostType) -> bool
-    ensures { result ≡ grammar.is_plain_handle host_type.now }
+    ensures exact { result ≡ grammar.is_plain_handle host_type.now }
 {
     matches!(host_type.name.kind, TokenKind::Name)
         && host_type.constant.is_none()
@@ -43,7 +43,7 @@ fn is_plain_handle(host_type: &HostType) -> bool
 }
 
 fn is_parameter_type(host_type: &HostType) -> bool
-    ensures { result ≡ spec.is_parameter_type host_type.now }
+    ensures exact { result ≡ spec.is_parameter_type host_type.now }
 {
     let is_value = is_primitive(host_type.name.kind)
         && host_type.constant.is_none()
@@ -53,7 +53,7 @@ fn is_parameter_type(host_type: &HostType) -> bool
 }
 
 fn is_result_type(host_type: &HostType) -> bool
-    ensures { result ≡ spec.is_result_type host_type.now }
+    ensures exact { result ≡ spec.is_result_type host_type.now }
 {
     let is_void = matches!(host_type.name.kind, TokenKind::Void)
         && host_type.constant.is_none()
@@ -62,19 +62,19 @@ fn is_result_type(host_type: &HostType) -> bool
 }
 
 fn is_property_type(host_type: &HostType) -> bool
-    ensures { result ≡ spec.is_property_type host_type.now }
+    ensures exact { result ≡ spec.is_property_type host_type.now }
 {
     is_primitive(host_type.name.kind) && host_type.handle.is_none()
 }
 
 fn is_parameter(parameter: &HostParameter) -> bool
-    ensures { result ≡ spec.is_parameter parameter.now }
+    ensures exact { result ≡ spec.is_parameter parameter.now }
 {
     parameter.reference.is_none() && is_parameter_type(&parameter.declared_type)
 }
 
 fn are_parameters(function: &HostFunction) -> bool
-    ensures { result ≡ spec.are_parameters function.now }
+    ensures exact { result ≡ spec.are_parameters function.now }
 {
     function
         .parameters
@@ -86,42 +86,42 @@ fn are_parameters(function: &HostFunction) -> bool
 
 /// Whether hosts can't use it as a function or a method.
 pub fn is_function_left_out(function: &HostFunction) -> bool
-    ensures { result ≡ spec.is_function_left_out function.now }
+    ensures exact { result ≡ spec.is_function_left_out function.now }
 {
     !(is_result_type(&function.result) && are_parameters(function))
 }
 
 /// Whether hosts can't use it as a factory.
 pub fn is_factory_left_out(function: &HostFunction) -> bool
-    ensures { result ≡ spec.is_factory_left_out function.now }
+    ensures exact { result ≡ spec.is_factory_left_out function.now }
 {
     !are_parameters(function)
 }
 
 /// Whether hosts can't use the property.
 pub fn is_property_left_out(property: &HostProperty) -> bool
-    ensures { result ≡ spec.is_property_left_out property.now }
+    ensures exact { result ≡ spec.is_property_left_out property.now }
 {
     !is_property_type(&property.declared_type)
 }
 
 /// Whether no declaration can have the type.
 pub fn is_type_left_out(host_type: &HostType) -> bool
-    ensures { result ≡ spec.is_type_left_out host_type.now }
+    ensures exact { result ≡ spec.is_type_left_out host_type.now }
 {
     !(is_result_type(host_type) || is_property_type(host_type) || is_plain_handle(host_type))
 }
 
 /// Whether it is a function: no `const` stands behind the parameters.
 pub fn is_function_form(function: &HostFunction) -> bool
-    ensures { result ≡ form.is_function_form function.now }
+    ensures exact { result ≡ form.is_function_form function.now }
 {
     function.constant.is_none()
 }
 
 /// Whether it is a factory: a function whose result is `T@`.
 pub fn is_factory_form(function: &HostFunction) -> bool
-    ensures { result ≡ form.is_factory_form function.now }
+    ensures exact { result ≡ form.is_factory_form function.now }
 {
     function.constant.is_none() && is_plain_handle(&function.result)
 }

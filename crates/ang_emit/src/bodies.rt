@@ -19,7 +19,7 @@ use std::alloc::{AllocError, Global};
 
 // The instructions of a whole body with so many parameters.
 fn body_text(alloc: Global, params: usize, s: &Statement) -> Result<Vec<Instruction>, AllocError>
-    ensures { IfOk result (λ text. text.items ≡ body_code params s.now) }
+    ensures exact { IfOk result (λ text. text.items ≡ body_code params s.now) }
 {
     let mut text = Text::new(alloc);
     text.put(Instruction::Return(declared_by(s)))?;
@@ -37,7 +37,7 @@ fn body_text(alloc: Global, params: usize, s: &Statement) -> Result<Vec<Instruct
 
 // The greatest number of values in the frame of a whole body with so many parameters.
 fn frame_peak(params: usize, s: &Statement) -> Result<usize, AllocError>
-    ensures { IfOk result (λ n. n ≡ body_peak params s.now) }
+    ensures exact { IfOk result (λ n. n ≡ body_peak params s.now) }
 {
     let locals = sum(declared_by(s), params)?;
     let end = sum(locals, 1)?;

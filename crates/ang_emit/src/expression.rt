@@ -22,7 +22,7 @@ pub fn sum(a: usize, b: usize) -> Result<usize, AllocError>
 // The value of an `&out` parameter at the place `under` moves into its target, where the locals begin at
 // the place `base`.
 fn swap(target: &Target, under: u32, base: usize) -> Result<Instruction, AllocError>
-    ensures { IfOk result (λ i. i ≡ swap_at target.now.to under base target.now.spot) }
+    ensures exact { IfOk result (λ i. i ≡ swap_at target.now.to under base target.now.spot) }
 {
     match target.spot {
         Spot::Local(i) => {
@@ -43,7 +43,7 @@ fn swap(target: &Target, under: u32, base: usize) -> Result<Instruction, AllocEr
 
 // The code of all targets, behind a call. The first target in the list is the last one of the call.
 fn write_swaps(text: &mut Text, base: usize, targets: &[Target]) -> Result<(), AllocError>
-    ensures { OnOk result (text.new ≡ swaps_code 1 base targets.now ++ text.old) }
+    ensures code { OnOk result (text.new ≡ swaps_code 1 base targets.now ++ text.old) }
 {
     let mut under: u32 = 1;
     for target in targets {
@@ -56,7 +56,7 @@ fn write_swaps(text: &mut Text, base: usize, targets: &[Target]) -> Result<(), A
 
 // The place below, or want of memory where no stack could have it.
 fn next_place(under: u32) -> Result<u32, AllocError>
-    ensures { IfOk result (λ n. n ≡ under + 1) }
+    ensures exact { IfOk result (λ n. n ≡ under + 1) }
 {
     match under.checked_add(1) {
         Some(n) => Ok(n),
@@ -66,7 +66,7 @@ fn next_place(under: u32) -> Result<u32, AllocError>
 
 // What follows a call's entry: the values of its `&out` parameters move into their targets.
 fn write_outs(text: &mut Text, above: usize, targets: &[Target]) -> Result<(), AllocError>
-    ensures { OnOk result (text.new ≡ outs_code above targets.now ++ text.old) }
+    ensures code { OnOk result (text.new ≡ outs_code above targets.now ++ text.old) }
 {
     if targets.is_empty() {
         return Ok(());
@@ -125,7 +125,7 @@ pub fn write_expression(text: &mut Text, above: usize, e: &Expression) -> Result
 // Operands in their order, each above the values of those before it.
 #[cycle(expression)]
 fn write_operands(text: &mut Text, above: usize, operands: &[Expression]) -> Result<(), AllocError>
-    ensures { OnOk result (text.new ≡ list_code above operands.now ++ text.old) }
+    ensures code { OnOk result (text.new ≡ list_code above operands.now ++ text.old) }
 {
     let mut next = sum(above, operands.len())?;
     for e in operands.iter().rev() {

@@ -43,7 +43,7 @@ pub fn expression_peak(below: usize, e: &Expression) -> Result<usize, AllocError
 // The same of operands, each above the values of those before it.
 #[cycle(peak)]
 fn operands_peak(below: usize, operands: &[Expression]) -> Result<usize, AllocError>
-    ensures { IfOk result (λ n. n ≡ list_peak below operands.now) }
+    ensures exact { IfOk result (λ n. n ≡ list_peak below operands.now) }
 {
     let mut highest = 0;
     let mut next = below;
@@ -91,7 +91,7 @@ pub fn statement_peak(alive: usize, s: &Statement) -> Result<usize, AllocError>
 // The same of statements in turn, each with the locals of those before it.
 #[cycle(rise)]
 fn row_peak(alive: usize, row: &[Statement]) -> Result<usize, AllocError>
-    ensures { IfOk result (λ n. n ≡ statements_peak alive row.now) }
+    ensures exact { IfOk result (λ n. n ≡ statements_peak alive row.now) }
 {
     let mut highest = 0;
     let mut here = alive;

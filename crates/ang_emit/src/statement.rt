@@ -47,7 +47,7 @@ pub fn declared_by(s: &Statement) -> usize
 
 // The same of statements in turn.
 fn declared_by_all(statements: &[Statement]) -> usize
-    ensures { result ≡ declared_in statements.now }
+    ensures exact { result ≡ declared_in statements.now }
 {
     let mut count = 0;
     for s in statements {
@@ -58,7 +58,7 @@ fn declared_by_all(statements: &[Statement]) -> usize
 
 // So many locals are given up.
 fn write_leave(text: &mut Text, n: usize) -> Result<(), AllocError>
-    ensures { OnOk result (text.new ≡ leave_code n ++ text.old) }
+    ensures code { OnOk result (text.new ≡ leave_code n ++ text.old) }
 {
     if n > 0 {
         text.put(Instruction::Leave(n))?;
@@ -68,7 +68,7 @@ fn write_leave(text: &mut Text, n: usize) -> Result<(), AllocError>
 
 // A jump past so many instructions, where there are any.
 fn write_past(text: &mut Text, n: usize) -> Result<(), AllocError>
-    ensures { OnOk result (text.new ≡ past_code n ++ text.old) }
+    ensures code { OnOk result (text.new ≡ past_code n ++ text.old) }
 {
     if n > 0 {
         text.put(Instruction::GoOn(n))?;
@@ -78,8 +78,8 @@ fn write_past(text: &mut Text, n: usize) -> Result<(), AllocError>
 
 // A test, which passes what was written since the mark where it is false.
 fn write_test(text: &mut Text, mark: usize, test: &Expression) -> Result<(), AllocError>
-    requires { mark ≤ length text.old }
-    ensures { OnOk result (text.new ≡ expr_code 0 test.now ++ (SkipBy (length text.old - mark) ∷ text.old)) }
+    requires mark { mark ≤ length text.old }
+    ensures code { OnOk result (text.new ≡ expr_code 0 test.now ++ (SkipBy (length text.old - mark) ∷ text.old)) }
 {
     let here = text.len();
     text.put(Instruction::SkipIfFalse(here - mark))?;
@@ -89,7 +89,7 @@ fn write_test(text: &mut Text, mark: usize, test: &Expression) -> Result<(), All
 // The beginning of a loop whose body and step are written, in front of its jump back, which has `behind`
 // instructions behind it.
 fn begin_loop(text: &mut Text, behind: usize, test: &Expression) -> Result<(), AllocError>
-    requires { behind < length text.old }
+    requires behind { behind < length text.old }
     ensures code { (body step rest : List Instruction) → text.old ≡ body ++ (step ++ BackBy 0 ∷ rest) → length rest ≡ behind
         → OnOk result (text.new ≡ while_code (expr_code 0 test.now) body step ++ rest) }
     ensures longer { OnOk result (length text.new ≡ length text.old + length (expr_code 0 test.now) + 2) }
@@ -102,8 +102,8 @@ fn begin_loop(text: &mut Text, behind: usize, test: &Expression) -> Result<(), A
 
 // The same of a loop without a step that goes to its body first.
 fn begin_at_body(text: &mut Text, behind: usize, test: &Expression) -> Result<(), AllocError>
-    requires { behind < length text.old }
-    ensures { (body rest : List Instruction) → text.old ≡ body ++ BackBy 0 ∷ rest → length rest ≡ behind
+    requires behind { behind < length text.old }
+    ensures code { (body rest : List Instruction) → text.old ≡ body ++ BackBy 0 ∷ rest → length rest ≡ behind
         → OnOk result (text.new ≡ GoOnBy (length (expr_code 0 test.now) + 2) ∷ (while_code (expr_code 0 test.now) body [] ++ rest)) }
 {
     let body = text.len();
@@ -114,8 +114,8 @@ fn begin_at_body(text: &mut Text, behind: usize, test: &Expression) -> Result<()
 
 // So many locals are given up, and the run goes on where so many instructions stand behind.
 fn write_way_out(text: &mut Text, n: usize, behind: usize) -> Result<(), AllocError>
-    requires { behind ≤ length text.old }
-    ensures { OnOk result (text.new ≡ (leave_code n ++ GoOnBy (length text.old - behind) ∷ []) ++ text.old) }
+    requires behind { behind ≤ length text.old }
+    ensures code { OnOk result (text.new ≡ (leave_code n ++ GoOnBy (length text.old - behind) ∷ []) ++ text.old) }
 {
     let here = text.len();
     text.put(Instruction::GoOn(here - behind))?;
@@ -134,7 +134,7 @@ fn write_block(
     requires alive { exits.alive ≤ locals }
     requires exit { exits.exit ≤ length text.old }
     requires again { exits.again ≤ length text.old }
-    ensures { OnOk result (text.new ≡ block_code (stmt_code exits.params locals exits.alive
+    ensures code { OnOk result (text.new ≡ block_code (stmt_code exits.params locals exits.alive
         (length text.old - exits.exit + length (leave_code (declared s.now)))
         (length text.old - exits.again + length (leave_code (declared s.now))) s.now) (declared s.now) ++ text.old) }
 {
@@ -150,8 +150,8 @@ fn write_step(
     locals: usize,
     s: &Statement,
 ) -> Result<(), AllocError>
-    requires { params ≤ locals }
-    ensures { OnOk result (text.new ≡ block_code (stmt_code params locals 0 0 0 s.now) (declared s.now) ++ text.old) }
+    requires within { params ≤ locals }
+    ensures code { OnOk result (text.new ≡ block_code (stmt_code params locals 0 0 0 s.now) (declared s.now) ++ text.old) }
 {
     write_leave(text, declared_by(s))?;
     let end = text.len();
@@ -175,7 +175,7 @@ fn write_body(
 ) -> Result<(), AllocError>
     requires params { params ≤ locals }
     requires behind { behind ≤ length text.old }
-    ensures { OnOk result (text.new ≡ block_code (stmt_code params locals locals
+    ensures code { OnOk result (text.new ≡ block_code (stmt_code params locals locals
         (length text.old - behind + length (leave_code (declared s.now)))
         (length (leave_code (declared s.now))) s.now) (declared s.now) ++ text.old) }
 {
@@ -201,7 +201,7 @@ fn write_row(
     requires alive { exits.alive ≤ locals }
     requires exit { exits.exit ≤ length text.old }
     requires again { exits.again ≤ length text.old }
-    ensures { OnOk result (text.new ≡ statements_code exits.params locals exits.alive
+    ensures code { OnOk result (text.new ≡ statements_code exits.params locals exits.alive
         (length text.old - exits.exit) (length text.old - exits.again) row.now ++ text.old) }
 {
     let mut here = sum(declared_by_all(row), locals)?;

@@ -5,35 +5,35 @@ ghost use Rattle.ang_lex.specs.Bytes as spec;
 
 /// A space, a tab, a CR or an LF.
 pub fn is_white(b: u8) -> bool
-    ensures { result ≡ spec.is_white b }
+    ensures exact { result ≡ spec.is_white b }
 {
     b == b' ' || b == b'\t' || b == b'\r' || b == b'\n'
 }
 
 /// A letter or `_`.
 pub fn is_name_start(b: u8) -> bool
-    ensures { result ≡ spec.is_name_start b }
+    ensures exact { result ≡ spec.is_name_start b }
 {
     b.is_ascii_alphabetic() || b == b'_'
 }
 
 /// A letter, a digit or `_`.
 pub fn is_name_byte(b: u8) -> bool
-    ensures { result ≡ spec.is_name_byte b }
+    ensures exact { result ≡ spec.is_name_byte b }
 {
     b.is_ascii_alphanumeric() || b == b'_'
 }
 
 /// What a text may have between its quotes.
 pub fn is_text_byte(b: u8) -> bool
-    ensures { result ≡ spec.is_text_byte b }
+    ensures exact { result ≡ spec.is_text_byte b }
 {
     b' ' <= b && b <= b'~' && b != b'"' && b != b'\\'
 }
 
 /// The first byte is one of a name.
 pub fn begins_name_byte(rest: &[u8]) -> bool
-    ensures { result ≡ spec.begins spec.is_name_byte rest.now }
+    ensures exact { result ≡ spec.begins spec.is_name_byte rest.now }
 {
     match rest {
         [] => false,

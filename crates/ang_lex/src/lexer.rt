@@ -15,7 +15,7 @@ const MOST_BYTES: usize = 65_536;
 fn next_place(place: Place, b: u8) -> Place
     requires line { place.line + 1 < 2 ^ 32 }
     requires column { place.column + 1 < 2 ^ 32 }
-    ensures { result ≡ spec.next_place place b }
+    ensures exact { result ≡ spec.next_place place b }
 {
     if b == b'\n' {
         Place {
@@ -57,7 +57,7 @@ fn error_at(place: Place, fault: Fault) -> LexError
 }
 
 fn piece_len(piece: Piece) -> usize
-    ensures { result ≡ spec.piece_len piece }
+    ensures exact { result ≡ spec.piece_len piece }
 {
     match piece {
         Piece::Gap(len) => len,
@@ -72,7 +72,7 @@ fn push_piece(
     at: usize,
     place: Place,
 ) -> Result<(), LexError>
-    requires { at + spec.piece_len piece < 2 ^ 32 }
+    requires room { at + spec.piece_len piece < 2 ^ 32 }
     ensures ok { OnOk result (tokens.new.items ≡ spec.tokens_with tokens.old.items piece at place) }
     ensures err { IfErr result (λ e. e ≡ LexError.Memory) }
 {

@@ -13,7 +13,7 @@ use crate::words::words_of_length;
 /// The text is one of the spellings.
 #[tactic(auto, unfolding(crate::specs::Words::is_listed))]
 fn is_listed(mut entries: &[(&[u8], TokenKind)], text: &[u8]) -> bool
-    ensures { result ≡ words.is_listed (map (λ e. (e.0.now, e.1)) entries.entry.now) text.now }
+    ensures exact { result ≡ words.is_listed (map (λ e. (e.0.now, e.1)) entries.entry.now) text.now }
 {
     while let [entry, rest @ ..] = entries {
         if entry.0 == text {
@@ -25,19 +25,19 @@ fn is_listed(mut entries: &[(&[u8], TokenKind)], text: &[u8]) -> bool
 }
 
 fn is_reserved(text: &[u8]) -> bool
-    ensures { result ≡ words.is_listed words.reserved_words text.now }
+    ensures exact { result ≡ words.is_listed words.reserved_words text.now }
 {
     is_listed(words_of_length(text.len()), text)
 }
 
 fn are_name_bytes(bytes: &[u8]) -> bool
-    ensures { result ≡ list_all class.is_name_byte bytes.now }
+    ensures exact { result ≡ list_all class.is_name_byte bytes.now }
 {
     bytes.iter().all(|b| is_name_byte(*b))
 }
 
 fn is_spelled(text: &[u8]) -> bool
-    ensures { result ≡ spec.is_name text.now }
+    ensures exact { result ≡ spec.is_name text.now }
 {
     match text {
         [] => false,

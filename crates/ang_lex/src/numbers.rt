@@ -25,13 +25,13 @@ pub fn base_of(letter: u8) -> Option<u8>
 }
 
 fn all_digits(base: u8, text: &[u8]) -> bool
-    ensures { result ≡ list_all (bytes.is_digit_in base) text.now }
+    ensures exact { result ≡ list_all (bytes.is_digit_in base) text.now }
 {
     text.iter().all(|b| digit_value(*b) < base)
 }
 
 fn are_digits(base: u8, text: &[u8]) -> bool
-    ensures { result ≡ spec.are_digits base text.now }
+    ensures exact { result ≡ spec.are_digits base text.now }
 {
     !text.is_empty() && all_digits(base, text)
 }
@@ -66,7 +66,7 @@ fn numeral(text: &[u8]) -> Option<(u8, &[u8])>
 
 /// The value with one more digit behind it, if it is below 2^64.
 fn with_digit(value: u64, base: u8, digit: u8) -> Option<u64>
-    ensures { SomeIff result (value * base + digit < 2 ^ 64) (value * base + digit) }
+    ensures exact { SomeIff result (value * base + digit < 2 ^ 64) (value * base + digit) }
 {
     value
         .checked_mul(u64::from(base))?
@@ -75,8 +75,8 @@ fn with_digit(value: u64, base: u8, digit: u8) -> Option<u64>
 
 /// What the digits stand for, if it is below 2^64.
 fn value_of(base: u8, digits: &[u8]) -> Option<u64>
-    requires { 2 ≤ base }
-    ensures { SomeIff result (digits_value base digits.now < 2 ^ 64) (digits_value base digits.now) }
+    requires base { 2 ≤ base }
+    ensures exact { SomeIff result (digits_value base digits.now < 2 ^ 64) (digits_value base digits.now) }
 {
     let mut value = 0;
     for b in digits {
@@ -86,7 +86,7 @@ fn value_of(base: u8, digits: &[u8]) -> Option<u64>
 }
 
 fn type_of(base: u8, value: u64) -> Prim
-    ensures { result ≡ spec.type_of base value }
+    ensures exact { result ≡ spec.type_of base value }
 {
     if base == 10 {
         if value < 1 << 31 {
@@ -106,7 +106,7 @@ fn type_of(base: u8, value: u64) -> Prim
 /// The number that a text spells, if it spells one below 2^64.
 #[tactic(auto, unfolding(crate::specs::Numbers::spelled_number))]
 pub fn spelled_number(text: &[u8]) -> Option<Number>
-    ensures { result ≡ spec.spelled_number text.now }
+    ensures exact { result ≡ spec.spelled_number text.now }
 {
     let (base, digits) = numeral(text)?;
     let value = value_of(base, digits)?;

@@ -25,7 +25,7 @@ fn longest_token(rest: &[u8]) -> (TokenKind, usize)
 
 /// What may not stand directly behind a number.
 fn spoils_number(after: &[u8]) -> bool
-    ensures { result ≡ bytes.begins (λ b. bytes.is_name_byte b || b == 46) after.now }
+    ensures exact { result ≡ bytes.begins (λ b. bytes.is_name_byte b || b == 46) after.now }
 {
     match after {
         [] => false,
@@ -34,7 +34,7 @@ fn spoils_number(after: &[u8]) -> bool
 }
 
 fn is_bad_number(kind: TokenKind, text: &[u8], after: &[u8]) -> bool
-    ensures { result ≡ spec.is_bad_number kind text.now after.now }
+    ensures exact { result ≡ spec.is_bad_number kind text.now after.now }
 {
     match kind {
         TokenKind::Number => spelled_number(text).is_none() || spoils_number(after),
@@ -61,7 +61,7 @@ fn token_piece(rest: &[u8]) -> Result<Piece, Fault>
 }
 
 fn block_piece(rest: &[u8]) -> Result<Piece, Fault>
-    requires { 2 ≤ length rest.now }
+    requires opened { 2 ≤ length rest.now }
     ensures value { result ≡ spec.block_piece (spec.closing_len (drop 2 rest.now)) }
     ensures within { IfOk result (λ p. (1 ≤ spec.piece_len p) × (spec.piece_len p ≤ length rest.now)) }
 {

@@ -75,7 +75,7 @@ fn text_len(rest: &[u8]) -> usize
 /// The kind of the spelling among the entries, and of any other text the kind `other`.
 #[tactic(auto, unfolding(crate::specs::Words::lookup))]
 fn lookup(mut entries: &[(&[u8], TokenKind)], text: &[u8], other: TokenKind) -> TokenKind
-    ensures { result ≡ words.lookup (map (λ e. (e.0.now, e.1)) entries.entry.now) text.now other }
+    ensures exact { result ≡ words.lookup (map (λ e. (e.0.now, e.1)) entries.entry.now) text.now other }
 {
     while let [entry, rest @ ..] = entries {
         if entry.0 == text {
@@ -122,7 +122,7 @@ fn first_of_entries(mut entries: &[(&[u8], TokenKind)], rest: &[u8]) -> (TokenKi
 
 #[tactic(auto, unfolding(crate::specs::Fronts::front_sign))]
 fn front_sign(first: u8, rest: &[u8]) -> (TokenKind, usize)
-    requires { bytes.begins (λ b. b == first) rest.now ≡ true }
+    requires first { bytes.begins (λ b. b == first) rest.now ≡ true }
     ensures value { result ≡ spec.front_sign rest.now }
     ensures within { result.1 ≤ length rest.now }
 {

@@ -80,7 +80,7 @@ fn list_globals<'a>(
 
 /// A function.
 fn list_function<'a>(origin: Origin, text: &'a [u8], written: &'a Function) -> Declared<'a>
-    requires { origin.variable ≡ 0 }
+    requires whole { origin.variable ≡ 0 }
     ensures exact { result ≡ spec.function_at origin.script text.now origin.declaration written.now.result
         written.now.name (view_params written.now.parameters).items }
 {
@@ -97,7 +97,7 @@ fn list_function<'a>(origin: Origin, text: &'a [u8], written: &'a Function) -> D
 
 /// A class, an interface or an import.
 fn list_other<'a>(origin: Origin, text: &'a [u8], name: Token) -> Declared<'a>
-    requires { origin.variable ≡ 0 }
+    requires whole { origin.variable ≡ 0 }
     ensures exact { result ≡ spec.other_at origin.script text.now origin.declaration name }
 {
     Declared {

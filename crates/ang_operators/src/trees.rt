@@ -26,7 +26,7 @@ pub fn boxed(alloc: Global, tree: Expression) -> Result<Box<Expression>, AllocEr
 ///
 /// Want of memory alone.
 pub fn number_tree(alloc: Global, ty: Prim, value: u64) -> Result<Box<Expression>, AllocError>
-    ensures { IfOk result (λ e. view_tree e ≡ tree.number ty value) }
+    ensures exact { IfOk result (λ e. view_tree e ≡ tree.number ty value) }
 {
     boxed(alloc, Expression::Number { ty, value })
 }
@@ -37,7 +37,7 @@ pub fn number_tree(alloc: Global, ty: Prim, value: u64) -> Result<Box<Expression
 ///
 /// Want of memory alone.
 pub fn truth_tree(alloc: Global, value: bool) -> Result<Box<Expression>, AllocError>
-    ensures { IfOk result (λ e. view_tree e ≡ tree.truth value) }
+    ensures exact { IfOk result (λ e. view_tree e ≡ tree.truth value) }
 {
     boxed(alloc, Expression::Truth(value))
 }
@@ -53,7 +53,7 @@ pub fn step_of(
     ty: Prim,
     step: StepKind,
 ) -> Result<Box<Expression>, AllocError>
-    ensures { IfOk result (λ e. view_tree e ≡ tree.step variable ty step) }
+    ensures exact { IfOk result (λ e. view_tree e ≡ tree.step variable ty step) }
 {
     boxed(alloc, Expression::Step { variable, ty, step })
 }
@@ -70,7 +70,7 @@ pub fn operate(
     left: Box<Expression>,
     right: Box<Expression>,
 ) -> Result<Box<Expression>, AllocError>
-    ensures { IfOk result (λ e. view_tree e ≡ tree.operate operator ty (view_tree left) (view_tree right)) }
+    ensures exact { IfOk result (λ e. view_tree e ≡ tree.operate operator ty (view_tree left) (view_tree right)) }
 {
     boxed(
         alloc,
@@ -95,7 +95,7 @@ pub fn compare(
     left: Box<Expression>,
     right: Box<Expression>,
 ) -> Result<Box<Expression>, AllocError>
-    ensures { IfOk result (λ e. view_tree e ≡ tree.compare comparison ty (view_tree left) (view_tree right)) }
+    ensures exact { IfOk result (λ e. view_tree e ≡ tree.compare comparison ty (view_tree left) (view_tree right)) }
 {
     boxed(
         alloc,
@@ -118,7 +118,7 @@ pub fn and(
     left: Box<Expression>,
     right: Box<Expression>,
 ) -> Result<Box<Expression>, AllocError>
-    ensures { IfOk result (λ e. view_tree e ≡ tree.and (view_tree left) (view_tree right)) }
+    ensures exact { IfOk result (λ e. view_tree e ≡ tree.and (view_tree left) (view_tree right)) }
 {
     boxed(alloc, Expression::And { left, right })
 }
@@ -133,7 +133,7 @@ pub fn or(
     left: Box<Expression>,
     right: Box<Expression>,
 ) -> Result<Box<Expression>, AllocError>
-    ensures { IfOk result (λ e. view_tree e ≡ tree.or (view_tree left) (view_tree right)) }
+    ensures exact { IfOk result (λ e. view_tree e ≡ tree.or (view_tree left) (view_tree right)) }
 {
     boxed(alloc, Expression::Or { left, right })
 }
@@ -149,7 +149,7 @@ pub fn choose(
     then: Box<Expression>,
     otherwise: Box<Expression>,
 ) -> Result<Box<Expression>, AllocError>
-    ensures { IfOk result (λ e. view_tree e ≡ tree.choose (view_tree condition) (view_tree «then») (view_tree otherwise)) }
+    ensures exact { IfOk result (λ e. view_tree e ≡ tree.choose (view_tree condition) (view_tree «then») (view_tree otherwise)) }
 {
     boxed(
         alloc,
@@ -171,7 +171,7 @@ pub fn negate(
     ty: Prim,
     operand: Box<Expression>,
 ) -> Result<Box<Expression>, AllocError>
-    ensures { IfOk result (λ e. view_tree e ≡ tree.negate ty (view_tree operand)) }
+    ensures exact { IfOk result (λ e. view_tree e ≡ tree.negate ty (view_tree operand)) }
 {
     boxed(alloc, Expression::Negate { ty, operand })
 }
@@ -186,7 +186,7 @@ pub fn complement(
     ty: Prim,
     operand: Box<Expression>,
 ) -> Result<Box<Expression>, AllocError>
-    ensures { IfOk result (λ e. view_tree e ≡ tree.complement ty (view_tree operand)) }
+    ensures exact { IfOk result (λ e. view_tree e ≡ tree.complement ty (view_tree operand)) }
 {
     boxed(alloc, Expression::Complement { ty, operand })
 }
@@ -197,7 +197,7 @@ pub fn complement(
 ///
 /// Want of memory alone.
 pub fn not(alloc: Global, operand: Box<Expression>) -> Result<Box<Expression>, AllocError>
-    ensures { IfOk result (λ e. view_tree e ≡ tree.not (view_tree operand)) }
+    ensures exact { IfOk result (λ e. view_tree e ≡ tree.not (view_tree operand)) }
 {
     boxed(alloc, Expression::Not { operand })
 }
@@ -213,7 +213,7 @@ pub fn assign(
     ty: ArgType,
     value: Box<Expression>,
 ) -> Result<Box<Expression>, AllocError>
-    ensures { IfOk result (λ e. view_tree e ≡ tree.assign variable ty (view_tree value)) }
+    ensures exact { IfOk result (λ e. view_tree e ≡ tree.assign variable ty (view_tree value)) }
 {
     boxed(
         alloc,
@@ -239,7 +239,7 @@ pub fn compound(
     operating: Prim,
     value: Box<Expression>,
 ) -> Result<Box<Expression>, AllocError>
-    ensures { IfOk result (λ e. view_tree e ≡ tree.compound variable ty operator operating (view_tree value)) }
+    ensures exact { IfOk result (λ e. view_tree e ≡ tree.compound variable ty operator operating (view_tree value)) }
 {
     boxed(
         alloc,

@@ -15,8 +15,8 @@ const MOST_OPERATORS: u32 = 256;
 
 /// How many of `(` and `{` are open behind a token.
 fn opened(brackets: u32, kind: TokenKind) -> u32
-    requires { brackets + 1 < 2 ^ 32 }
-    ensures { result ≡ depth.opened brackets kind }
+    requires room { brackets + 1 < 2 ^ 32 }
+    ensures exact { result ≡ depth.opened brackets kind }
 {
     match kind {
         TokenKind::LeftParen | TokenKind::LeftBrace => brackets + 1,
@@ -27,7 +27,7 @@ fn opened(brackets: u32, kind: TokenKind) -> u32
 
 /// Whether the token is an operator, or one of the words `if else while for do not and or xor is`.
 fn is_counted(kind: TokenKind) -> bool
-    ensures { result ≡ depth.counts kind }
+    ensures exact { result ≡ depth.counts kind }
 {
     matches!(
         kind,
@@ -82,7 +82,7 @@ fn is_counted(kind: TokenKind) -> bool
 
 /// Whether operators are counted anew behind the token: `;`, `{` and `}`.
 fn ends_count(kind: TokenKind) -> bool
-    ensures { result ≡ depth.ends_count kind }
+    ensures exact { result ≡ depth.ends_count kind }
 {
     matches!(
         kind,
@@ -92,8 +92,8 @@ fn ends_count(kind: TokenKind) -> bool
 
 /// How many operators stand since the last `;`, `{` or `}`, behind a token.
 fn counted(operators: u32, kind: TokenKind) -> u32
-    requires { operators + 1 < 2 ^ 32 }
-    ensures { result ≡ depth.counted operators kind }
+    requires room { operators + 1 < 2 ^ 32 }
+    ensures exact { result ≡ depth.counted operators kind }
 {
     if ends_count(kind) {
         0
@@ -106,7 +106,7 @@ fn counted(operators: u32, kind: TokenKind) -> u32
 
 /// The place of the first token behind which too many brackets are open, or too many operators stand.
 pub(crate) fn too_deep(tokens: &[Token]) -> Option<Place>
-    ensures { result ≡ option_map (place_at tokens.now) (depth.too_deep tokens.now) }
+    ensures exact { result ≡ option_map (place_at tokens.now) (depth.too_deep tokens.now) }
 {
     let mut brackets = 0;
     let mut operators = 0;

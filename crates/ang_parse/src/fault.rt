@@ -10,16 +10,16 @@ use std::alloc::{AllocError, Global};
 
 /// The bytes of a token.
 fn text_of_token<'a>(text: &'a [u8], token: &Token) -> &'a [u8]
-    requires { IsWithin (length text.now) token.now }
-    ensures { result.now ≡ text_of text.now token.now }
+    requires within { IsWithin (length text.now) token.now }
+    ensures exact { result.now ≡ text_of text.now token.now }
 {
     &text[token.span.start as usize..token.span.end as usize]
 }
 
 /// The place one column past the last token.
 fn place_past(tokens: &[Token]) -> Place
-    requires { All HasColumns tokens.now }
-    ensures { result ≡ place_past tokens.now }
+    requires columns { All HasColumns tokens.now }
+    ensures exact { result ≡ place_past tokens.now }
 {
     match tokens.last() {
         Some(last) => Place {
@@ -43,7 +43,7 @@ pub(crate) fn syntax_error(
 ) -> Result<ParseError, AllocError>
     requires within { All (IsWithin (length text.now)) rest.now }
     requires columns { All HasColumns tokens.now }
-    ensures { IfOk result (λ f. f ≡ ParseError.Syntax (place_at tokens.now rest.now) (name_at text.now rest.now)) }
+    ensures exact { IfOk result (λ f. f ≡ ParseError.Syntax (place_at tokens.now rest.now) (name_at text.now rest.now)) }
 {
     let Some(first) = rest.first() else {
         let name = List::from_vec(Vec::new(alloc));

@@ -10,7 +10,7 @@ ghost use Rattle.ang_parse.specs.Answers.{script_of, IsSyntaxError};
 
 /// No tokens are spelled by two scripts.
 pub fn one_script()
-    ensures { (x y : List Decl) (tokens : List Token) → SpellsScript x tokens → SpellsScript y tokens → x ≡ y }
+    ensures unique { (x y : List Decl) (tokens : List Token) → SpellsScript x tokens → SpellsScript y tokens → x ≡ y }
 {}
 
 /// What `script_of` computes is what the grammar says: the script that the tokens spell, if there is

@@ -23,7 +23,7 @@ use std::alloc::Global;
 /// The declarations that the tokens spell, all of them.
 #[tactic(auto, unfolding(ang_read::specs::Law::all_of))]
 fn all(alloc: Global, tokens: &[Token]) -> Result<Vec<Declaration>, ReadError<'_>>
-    ensures { Gives (λ x. (map view_decl x.items, [])) result (all_of read.script tokens.now) }
+    ensures reads { Gives (λ x. (map view_decl x.items, [])) result (all_of read.script tokens.now) }
 {
     let (found, rest) = script(alloc, tokens, tokens.len() + 1)?;
     if !rest.is_empty() {
@@ -73,7 +73,7 @@ fn declarations(
 ///
 /// `Memory` where memory runs out.
 pub fn parse(alloc: Global, text: &[u8], tokens: &[Token]) -> Result<Script, ParseError>
-    requires { AreTokensOf text.now tokens.now }
+    requires tokens { AreTokensOf text.now tokens.now }
     // What is read is spelled by the tokens.
     ensures found { IfOk result (λ s. SpellsScript (view_script s) tokens.now) }
     ensures source { IfOk result (λ s. s.source.items ≡ text.now) }

@@ -8,7 +8,7 @@ use std::alloc::AllocError;
 
 /// The list with one more name of a class or an interface.
 pub(crate) fn with_base(first: Vec<BaseName>, next: BaseName) -> Result<Vec<BaseName>, AllocError>
-    ensures { IfOk result (λ v. v.items ≡ first.items ++ next ∷ []) }
+    ensures exact { IfOk result (λ v. v.items ≡ first.items ++ next ∷ []) }
 {
     let mut found = first;
     found.push(next)?;
@@ -20,7 +20,7 @@ pub(crate) fn with_field(
     first: Vec<FieldName>,
     next: FieldName,
 ) -> Result<Vec<FieldName>, AllocError>
-    ensures { IfOk result (λ v. v.items ≡ first.items ++ next ∷ []) }
+    ensures exact { IfOk result (λ v. v.items ≡ first.items ++ next ∷ []) }
 {
     let mut found = first;
     found.push(next)?;
@@ -29,7 +29,7 @@ pub(crate) fn with_field(
 
 /// The list with one more word.
 pub(crate) fn with_word(first: Vec<Token>, next: Token) -> Result<Vec<Token>, AllocError>
-    ensures { IfOk result (λ v. v.items ≡ first.items ++ next ∷ []) }
+    ensures exact { IfOk result (λ v. v.items ≡ first.items ++ next ∷ []) }
 {
     let mut found = first;
     found.push(next)?;
@@ -38,7 +38,7 @@ pub(crate) fn with_word(first: Vec<Token>, next: Token) -> Result<Vec<Token>, Al
 
 /// The list with one more member of a class.
 pub(crate) fn with_member(first: Vec<Member>, next: Member) -> Result<Vec<Member>, AllocError>
-    ensures { IfOk result (λ v. map view_member v.items ≡ map view_member first.items ++ view_member next ∷ []) }
+    ensures exact { IfOk result (λ v. map view_member v.items ≡ map view_member first.items ++ view_member next ∷ []) }
 {
     let mut found = first;
     found.push(next)?;
@@ -50,7 +50,7 @@ pub(crate) fn with_method(
     first: Vec<InterfaceMethod>,
     next: InterfaceMethod,
 ) -> Result<Vec<InterfaceMethod>, AllocError>
-    ensures { IfOk result (λ v. map view_method v.items ≡ map view_method first.items ++ view_method next ∷ []) }
+    ensures exact { IfOk result (λ v. map view_method v.items ≡ map view_method first.items ++ view_method next ∷ []) }
 {
     let mut found = first;
     found.push(next)?;

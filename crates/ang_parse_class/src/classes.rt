@@ -25,7 +25,7 @@ fn other_member(
     depth: usize,
     limit: usize,
 ) -> Result<((Vec<Member>, bool), &[Token]), ReadError<'_>>
-    ensures { Gives (λ x. ((map view_member x.0.0.items, x.0.1), x.1.now)) result (read.other_member depth limit (map view_member first.items) tokens.now) }
+    ensures reads { Gives (λ x. ((map view_member x.0.0.items, x.0.1), x.1.now)) result (read.other_member depth limit (map view_member first.items) tokens.now) }
 {
     if let [token, ..] = tokens
         && matches!(token.kind, TokenKind::RightBrace)
@@ -44,7 +44,7 @@ fn members(
     depth: usize,
     limit: usize,
 ) -> Result<(Vec<Member>, &[Token]), ReadError<'_>>
-    ensures { Gives (λ x. (map view_member x.0.items, x.1.now)) result (read.members depth limit tokens.now) }
+    ensures reads { Gives (λ x. (map view_member x.0.items, x.1.now)) result (read.members depth limit tokens.now) }
 {
     let mut found = Vec::new(alloc);
     let mut rest = tokens;

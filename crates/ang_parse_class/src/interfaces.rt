@@ -23,7 +23,7 @@ fn method(
     tokens: &[Token],
     limit: usize,
 ) -> Result<(InterfaceMethod, &[Token]), ReadError<'_>>
-    ensures { Gives (λ x. (view_method x.0, x.1.now)) result (read.method limit tokens.now) }
+    ensures reads { Gives (λ x. (view_method x.0, x.1.now)) result (read.method limit tokens.now) }
 {
     let (result, rest) = type_name(tokens)?;
     let (name, rest) = a_name(rest)?;
@@ -50,7 +50,7 @@ fn next_method(
     tokens: &[Token],
     limit: usize,
 ) -> Result<((Vec<InterfaceMethod>, bool), &[Token]), ReadError<'_>>
-    ensures { Gives (λ x. ((map view_method x.0.0.items, x.0.1), x.1.now)) result (read.next_method limit (map view_method first.items) tokens.now) }
+    ensures reads { Gives (λ x. ((map view_method x.0.0.items, x.0.1), x.1.now)) result (read.next_method limit (map view_method first.items) tokens.now) }
 {
     let (next, rest) = method(alloc, tokens, limit)?;
     let longer = with_method(first, next)?;
@@ -65,7 +65,7 @@ fn other_method(
     tokens: &[Token],
     limit: usize,
 ) -> Result<((Vec<InterfaceMethod>, bool), &[Token]), ReadError<'_>>
-    ensures { Gives (λ x. ((map view_method x.0.0.items, x.0.1), x.1.now)) result (read.other_method limit (map view_method first.items) tokens.now) }
+    ensures reads { Gives (λ x. ((map view_method x.0.0.items, x.0.1), x.1.now)) result (read.other_method limit (map view_method first.items) tokens.now) }
 {
     match tokens {
         [token, ..] if matches!(token.kind, TokenKind::RightBrace) => Ok(((first, false), tokens)),
@@ -79,7 +79,7 @@ fn methods(
     tokens: &[Token],
     limit: usize,
 ) -> Result<(Vec<InterfaceMethod>, &[Token]), ReadError<'_>>
-    ensures { Gives (λ x. (map view_method x.0.items, x.1.now)) result (read.methods limit tokens.now) }
+    ensures reads { Gives (λ x. (map view_method x.0.items, x.1.now)) result (read.methods limit tokens.now) }
 {
     let mut found = Vec::new(alloc);
     let mut rest = tokens;

@@ -6,14 +6,14 @@ use ang_lex::TokenKind;
 
 /// Whether the token says who sees a member: `private` or `protected`.
 pub(crate) fn is_access(kind: TokenKind) -> bool
-    ensures { result ≡ kinds.access_kind kind }
+    ensures exact { result ≡ kinds.access_kind kind }
 {
     matches!(kind, TokenKind::Private | TokenKind::Protected)
 }
 
 /// Whether the token is an attribute of a method: `final` or `override`.
 pub(crate) fn is_attribute(kind: TokenKind) -> bool
-    ensures { result ≡ kinds.attribute_kind kind }
+    ensures exact { result ≡ kinds.attribute_kind kind }
 {
     matches!(kind, TokenKind::Final | TokenKind::Override)
 }

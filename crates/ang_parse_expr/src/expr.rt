@@ -26,7 +26,7 @@ fn another<'a>(
     tokens: &'a [Token],
     depth: usize,
 ) -> Result<((Vec<Argument>, bool), &'a [Token]), ReadError<'a>>
-    ensures { Gives (λ x. ((view_items x.0.0.items, x.0.1), x.1.now)) result (read.another (read.expr depth) depth (view_items first.items) comma tokens.now) }
+    ensures reads { Gives (λ x. ((view_items x.0.0.items, x.0.1), x.1.now)) result (read.another (read.expr depth) depth (view_items first.items) comma tokens.now) }
 {
     let (value, rest) = expression(alloc, tokens, depth, 0)?;
     let longer = with_argument(first, Some(comma), value)?;
@@ -42,7 +42,7 @@ fn other_expression(
     tokens: &[Token],
     depth: usize,
 ) -> Result<((Vec<Argument>, bool), &[Token]), ReadError<'_>>
-    ensures { Gives (λ x. ((view_items x.0.0.items, x.0.1), x.1.now)) result (read.other_expression (read.expr depth) depth (view_items first.items) tokens.now) }
+    ensures reads { Gives (λ x. ((view_items x.0.0.items, x.0.1), x.1.now)) result (read.other_expression (read.expr depth) depth (view_items first.items) tokens.now) }
 {
     match tokens {
         [comma, rest @ ..] if matches!(comma.kind, TokenKind::Comma) => {
@@ -59,7 +59,7 @@ fn other_expressions(
     tokens: &[Token],
     depth: usize,
 ) -> Result<(Vec<Argument>, &[Token]), ReadError<'_>>
-    ensures { Gives (λ x. (view_items x.0.items, x.1.now)) result (repeat (read.other_expression (read.expr depth) depth) depth (view_items first.items) tokens.now) }
+    ensures reads { Gives (λ x. (view_items x.0.items, x.1.now)) result (repeat (read.other_expression (read.expr depth) depth) depth (view_items first.items) tokens.now) }
 {
     let mut found = first;
     let mut rest = tokens;
@@ -82,7 +82,7 @@ pub fn expressions(
     tokens: &[Token],
     depth: usize,
 ) -> Result<(Vec<Argument>, &[Token]), ReadError<'_>>
-    ensures { Gives (λ x. (view_items x.0.items, x.1.now)) result (read.expressions (read.expr depth) depth tokens.now) }
+    ensures reads { Gives (λ x. (view_items x.0.items, x.1.now)) result (read.expressions (read.expr depth) depth tokens.now) }
 {
     let (value, rest) = expression(alloc, tokens, depth, 0)?;
     let first = with_argument(Vec::new(alloc), None, value)?;
@@ -98,7 +98,7 @@ pub fn arguments<'a>(
     tokens: &'a [Token],
     depth: usize,
 ) -> Result<(Arguments, &'a [Token]), ReadError<'a>>
-    ensures { Gives (λ x. (view_args x.0, x.1.now)) result (read.args (read.expr depth) depth «open» tokens.now) }
+    ensures reads { Gives (λ x. (view_args x.0, x.1.now)) result (read.args (read.expr depth) depth «open» tokens.now) }
 {
     if let [close, rest @ ..] = tokens
         && matches!(close.kind, TokenKind::RightParen)
@@ -128,7 +128,7 @@ fn scoped<'a>(
     tokens: &'a [Token],
     depth: usize,
 ) -> Result<(Expression, &'a [Token]), ReadError<'a>>
-    ensures { Gives (λ x. (view_expr x.0, x.1.now)) result (read.scoped (read.expr depth) depth class scope tokens.now) }
+    ensures reads { Gives (λ x. (view_expr x.0, x.1.now)) result (read.scoped (read.expr depth) depth class scope tokens.now) }
 {
     let (name, rest) = a_name(tokens)?;
     let (open, rest) = a_left_paren(rest)?;
@@ -153,7 +153,7 @@ fn named<'a>(
     tokens: &'a [Token],
     depth: usize,
 ) -> Result<(Expression, &'a [Token]), ReadError<'a>>
-    ensures { Gives (λ x. (view_expr x.0, x.1.now)) result (read.named (read.expr depth) depth name tokens.now) }
+    ensures reads { Gives (λ x. (view_expr x.0, x.1.now)) result (read.named (read.expr depth) depth name tokens.now) }
 {
     let [token, rest @ ..] = tokens else {
         return Ok((Expression::Name(name), tokens));
@@ -176,7 +176,7 @@ fn inside(
     tokens: &[Token],
     depth: usize,
 ) -> Result<((Expression, Token), &[Token]), ReadError<'_>>
-    ensures { Gives (λ x. ((view_expr x.0.0, x.0.1), x.1.now)) result (read.inside (read.expr depth) depth tokens.now) }
+    ensures reads { Gives (λ x. ((view_expr x.0.0, x.0.1), x.1.now)) result (read.inside (read.expr depth) depth tokens.now) }
 {
     let (inner, rest) = expression(alloc, tokens, depth, 0)?;
     let (close, rest) = a_right_paren(rest)?;
@@ -192,7 +192,7 @@ fn converted<'a>(
     tokens: &'a [Token],
     depth: usize,
 ) -> Result<(Expression, &'a [Token]), ReadError<'a>>
-    ensures { Gives (λ x. (view_expr x.0, x.1.now)) result (read.converted (read.expr depth) depth primitive tokens.now) }
+    ensures reads { Gives (λ x. (view_expr x.0, x.1.now)) result (read.converted (read.expr depth) depth primitive tokens.now) }
 {
     let (open, rest) = a_left_paren(tokens)?;
     let ((operand, close), rest) = inside(alloc, rest, depth)?;
@@ -217,7 +217,7 @@ fn casted<'a>(
     tokens: &'a [Token],
     depth: usize,
 ) -> Result<(Expression, &'a [Token]), ReadError<'a>>
-    ensures { Gives (λ x. (view_expr x.0, x.1.now)) result (read.casted (read.expr depth) depth word tokens.now) }
+    ensures reads { Gives (λ x. (view_expr x.0, x.1.now)) result (read.casted (read.expr depth) depth word tokens.now) }
 {
     let (less, rest) = a_less(tokens)?;
     let (target, rest) = type_name(rest)?;
@@ -248,7 +248,7 @@ fn grouped<'a>(
     tokens: &'a [Token],
     depth: usize,
 ) -> Result<(Expression, &'a [Token]), ReadError<'a>>
-    ensures { Gives (λ x. (view_expr x.0, x.1.now)) result (read.grouped (read.expr depth) depth «open» tokens.now) }
+    ensures reads { Gives (λ x. (view_expr x.0, x.1.now)) result (read.grouped (read.expr depth) depth «open» tokens.now) }
 {
     let ((inner, close), rest) = inside(alloc, tokens, depth)?;
     let inner = Box::new(alloc, inner)?;
@@ -262,7 +262,7 @@ fn primary(
     tokens: &[Token],
     depth: usize,
 ) -> Result<(Expression, &[Token]), ReadError<'_>>
-    ensures { Gives (λ x. (view_expr x.0, x.1.now)) result (read.primary (read.expr depth) depth tokens.now) }
+    ensures reads { Gives (λ x. (view_expr x.0, x.1.now)) result (read.primary (read.expr depth) depth tokens.now) }
 {
     let [token, rest @ ..] = tokens else {
         return Err(ReadError::Syntax(tokens));
@@ -287,7 +287,7 @@ fn membered<'a>(
     tokens: &'a [Token],
     depth: usize,
 ) -> Result<(Expression, &'a [Token]), ReadError<'a>>
-    ensures { Gives (λ x. (view_expr x.0, x.1.now)) result (read.membered (read.expr depth) depth (view_expr object) dot tokens.now) }
+    ensures reads { Gives (λ x. (view_expr x.0, x.1.now)) result (read.membered (read.expr depth) depth (view_expr object) dot tokens.now) }
 {
     let (name, rest) = a_name(tokens)?;
     if let [open, rest @ ..] = rest
@@ -318,7 +318,7 @@ fn suffix(
     tokens: &[Token],
     depth: usize,
 ) -> Result<((Expression, bool), &[Token]), ReadError<'_>>
-    ensures { Gives (λ x. ((view_expr x.0.0, x.0.1), x.1.now)) result (read.suffix (read.expr depth) depth (view_expr first) tokens.now) }
+    ensures reads { Gives (λ x. ((view_expr x.0.0, x.0.1), x.1.now)) result (read.suffix (read.expr depth) depth (view_expr first) tokens.now) }
 {
     let [token, rest @ ..] = tokens else {
         return Ok(((first, false), tokens));
@@ -344,7 +344,7 @@ fn suffixes(
     tokens: &[Token],
     depth: usize,
 ) -> Result<(Expression, &[Token]), ReadError<'_>>
-    ensures { Gives (λ x. (view_expr x.0, x.1.now)) result (repeat (read.suffix (read.expr depth) depth) depth (view_expr first) tokens.now) }
+    ensures reads { Gives (λ x. (view_expr x.0, x.1.now)) result (repeat (read.suffix (read.expr depth) depth) depth (view_expr first) tokens.now) }
 {
     let mut found = first;
     let mut rest = tokens;
@@ -366,7 +366,7 @@ fn unary(
     tokens: &[Token],
     depth: usize,
 ) -> Result<(Expression, &[Token]), ReadError<'_>>
-    ensures { Gives (λ x. (view_expr x.0, x.1.now)) result (read.unary (read.expr depth) depth tokens.now) }
+    ensures reads { Gives (λ x. (view_expr x.0, x.1.now)) result (read.unary (read.expr depth) depth tokens.now) }
 {
     if let [operator, rest @ ..] = tokens
         && is_prefix(operator.kind)
@@ -390,7 +390,7 @@ fn operated<'a>(
     tokens: &'a [Token],
     depth: usize,
 ) -> Result<((Expression, bool), &'a [Token]), ReadError<'a>>
-    ensures { Gives (λ x. ((view_expr x.0.0, x.0.1), x.1.now)) result (read.operated (read.expr depth) depth (view_expr left) operator tokens.now) }
+    ensures reads { Gives (λ x. ((view_expr x.0.0, x.0.1), x.1.now)) result (read.operated (read.expr depth) depth (view_expr left) operator tokens.now) }
 {
     let (right, rest) = expression(alloc, tokens, depth, precedence(operator.kind) + 1)?;
     let whole = binary(alloc, left, operator, right)?;
@@ -407,7 +407,7 @@ fn operation(
     depth: usize,
     least: u32,
 ) -> Result<((Expression, bool), &[Token]), ReadError<'_>>
-    ensures { Gives (λ x. ((view_expr x.0.0, x.0.1), x.1.now)) result (read.operation (read.expr depth) depth least (view_expr left) tokens.now) }
+    ensures reads { Gives (λ x. ((view_expr x.0.0, x.0.1), x.1.now)) result (read.operation (read.expr depth) depth least (view_expr left) tokens.now) }
 {
     match tokens {
         [operator, rest @ ..] if binds(least, precedence(operator.kind)) => {
@@ -425,7 +425,7 @@ fn operations(
     depth: usize,
     least: u32,
 ) -> Result<(Expression, &[Token]), ReadError<'_>>
-    ensures { Gives (λ x. (view_expr x.0, x.1.now)) result (repeat (read.operation (read.expr depth) depth least) depth (view_expr first) tokens.now) }
+    ensures reads { Gives (λ x. (view_expr x.0, x.1.now)) result (repeat (read.operation (read.expr depth) depth least) depth (view_expr first) tokens.now) }
 {
     let mut left = first;
     let mut rest = tokens;
@@ -448,7 +448,7 @@ fn branches(
     tokens: &[Token],
     depth: usize,
 ) -> Result<((Expression, Token, Expression), &[Token]), ReadError<'_>>
-    ensures { Gives (λ x. ((view_expr x.0.0, x.0.1, view_expr x.0.2), x.1.now)) result (read.branches (read.expr depth) depth tokens.now) }
+    ensures reads { Gives (λ x. ((view_expr x.0.0, x.0.1, view_expr x.0.2), x.1.now)) result (read.branches (read.expr depth) depth tokens.now) }
 {
     let (then, rest) = expression(alloc, tokens, depth, 0)?;
     let (colon, rest) = a_colon(rest)?;
@@ -466,7 +466,7 @@ fn conditioned<'a>(
     tokens: &'a [Token],
     depth: usize,
 ) -> Result<(Expression, &'a [Token]), ReadError<'a>>
-    ensures { Gives (λ x. (view_expr x.0, x.1.now)) result (read.conditioned (read.expr depth) depth (view_expr condition) question tokens.now) }
+    ensures reads { Gives (λ x. (view_expr x.0, x.1.now)) result (read.conditioned (read.expr depth) depth (view_expr condition) question tokens.now) }
 {
     let ((then, colon, otherwise), rest) = branches(alloc, tokens, depth)?;
     let whole = conditional(alloc, condition, question, then, colon, otherwise)?;
@@ -483,7 +483,7 @@ fn assigned<'a>(
     tokens: &'a [Token],
     depth: usize,
 ) -> Result<(Expression, &'a [Token]), ReadError<'a>>
-    ensures { Gives (λ x. (view_expr x.0, x.1.now)) result (read.assigned (read.expr depth) depth (view_expr target) operator tokens.now) }
+    ensures reads { Gives (λ x. (view_expr x.0, x.1.now)) result (read.assigned (read.expr depth) depth (view_expr target) operator tokens.now) }
 {
     let (value, rest) = expression(alloc, tokens, depth, 0)?;
     let whole = assignment(alloc, target, operator, value)?;
@@ -499,7 +499,7 @@ fn tail(
     tokens: &[Token],
     depth: usize,
 ) -> Result<(Expression, &[Token]), ReadError<'_>>
-    ensures { Gives (λ x. (view_expr x.0, x.1.now)) result (read.tail (read.expr depth) depth (view_expr first) tokens.now) }
+    ensures reads { Gives (λ x. (view_expr x.0, x.1.now)) result (read.tail (read.expr depth) depth (view_expr first) tokens.now) }
 {
     let [token, rest @ ..] = tokens else {
         return Ok((first, tokens));
@@ -521,7 +521,7 @@ pub fn expression(
     depth: usize,
     least: u32,
 ) -> Result<(Expression, &[Token]), ReadError<'_>>
-    ensures { Gives (λ x. (view_expr x.0, x.1.now)) result (read.expr depth least tokens.now) }
+    ensures reads { Gives (λ x. (view_expr x.0, x.1.now)) result (read.expr depth least tokens.now) }
 {
     if depth == 0 {
         return Err(ReadError::Deep);

@@ -7,7 +7,7 @@ use ang_lex::TokenKind;
 
 /// Whether the token is a literal: a number, `true`, `false`, `null` or `this`.
 pub(crate) fn is_literal(kind: TokenKind) -> bool
-    ensures { result ≡ kinds.literal_kind kind }
+    ensures exact { result ≡ kinds.literal_kind kind }
 {
     matches!(
         kind,
@@ -17,7 +17,7 @@ pub(crate) fn is_literal(kind: TokenKind) -> bool
 
 /// Whether a type can be named by the token: a primitive type, `void` or a name.
 pub fn is_type_name(kind: TokenKind) -> bool
-    ensures { result ≡ kinds.type_kind kind }
+    ensures exact { result ≡ kinds.type_kind kind }
 {
     matches!(
         kind,
@@ -27,7 +27,7 @@ pub fn is_type_name(kind: TokenKind) -> bool
 
 /// Whether the token is an operator in front of an operand: `!`, `-`, `+`, `~`, `@`, `++` or `--`.
 pub(crate) fn is_prefix(kind: TokenKind) -> bool
-    ensures { result ≡ kinds.prefix_kind kind }
+    ensures exact { result ≡ kinds.prefix_kind kind }
 {
     matches!(
         kind,
@@ -43,14 +43,14 @@ pub(crate) fn is_prefix(kind: TokenKind) -> bool
 
 /// Whether the token is `++` or `--`.
 pub(crate) fn is_step(kind: TokenKind) -> bool
-    ensures { result ≡ kinds.step_kind kind }
+    ensures exact { result ≡ kinds.step_kind kind }
 {
     matches!(kind, TokenKind::Increment | TokenKind::Decrement)
 }
 
 /// Whether the token is `=` or a compound assignment.
 pub(crate) fn is_assignment(kind: TokenKind) -> bool
-    ensures { result ≡ kinds.assignment_kind kind }
+    ensures exact { result ≡ kinds.assignment_kind kind }
 {
     matches!(
         kind,
@@ -96,7 +96,7 @@ pub(crate) fn precedence(kind: TokenKind) -> u32
 /// Whether an operator of this precedence is taken where one of the rule `least` or a tighter one is
 /// wanted.
 pub(crate) fn binds(least: u32, precedence: u32) -> bool
-    ensures { result ≡ read.binds least precedence }
+    ensures exact { result ≡ read.binds least precedence }
 {
     precedence != 0 && least <= precedence
 }

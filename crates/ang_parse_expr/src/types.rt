@@ -11,7 +11,7 @@ use ang_tree::{Handle, TypeName};
 /// Reads `[ "@" [ "const" ] ]`.
 #[tactic(auto, unfolding(crate::specs::ReadType::a_handle))]
 pub fn handle(tokens: &[Token]) -> (Option<Handle>, &[Token])
-    ensures { read.a_handle tokens.now ≡ Ok (result.0, result.1.now) }
+    ensures reads { read.a_handle tokens.now ≡ Ok (result.0, result.1.now) }
 {
     match tokens {
         [at, rest @ ..] if matches!(at.kind, TokenKind::At) => {
@@ -25,7 +25,7 @@ pub fn handle(tokens: &[Token]) -> (Option<Handle>, &[Token])
 /// Reads what stands behind a type's name.
 #[tactic(auto, unfolding(crate::specs::ReadType::type_named))]
 pub fn type_named(constant: Option<Token>, name: Token, tokens: &[Token]) -> (TypeName, &[Token])
-    ensures { read.type_named constant name tokens.now ≡ Ok (result.0, result.1.now) }
+    ensures reads { read.type_named constant name tokens.now ≡ Ok (result.0, result.1.now) }
 {
     let (handle, rest) = handle(tokens);
     (

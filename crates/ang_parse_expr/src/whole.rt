@@ -15,7 +15,7 @@ use std::alloc::Global;
 
 #[tactic(auto, unfolding(ang_read::specs::Law::all_of))]
 fn all(alloc: Global, tokens: &[Token]) -> Result<Expression, ReadError<'_>>
-    ensures { Gives (λ x. (view_expr x, [])) result (all_of (λ n. read.expr n 0) tokens.now) }
+    ensures reads { Gives (λ x. (view_expr x, [])) result (all_of (λ n. read.expr n 0) tokens.now) }
 {
     let (found, rest) = expression(alloc, tokens, tokens.len() + 1, 0)?;
     if !rest.is_empty() {
@@ -44,5 +44,5 @@ pub fn parse_expression(alloc: Global, tokens: &[Token]) -> Result<Expression, R
 
 /// No tokens are spelled by two expressions.
 pub fn one_tree()
-    ensures { (x y : Tree) (tokens : List Token) → Spells x tokens → Spells y tokens → x ≡ y }
+    ensures unique { (x y : Tree) (tokens : List Token) → Spells x tokens → Spells y tokens → x ≡ y }
 {}

@@ -26,7 +26,7 @@ pub(crate) struct Group {
 impl Group {
     /// The group as arguments alone.
     pub(crate) fn into_arguments(self) -> Option<Arguments>
-        ensures { result ≡ self.arguments }
+        ensures exact { result ≡ self.arguments }
     {
         self.arguments
     }
@@ -35,8 +35,8 @@ impl Group {
 /// How many parentheses are open behind a token of this kind, where `depth` are in front of it; nothing
 /// where it closes one more than are open.
 fn deeper(kind: TokenKind, depth: usize) -> Option<usize>
-    requires { depth + 1 < 2 ^ 64 }
-    ensures { result ≡ groups.deeper kind depth }
+    requires room { depth + 1 < 2 ^ 64 }
+    ensures exact { result ≡ groups.deeper kind depth }
 {
     match kind {
         TokenKind::LeftParen => Some(depth + 1),
@@ -69,7 +69,7 @@ fn whole_parameters<'a>(
     tokens: &'a [Token],
     limit: usize,
 ) -> Result<Parameters, ReadError<'a>>
-    ensures { Gives (λ x. (view_params x, [])) result (read.whole_params limit «open» tokens.now) }
+    ensures reads { Gives (λ x. (view_params x, [])) result (read.whole_params limit «open» tokens.now) }
 {
     let (found, rest) = parameters(alloc, open, tokens, limit)?;
     if !rest.is_empty() {
@@ -86,7 +86,7 @@ fn whole_arguments<'a>(
     tokens: &'a [Token],
     limit: usize,
 ) -> Result<Arguments, ReadError<'a>>
-    ensures { Gives (λ x. (view_args x, [])) result (read.whole_args limit «open» tokens.now) }
+    ensures reads { Gives (λ x. (view_args x, [])) result (read.whole_args limit «open» tokens.now) }
 {
     let (found, rest) = arguments(alloc, open, tokens, limit)?;
     if !rest.is_empty() {
@@ -104,7 +104,7 @@ fn with_parameters<'a>(
     behind: &'a [Token],
     limit: usize,
 ) -> Result<(Group, &'a [Token]), ReadError<'a>>
-    ensures { Gives (λ x. (view_group x.0, x.1.now)) result (groups.merged (Ok (view_params parameters, [])) (read.whole_args limit «open» inside.now) behind.now) }
+    ensures reads { Gives (λ x. (view_group x.0, x.1.now)) result (groups.merged (Ok (view_params parameters, [])) (read.whole_args limit «open» inside.now) behind.now) }
 {
     let parameters = Some(parameters);
     match whole_arguments(alloc, open, inside, limit) {
@@ -145,7 +145,7 @@ fn without_parameters<'a>(
     requires left { «open».kind ≡ LeftParen }
     requires within { len ≤ length tokens.now }
     requires end { From (take len tokens.now) fault.now }
-    ensures { Gives (λ x. (view_group x.0, x.1.now)) result (groups.merged (Err (at fault.now)) (read.whole_args limit «open» (take len tokens.now)) (drop len tokens.now)) }
+    ensures reads { Gives (λ x. (view_group x.0, x.1.now)) result (groups.merged (Err (at fault.now)) (read.whole_args limit «open» (take len tokens.now)) (drop len tokens.now)) }
 {
     let (inside, behind) = tokens.split_at(len);
     match whole_arguments(alloc, open, inside, limit) {
@@ -176,8 +176,8 @@ pub(crate) fn grouped<'a>(
     tokens: &'a [Token],
     limit: usize,
 ) -> Result<(Group, &'a [Token]), ReadError<'a>>
-    requires { «open».kind ≡ LeftParen }
-    ensures { Gives (λ x. (view_group x.0, x.1.now)) result (read.group limit «open» tokens.now) }
+    requires paren { «open».kind ≡ LeftParen }
+    ensures reads { Gives (λ x. (view_group x.0, x.1.now)) result (read.group limit «open» tokens.now) }
 {
     let len = group_len(tokens);
     let (inside, behind) = tokens.split_at(len);

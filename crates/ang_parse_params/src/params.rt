@@ -18,7 +18,7 @@ use std::alloc::{AllocError, Global};
 /// Reads `in`, `out` or `inout`, if one stands there.
 #[tactic(auto, unfolding(ang_read::specs::Tokens::perhaps))]
 fn direction(tokens: &[Token]) -> (Option<Token>, &[Token])
-    ensures { perhaps direction_kind tokens.now ≡ Ok (result.0, result.1.now) }
+    ensures reads { perhaps direction_kind tokens.now ≡ Ok (result.0, result.1.now) }
 {
     match tokens {
         [word, rest @ ..]
@@ -32,7 +32,7 @@ fn direction(tokens: &[Token]) -> (Option<Token>, &[Token])
 /// Reads a name, if one stands there.
 #[tactic(auto, unfolding(ang_read::specs::Tokens::perhaps))]
 fn perhaps_name(tokens: &[Token]) -> (Option<Token>, &[Token])
-    ensures { perhaps is_name tokens.now ≡ Ok (result.0, result.1.now) }
+    ensures reads { perhaps is_name tokens.now ≡ Ok (result.0, result.1.now) }
 {
     match tokens {
         [name, rest @ ..] if matches!(name.kind, TokenKind::Name) => (Some(*name), rest),
@@ -43,7 +43,7 @@ fn perhaps_name(tokens: &[Token]) -> (Option<Token>, &[Token])
 /// Reads `[ "&" [ "in" | "out" | "inout" ] ]`.
 #[tactic(auto, unfolding(crate::specs::ReadParams::a_reference))]
 fn reference(tokens: &[Token]) -> (Option<Reference>, &[Token])
-    ensures { read.a_reference tokens.now ≡ Ok (result.0, result.1.now) }
+    ensures reads { read.a_reference tokens.now ≡ Ok (result.0, result.1.now) }
 {
     match tokens {
         [sign, rest @ ..] if matches!(sign.kind, TokenKind::Ampersand) => {
@@ -68,7 +68,7 @@ fn parameter_typed(
     declared_type: TypeName,
     tokens: &[Token],
 ) -> (Parameter, &[Token])
-    ensures { read.param_typed comma declared_type tokens.now ≡ Ok (result.0, result.1.now) }
+    ensures reads { read.param_typed comma declared_type tokens.now ≡ Ok (result.0, result.1.now) }
 {
     let (reference, rest) = reference(tokens);
     let (name, rest) = perhaps_name(rest);
@@ -98,7 +98,7 @@ pub fn parameter(
 
 /// The list with one more parameter at its end.
 fn with_parameter(first: Vec<Parameter>, next: Parameter) -> Result<Vec<Parameter>, AllocError>
-    ensures { IfOk result (λ v. v.items ≡ first.items ++ next ∷ []) }
+    ensures exact { IfOk result (λ v. v.items ≡ first.items ++ next ∷ []) }
 {
     let mut found = first;
     found.push(next)?;
@@ -112,7 +112,7 @@ fn another_parameter(
     comma: Token,
     tokens: &[Token],
 ) -> Result<((Vec<Parameter>, bool), &[Token]), ReadError<'_>>
-    ensures { Gives (λ x. ((x.0.0.items, x.0.1), x.1.now)) result (read.another_param first.items comma tokens.now) }
+    ensures reads { Gives (λ x. ((x.0.0.items, x.0.1), x.1.now)) result (read.another_param first.items comma tokens.now) }
 {
     let (next, rest) = parameter(Some(comma), tokens)?;
     let longer = with_parameter(first, next)?;
@@ -125,7 +125,7 @@ fn other_parameter(
     first: Vec<Parameter>,
     tokens: &[Token],
 ) -> Result<((Vec<Parameter>, bool), &[Token]), ReadError<'_>>
-    ensures { Gives (λ x. ((x.0.0.items, x.0.1), x.1.now)) result (read.other_param first.items tokens.now) }
+    ensures reads { Gives (λ x. ((x.0.0.items, x.0.1), x.1.now)) result (read.other_param first.items tokens.now) }
 {
     match tokens {
         [comma, rest @ ..] if matches!(comma.kind, TokenKind::Comma) => {
@@ -140,7 +140,7 @@ fn other_parameters(
     tokens: &[Token],
     limit: usize,
 ) -> Result<(Vec<Parameter>, &[Token]), ReadError<'_>>
-    ensures { Gives (λ x. (x.0.items, x.1.now)) result (repeat read.other_param limit first.items tokens.now) }
+    ensures reads { Gives (λ x. (x.0.items, x.1.now)) result (repeat read.other_param limit first.items tokens.now) }
 {
     let mut found = first;
     let mut rest = tokens;
@@ -164,7 +164,7 @@ fn parameters_behind<'a>(
     tokens: &'a [Token],
     limit: usize,
 ) -> Result<(Parameters, &'a [Token]), ReadError<'a>>
-    ensures { Gives (λ x. (view_params x.0, x.1.now)) result (read.params_behind limit «open» first tokens.now) }
+    ensures reads { Gives (λ x. (view_params x.0, x.1.now)) result (read.params_behind limit «open» first tokens.now) }
 {
     let found = with_parameter(Vec::new(alloc), first)?;
     let (items, rest) = other_parameters(found, tokens, limit)?;
@@ -190,7 +190,7 @@ fn voided<'a>(
     tokens: &'a [Token],
     limit: usize,
 ) -> Result<(Parameters, &'a [Token]), ReadError<'a>>
-    ensures { Gives (λ x. (view_params x.0, x.1.now)) result (read.voided limit «open» word tokens.now) }
+    ensures reads { Gives (λ x. (view_params x.0, x.1.now)) result (read.voided limit «open» word tokens.now) }
 {
     if let [close, rest @ ..] = tokens
         && matches!(close.kind, TokenKind::RightParen)
@@ -204,7 +204,7 @@ fn voided<'a>(
 
 /// No parameters.
 fn empty(alloc: Global, open: Token, void_word: Option<Token>, close: Token) -> Parameters
-    ensures { view_params result ≡ read.params_of «open» void_word [] close }
+    ensures exact { view_params result ≡ read.params_of «open» void_word [] close }
 {
     Parameters {
         open,
@@ -221,7 +221,7 @@ fn some_parameters<'a>(
     tokens: &'a [Token],
     limit: usize,
 ) -> Result<(Parameters, &'a [Token]), ReadError<'a>>
-    ensures { Gives (λ x. (view_params x.0, x.1.now)) result (read.some_params limit «open» tokens.now) }
+    ensures reads { Gives (λ x. (view_params x.0, x.1.now)) result (read.some_params limit «open» tokens.now) }
 {
     let (first, rest) = parameter(None, tokens)?;
     parameters_behind(alloc, open, first, rest, limit)
@@ -235,7 +235,7 @@ pub fn parameters<'a>(
     tokens: &'a [Token],
     limit: usize,
 ) -> Result<(Parameters, &'a [Token]), ReadError<'a>>
-    ensures { Gives (λ x. (view_params x.0, x.1.now)) result (read.params limit «open» tokens.now) }
+    ensures reads { Gives (λ x. (view_params x.0, x.1.now)) result (read.params limit «open» tokens.now) }
 {
     let [token, rest @ ..] = tokens else {
         return some_parameters(alloc, open, tokens, limit);
@@ -254,7 +254,7 @@ pub fn a_parameters(
     tokens: &[Token],
     limit: usize,
 ) -> Result<(Parameters, &[Token]), ReadError<'_>>
-    ensures { Gives (λ x. (view_params x.0, x.1.now)) result (read.a_params limit tokens.now) }
+    ensures reads { Gives (λ x. (view_params x.0, x.1.now)) result (read.a_params limit tokens.now) }
 {
     let (open, rest) = a_left_paren(tokens)?;
     parameters(alloc, open, rest, limit)

@@ -16,7 +16,7 @@ use std::alloc::Global;
 
 #[tactic(auto, unfolding(ang_read::specs::Law::all_of))]
 fn all(alloc: Global, tokens: &[Token]) -> Result<Parameters, ReadError<'_>>
-    ensures { Gives (λ x. (view_params x, [])) result (all_of read.a_params tokens.now) }
+    ensures reads { Gives (λ x. (view_params x, [])) result (all_of read.a_params tokens.now) }
 {
     let (found, rest) = a_parameters(alloc, tokens, tokens.len() + 1)?;
     if !rest.is_empty() {
@@ -45,5 +45,5 @@ pub fn parse_parameters(alloc: Global, tokens: &[Token]) -> Result<Parameters, R
 
 /// No tokens are spelled by two lists of parameters.
 pub fn one_tree()
-    ensures { (x y : Params) (tokens : List Token) → SpellsParams x tokens → SpellsParams y tokens → x ≡ y }
+    ensures unique { (x y : Params) (tokens : List Token) → SpellsParams x tokens → SpellsParams y tokens → x ≡ y }
 {}

@@ -15,7 +15,7 @@ pub(crate) fn with_statement(
     first: Vec<Statement>,
     next: Statement,
 ) -> Result<Vec<Statement>, AllocError>
-    ensures { IfOk result (λ v. view_stmts v.items ≡ tree.added_stmt (view_stmts first.items) (view_stmt next)) }
+    ensures exact { IfOk result (λ v. view_stmts v.items ≡ tree.added_stmt (view_stmts first.items) (view_stmt next)) }
 {
     let mut found = first;
     found.push(next)?;
@@ -24,7 +24,7 @@ pub(crate) fn with_statement(
 
 /// Variables, or an expression, as a statement.
 pub(crate) fn simple(start: ForStart) -> Statement
-    ensures { view_stmt result ≡ read.simple_of (view_start start) }
+    ensures exact { view_stmt result ≡ read.simple_of (view_start start) }
 {
     match start {
         ForStart::Variables(variables) => Statement::Variables(variables),
@@ -34,14 +34,14 @@ pub(crate) fn simple(start: ForStart) -> Statement
 
 /// The other branch of an `if`.
 pub(crate) fn other_branch(word: Token, branch: Box<Statement>) -> Else
-    ensures { view_else result ≡ (word, view_stmt branch.value) }
+    ensures exact { view_else result ≡ (word, view_stmt branch.value) }
 {
     Else { word, branch }
 }
 
 /// An `if`.
 pub(crate) fn conditional(word: Token, guarded: Guarded, otherwise: Option<Else>) -> Statement
-    ensures { view_stmt result ≡ read.branched word (view_guarded guarded) (option_map view_else otherwise) }
+    ensures exact { view_stmt result ≡ read.branched word (view_guarded guarded) (option_map view_else otherwise) }
 {
     let Guarded {
         condition,
@@ -59,7 +59,7 @@ pub(crate) fn conditional(word: Token, guarded: Guarded, otherwise: Option<Else>
 
 /// A `while`.
 pub(crate) fn while_loop(word: Token, guarded: Guarded) -> Statement
-    ensures { view_stmt result ≡ read.while_of word (view_guarded guarded) }
+    ensures exact { view_stmt result ≡ read.while_of word (view_guarded guarded) }
 {
     let Guarded {
         condition,
@@ -76,7 +76,7 @@ pub(crate) fn while_loop(word: Token, guarded: Guarded) -> Statement
 
 /// A `do`.
 pub(crate) fn do_loop(word: Token, body: Box<Statement>, ending: Ending) -> Statement
-    ensures { view_stmt result ≡ read.do_while_of word (view_stmt body.value) (view_ending ending) }
+    ensures exact { view_stmt result ≡ read.do_while_of word (view_stmt body.value) (view_ending ending) }
 {
     let Ending {
         word: while_word,
@@ -96,7 +96,7 @@ pub(crate) fn do_loop(word: Token, body: Box<Statement>, ending: Ending) -> Stat
 
 /// A `for`.
 pub(crate) fn for_loop(word: Token, head: Head, body: Box<Statement>) -> Statement
-    ensures { view_stmt result ≡ read.for_of word (view_head head) (view_stmt body.value) }
+    ensures exact { view_stmt result ≡ read.for_of word (view_head head) (view_stmt body.value) }
 {
     let Head {
         open,

@@ -26,7 +26,7 @@ fn condition(
     tokens: &[Token],
     limit: usize,
 ) -> Result<(Condition, &[Token]), ReadError<'_>>
-    ensures { Gives (λ x. (view_condition x.0, x.1.now)) result (read.condition limit tokens.now) }
+    ensures reads { Gives (λ x. (view_condition x.0, x.1.now)) result (read.condition limit tokens.now) }
 {
     let (open, rest) = a_left_paren(tokens)?;
     let (value, rest) = expression(alloc, rest, limit, 0)?;
@@ -41,7 +41,7 @@ fn ending(
     tokens: &[Token],
     limit: usize,
 ) -> Result<(Ending, &[Token]), ReadError<'_>>
-    ensures { Gives (λ x. (view_ending x.0, x.1.now)) result (read.ending limit tokens.now) }
+    ensures reads { Gives (λ x. (view_ending x.0, x.1.now)) result (read.ending limit tokens.now) }
 {
     let (word, rest) = a_while(tokens)?;
     let (condition, rest) = condition(alloc, rest, limit)?;
@@ -62,7 +62,7 @@ fn some_steps(
     tokens: &[Token],
     limit: usize,
 ) -> Result<((Vec<Argument>, Token), &[Token]), ReadError<'_>>
-    ensures { Gives (λ x. ((view_items x.0.0.items, x.0.1), x.1.now)) result (read.some_steps limit tokens.now) }
+    ensures reads { Gives (λ x. ((view_items x.0.0.items, x.0.1), x.1.now)) result (read.some_steps limit tokens.now) }
 {
     let (steps, rest) = expressions(alloc, tokens, limit)?;
     let (close, rest) = a_right_paren(rest)?;
@@ -76,7 +76,7 @@ fn steps(
     tokens: &[Token],
     limit: usize,
 ) -> Result<((Vec<Argument>, Token), &[Token]), ReadError<'_>>
-    ensures { Gives (λ x. ((view_items x.0.0.items, x.0.1), x.1.now)) result (read.steps limit tokens.now) }
+    ensures reads { Gives (λ x. ((view_items x.0.0.items, x.0.1), x.1.now)) result (read.steps limit tokens.now) }
 {
     match tokens {
         [close, rest @ ..] if matches!(close.kind, TokenKind::RightParen) => {
@@ -89,7 +89,7 @@ fn steps(
 /// Reads the head of a `for`.
 #[tactic(auto, unfolding(crate::specs::ReadStmt::head))]
 fn head(alloc: Global, tokens: &[Token], limit: usize) -> Result<(Head, &[Token]), ReadError<'_>>
-    ensures { Gives (λ x. (view_head x.0, x.1.now)) result (read.head limit tokens.now) }
+    ensures reads { Gives (λ x. (view_head x.0, x.1.now)) result (read.head limit tokens.now) }
 {
     let (open, rest) = a_left_paren(tokens)?;
     let (start, rest) = start(alloc, rest, limit)?;
@@ -114,7 +114,7 @@ fn simple(
     tokens: &[Token],
     limit: usize,
 ) -> Result<(Statement, &[Token]), ReadError<'_>>
-    ensures { Gives (λ x. (view_stmt x.0, x.1.now)) result (read.simple limit tokens.now) }
+    ensures reads { Gives (λ x. (view_stmt x.0, x.1.now)) result (read.simple limit tokens.now) }
 {
     let (start, rest) = start(alloc, tokens, limit)?;
     Ok((build::simple(start), rest))
@@ -148,7 +148,7 @@ fn returned(
     tokens: &[Token],
     limit: usize,
 ) -> Result<(Statement, &[Token]), ReadError<'_>>
-    ensures { Gives (λ x. (view_stmt x.0, x.1.now)) result (read.returned limit word tokens.now) }
+    ensures reads { Gives (λ x. (view_stmt x.0, x.1.now)) result (read.returned limit word tokens.now) }
 {
     let ((value, semicolon), rest) = ended(alloc, tokens, limit)?;
     Ok((
@@ -171,7 +171,7 @@ fn other_statement(
     depth: usize,
     limit: usize,
 ) -> Result<((Vec<Statement>, bool), &[Token]), ReadError<'_>>
-    ensures { Gives (λ x. ((view_stmts x.0.0.items, x.0.1), x.1.now)) result (read.other_statement (read.stmt depth limit) limit (view_stmts first.items) tokens.now) }
+    ensures reads { Gives (λ x. ((view_stmts x.0.0.items, x.0.1), x.1.now)) result (read.other_statement (read.stmt depth limit) limit (view_stmts first.items) tokens.now) }
 {
     if let [token, ..] = tokens
         && matches!(token.kind, TokenKind::RightBrace)
@@ -192,7 +192,7 @@ pub(crate) fn statements(
     depth: usize,
     limit: usize,
 ) -> Result<(Vec<Statement>, &[Token]), ReadError<'_>>
-    ensures { Gives (λ x. (view_stmts x.0.items, x.1.now)) result (read.statements (read.stmt depth limit) limit tokens.now) }
+    ensures reads { Gives (λ x. (view_stmts x.0.items, x.1.now)) result (read.statements (read.stmt depth limit) limit tokens.now) }
 {
     let mut found = Vec::new(alloc);
     let mut rest = tokens;
@@ -217,7 +217,7 @@ pub(crate) fn block<'a>(
     depth: usize,
     limit: usize,
 ) -> Result<(Block, &'a [Token]), ReadError<'a>>
-    ensures { Gives (λ x. (view_body x.0, x.1.now)) result (read.a_body (read.stmt depth limit) limit «open» tokens.now) }
+    ensures reads { Gives (λ x. (view_body x.0, x.1.now)) result (read.a_body (read.stmt depth limit) limit «open» tokens.now) }
 {
     let (statements, rest) = statements(alloc, tokens, depth, limit)?;
     let (close, rest) = a_right_brace(rest)?;
@@ -239,7 +239,7 @@ fn inner_statement(
     depth: usize,
     limit: usize,
 ) -> Result<(Box<Statement>, &[Token]), ReadError<'_>>
-    ensures { Gives (λ x. (view_stmt x.0.value, x.1.now)) result (read.stmt depth limit tokens.now) }
+    ensures reads { Gives (λ x. (view_stmt x.0.value, x.1.now)) result (read.stmt depth limit tokens.now) }
 {
     let (found, rest) = statement(alloc, tokens, depth, limit)?;
     let found = Box::new(alloc, found)?;
@@ -255,7 +255,7 @@ fn guarded(
     depth: usize,
     limit: usize,
 ) -> Result<(Guarded, &[Token]), ReadError<'_>>
-    ensures { Gives (λ x. (view_guarded x.0, x.1.now)) result (read.guarded (read.stmt depth limit) limit tokens.now) }
+    ensures reads { Gives (λ x. (view_guarded x.0, x.1.now)) result (read.guarded (read.stmt depth limit) limit tokens.now) }
 {
     let (condition, rest) = condition(alloc, tokens, limit)?;
     let (statement, rest) = inner_statement(alloc, rest, depth, limit)?;
@@ -277,7 +277,7 @@ fn otherwise(
     depth: usize,
     limit: usize,
 ) -> Result<(Option<Else>, &[Token]), ReadError<'_>>
-    ensures { Gives (λ x. (option_map view_else x.0, x.1.now)) result (read.otherwise (read.stmt depth limit) limit tokens.now) }
+    ensures reads { Gives (λ x. (option_map view_else x.0, x.1.now)) result (read.otherwise (read.stmt depth limit) limit tokens.now) }
 {
     match tokens {
         [word, rest @ ..] if matches!(word.kind, TokenKind::Else) => {
@@ -298,7 +298,7 @@ fn conditional<'a>(
     depth: usize,
     limit: usize,
 ) -> Result<(Statement, &'a [Token]), ReadError<'a>>
-    ensures { Gives (λ x. (view_stmt x.0, x.1.now)) result (read.conditional (read.stmt depth limit) limit word tokens.now) }
+    ensures reads { Gives (λ x. (view_stmt x.0, x.1.now)) result (read.conditional (read.stmt depth limit) limit word tokens.now) }
 {
     let (guarded, rest) = guarded(alloc, tokens, depth, limit)?;
     let (otherwise, rest) = otherwise(alloc, rest, depth, limit)?;
@@ -315,7 +315,7 @@ fn while_loop<'a>(
     depth: usize,
     limit: usize,
 ) -> Result<(Statement, &'a [Token]), ReadError<'a>>
-    ensures { Gives (λ x. (view_stmt x.0, x.1.now)) result (read.while_loop (read.stmt depth limit) limit word tokens.now) }
+    ensures reads { Gives (λ x. (view_stmt x.0, x.1.now)) result (read.while_loop (read.stmt depth limit) limit word tokens.now) }
 {
     let (guarded, rest) = guarded(alloc, tokens, depth, limit)?;
     Ok((build::while_loop(word, guarded), rest))
@@ -331,7 +331,7 @@ fn do_loop<'a>(
     depth: usize,
     limit: usize,
 ) -> Result<(Statement, &'a [Token]), ReadError<'a>>
-    ensures { Gives (λ x. (view_stmt x.0, x.1.now)) result (read.do_loop (read.stmt depth limit) limit word tokens.now) }
+    ensures reads { Gives (λ x. (view_stmt x.0, x.1.now)) result (read.do_loop (read.stmt depth limit) limit word tokens.now) }
 {
     let (body, rest) = inner_statement(alloc, tokens, depth, limit)?;
     let (ending, rest) = ending(alloc, rest, limit)?;
@@ -348,7 +348,7 @@ fn for_loop<'a>(
     depth: usize,
     limit: usize,
 ) -> Result<(Statement, &'a [Token]), ReadError<'a>>
-    ensures { Gives (λ x. (view_stmt x.0, x.1.now)) result (read.for_loop (read.stmt depth limit) limit word tokens.now) }
+    ensures reads { Gives (λ x. (view_stmt x.0, x.1.now)) result (read.for_loop (read.stmt depth limit) limit word tokens.now) }
 {
     let (head, rest) = head(alloc, tokens, limit)?;
     let (body, rest) = inner_statement(alloc, rest, depth, limit)?;
@@ -364,7 +364,7 @@ fn braced<'a>(
     depth: usize,
     limit: usize,
 ) -> Result<(Statement, &'a [Token]), ReadError<'a>>
-    ensures { Gives (λ x. (view_stmt x.0, x.1.now)) result (read.braced (read.stmt depth limit) limit «open» tokens.now) }
+    ensures reads { Gives (λ x. (view_stmt x.0, x.1.now)) result (read.braced (read.stmt depth limit) limit «open» tokens.now) }
 {
     let (whole, rest) = block(alloc, open, tokens, depth, limit)?;
     Ok((Statement::Block(whole), rest))
@@ -379,7 +379,7 @@ fn chosen(
     depth: usize,
     limit: usize,
 ) -> Result<(Statement, &[Token]), ReadError<'_>>
-    ensures { Gives (λ x. (view_stmt x.0, x.1.now)) result (read.statement (read.stmt depth limit) limit tokens.now) }
+    ensures reads { Gives (λ x. (view_stmt x.0, x.1.now)) result (read.statement (read.stmt depth limit) limit tokens.now) }
 {
     let [token, rest @ ..] = tokens else {
         return simple(alloc, tokens, limit);
@@ -406,7 +406,7 @@ pub(crate) fn statement(
     depth: usize,
     limit: usize,
 ) -> Result<(Statement, &[Token]), ReadError<'_>>
-    ensures { Gives (λ x. (view_stmt x.0, x.1.now)) result (read.stmt depth limit tokens.now) }
+    ensures reads { Gives (λ x. (view_stmt x.0, x.1.now)) result (read.stmt depth limit tokens.now) }
 {
     if depth == 0 {
         return Err(ReadError::Deep);

@@ -15,7 +15,7 @@ use std::alloc::Global;
 
 /// What was read, where no tokens are left behind it.
 fn finished(found: Statement, rest: &[Token]) -> Result<Statement, ReadError<'_>>
-    ensures { Gives (λ x. (view_stmt x, [])) result (finish (view_stmt found) rest.now) }
+    ensures reads { Gives (λ x. (view_stmt x, [])) result (finish (view_stmt found) rest.now) }
 {
     if !rest.is_empty() {
         return Err(ReadError::Syntax(rest));
@@ -25,7 +25,7 @@ fn finished(found: Statement, rest: &[Token]) -> Result<Statement, ReadError<'_>
 
 #[tactic(auto, unfolding(ang_read::specs::Law::all_of))]
 fn all(alloc: Global, tokens: &[Token]) -> Result<Statement, ReadError<'_>>
-    ensures { Gives (λ x. (view_stmt x, [])) result (all_of (λ n. read.stmt n n) tokens.now) }
+    ensures reads { Gives (λ x. (view_stmt x, [])) result (all_of (λ n. read.stmt n n) tokens.now) }
 {
     let bound = tokens.len() + 1;
     let (found, rest) = statement(alloc, tokens, bound, bound)?;
@@ -52,5 +52,5 @@ pub fn parse_statement(alloc: Global, tokens: &[Token]) -> Result<Statement, Rea
 
 /// No tokens are spelled by two statements.
 pub fn one_tree()
-    ensures { (x y : Stmt) (tokens : List Token) → SpellsStmt x tokens → SpellsStmt y tokens → x ≡ y }
+    ensures unique { (x y : Stmt) (tokens : List Token) → SpellsStmt x tokens → SpellsStmt y tokens → x ≡ y }
 {}

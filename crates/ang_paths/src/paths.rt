@@ -7,14 +7,14 @@ use ang_lex::TokenKind;
 use ang_tree::{Block, Expression, Statement};
 
 fn is_true(kind: TokenKind) -> bool
-    ensures { result ≡ spec.is_true kind }
+    ensures exact { result ≡ spec.is_true kind }
 {
     matches!(kind, TokenKind::True)
 }
 
 /// Whether an expression is the word `true` alone.
 fn is_true_word(expression: &Expression) -> bool
-    ensures { result ≡ spec.is_true_word (view_expr expression.now) }
+    ensures exact { result ≡ spec.is_true_word (view_expr expression.now) }
 {
     match expression {
         Expression::Literal(token) => is_true(token.kind),
@@ -36,7 +36,7 @@ fn is_true_word(expression: &Expression) -> bool
 
 #[cycle(breaks)]
 fn some_break(statements: &[Statement]) -> bool
-    ensures { result ≡ spec.some_break (view_stmts statements.now) }
+    ensures exact { result ≡ spec.some_break (view_stmts statements.now) }
 {
     for statement in statements {
         if breaks(statement) {
@@ -49,7 +49,7 @@ fn some_break(statements: &[Statement]) -> bool
 /// Whether a statement has a `break` that leaves the loop around it.
 #[cycle(breaks)]
 fn breaks(statement: &Statement) -> bool
-    ensures { result ≡ spec.breaks (view_stmt statement.now) }
+    ensures exact { result ≡ spec.breaks (view_stmt statement.now) }
 {
     match statement {
         Statement::Block(block) => some_break(block.statements.as_slice()),
@@ -74,7 +74,7 @@ fn breaks(statement: &Statement) -> bool
 
 #[cycle(ends)]
 fn some_ends(statements: &[Statement]) -> bool
-    ensures { result ≡ spec.some_ends (view_stmts statements.now) }
+    ensures exact { result ≡ spec.some_ends (view_stmts statements.now) }
 {
     for statement in statements {
         if ends(statement) {
@@ -87,7 +87,7 @@ fn some_ends(statements: &[Statement]) -> bool
 /// Whether each path through a statement ends in it.
 #[cycle(ends)]
 fn ends(statement: &Statement) -> bool
-    ensures { result ≡ spec.ends (view_stmt statement.now) }
+    ensures exact { result ≡ spec.ends (view_stmt statement.now) }
 {
     match statement {
         Statement::Block(block) => some_ends(block.statements.as_slice()),

@@ -154,7 +154,7 @@ pub fn a_text(tokens: &[Token]) -> Result<(Token, &[Token]), ReadError<'_>>
 /// Reads the word `const`, if it stands there.
 #[tactic(auto, unfolding(crate::specs::Tokens::perhaps))]
 pub fn perhaps_const(tokens: &[Token]) -> (Option<Token>, &[Token])
-    ensures { perhaps is_const tokens.now ≡ Ok (result.0, result.1.now) }
+    ensures reads { perhaps is_const tokens.now ≡ Ok (result.0, result.1.now) }
 {
     match tokens {
         [token, rest @ ..] if matches!(token.kind, TokenKind::Const) => (Some(*token), rest),

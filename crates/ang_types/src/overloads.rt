@@ -87,7 +87,7 @@ fn beats_others(lineage: &Lineage, candidates: &[Candidate], args: &[ArgType], i
 }
 
 fn params_of(candidates: &[Candidate], i: usize) -> &[(ArgType, Pass)]
-    requires { i < length candidates.now }
+    requires there { i < length candidates.now }
     ensures exact { result.now ≡ params_at candidates.now i }
 {
     candidates[i].params.as_slice()

@@ -19,7 +19,7 @@ use std::alloc::{AllocError, Global};
 
 /// The list with one more operand at its end.
 fn with_operand(first: Vec<Operand>, operand: Operand) -> Result<Vec<Operand>, AllocError>
-    ensures { IfOk result (λ v. view_operands v.items ≡ view_operands first.items ++ (view_operand operand ∷ [])) }
+    ensures exact { IfOk result (λ v. view_operands v.items ≡ view_operands first.items ++ (view_operand operand ∷ [])) }
 {
     let mut found = first;
     found.push(operand)?;

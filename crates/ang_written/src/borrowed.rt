@@ -21,14 +21,14 @@ impl<'a> Text<'a> {
 
     /// These bytes.
     pub fn new(bytes: &'a [u8]) -> Text<'a>
-        ensures { result ≡ bytes.now }
+        ensures exact { result ≡ bytes.now }
     {
         Text { bytes }
     }
 
     /// The bytes.
     pub fn bytes(&self) -> &'a [u8]
-        ensures { result.now ≡ self.now }
+        ensures exact { result.now ≡ self.now }
     {
         self.bytes
     }
@@ -54,14 +54,14 @@ impl<'a> WrittenParameters<'a> {
 
     /// These parameters.
     pub fn new(items: &'a [Parameter]) -> WrittenParameters<'a>
-        ensures { result ≡ items.now }
+        ensures exact { result ≡ items.now }
     {
         WrittenParameters { items }
     }
 
     /// The parameters, in order.
     pub fn items(&self) -> &'a [Parameter]
-        ensures { result.now ≡ self.now }
+        ensures exact { result.now ≡ self.now }
     {
         self.items
     }

@@ -127,8 +127,8 @@ fn call(
     budget: u64,
     events: &mut Vec<HostEvent>,
 ) -> Option<Result<Slot, Fault>>
-    requires { length (members machine.old.drivers) ≡ 1 }
-    ensures { length (members machine.new.drivers) ≡ 1 }
+    requires one_driver { length (members machine.old.drivers) ≡ 1 }
+    ensures one_driver { length (members machine.new.drivers) ≡ 1 }
 {
     if !has_plain_entities(table) {
         return None;

@@ -87,7 +87,7 @@ fn the_list_asks_the_driver_of_the_number(rt: HostRuntime) -> Result<(), AllocEr
 }
 
 fn one_int(alloc: Global, number: i64) -> Result<List<Value>, AllocError>
-    ensures { IfOk result (λ args. args ≡ Int number ∷ []) }
+    ensures exact { IfOk result (λ args. args ≡ Int number ∷ []) }
 {
     Ok(List::from_vec(Vec::from_slice(alloc, &[Value::Int(number)])?))
 }
@@ -220,7 +220,7 @@ fn ends_when_released(
     requires in_list { 0 < length (members drivers.old) }
     requires room { vec_len events.old + 1 < vec_capacity events.old }
     requires no_args { args ≡ [] }
-    ensures { length (members drivers.new) ≡ length (members drivers.old) }
+    ensures as_many { length (members drivers.new) ≡ length (members drivers.old) }
 {
     let Made::Key(key) = make_listed(drivers, events, caller, EntityNo(7), 0, 0, args) else {
         return false;

@@ -19,8 +19,8 @@ fn int(number: i64) -> Answer {
 
 // The key of a new object, where one is made.
 fn made<D: Driver>(driver: &mut D, f: u32, args: &[Value]) -> Option<u64>
-    requires { AreLive (D.meaning.state driver.old) args.now }
-    ensures { IfSome result (λ key. IsLive (D.meaning.state driver.new) key) }
+    requires live { AreLive (D.meaning.state driver.old) args.now }
+    ensures live { IfSome result (λ key. IsLive (D.meaning.state driver.new) key) }
 {
     match driver.make(f, args) {
         Made::Key(key) => Some(key),
@@ -32,28 +32,28 @@ fn made<D: Driver>(driver: &mut D, f: u32, args: &[Value]) -> Option<u64>
 fn called<D: Driver>(driver: &mut D, f: u32, key: u64, args: &[Value]) -> Answer
     requires object_live { IsLive (D.meaning.state driver.old) key }
     requires args_live { AreLive (D.meaning.state driver.old) args.now }
-    ensures { IsLive (D.meaning.state driver.new) key }
+    ensures live { IsLive (D.meaning.state driver.new) key }
 {
     driver.call(f, Some(key), args)
 }
 
 fn told<D: Driver>(driver: &mut D, f: u32, key: u64) -> Answer
-    requires { IsLive (D.meaning.state driver.old) key }
-    ensures { IsLive (D.meaning.state driver.new) key }
+    requires live { IsLive (D.meaning.state driver.old) key }
+    ensures live { IsLive (D.meaning.state driver.new) key }
 {
     driver.read(f, Some(key))
 }
 
 fn written<D: Driver>(driver: &mut D, f: u32, key: u64, number: i64) -> Answer
-    requires { IsLive (D.meaning.state driver.old) key }
-    ensures { IsLive (D.meaning.state driver.new) key }
+    requires live { IsLive (D.meaning.state driver.old) key }
+    ensures live { IsLive (D.meaning.state driver.new) key }
 {
     driver.write(f, Some(key), Value::Int(number))
 }
 
 // Whether an object ends at the second release, after a reference was added.
 fn ends<D: Driver>(driver: &mut D, key: u64) -> bool
-    requires { IsLive (D.meaning.state driver.old) key }
+    requires live { IsLive (D.meaning.state driver.old) key }
 {
     if !driver.add_ref(key) {
         return false;
@@ -212,8 +212,8 @@ fn a_cell_is_made_from_another(rt: HostRuntime) -> Result<(), AllocError> {
 
 // A new object of a driver in the list ends where the second of its two references is released.
 fn lives_twice(drivers: &mut Drivers, driver: u32, f: u32, number: i64) -> bool
-    requires { driver < length (members drivers.old) }
-    ensures { length (members drivers.new) ≡ length (members drivers.old) }
+    requires listed { driver < length (members drivers.old) }
+    ensures as_many { length (members drivers.new) ≡ length (members drivers.old) }
 {
     let Made::Key(key) = drivers.make(driver, f, &[Value::Int(number)]) else {
         return false;

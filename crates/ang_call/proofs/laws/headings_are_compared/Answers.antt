@@ -2,4 +2,4 @@ use Rattle.ang_call.proofs.SameHeading.{heading-Decides}
 use Rattle.ang_call.proofs.laws.headings_are_compared.Goals as goal
 
 pub returns : goal.returns
-returns c = λ f g. heading-Decides f g
+returns c = record { same = λ f g. heading-Decides f g }

@@ -13,4 +13,7 @@ left_over f (t ∷ s) h = refl
 pub returns-then-not-is_empty : goal.returns-then-not-is_empty
 unfolding all_of
 returns-then-not-is_empty c =
-    ap (λ v. and_then v finish) c.in_ok-found.ensures ∙ left_over c.in_ok-found.found c.in_ok-found.rest.now (sym c.is_empty.ensures ∙ c.if-not-is_empty.true)
+    record {
+      reads =
+          ap (λ v. and_then v finish) c.in_ok-found.ensures.reads ∙ left_over c.in_ok-found.found c.in_ok-found.rest.now (sym c.is_empty.ensures ∙ c.if-not-is_empty.true);
+    }

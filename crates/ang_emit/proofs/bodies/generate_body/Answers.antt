@@ -14,7 +14,7 @@ returns c =
     record {
       code = record {
         params = params;
-        text = c.in_ok-text.ensures ∙ ap (λ n. body_code n b.statement) count;
-        height = is_height b top (top - c.len-count.result) (c.in_ok-peak.ensures ∙ ap (λ n. body_peak n b.statement) count) (ap (λ n. top - n) count);
+        text = c.in_ok-text.ensures.exact ∙ ap (λ n. body_code n b.statement) count;
+        height = is_height b top (top - c.len-count.result) (c.in_ok-peak.ensures.exact ∙ ap (λ n. body_peak n b.statement) count) (ap (λ n. top - n) count);
       };
     }

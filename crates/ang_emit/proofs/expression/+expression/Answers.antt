@@ -18,7 +18,7 @@ write_expression-returns-in_ok-put-in-Apply t c =
     ∙ sym (append_assoc (list_code d items) (Do c.in-Apply.operation ∷ []) old)
     ∙ ap (λ l. l ++ old) (sym (apply_code d c.in-Apply.operation c.in-Apply.operands))
     ∙ ap (λ x. expr_code d x ++ old) (sym c.in-Apply.is) in
-    record { code = subst (λ l. OnOk c.write_operands.result (c.write_operands.new.text ≡ l)) same c.write_operands.ensures }
+    record { code = subst (λ l. OnOk c.write_operands.result (c.write_operands.new.text ≡ l)) same c.write_operands.ensures.code }
 
 pub write_expression-returns-in_ok-put-in-Call : goal.write_expression-returns-in_ok-put-in-Call
 write_expression-returns-in_ok-put-in-Call t c =
@@ -26,11 +26,11 @@ write_expression-returns-in_ok-put-in-Call t c =
     let same : list_code d c.deref-in-Call-2.result.now ++ c.put-in-Call.new.self ≡ expr_code d c.args.e.now ++ old =
     ap (λ l. list_code d l ++ c.put-in-Call.new.self) c.deref-in-Call-2.ensures.value
     ∙ ap (λ l. list_code d items ++ l) c.in_ok-put-in-Call.ensures.before
-    ∙ ap (λ l. list_code d items ++ (Enter c.in-Call.callee ∷ l)) (c.in_ok-write_outs-in-Call.ensures ∙ ap (λ l. outs_code d l ++ old) c.deref-in-Call.ensures.value)
+    ∙ ap (λ l. list_code d items ++ (Enter c.in-Call.callee ∷ l)) (c.in_ok-write_outs-in-Call.ensures.code ∙ ap (λ l. outs_code d l ++ old) c.deref-in-Call.ensures.value)
     ∙ sym (append_assoc (list_code d items) (Enter c.in-Call.callee ∷ outs_code d outs) old)
     ∙ ap (λ l. l ++ old) (sym (call_code d c.in-Call.callee c.in-Call.operands c.in-Call.targets))
     ∙ ap (λ x. expr_code d x ++ old) (sym c.in-Call.is) in
-    record { code = subst (λ l. OnOk c.write_operands-in-Call.result (c.write_operands-in-Call.new.text ≡ l)) same c.write_operands-in-Call.ensures }
+    record { code = subst (λ l. OnOk c.write_operands-in-Call.result (c.write_operands-in-Call.new.text ≡ l)) same c.write_operands-in-Call.ensures.code }
 
 pub write_operands-loop-e-preserved : goal.write_operands-loop-e-preserved
 write_operands-loop-e-preserved t c =

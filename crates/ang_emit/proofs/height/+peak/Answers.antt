@@ -12,7 +12,7 @@ expression_peak-returns-in_ok-inner-in-Apply t c =
       exact =
           c.max.ensures
           ∙ ap (λ n. max n c.in_ok-inner-in-Apply.inner) c.in_ok-own-in-Apply.ensures.exact
-          ∙ ap (λ n. max (d + 1) n) (c.in_ok-inner-in-Apply.ensures ∙ ap (λ l. list_peak d l) c.deref-in-Apply.ensures.value)
+          ∙ ap (λ n. max (d + 1) n) (c.in_ok-inner-in-Apply.ensures.exact ∙ ap (λ l. list_peak d l) c.deref-in-Apply.ensures.value)
           ∙ sym (apply_peak d c.in-Apply.field-0 c.in-Apply.operands)
           ∙ ap (λ x. peak d x) (sym c.in-Apply.is);
     }
@@ -26,7 +26,7 @@ expression_peak-returns-in_ok-inner-in-Call t c =
       exact =
           c.max-in-Call.ensures
           ∙ ap (λ n. max n c.in_ok-inner-in-Call.inner) own
-          ∙ ap (λ n. max (length c.in-Call.targets.items + d + 1) n) (c.in_ok-inner-in-Call.ensures ∙ ap (λ l. list_peak d l) c.deref-in-Call.ensures.value)
+          ∙ ap (λ n. max (length c.in-Call.targets.items + d + 1) n) (c.in_ok-inner-in-Call.ensures.exact ∙ ap (λ l. list_peak d l) c.deref-in-Call.ensures.value)
           ∙ sym (call_peak d c.in-Call.field-0 c.in-Call.operands c.in-Call.targets)
           ∙ ap (λ x. peak d x) (sym c.in-Call.is);
     }
@@ -38,4 +38,7 @@ operands_peak-loop-e-preserved t c =
 
 pub operands_peak-returns : goal.operands_peak-returns
 operands_peak-returns t c =
-    peak_end c.loop-e.next c.loop-e.e-index c.loop-e.highest (list_peak c.args.below c.args.operands.now) c.args.operands.now c.loop-e-test.false c.loop-e.invariant
+    record {
+      exact =
+          peak_end c.loop-e.next c.loop-e.e-index c.loop-e.highest (list_peak c.args.below c.args.operands.now) c.args.operands.now c.loop-e-test.false c.loop-e.invariant;
+    }

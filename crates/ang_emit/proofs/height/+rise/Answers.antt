@@ -10,7 +10,7 @@ statement_peak-returns-in-Block t c =
     let n = c.args.alive in
     let same : statements_peak n c.deref.result.now ≡ statement_peak n c.args.s.now =
     ap (λ l. statements_peak n l) c.deref.ensures.value ∙ sym (block_peak n c.in-Block.row) ∙ ap (λ x. statement_peak n x) (sym c.in-Block.is) in
-    record { exact = subst (λ m. IfOk c.row_peak.result (λ top. top ≡ m)) same c.row_peak.ensures }
+    record { exact = subst (λ m. IfOk c.row_peak.result (λ top. top ≡ m)) same c.row_peak.ensures.exact }
 
 pub row_peak-loop-s-preserved : goal.row_peak-loop-s-preserved
 row_peak-loop-s-preserved t c =
@@ -20,4 +20,7 @@ row_peak-loop-s-preserved t c =
 
 pub row_peak-returns : goal.row_peak-returns
 row_peak-returns t c =
-    rise_end c.loop-s.here c.loop-s.s-index c.loop-s.highest (statements_peak c.args.alive c.args.row.now) c.args.row.now c.loop-s-test.false c.loop-s.invariant
+    record {
+      exact =
+          rise_end c.loop-s.here c.loop-s.s-index c.loop-s.highest (statements_peak c.args.alive c.args.row.now) c.args.row.now c.loop-s-test.false c.loop-s.invariant;
+    }

@@ -9,4 +9,4 @@ loop-s-preserved c = (
 )
 
 pub returns : goal.returns
-returns c = declared_end c.loop-s.s-index c.loop-s.count c.args.statements.now c.loop-s-test.false c.loop-s.invariant.0
+returns c = record { exact = declared_end c.loop-s.s-index c.loop-s.count c.args.statements.now c.loop-s-test.false c.loop-s.invariant.0 }

@@ -18,7 +18,7 @@ loop-at-preserved c =
     let is = rw (take_rest text at) at (sym c.in-Ok.ensures.value) in
     let within = rw (take_rest text at, length-drop at text) at c.in-Ok.ensures.within in
     let next = rw (take_rest text at) at c.place_after-place.ensures.value in
-    let len_is = c.piece_len-len.ensures in
+    let len_is = c.piece_len-len.ensures.exact in
     let size = length-take c.piece_len-len.result (take (length text - at) (drop at text)) in
     record {
       within = omega (arith, within, len_is);

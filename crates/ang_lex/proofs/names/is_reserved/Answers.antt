@@ -4,4 +4,4 @@ use Rattle.ang_lex.proofs.Tables.{is_listed-filter}
 use Rattle.ang_lex.proofs.names.is_reserved.Goals as goal
 
 pub returns : goal.returns
-returns c = c.is_listed.ensures ∙ ap (λ es. is_listed es c.args.text.now) c.words_of_length.ensures ∙ is_listed-filter (length c.args.text.now) reserved_words c.args.text.now refl
+returns c = record { exact = c.is_listed.ensures.exact ∙ ap (λ es. is_listed es c.args.text.now) c.words_of_length.ensures.exact ∙ is_listed-filter (length c.args.text.now) reserved_words c.args.text.now refl }

@@ -12,5 +12,5 @@ returns-clause-value c =
     let len = c.name_len-len.result in
     let rest = c.args.rest.now in
     let size = length-take-le len rest c.name_len-len.ensures.within in
-    let kind = ap (λ es. lookup es (take len rest) Name) c.words_of_length.ensures ∙ lookup-filter len reserved_words (take len rest) Name size in
-    rw (c.lookup.ensures, kind, c.name_len-len.ensures.value) refl
+    let kind = ap (λ es. lookup es (take len rest) Name) c.words_of_length.ensures.exact ∙ lookup-filter len reserved_words (take len rest) Name size in
+    rw (c.lookup.ensures.exact, kind, c.name_len-len.ensures.value) refl

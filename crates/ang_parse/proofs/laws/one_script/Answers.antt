@@ -2,4 +2,4 @@ use Rattle.ang_parse.proofs.Exactly.{one_script}
 use Rattle.ang_parse.proofs.laws.one_script.Goals as goal
 
 pub returns : goal.returns
-returns c = one_script
+returns c = record { unique = one_script }

@@ -7,6 +7,9 @@ use Rattle.ang_parse_class.proofs.interfaces.next_method.Goals as goal
 pub returns : goal.returns
 unfolding next_method
 returns c =
-    let m : read.method c.args.limit c.args.tokens.now ≡ Ok (view_method c.in_ok-next.next, c.in_ok-next.rest.now) = c.in_ok-next.ensures in
-    let e : map view_method c.in_ok-longer.longer.items ≡ map view_method c.args.first.items ++ view_method c.in_ok-next.next ∷ [] = c.in_ok-longer.ensures in
-    rw (m, e) refl
+    record {
+      reads =
+          let m : read.method c.args.limit c.args.tokens.now ≡ Ok (view_method c.in_ok-next.next, c.in_ok-next.rest.now) = c.in_ok-next.ensures.reads in
+          let e : map view_method c.in_ok-longer.longer.items ≡ map view_method c.args.first.items ++ view_method c.in_ok-next.next ∷ [] = c.in_ok-longer.ensures.exact in
+          rw (m, e) refl;
+    }

@@ -2,4 +2,4 @@ use Rattle.ang_parse_expr.proofs.Views.{view_items_made}
 use Rattle.ang_parse_expr.proofs.build.with_argument.Goals as goal
 
 pub returns : goal.returns
-returns c = rw c.in_ok-push.ensures.items (view_items_made _ _ _)
+returns c = record { exact = rw c.in_ok-push.ensures.items (view_items_made _ _ _) }
