@@ -22,7 +22,7 @@ use ang_meaning::{Arithmetic, Comparison, Slot};
 /// The answer of an operation that takes so many operands: its value takes their place, or they stay where
 /// it faults.
 #[inline(always)]
-pub fn put_answer(
+pub(crate) fn put_answer(
     stack: &mut [Slot],
     top: usize,
     count: usize,

@@ -33,7 +33,7 @@ pub fn is_null(value: Slot) -> bool
 }
 
 /// Whether two handles name one object; a null handle names none.
-pub fn are_one(x: Slot, y: Slot) -> bool
+pub(crate) fn are_one(x: Slot, y: Slot) -> bool
     ensures exact { result ≡ name_one x y }
 {
     match x {

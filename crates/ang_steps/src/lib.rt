@@ -13,7 +13,7 @@ pub mod globals;
 pub mod handles;
 pub mod jumps;
 pub mod many;
-pub mod operations;
+mod operations;
 pub mod place;
 pub mod stack;
 pub mod stop;

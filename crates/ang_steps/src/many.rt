@@ -28,7 +28,7 @@ pub fn give_top<S: Store>(stack: &[Slot], store: &mut S, top: usize, count: usiz
 }
 
 /// Gives up so many values from the top, the lowest of them first.
-pub fn give_lowest_first<S: Store>(stack: &[Slot], store: &mut S, top: usize, count: usize)
+pub(crate) fn give_lowest_first<S: Store>(stack: &[Slot], store: &mut S, top: usize, count: usize)
     requires in_use { count ≤ top }
     requires within { top ≤ length stack.now }
     ensures told { Told (λ is. give_back (take_some count (values stack.now top)) (with_inputs is (S.world store.old))) (λ is. with_inputs is (S.world store.new)) }

@@ -17,7 +17,7 @@ use ang_numbers::{compare, complement, convert, deny, negate, work};
 /// `Null` where one is no number, and the faults of the operator.
 #[inline(always)]
 #[tactic(auto, unfolding(ang_meaning::specs::Perform::perform))]
-pub fn work_slots(what: Arithmetic, at: Prim, x: Slot, y: Slot) -> Result<Slot, Fault>
+pub(crate) fn work_slots(what: Arithmetic, at: Prim, x: Slot, y: Slot) -> Result<Slot, Fault>
     ensures exact { (z : Setting) (m : ℕ) (w : World) → perform z m (Work what at) (y ∷ x ∷ []) w ≡ done result w }
 {
     match y {
@@ -35,7 +35,7 @@ pub fn work_slots(what: Arithmetic, at: Prim, x: Slot, y: Slot) -> Result<Slot, 
 /// `Null` where one is no number.
 #[inline(always)]
 #[tactic(auto, unfolding(ang_meaning::specs::Perform::perform))]
-pub fn compare_slots(what: Comparison, signed: bool, x: Slot, y: Slot) -> Result<Slot, Fault>
+pub(crate) fn compare_slots(what: Comparison, signed: bool, x: Slot, y: Slot) -> Result<Slot, Fault>
     ensures exact { (z : Setting) (m : ℕ) (w : World) → perform z m (Compare what signed) (y ∷ x ∷ []) w ≡ done result w }
 {
     match y {
@@ -53,7 +53,7 @@ pub fn compare_slots(what: Comparison, signed: bool, x: Slot, y: Slot) -> Result
 /// `Null` where it is none.
 #[inline(always)]
 #[tactic(auto, unfolding(ang_meaning::specs::Perform::perform))]
-pub fn convert_slot(to: Prim, x: Slot) -> Result<Slot, Fault>
+pub(crate) fn convert_slot(to: Prim, x: Slot) -> Result<Slot, Fault>
     ensures exact { (z : Setting) (m : ℕ) (w : World) → perform z m (Convert to) (x ∷ []) w ≡ done result w }
 {
     match x {
@@ -68,7 +68,7 @@ pub fn convert_slot(to: Prim, x: Slot) -> Result<Slot, Fault>
 /// `Null` where it is none.
 #[inline(always)]
 #[tactic(auto, unfolding(ang_meaning::specs::Perform::perform))]
-pub fn negate_slot(at: Prim, x: Slot) -> Result<Slot, Fault>
+pub(crate) fn negate_slot(at: Prim, x: Slot) -> Result<Slot, Fault>
     ensures exact { (z : Setting) (m : ℕ) (w : World) → perform z m (Negate at) (x ∷ []) w ≡ done result w }
 {
     match x {
@@ -83,7 +83,7 @@ pub fn negate_slot(at: Prim, x: Slot) -> Result<Slot, Fault>
 /// `Null` where it is none.
 #[inline(always)]
 #[tactic(auto, unfolding(ang_meaning::specs::Perform::perform))]
-pub fn complement_slot(at: Prim, x: Slot) -> Result<Slot, Fault>
+pub(crate) fn complement_slot(at: Prim, x: Slot) -> Result<Slot, Fault>
     ensures exact { (z : Setting) (m : ℕ) (w : World) → perform z m (Complement at) (x ∷ []) w ≡ done result w }
 {
     match x {
@@ -98,7 +98,7 @@ pub fn complement_slot(at: Prim, x: Slot) -> Result<Slot, Fault>
 /// `Null` where it is no number.
 #[inline(always)]
 #[tactic(auto, unfolding(ang_meaning::specs::Perform::perform))]
-pub fn deny_slot(x: Slot) -> Result<Slot, Fault>
+pub(crate) fn deny_slot(x: Slot) -> Result<Slot, Fault>
     ensures exact { (z : Setting) (m : ℕ) (w : World) → perform z m Not (x ∷ []) w ≡ done result w }
 {
     match x {
