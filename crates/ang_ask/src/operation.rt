@@ -154,6 +154,7 @@ fn perform_ask(
     requires in_list { host.now.driver < length (members drivers.old) }
     ensures performed { Performed caller.now host.now (Ask entity) operands.now result events.old.items events.new.items }
     ensures unfit { suits host.now (Ask entity) ≡ false → (result ≡ Err Fault.Null) × (events.new.items ≡ events.old.items) }
+    ensures unasked { suits host.now (Ask entity) ≡ false → members drivers.new ≡ members drivers.old }
     ensures asked { Asked (λ v. (⟦<dyn Driver as Driver>⟧ v).meaning) caller.now entity host.now.driver host.now.role events.old.items events.new.items (members drivers.old) (members drivers.new) }
 {
     match host.role {
@@ -181,6 +182,7 @@ fn perform_read(
     requires in_list { host.now.driver < length (members drivers.old) }
     ensures performed { Performed caller.now host.now (Read entity) operands.now result events.old.items events.new.items }
     ensures unfit { suits host.now (Read entity) ≡ false → (result ≡ Err Fault.Null) × (events.new.items ≡ events.old.items) }
+    ensures unasked { suits host.now (Read entity) ≡ false → members drivers.new ≡ members drivers.old }
     ensures asked { Asked (λ v. (⟦<dyn Driver as Driver>⟧ v).meaning) caller.now entity host.now.driver host.now.role events.old.items events.new.items (members drivers.old) (members drivers.new) }
 {
     match property_of(entity, host) {
@@ -203,6 +205,7 @@ fn perform_write(
     requires in_list { host.now.driver < length (members drivers.old) }
     ensures performed { Performed caller.now host.now (Write entity) operands.now result events.old.items events.new.items }
     ensures unfit { suits host.now (Write entity) ≡ false → (result ≡ Err Fault.Null) × (events.new.items ≡ events.old.items) }
+    ensures unasked { suits host.now (Write entity) ≡ false → members drivers.new ≡ members drivers.old }
     ensures asked { Asked (λ v. (⟦<dyn Driver as Driver>⟧ v).meaning) caller.now entity host.now.driver host.now.role events.old.items events.new.items (members drivers.old) (members drivers.new) }
 {
     match property_of(entity, host) {
@@ -229,6 +232,7 @@ fn perform_alter(
     requires in_list { host.now.driver < length (members drivers.old) }
     ensures performed { Performed caller.now host.now (Alter entity by) operands.now result events.old.items events.new.items }
     ensures unfit { suits host.now (Alter entity by) ≡ false → (result ≡ Err Fault.Null) × (events.new.items ≡ events.old.items) }
+    ensures unasked { suits host.now (Alter entity by) ≡ false → members drivers.new ≡ members drivers.old }
     ensures asked { Asked (λ v. (⟦<dyn Driver as Driver>⟧ v).meaning) caller.now entity host.now.driver host.now.role events.old.items events.new.items (members drivers.old) (members drivers.new) }
 {
     match property_of(entity, host) {
@@ -270,6 +274,7 @@ pub fn ask(
         → w.events ≡ events.old.items → HasNoObjects w
         → Told (λ is. perform z m operation (reverse operands.now) (with_inputs is w)) (λ is. done result (with_inputs is (record w { events = events.new.items }))) }
     ensures unfit { suits host.now operation ≡ false → (result ≡ Err Fault.Null) × (events.new.items ≡ events.old.items) }
+    ensures unasked { suits host.now operation ≡ false → members drivers.new ≡ members drivers.old }
     ensures listed { (e : EntityNo) → entity_of operation ≡ Some e → AddsAskings caller.now e host.now.driver events.old.items events.new.items }
     ensures follow { (roles : List Role) (e : EntityNo) → entity_of operation ≡ Some e → role_at roles e.0 ≡ host.now.role
         → (es : List HostEvent) × (events.new.items ≡ events.old.items ++ es)

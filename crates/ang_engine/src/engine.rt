@@ -208,12 +208,13 @@ impl Engine {
         call_reply(alloc, done)
     }
 
-    /// Ends the engine, and gives its drivers back in their order. It takes no memory, asks no driver
-    /// anything, and always succeeds.
+    /// Ends the engine, and gives its drivers back in their order, with no object of theirs alive: another
+    /// engine can have them. It takes no memory, asks no driver anything, and always succeeds.
     pub fn discard(self) -> Vec<Box<dyn Driver>>
         requires sound { IsSound (λ v. (⟦<dyn Driver as Driver>⟧ v).meaning) self }
         ensures same { result.items ≡ drivers_in self }
         ensures balanced { All IsBalanced (states_of (λ v. (⟦<dyn Driver as Driver>⟧ v).meaning) result.items) }
+        ensures fresh { AreFresh (states_of (λ v. (⟦<dyn Driver as Driver>⟧ v).meaning) result.items) }
     {
         let Engine {
             alloc: _,

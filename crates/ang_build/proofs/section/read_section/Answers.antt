@@ -3,4 +3,4 @@ use Rattle.std.specs.Prelude.{Ok}
 use Rattle.ang_build.proofs.section.read_section.Goals as goal
 
 pub parse-requires : goal.parse-requires
-parse-requires c = record { sect = c.args.sect; are = c.in-Ok.ensures.tokens ∙ ap Ok (sym c.deref.ensures.value) }
+parse-requires c = record { tokens = record { sect = c.args.sect; are = c.in-Ok.ensures.tokens ∙ ap Ok (sym c.deref.ensures.value) } }

@@ -6,10 +6,10 @@ use Rattle.ang_parse.proofs.Answered.{script_found, same_script, only_want, deep
 use Rattle.ang_parse.proofs.parser.parse.Goals as goal
 
 pub declarations-requires-clause-within : goal.declarations-requires-clause-within
-declarations-requires-clause-within c = tokens_within c.requires.sect c.args.text.now c.args.tokens.now c.requires.are
+declarations-requires-clause-within c = tokens_within c.requires.tokens.sect c.args.text.now c.args.tokens.now c.requires.tokens.are
 
 pub declarations-requires-clause-columns : goal.declarations-requires-clause-columns
-declarations-requires-clause-columns c = tokens_columns c.requires.sect c.args.text.now c.args.tokens.now c.requires.are
+declarations-requires-clause-columns c = tokens_columns c.requires.tokens.sect c.args.text.now c.args.tokens.now c.requires.tokens.are
 
 pub returns-in_err-declarations-clause-only : goal.returns-in_err-declarations-clause-only
 returns-in_err-declarations-clause-only c =
