@@ -22,10 +22,10 @@ use ang_steps::place::{Ending, Standing};
 use ang_steps::table::Table;
 use std::alloc::Global;
 
-/// So many functions may stand one inside the other.
+/// How many functions may stand one inside the other, the called one being the first.
 pub const CALLS: usize = 200;
 
-/// An initializer does not count.
+/// The same in a run of an initializer, which stands below the first of them and is none of them.
 pub const WITH_INITIALIZER: usize = 201;
 
 /// Goes on behind the next asking.
