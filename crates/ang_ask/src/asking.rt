@@ -19,10 +19,13 @@ use std::alloc::{AllocError, Global};
 /// A global property of a primitive type.
 #[derive(Clone, Copy)]
 pub struct Property {
+    /// Its number, by which its events are listed.
     pub entity: EntityNo,
+    /// The number of the driver that answers for it, from 0 in the list of drivers.
     pub driver: u32,
     /// The driver's number for it.
     pub number: u32,
+    /// Its type.
     pub of: Prim,
 }
 

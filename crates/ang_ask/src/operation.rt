@@ -140,7 +140,8 @@ fn alter_property(
     }
 }
 
-/// `Operation::Ask`: a call of a function.
+/// Calls the function that the entity is, with the operands as its arguments. A factory or a property is `Null`,
+/// and nothing is asked.
 fn perform_ask(
     alloc: Global,
     caller: &[u8],
@@ -168,7 +169,8 @@ fn perform_ask(
     }
 }
 
-/// `Operation::Read`.
+/// Reads the property that the entity is; the operands play no part. What is no property of a primitive type is
+/// `Null`, and nothing is asked.
 fn perform_read(
     alloc: Global,
     caller: &[u8],
@@ -191,7 +193,8 @@ fn perform_read(
     }
 }
 
-/// `Operation::Write`.
+/// Writes the first operand to the property that the entity is, and answers that operand. What is no property of a
+/// primitive type is `Null`, and so are no operands or more than two; nothing is asked then.
 fn perform_write(
     alloc: Global,
     caller: &[u8],
@@ -217,7 +220,9 @@ fn perform_write(
     }
 }
 
-/// `Operation::Alter`.
+/// Reads the property that the entity is, changes its value by the first operand, and writes it. The answer is the
+/// old value or the new one, as `by` says. What is no property of a primitive type is `Null`, and so are no operands
+/// or more than two; nothing is asked then.
 fn perform_alter(
     alloc: Global,
     caller: &[u8],

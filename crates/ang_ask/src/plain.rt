@@ -8,6 +8,7 @@ use ang_host::Role;
 use ang_kinds::EntityNo;
 use ang_meaning::{HostType, HostUse, Operation};
 
+/// Whether a declared type is a handle, which passes as the key of an object or as null.
 pub fn is_handle(of: HostType) -> bool
     ensures exact { result ≡ is_handle of }
 {

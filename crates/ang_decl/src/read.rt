@@ -74,7 +74,7 @@ fn handle(tokens: &[Token]) -> (Option<HostHandle>, &[Token])
     }
 }
 
-/// Reads a type.
+/// Reads `[ "const" ] ( PRIMITIVE | "void" | NAME ) [ "@" [ "+" ] [ "const" ] ]`. No type is looked up.
 #[tactic(auto, unfolding(crate::specs::Read::a_type, ang_read::specs::Tokens::a_token))]
 fn host_type(tokens: &[Token]) -> Result<(HostType, &[Token]), ReadError<'_>>
     ensures reads { Gives (λ x. (x.0, x.1.now)) result (read.a_type tokens.now) }

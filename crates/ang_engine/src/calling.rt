@@ -25,14 +25,18 @@ use std::alloc::Global;
 /// The number of the function that a call runs, and its arguments.
 #[derive(Drop)]
 pub struct ChosenCall {
+    /// The function's place among those that the scripts declare, from 0.
     pub number: usize,
+    /// A value for each parameter, in their order.
     pub args: Vec<Slot>,
 }
 
 /// How a call ended, and what it asked.
 #[derive(Drop)]
 pub struct Called {
+    /// `Done` with the value of the function, or `Failed` with the fault that cut it short.
     pub outcome: Outcome,
+    /// What the drivers were asked meanwhile, in order.
     pub events: Vec<HostEvent>,
 }
 

@@ -13,6 +13,7 @@ fn idle_in(d: &dyn Driver) -> bool
     d.idle()
 }
 
+/// Whether no key of the driver in this box is live. It takes no memory.
 pub fn idle_at(b: &Box<dyn Driver>) -> bool
     ensures idle { IsIdleTest ((⟦<dyn Driver as Driver>⟧ b.now.vtable).meaning.state b.now.value) result }
 {
@@ -29,6 +30,8 @@ fn make_in(d: &mut dyn Driver, f: u32, args: &[Value]) -> Made
     d.make(f, args)
 }
 
+/// Asks the driver in this box for a new object from the factory of the function number `f`. All keys in `args`
+/// have to be live.
 pub fn make_at(b: &mut Box<dyn Driver>, f: u32, args: &[Value]) -> Made
     requires args_live { AreLive ((⟦<dyn Driver as Driver>⟧ b.old.vtable).meaning.state b.old.value) args.now }
     ensures law { WasMade (⟦<dyn Driver as Driver>⟧ b.old.vtable).meaning.fits ((⟦<dyn Driver as Driver>⟧ b.old.vtable).meaning.state b.old.value)
@@ -49,6 +52,8 @@ fn call_in(d: &mut dyn Driver, f: u32, object: Option<u64>, args: &[Value]) -> A
     d.call(f, object, args)
 }
 
+/// Calls the function of the number `f` of the driver in this box, as a method where there is an object. All keys
+/// that are handed in have to be live.
 pub fn call_at(b: &mut Box<dyn Driver>, f: u32, object: Option<u64>, args: &[Value]) -> Answer
     requires object_live { IsLiveOption ((⟦<dyn Driver as Driver>⟧ b.old.vtable).meaning.state b.old.value) object }
     requires args_live { AreLive ((⟦<dyn Driver as Driver>⟧ b.old.vtable).meaning.state b.old.value) args.now }
@@ -69,6 +74,8 @@ fn read_in(d: &mut dyn Driver, f: u32, object: Option<u64>) -> Answer
     d.read(f, object)
 }
 
+/// Reads the property of the number `f` of the driver in this box, of the object where there is one, whose key has
+/// to be live.
 pub fn read_at(b: &mut Box<dyn Driver>, f: u32, object: Option<u64>) -> Answer
     requires object_live { IsLiveOption ((⟦<dyn Driver as Driver>⟧ b.old.vtable).meaning.state b.old.value) object }
     ensures law { Answered (⟦<dyn Driver as Driver>⟧ b.old.vtable).meaning.fits ((⟦<dyn Driver as Driver>⟧ b.old.vtable).meaning.state b.old.value)
@@ -89,6 +96,8 @@ fn write_in(d: &mut dyn Driver, f: u32, object: Option<u64>, value: Value) -> An
     d.write(f, object, value)
 }
 
+/// Writes the property of the number `f` of the driver in this box, of the object where there is one. All keys that
+/// are handed in have to be live.
 pub fn write_at(b: &mut Box<dyn Driver>, f: u32, object: Option<u64>, value: Value) -> Answer
     requires object_live { IsLiveOption ((⟦<dyn Driver as Driver>⟧ b.old.vtable).meaning.state b.old.value) object }
     requires value_live { IsLiveValue ((⟦<dyn Driver as Driver>⟧ b.old.vtable).meaning.state b.old.value) value }
@@ -108,6 +117,8 @@ fn add_ref_in(d: &mut dyn Driver, key: u64) -> bool
     d.add_ref(key)
 }
 
+/// Adds a reference to a live key of the driver in this box. False, with nothing done, only where a tally is full.
+/// It takes no memory.
 pub fn add_ref_at(b: &mut Box<dyn Driver>, key: u64) -> bool
     requires key_live { IsLive ((⟦<dyn Driver as Driver>⟧ b.old.vtable).meaning.state b.old.value) key }
     ensures law { WasAdded ((⟦<dyn Driver as Driver>⟧ b.old.vtable).meaning.state b.old.value) key result ((⟦<dyn Driver as Driver>⟧ b.new.vtable).meaning.state b.new.value) }
@@ -125,6 +136,8 @@ fn release_in(d: &mut dyn Driver, key: u64) -> bool
     d.release(key)
 }
 
+/// Releases a reference to a live key of the driver in this box, and tells whether it was the last: then the key is
+/// no longer live. It always succeeds and takes no memory.
 pub fn release_at(b: &mut Box<dyn Driver>, key: u64) -> bool
     requires key_live { IsLive ((⟦<dyn Driver as Driver>⟧ b.old.vtable).meaning.state b.old.value) key }
     ensures law { WasReleased (⟦<dyn Driver as Driver>⟧ b.old.vtable).meaning.fits ((⟦<dyn Driver as Driver>⟧ b.old.vtable).meaning.state b.old.value) key result ((⟦<dyn Driver as Driver>⟧ b.new.vtable).meaning.state b.new.value) }

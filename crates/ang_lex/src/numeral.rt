@@ -7,5 +7,6 @@ use ang_kinds::Prim;
 pub struct Number {
     /// In base 10 `int`, `int64` or `uint64`, in another base `uint` or `uint64`.
     pub ty: Prim,
+    /// What the digits stand for in their base. It has no sign and is in the range of `ty`.
     pub value: u64,
 }

@@ -5,7 +5,9 @@ use ang_kinds::{Place, Prim};
 /// The bytes of a section from `start` up to, and without, `end`. Both count from 0.
 #[derive(Clone, Copy, PartialEq, Eq, Debug)]
 pub struct Span {
+    /// The number of the first byte: how many bytes of the section stand before it.
     pub start: u32,
+    /// The number of the byte behind the last, which is none of them.
     pub end: u32,
 }
 
@@ -14,8 +16,11 @@ pub struct Span {
 /// Its text is the slice of the section at `span`.
 #[derive(Clone, Copy, PartialEq, Eq, Debug)]
 pub struct Token {
+    /// What the grammar asks of it.
     pub kind: TokenKind,
+    /// Its bytes, by their numbers in the section.
     pub span: Span,
+    /// The section, the line and the column of its first byte.
     pub place: Place,
 }
 

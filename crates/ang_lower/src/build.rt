@@ -56,7 +56,9 @@ pub fn unary(
 /// Two operands.
 #[derive(Drop)]
 pub struct Pair {
+    /// The first operand; of a choice the value where the test is true.
     pub left: Expression,
+    /// The second operand; of a choice the value where the test is false.
     pub right: Expression,
 }
 
@@ -91,7 +93,9 @@ pub fn block(statements: Vec<Statement>) -> Statement
 /// A test, and the statement where it is true.
 #[derive(Drop)]
 pub struct Tested {
+    /// What decides: a truth value.
     pub test: Expression,
+    /// What runs where the test is true.
     pub then: Statement,
 }
 
@@ -108,7 +112,9 @@ pub fn either(alloc: Global, tested: Tested, otherwise: Statement) -> Result<Sta
 /// A loop's test, and its step.
 #[derive(Drop)]
 pub struct LoopHead {
+    /// What decides before each pass of the body whether there is one: a truth value.
     pub test: Expression,
+    /// What runs behind each pass of the body, before the next test.
     pub step: Statement,
 }
 

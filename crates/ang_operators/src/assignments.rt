@@ -134,8 +134,12 @@ fn assignment_by(
 
 /// A target and its value, with `=` or a compound assignment between them.
 ///
+/// # Errors
+///
 /// `BadConversion` at the first token of a target that is no variable's name, `Const` at the name of one that
-/// can't be written; then `BadConversion` at the first token of the first operand that can't stand there.
+/// can't be written; then `NotYet` at the first token of a target of no primitive type, with `=`; then
+/// `BadConversion` at the first token of the first operand that can't stand there.
+/// `Memory` where a growth was refused.
 #[tactic(auto, unfolding(crate::specs::Operations::assignment_typing))]
 pub fn assignment(
     alloc: Global,

@@ -89,8 +89,11 @@ fn choice(
 /// A condition and the two values that it chooses from: two truth values, or two integers, which are made
 /// values of their common type.
 ///
-/// `NotBool` at the condition's first token; then `BadConversion` at the first token of the value that can't
-/// stand there. `NotYet` at objects and handles.
+/// # Errors
+///
+/// `NotBool` at the condition's first token where it is no truth value; then `NotYet` at the first token of the
+/// first value where that is an object or a handle; then `BadConversion` at the first token of the first value
+/// that can't stand there. `Memory` where a growth was refused.
 #[tactic(auto, unfolding(crate::specs::Operations::conditional_typing))]
 pub fn conditional(
     alloc: Global,

@@ -41,7 +41,10 @@ fn conversion(
 
 /// The expression as a value of this type.
 ///
+/// # Errors
+///
 /// `BadConversion` at its first token where it does not convert by itself.
+/// `Memory` where a growth was refused.
 #[tactic(auto, unfolding(crate::specs::Operands::fit))]
 pub fn fit(
     alloc: Global,
@@ -60,6 +63,8 @@ pub fn fit(
 
 /// The integer type of an expression.
 ///
+/// # Errors
+///
 /// `BadConversion` at its first token where it has none. It takes no memory.
 #[tactic(auto, unfolding(crate::specs::Operands::integer))]
 pub fn integer(operand: &Operand) -> Result<Prim, Stop>
@@ -77,6 +82,8 @@ pub fn integer(operand: &Operand) -> Result<Prim, Stop>
 }
 
 /// The expression as a truth value.
+///
+/// # Errors
 ///
 /// `NotBool` at its first token where it is none. It takes no memory.
 #[tactic(auto, unfolding(crate::specs::Operands::truth))]
@@ -101,7 +108,10 @@ fn target_by(place: Place, named: Option<NamedVariable>) -> Result<Variable, Sto
 
 /// The variable that an assignment, `++` or `--` changes.
 ///
-/// `Const` at the name of one that can't be, and `BadConversion` at any other expression. It takes no memory.
+/// # Errors
+///
+/// `Const` at the name of one that can't be, and `BadConversion` at the first token of any other expression. It
+/// takes no memory.
 #[tactic(auto, unfolding(crate::specs::Operands::target))]
 pub fn target(operand: &Operand) -> Result<Variable, Stop>
     ensures exact { Gives (λ x. x) result (spec.target (view_operand operand.now)) }

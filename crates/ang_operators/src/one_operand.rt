@@ -18,7 +18,9 @@ use std::alloc::{AllocError, Global};
 
 /// A number, `true` or `false`, of which `text` are the bytes.
 ///
-/// `NotYet` at any other token.
+/// # Errors
+///
+/// `NotYet` at any other token, such as `null`. `Memory` where a growth was refused.
 #[tactic(auto, unfolding(crate::specs::Operations::literal_typing))]
 pub fn literal(alloc: Global, token: &Token, text: &[u8]) -> Result<Operand, Stop>
     ensures exact { Gives view_operand result (spec.literal_typing token.now text.now) }
@@ -110,8 +112,11 @@ fn stepped(alloc: Global, step: StepKind, place: Place, operand: Operand) -> Res
 
 /// An operand with an operator in front of it.
 ///
+/// # Errors
+///
 /// `NotBool` or `BadConversion` at the first token of an operand that can't stand there, for `++` and `--`
 /// also where it is no variable's name; `Const` at the name of a variable that can't be changed. `NotYet` at `@`.
+/// `Memory` where a growth was refused.
 #[tactic(auto, unfolding(crate::specs::Operations::prefix_typing))]
 pub fn prefix(
     alloc: Global,
@@ -132,7 +137,12 @@ pub fn prefix(
     }
 }
 
-/// An operand with `++` or `--` behind it, which have the refusals that they have in front of one.
+/// An operand with `++` or `--` behind it.
+///
+/// # Errors
+///
+/// The refusals that `prefix` has for `++` and `--`, and `NotYet` at the operand's first token where the operator
+/// is neither. `Memory` where a growth was refused.
 #[tactic(auto, unfolding(crate::specs::Operations::postfix_typing))]
 pub fn postfix(alloc: Global, operand: Operand, operator: TokenKind) -> Result<Operand, Stop>
     ensures exact { Gives view_operand result (spec.postfix_typing (view_operand operand) operator) }
@@ -147,7 +157,10 @@ pub fn postfix(alloc: Global, operand: Operand, operator: TokenKind) -> Result<O
 
 /// A conversion that is written, `int8(e)` and the like.
 ///
-/// `BadConversion` at the operand's first token where it does not convert.
+/// # Errors
+///
+/// `BadConversion` at the operand's first token where it does not convert. `NotYet` at a word that is no
+/// primitive type's. `Memory` where a growth was refused.
 #[tactic(auto, unfolding(crate::specs::Operations::convert_typing))]
 pub fn convert(
     alloc: Global,

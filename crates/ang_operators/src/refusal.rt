@@ -80,14 +80,14 @@ fn refusal_at(kind: ErrorKind, name: &Token, asks: Option<Asks>) -> Stop
     })
 }
 
-/// A refusal at a name.
+/// A refusal at the place of `name`, which it is about. It keeps nothing of what was asked of the name.
 pub fn refused(kind: ErrorKind, name: &Token) -> Stop
     ensures exact { result ≡ Stop.Refused (spec.refused_at kind name.now) }
 {
     refusal_at(kind, name, None)
 }
 
-/// The refusal of a use.
+/// The refusal of a use of `name`, at its place, with what was asked of the name there.
 pub fn use_refused(kind: ErrorKind, name: &Token, asks: Asks) -> Stop
     ensures exact { result ≡ Stop.Refused (spec.use_refused kind name.now asks) }
 {

@@ -172,8 +172,10 @@ fn formed(
 
 /// Two operands with a binary operator between them.
 ///
+/// # Errors
+///
 /// `BadConversion` or, for `&&`, `||` and `xor`, `NotBool` at the first token of the first operand that can't
-/// stand there. `NotYet` at `is` and `!is`.
+/// stand there. `NotYet` at the first token of the left operand of `is` and `!is`. `Memory` where a growth was refused.
 #[tactic(auto, unfolding(crate::specs::Operations::binary_typing))]
 pub fn binary(
     alloc: Global,

@@ -75,6 +75,14 @@ fn other_expressions(
 }
 
 /// Reads one expression or more, with commas between them.
+///
+/// `depth` bounds the nested calls and the turns of each loop. A number above that of `tokens` is always
+/// enough.
+///
+/// # Errors
+///
+/// `Syntax` with the tokens from the first that cannot stand there, or with none where they end too
+/// soon. `Deep` where `depth` is too small. `Memory` where a growth was refused.
 #[cycle(expression)]
 #[tactic(auto, unfolding(crate::specs::ReadExpr::expressions))]
 pub fn expressions(
@@ -89,7 +97,16 @@ pub fn expressions(
     other_expressions(alloc, first, rest, depth)
 }
 
-/// Reads the arguments behind the left parenthesis `open`, and the right one.
+/// Reads the arguments behind the left parenthesis `open`, and the right one. The parenthesis `open` is
+/// none of `tokens`.
+///
+/// `depth` bounds the nested calls and the turns of each loop. A number above that of `tokens` is always
+/// enough.
+///
+/// # Errors
+///
+/// `Syntax` with the tokens from the first that cannot stand there, or with none where they end too
+/// soon. `Deep` where `depth` is too small. `Memory` where a growth was refused.
 #[cycle(expression)]
 #[tactic(auto, unfolding(crate::specs::ReadExpr::args, crate::specs::ReadExpr::some_args))]
 pub fn arguments<'a>(
@@ -513,6 +530,14 @@ fn tail(
 
 /// Reads an expression of the rule of the number `least` or a tighter one: 0 for any expression, 1 to
 /// 10 for the levels of binary operators, 11 for an operand with prefixes.
+///
+/// `depth` bounds the nested calls and the turns of each loop. A number above that of `tokens` is always
+/// enough.
+///
+/// # Errors
+///
+/// `Syntax` with the tokens from the first that cannot stand there, or with none where they end too
+/// soon. `Deep` where `depth` is too small, as 0 always is. `Memory` where a growth was refused.
 #[cycle(expression)]
 #[tactic(auto, unfolding(crate::specs::ReadExpr::expr, crate::specs::ReadExpr::level, crate::specs::ReadExpr::term))]
 pub fn expression(

@@ -38,7 +38,13 @@ pub fn type_named(constant: Option<Token>, name: Token, tokens: &[Token]) -> (Ty
     )
 }
 
-/// Reads a type.
+/// Reads `[ "const" ] ( PRIM | "void" | NAME ) [ "@" [ "const" ] ]`: a type. Any name can be one here, as
+/// no type is looked up.
+///
+/// # Errors
+///
+/// `Syntax` where no type's name stands in front or behind a `const` there: with the tokens from that place
+/// on. No other error comes.
 #[tactic(auto, unfolding(crate::specs::ReadType::a_type, ang_read::specs::Tokens::a_token))]
 pub fn type_name(tokens: &[Token]) -> Result<(TypeName, &[Token]), ReadError<'_>>
     ensures reads { Gives (λ x. (x.0, x.1.now)) result (read.a_type tokens.now) }

@@ -83,7 +83,13 @@ fn parameter_typed(
     )
 }
 
-/// Reads a parameter, behind the comma in front of it, if there is one.
+/// Reads a parameter, behind the comma in front of it, if there is one. That comma is read already, and
+/// the parameter keeps it.
+///
+/// # Errors
+///
+/// `Syntax` where no type's name stands in front or behind a `const` there: with the tokens from that place
+/// on. No other error comes.
 #[tactic(auto, unfolding(crate::specs::ReadParams::param))]
 pub fn parameter(
     comma: Option<Token>,
@@ -227,7 +233,15 @@ fn some_parameters<'a>(
     parameters_behind(alloc, open, first, rest, limit)
 }
 
-/// Reads the parameters behind the left parenthesis `open`, and the right one.
+/// Reads the parameters behind the left parenthesis `open`, and the right one. The parenthesis `open` is
+/// none of `tokens`.
+///
+/// `limit` bounds the turns of the loop over parameters. A number above that of `tokens` is always enough.
+///
+/// # Errors
+///
+/// `Syntax` with the tokens from the first that cannot stand there, or with none where they end too
+/// soon. `Deep` where `limit` is too small. `Memory` where a growth was refused.
 #[tactic(auto, unfolding(crate::specs::ReadParams::params))]
 pub fn parameters<'a>(
     alloc: Global,
@@ -247,7 +261,14 @@ pub fn parameters<'a>(
     }
 }
 
-/// Reads parameters, from the left parenthesis on.
+/// Reads parameters, from the left parenthesis to the right one.
+///
+/// `limit` bounds the turns of the loop over parameters. A number above that of `tokens` is always enough.
+///
+/// # Errors
+///
+/// `Syntax` with the tokens from the first that cannot stand there, or with none where they end too
+/// soon. `Deep` where `limit` is too small. `Memory` where a growth was refused.
 #[tactic(auto, unfolding(crate::specs::ReadParams::a_params))]
 pub fn a_parameters(
     alloc: Global,

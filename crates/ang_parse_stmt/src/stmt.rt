@@ -17,6 +17,15 @@ use ang_tree::{Block, Statement};
 use std::alloc::Global;
 
 /// Reads a statement.
+///
+/// `limit` bounds the nested calls of expressions and the turns of each loop, `depth` the nested calls
+/// of statements. A number above that of `tokens` is always enough for both.
+///
+/// # Errors
+///
+/// `Syntax` with the tokens from the first that cannot stand there, or with none where they end too
+/// soon. `Deep` where `depth` or `limit` is too small, as a `depth` of 0 always is. `Memory` where a growth
+/// was refused.
 pub fn statement(
     alloc: Global,
     tokens: &[Token],
@@ -28,7 +37,16 @@ pub fn statement(
     nested::statement(alloc, tokens, depth, limit)
 }
 
-/// Reads statements, up to a right brace.
+/// Reads statements, up to a right brace, which is left. There may be none.
+///
+/// `limit` bounds the nested calls of expressions and the turns of each loop, `depth` the nested calls
+/// of statements. A number above that of `tokens` is always enough for both.
+///
+/// # Errors
+///
+/// `Syntax` with the tokens from the first that cannot stand there, or with none where they end too
+/// soon. `Deep` where `depth` or `limit` is too small, as a `limit` of 0 always is. `Memory` where a growth
+/// was refused.
 pub fn statements(
     alloc: Global,
     tokens: &[Token],
@@ -40,7 +58,17 @@ pub fn statements(
     nested::statements(alloc, tokens, depth, limit)
 }
 
-/// Reads the statements of a block and the right brace, behind the left one `open`.
+/// Reads the statements of a block and the right brace, behind the left one `open`, which is none of
+/// `tokens`.
+///
+/// `limit` bounds the nested calls of expressions and the turns of each loop, `depth` the nested calls
+/// of statements. A number above that of `tokens` is always enough for both.
+///
+/// # Errors
+///
+/// `Syntax` with the tokens from the first that cannot stand there, or with none where they end too
+/// soon. `Deep` where `depth` or `limit` is too small, as a `limit` of 0 always is. `Memory` where a growth
+/// was refused.
 pub fn block<'a>(
     alloc: Global,
     open: Token,

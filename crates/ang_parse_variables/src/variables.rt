@@ -23,7 +23,16 @@ fn with_variable(first: Vec<Variable>, next: Variable) -> Result<Vec<Variable>, 
     Ok(found)
 }
 
-/// Reads `[ "=" assign | args ]`: what a variable begins with.
+/// Reads `[ "=" assign | args ]`: what a variable begins with. Where neither `=` nor `(` stands in front,
+/// that is nothing, and no error comes.
+///
+/// `limit` bounds the nested calls of expressions and the turns of each loop. A number above that of
+/// `tokens` is always enough.
+///
+/// # Errors
+///
+/// `Syntax` with the tokens from the first that cannot stand there, or with none where they end too
+/// soon. `Deep` where `limit` is too small. `Memory` where a growth was refused.
 #[tactic(auto, unfolding(crate::specs::ReadVars::init, crate::specs::ReadVars::valued, crate::specs::ReadVars::constructed))]
 pub fn initializer(
     alloc: Global,
@@ -49,7 +58,16 @@ pub fn initializer(
     }
 }
 
-/// Reads what stands behind a variable's name.
+/// Reads what stands behind a variable's name: its initializer, if it has one. The comma in front of the
+/// name and the name are read already, and the variable keeps them.
+///
+/// `limit` bounds the nested calls of expressions and the turns of each loop. A number above that of
+/// `tokens` is always enough.
+///
+/// # Errors
+///
+/// `Syntax` with the tokens from the first that cannot stand there, or with none where they end too
+/// soon. `Deep` where `limit` is too small. `Memory` where a growth was refused.
 #[tactic(auto, unfolding(crate::specs::ReadVars::variable_named))]
 pub fn variable_named<'a>(
     alloc: Global,
@@ -128,6 +146,14 @@ fn other_variables(
 }
 
 /// Reads the other variables of a type and the semicolon, behind the first variable.
+///
+/// `limit` bounds the nested calls of expressions and the turns of each loop. A number above that of
+/// `tokens` is always enough.
+///
+/// # Errors
+///
+/// `Syntax` with the tokens from the first that cannot stand there, or with none where they end too
+/// soon. `Deep` where `limit` is too small. `Memory` where a growth was refused.
 #[tactic(auto, unfolding(crate::specs::ReadVars::variables_behind))]
 pub fn variables_behind(
     alloc: Global,
@@ -151,7 +177,15 @@ pub fn variables_behind(
     ))
 }
 
-/// Reads the variables of a type, behind the name of the first.
+/// Reads the variables of a type and the semicolon, behind the name of the first.
+///
+/// `limit` bounds the nested calls of expressions and the turns of each loop. A number above that of
+/// `tokens` is always enough.
+///
+/// # Errors
+///
+/// `Syntax` with the tokens from the first that cannot stand there, or with none where they end too
+/// soon. `Deep` where `limit` is too small. `Memory` where a growth was refused.
 #[tactic(auto, unfolding(crate::specs::ReadVars::variables_named))]
 pub fn variables_named(
     alloc: Global,
@@ -181,6 +215,14 @@ fn some_ended(
 }
 
 /// Reads `[ assign ] ";"`.
+///
+/// `limit` bounds the nested calls of expressions and the turns of each loop. A number above that of
+/// `tokens` is always enough.
+///
+/// # Errors
+///
+/// `Syntax` with the tokens from the first that cannot stand there, or with none where they end too
+/// soon. `Deep` where `limit` is too small. `Memory` where a growth was refused.
 #[tactic(auto, unfolding(crate::specs::ReadVars::ended))]
 pub fn ended(
     alloc: Global,
@@ -340,7 +382,15 @@ fn primitive<'a>(
     }
 }
 
-/// Reads `vars | [ assign ] ";"`.
+/// Reads `vars | [ assign ] ";"`: how a `for` starts.
+///
+/// `limit` bounds the nested calls of expressions and the turns of each loop. A number above that of
+/// `tokens` is always enough.
+///
+/// # Errors
+///
+/// `Syntax` with the tokens from the first that cannot stand there, or with none where they end too
+/// soon. `Deep` where `limit` is too small. `Memory` where a growth was refused.
 #[tactic(auto, unfolding(crate::specs::ReadVars::start))]
 pub fn start(
     alloc: Global,

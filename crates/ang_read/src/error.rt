@@ -12,8 +12,8 @@ pub enum ReadError<'a> {
     Memory,
     /// The tokens from the first that cannot stand there, or none behind the last.
     Syntax(&'a [Token]),
-    /// The bound on nested calls was too small. It never is where the bound is above the number of
-    /// tokens.
+    /// The bound on nested calls and on the turns of a loop was too small. It never is where the bound
+    /// is above the number of tokens.
     Deep,
 }
 

@@ -1,5 +1,5 @@
 //! Readers of single tokens. Each answers the token and the tokens behind it, or the fault at the
-//! first token where that is of another kind.
+//! first token where that is of another kind. None takes memory.
 ghost use Rattle.std.specs.Prelude.{◌≡◌, Ok};
 ghost use Rattle.ang_read.specs.Gives.{Gives, NeedsNoMemory};
 ghost use Rattle.ang_read.specs.Tokens.{a_token, perhaps, is_const, is_name, is_left_paren, is_right_paren, is_left_brace, is_right_brace, is_semicolon, is_colon, is_less, is_greater, is_while, is_from, is_text};
@@ -8,6 +8,10 @@ use crate::error::ReadError;
 use ang_lex::{Token, TokenKind};
 
 /// Reads a name.
+///
+/// # Errors
+///
+/// `Syntax` with all of `tokens` where the first is no name, or where there is none. No other error comes.
 #[tactic(auto, unfolding(crate::specs::Tokens::a_token))]
 pub fn a_name(tokens: &[Token]) -> Result<(Token, &[Token]), ReadError<'_>>
     ensures reads { Gives (λ x. (x.0, x.1.now)) result (a_token is_name tokens.now) }
@@ -20,6 +24,10 @@ pub fn a_name(tokens: &[Token]) -> Result<(Token, &[Token]), ReadError<'_>>
 }
 
 /// Reads `(`.
+///
+/// # Errors
+///
+/// `Syntax` with all of `tokens` where the first is not `(`, or where there is none. No other error comes.
 #[tactic(auto, unfolding(crate::specs::Tokens::a_token))]
 pub fn a_left_paren(tokens: &[Token]) -> Result<(Token, &[Token]), ReadError<'_>>
     ensures reads { Gives (λ x. (x.0, x.1.now)) result (a_token is_left_paren tokens.now) }
@@ -32,6 +40,10 @@ pub fn a_left_paren(tokens: &[Token]) -> Result<(Token, &[Token]), ReadError<'_>
 }
 
 /// Reads `)`.
+///
+/// # Errors
+///
+/// `Syntax` with all of `tokens` where the first is not `)`, or where there is none. No other error comes.
 #[tactic(auto, unfolding(crate::specs::Tokens::a_token))]
 pub fn a_right_paren(tokens: &[Token]) -> Result<(Token, &[Token]), ReadError<'_>>
     ensures reads { Gives (λ x. (x.0, x.1.now)) result (a_token is_right_paren tokens.now) }
@@ -44,6 +56,10 @@ pub fn a_right_paren(tokens: &[Token]) -> Result<(Token, &[Token]), ReadError<'_
 }
 
 /// Reads `{`.
+///
+/// # Errors
+///
+/// `Syntax` with all of `tokens` where the first is not `{`, or where there is none. No other error comes.
 #[tactic(auto, unfolding(crate::specs::Tokens::a_token))]
 pub fn a_left_brace(tokens: &[Token]) -> Result<(Token, &[Token]), ReadError<'_>>
     ensures reads { Gives (λ x. (x.0, x.1.now)) result (a_token is_left_brace tokens.now) }
@@ -56,6 +72,10 @@ pub fn a_left_brace(tokens: &[Token]) -> Result<(Token, &[Token]), ReadError<'_>
 }
 
 /// Reads `}`.
+///
+/// # Errors
+///
+/// `Syntax` with all of `tokens` where the first is not `}`, or where there is none. No other error comes.
 #[tactic(auto, unfolding(crate::specs::Tokens::a_token))]
 pub fn a_right_brace(tokens: &[Token]) -> Result<(Token, &[Token]), ReadError<'_>>
     ensures reads { Gives (λ x. (x.0, x.1.now)) result (a_token is_right_brace tokens.now) }
@@ -68,6 +88,10 @@ pub fn a_right_brace(tokens: &[Token]) -> Result<(Token, &[Token]), ReadError<'_
 }
 
 /// Reads `;`.
+///
+/// # Errors
+///
+/// `Syntax` with all of `tokens` where the first is not `;`, or where there is none. No other error comes.
 #[tactic(auto, unfolding(crate::specs::Tokens::a_token))]
 pub fn a_semicolon(tokens: &[Token]) -> Result<(Token, &[Token]), ReadError<'_>>
     ensures reads { Gives (λ x. (x.0, x.1.now)) result (a_token is_semicolon tokens.now) }
@@ -80,6 +104,10 @@ pub fn a_semicolon(tokens: &[Token]) -> Result<(Token, &[Token]), ReadError<'_>>
 }
 
 /// Reads `:`.
+///
+/// # Errors
+///
+/// `Syntax` with all of `tokens` where the first is not `:`, or where there is none. No other error comes.
 #[tactic(auto, unfolding(crate::specs::Tokens::a_token))]
 pub fn a_colon(tokens: &[Token]) -> Result<(Token, &[Token]), ReadError<'_>>
     ensures reads { Gives (λ x. (x.0, x.1.now)) result (a_token is_colon tokens.now) }
@@ -92,6 +120,10 @@ pub fn a_colon(tokens: &[Token]) -> Result<(Token, &[Token]), ReadError<'_>>
 }
 
 /// Reads `<`.
+///
+/// # Errors
+///
+/// `Syntax` with all of `tokens` where the first is not `<`, or where there is none. No other error comes.
 #[tactic(auto, unfolding(crate::specs::Tokens::a_token))]
 pub fn a_less(tokens: &[Token]) -> Result<(Token, &[Token]), ReadError<'_>>
     ensures reads { Gives (λ x. (x.0, x.1.now)) result (a_token is_less tokens.now) }
@@ -104,6 +136,10 @@ pub fn a_less(tokens: &[Token]) -> Result<(Token, &[Token]), ReadError<'_>>
 }
 
 /// Reads `>`.
+///
+/// # Errors
+///
+/// `Syntax` with all of `tokens` where the first is not `>`, or where there is none. No other error comes.
 #[tactic(auto, unfolding(crate::specs::Tokens::a_token))]
 pub fn a_greater(tokens: &[Token]) -> Result<(Token, &[Token]), ReadError<'_>>
     ensures reads { Gives (λ x. (x.0, x.1.now)) result (a_token is_greater tokens.now) }
@@ -116,6 +152,10 @@ pub fn a_greater(tokens: &[Token]) -> Result<(Token, &[Token]), ReadError<'_>>
 }
 
 /// Reads the word `while`.
+///
+/// # Errors
+///
+/// `Syntax` with all of `tokens` where the first is not that word, or where there is none. No other error comes.
 #[tactic(auto, unfolding(crate::specs::Tokens::a_token))]
 pub fn a_while(tokens: &[Token]) -> Result<(Token, &[Token]), ReadError<'_>>
     ensures reads { Gives (λ x. (x.0, x.1.now)) result (a_token is_while tokens.now) }
@@ -128,6 +168,10 @@ pub fn a_while(tokens: &[Token]) -> Result<(Token, &[Token]), ReadError<'_>>
 }
 
 /// Reads the word `from`.
+///
+/// # Errors
+///
+/// `Syntax` with all of `tokens` where the first is not that word, or where there is none. No other error comes.
 #[tactic(auto, unfolding(crate::specs::Tokens::a_token))]
 pub fn a_from(tokens: &[Token]) -> Result<(Token, &[Token]), ReadError<'_>>
     ensures reads { Gives (λ x. (x.0, x.1.now)) result (a_token is_from tokens.now) }
@@ -140,6 +184,10 @@ pub fn a_from(tokens: &[Token]) -> Result<(Token, &[Token]), ReadError<'_>>
 }
 
 /// Reads a text in quotes.
+///
+/// # Errors
+///
+/// `Syntax` with all of `tokens` where the first is no text, or where there is none. No other error comes.
 #[tactic(auto, unfolding(crate::specs::Tokens::a_token))]
 pub fn a_text(tokens: &[Token]) -> Result<(Token, &[Token]), ReadError<'_>>
     ensures reads { Gives (λ x. (x.0, x.1.now)) result (a_token is_text tokens.now) }
@@ -151,7 +199,7 @@ pub fn a_text(tokens: &[Token]) -> Result<(Token, &[Token]), ReadError<'_>>
     }
 }
 
-/// Reads the word `const`, if it stands there.
+/// Reads the word `const`, if it stands there. Else it answers none, and all of the tokens are left.
 #[tactic(auto, unfolding(crate::specs::Tokens::perhaps))]
 pub fn perhaps_const(tokens: &[Token]) -> (Option<Token>, &[Token])
     ensures reads { perhaps is_const tokens.now ≡ Ok (result.0, result.1.now) }

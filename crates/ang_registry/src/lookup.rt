@@ -13,7 +13,9 @@ const LAST_DRIVER: u32 = 63;
 /// A registered type: its number, and the driver that answers for it.
 #[derive(Clone, Copy)]
 pub struct FoundType {
+    /// Its place in the registration list, from 0.
     pub number: EntityNo,
+    /// The number of the driver that answers for its objects.
     pub driver: u32,
 }
 

@@ -26,7 +26,13 @@ fn with_operand(first: Vec<Operand>, operand: Operand) -> Result<Vec<Operand>, A
     Ok(found)
 }
 
-/// Expressions with commas between them, typed from left to right.
+/// Expressions with commas between them, typed from left to right, with these parameters and locals alive, the
+/// innermost last.
+///
+/// # Errors
+///
+/// The first refusal of an item, as `typing` has it; the items behind that one are not typed. `Memory` where a
+/// growth was refused.
 #[cycle(typing)]
 pub fn typing_of_all(
     alloc: Global,
@@ -53,8 +59,15 @@ struct Asked {
 
 /// The type and the resolved tree of an expression, with these parameters and locals alive, the innermost last.
 ///
-/// Else the first refusal in reading order: operands from left to right, then the operation. Each comes from
-/// one of the functions of this crate, which say when.
+/// # Errors
+///
+/// The first refusal in reading order: operands from left to right, then the operation. That of a literal, a
+/// conversion or an operator comes from a function of `ang_operators`, which says when. That of a name or a call is
+/// `UnknownName`, `NoMatch` or `Ambiguous` at the name, `NotYet` where a type's name is called, or `BadOut` or
+/// `BadConversion` at an argument. `NotYet` comes also at the class of a call with `::`, at the word `cast`, and at
+/// the dot of a member or a method call, before what stands in front of the dot is typed.
+///
+/// `Memory` where a growth was refused.
 #[cycle(typing)]
 pub fn typing(
     alloc: Global,

@@ -28,7 +28,8 @@ impl<'a> Model for Setting<'a> {
 }
 
 impl<'a> Setting<'a> {
-    /// The setting of these.
+    /// Borrows these for the typing of one body. `text` is the whole section in which the body stands. Nothing
+    /// checks that they are of one build.
     pub fn new(
         view: &'a View,
         names: &'a Names,

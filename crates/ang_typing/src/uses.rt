@@ -268,8 +268,13 @@ fn best_callable(
 /// What a call of a bare name means, for arguments of these types: the best of the functions of the script and
 /// of the functions of the host that the module sees. Parameters and locals of the name play no part.
 ///
-/// `UnknownName` where there is none, `NoMatch` where none takes the arguments, `Ambiguous` where none of those
-/// that take them is the best. `NotYet` at the name of a type.
+/// `Meant::Refused` says why it means nothing: `UnknownName` where there is no function of the name, `NoMatch`
+/// where none takes the arguments, `Ambiguous` where none of those that take them is the best, and `NotYet` at the
+/// name of a type.
+///
+/// # Errors
+///
+/// Want of memory alone.
 #[tactic(auto, unfolding(crate::specs::Uses::meaning_of_call))]
 pub fn resolve_call(
     alloc: Global,

@@ -27,7 +27,9 @@ use std::mem;
 ///
 /// A machine can't be dropped, since its drivers can't.
 pub struct Machine {
+    /// The drivers that runs ask, by their places in the list.
     pub drivers: Drivers,
+    /// The values that runs read and change, of the globals of all modules.
     pub globals: Globals,
 }
 

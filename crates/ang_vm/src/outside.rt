@@ -16,7 +16,9 @@ pub struct Globals {
 /// What lies outside the stack of a run.
 #[derive(Drop)]
 pub struct Outside {
+    /// The values of the globals, which the run reads and changes.
     pub globals: Globals,
+    /// What the drivers were asked, in order. A run puts its own behind what stands there.
     pub events: Vec<HostEvent>,
 }
 

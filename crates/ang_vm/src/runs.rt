@@ -22,10 +22,12 @@ use ang_steps::place::{Ending, Standing};
 use ang_steps::table::Table;
 use std::alloc::Global;
 
-/// How many functions may stand one inside the other, the called one being the first.
+/// 200: how many functions may stand one inside the other in a call, the called one being the first. One more
+/// is the fault `Depth`.
 pub const CALLS: usize = 200;
 
-/// The same in a run of an initializer, which stands below the first of them and is none of them.
+/// 201: the same in a run of an initializer, which stands below the first function and is counted with them, so
+/// that 200 functions may stand above it.
 pub const WITH_INITIALIZER: usize = 201;
 
 /// Goes on behind the next asking.

@@ -19,14 +19,14 @@ impl<'a> Model for Text<'a> {
 impl<'a> Text<'a> {
     ghost use Rattle.std.specs.Prelude.{◌≡◌};
 
-    /// These bytes.
+    /// Borrows these bytes, which are neither copied nor checked.
     pub fn new(bytes: &'a [u8]) -> Text<'a>
         ensures exact { result ≡ bytes.now }
     {
         Text { bytes }
     }
 
-    /// The bytes.
+    /// The bytes that were borrowed, which can be kept when this value is gone.
     pub fn bytes(&self) -> &'a [u8]
         ensures exact { result.now ≡ self.now }
     {
@@ -52,14 +52,14 @@ impl<'a> Model for WrittenParameters<'a> {
 impl<'a> WrittenParameters<'a> {
     ghost use Rattle.std.specs.Prelude.{◌≡◌};
 
-    /// These parameters.
+    /// Borrows these parameters, which are not copied.
     pub fn new(items: &'a [Parameter]) -> WrittenParameters<'a>
         ensures exact { result ≡ items.now }
     {
         WrittenParameters { items }
     }
 
-    /// The parameters, in order.
+    /// The parameters that were borrowed, in order, which can be kept when this value is gone.
     pub fn items(&self) -> &'a [Parameter]
         ensures exact { result.now ≡ self.now }
     {

@@ -34,10 +34,13 @@ pub enum Sign {
 /// How a parameter is spelled, without its name.
 #[derive(Drop)]
 pub struct Spelling<'a> {
+    /// What its type is named by.
     pub base: Base<'a>,
+    /// What makes its type a handle, if it is one.
     pub sign: Sign,
     /// Whether `const` stands in front.
     pub is_const: bool,
+    /// Whether it passes by value, or by `&` and in which direction.
     pub pass: Pass,
 }
 
