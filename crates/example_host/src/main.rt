@@ -1,0 +1,159 @@
+//! A host: what it offers scripts under two masks, one module, builds and calls
+//! (docs/EMBEDDING.md, "A whole host").
+#![tactic(auto)]
+
+ghost use Rattle.ang_engine.specs.Sound.{IsSound};
+
+use ang_drivers::Console;
+use ang_engine::{Command, Engine, NewRefused, Outcome, Reply};
+use ang_host::{Driver, Drivers};
+use ang_kinds::{List, Mask, Value};
+use ang_registry::{RegError, Registry};
+use ang_text::push_reply;
+use example_driver::Tickets;
+use std::alloc::{AllocError, Global};
+use std::io;
+use std::io::Write;
+use std::process::ExitCode;
+
+/// What scripts of players see.
+const PLAYERS: Mask = Mask(1);
+
+/// What scripts of the staff see.
+const STAFF: Mask = Mask(2);
+
+/// The ticks that each build and each call may take.
+const TICKS: u64 = 100_000;
+
+/// The name of the module.
+const QUEST: &str = "quest";
+
+/// A script of a player.
+const REWARD: &str = "\
+int64 reward(int64 level) { print(level); return sum(level * 10, 5); }
+uint64 join() { return ticket(); }
+";
+
+/// A script of a player that looks for what players don't see.
+const PEEK: &str = "uint64 peek() { return given; }\n";
+
+/// What scripts may ask, each entry under a mask. Of driver 0 the functions 0 and 1, of driver 1 the
+/// function 0, and, for the staff alone, its property 0.
+fn offered(alloc: Global) -> Result<Registry, RegError> {
+    let mut registry = Registry::new(alloc);
+    registry.set_default_mask(PLAYERS);
+    registry.function(0, 0, b"void print(int64)")?;
+    registry.function(0, 1, b"int64 sum(int64, int64)")?;
+    registry.function(1, 0, b"uint64 ticket()")?;
+    registry.set_default_mask(STAFF);
+    registry.global_property(1, 0, b"const uint64 given")?;
+    Ok(registry)
+}
+
+/// What answers: driver 0 and driver 1.
+fn answering(alloc: Global) -> Result<Vec<Box<dyn Driver>>, AllocError> {
+    let mut boxes: Vec<Box<dyn Driver>> = Vec::new(alloc);
+    boxes.push(Box::new(alloc, Console::new(alloc)?)?)?;
+    boxes.push(Box::new(alloc, Tickets::new())?)?;
+    Ok(boxes)
+}
+
+fn bytes(alloc: Global, text: &str) -> Result<List<u8>, AllocError> {
+    Ok(List::from_vec(Vec::from_slice(alloc, text.as_bytes())?))
+}
+
+/// Prints the reply as `asrun` does: its events, its errors, its outcome.
+fn print_reply(rt: &HostRuntime, reply: &Reply) -> io::Result<()> {
+    let mut text = Vec::new(rt.alloc());
+    push_reply(&mut text, reply)?;
+    io::writer(rt).write_all(&text)
+}
+
+/// Gives the module a script and builds it.
+fn build(rt: &HostRuntime, engine: &mut Engine, script: &str) -> io::Result<()>
+    requires sound { IsSound (λ v. (⟦<dyn Driver as Driver>⟧ v).meaning) engine.old }
+    ensures sound { IsSound (λ v. (⟦<dyn Driver as Driver>⟧ v).meaning) engine.new }
+{
+    let alloc = rt.alloc();
+    let (name, text) = (bytes(alloc, QUEST)?, bytes(alloc, script)?);
+    print_reply(rt, &engine.apply(Command::AddSection { name, text }))?;
+    let (name, budget) = (bytes(alloc, QUEST)?, TICKS);
+    print_reply(rt, &engine.apply(Command::Build { name, budget }))
+}
+
+/// Calls the function of the script that has this declaration, with these values.
+fn call(
+    rt: &HostRuntime,
+    engine: &mut Engine,
+    decl: &str,
+    args: &[Value],
+) -> io::Result<Outcome>
+    requires sound { IsSound (λ v. (⟦<dyn Driver as Driver>⟧ v).meaning) engine.old }
+    ensures sound { IsSound (λ v. (⟦<dyn Driver as Driver>⟧ v).meaning) engine.new }
+{
+    let alloc = rt.alloc();
+    let (name, decl) = (bytes(alloc, QUEST)?, bytes(alloc, decl)?);
+    let args = List::from_vec(Vec::from_slice(alloc, args)?);
+    let reply = engine.apply(Command::Call {
+        name,
+        decl,
+        args,
+        budget: TICKS,
+    });
+    print_reply(rt, &reply)?;
+    Ok(reply.outcome)
+}
+
+/// Makes a module for a player, gives it a script, calls it, and then gives it another.
+fn run_scripts(rt: &HostRuntime, engine: &mut Engine) -> io::Result<()>
+    requires sound { IsSound (λ v. (⟦<dyn Driver as Driver>⟧ v).meaning) engine.old }
+    ensures sound { IsSound (λ v. (⟦<dyn Driver as Driver>⟧ v).meaning) engine.new }
+{
+    let (name, mask) = (bytes(rt.alloc(), QUEST)?, PLAYERS);
+    print_reply(rt, &engine.apply(Command::NewModule { name, mask }))?;
+    build(rt, engine, REWARD)?;
+    let outcome = call(rt, engine, "int64 reward(int64)", &[Value::Int(3)])?;
+    if let Outcome::Done(Some(Value::Int(reward))) = outcome {
+        println!(rt; "the reward is {reward}")?;
+    }
+    call(rt, engine, "uint64 join()", &[])?;
+    call(rt, engine, "uint64 join()", &[])?;
+    build(rt, engine, PEEK)
+}
+
+/// Makes the engine over the registrations and the drivers, and discards it at the end.
+fn run(rt: &HostRuntime) -> io::Result<()> {
+    let alloc = rt.alloc();
+    let Ok(registry) = offered(alloc) else {
+        return eprintln!(rt; "a registration was refused");
+    };
+    let drivers = match Drivers::new(answering(alloc)?) {
+        Ok(drivers) => drivers,
+        Err((why, _)) => return eprintln!(rt; "the drivers were refused: {why:?}"),
+    };
+    match Engine::new(alloc, registry, drivers) {
+        Ok(mut engine) => {
+            let ended = run_scripts(rt, &mut engine);
+            drop(engine.discard());
+            ended
+        }
+        Err(
+            NewRefused {
+                why,
+                registry,
+                drivers,
+            },
+        ) => {
+            drop(registry);
+            drop(drivers.into_boxes());
+            eprintln!(rt; "no engine was made: {why:?}")
+        }
+    }
+}
+
+fn main(rt: HostRuntime) -> ExitCode {
+    match run(&rt) {
+        Ok(()) => ExitCode::SUCCESS,
+        Err(_) => ExitCode::FAILURE,
+    }
+}
