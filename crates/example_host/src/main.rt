@@ -50,14 +50,6 @@ fn offered(alloc: Global) -> Result<Registry, RegError> {
     Ok(registry)
 }
 
-/// What answers: driver 0 and driver 1.
-fn answering(alloc: Global) -> Result<Vec<Box<dyn Driver>>, AllocError> {
-    let mut boxes: Vec<Box<dyn Driver>> = Vec::new(alloc);
-    boxes.push(Box::new(alloc, Console::new(alloc)?)?)?;
-    boxes.push(Box::new(alloc, Tickets::new())?)?;
-    Ok(boxes)
-}
-
 fn bytes(alloc: Global, text: &str) -> Result<List<u8>, AllocError> {
     Ok(List::from_vec(Vec::from_slice(alloc, text.as_bytes())?))
 }
@@ -82,12 +74,7 @@ fn build(rt: &HostRuntime, engine: &mut Engine, script: &str) -> io::Result<()>
 }
 
 /// Calls the function of the script that has this declaration, with these values.
-fn call(
-    rt: &HostRuntime,
-    engine: &mut Engine,
-    decl: &str,
-    args: &[Value],
-) -> io::Result<Outcome>
+fn call(rt: &HostRuntime, engine: &mut Engine, decl: &str, args: &[Value]) -> io::Result<Outcome>
     requires sound { IsSound (λ v. (⟦<dyn Driver as Driver>⟧ v).meaning) engine.old }
     ensures sound { IsSound (λ v. (⟦<dyn Driver as Driver>⟧ v).meaning) engine.new }
 {
@@ -121,13 +108,17 @@ fn run_scripts(rt: &HostRuntime, engine: &mut Engine) -> io::Result<()>
     build(rt, engine, PEEK)
 }
 
-/// Makes the engine over the registrations and the drivers, and discards it at the end.
+/// Makes the engine over the registrations and the drivers, which are number 0 and 1, and discards it
+/// at the end.
 fn run(rt: &HostRuntime) -> io::Result<()> {
     let alloc = rt.alloc();
     let Ok(registry) = offered(alloc) else {
         return eprintln!(rt; "a registration was refused");
     };
-    let drivers = match Drivers::new(answering(alloc)?) {
+    let mut boxes: Vec<Box<dyn Driver>> = Vec::new(alloc);
+    boxes.push(Box::new(alloc, Console::new(alloc)?)?)?;
+    boxes.push(Box::new(alloc, Tickets::new())?)?;
+    let drivers = match Drivers::new(boxes) {
         Ok(drivers) => drivers,
         Err((why, _)) => return eprintln!(rt; "the drivers were refused: {why:?}"),
     };
