@@ -6,8 +6,8 @@ ghost use Rattle.ang_engine.specs.Sound.{IsSound};
 
 use ang_drivers::Console;
 use ang_engine::{Command, Engine, NewRefused, Outcome, Reply};
-use ang_host::{Driver, Drivers};
-use ang_kinds::{List, Mask, Value};
+use ang_host::{Answer, Driver, Drivers, HostEvent, HostReply};
+use ang_kinds::{EntityNo, List, Mask, Value};
 use ang_registry::{RegError, Registry};
 use ang_text::push_reply;
 use example_driver::Tickets;
@@ -24,6 +24,9 @@ const STAFF: Mask = Mask(2);
 
 /// The ticks that each build and each call may take.
 const TICKS: u64 = 100_000;
+
+/// The number of the entry `ticket`: its place in the registration list.
+const TICKET: EntityNo = EntityNo(2);
 
 /// The name of the module.
 const QUEST: &str = "quest";
@@ -61,6 +64,21 @@ fn print_reply(rt: &HostRuntime, reply: &Reply) -> io::Result<()> {
     io::writer(rt).write_all(&text)
 }
 
+/// Prints the tickets that were given, by the reply's events.
+fn print_tickets(rt: &HostRuntime, reply: &Reply) -> io::Result<()> {
+    for event in reply.events.as_slice() {
+        if let HostEvent::Called {
+            entity: TICKET,
+            reply: HostReply::Asking(Answer::Gave(Value::Uint(ticket))),
+            ..
+        } = event
+        {
+            println!(rt; "ticket {ticket} was given")?;
+        }
+    }
+    Ok(())
+}
+
 /// Gives the module a script and builds it.
 fn build(rt: &HostRuntime, engine: &mut Engine, script: &str) -> io::Result<()>
     requires sound { IsSound (λ v. (⟦<dyn Driver as Driver>⟧ v).meaning) engine.old }
@@ -88,6 +106,7 @@ fn call(rt: &HostRuntime, engine: &mut Engine, decl: &str, args: &[Value]) -> io
         budget: TICKS,
     });
     print_reply(rt, &reply)?;
+    print_tickets(rt, &reply)?;
     Ok(reply.outcome)
 }
 
