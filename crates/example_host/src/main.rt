@@ -2,7 +2,9 @@
 //! (docs/EMBEDDING.md, "A whole host").
 #![tactic(auto)]
 
+ghost use Rattle.std.specs.Prelude.{◌≡◌, ◌∷◌, [], Some, IfOk};
 ghost use Rattle.ang_engine.specs.Sound.{IsSound};
+ghost use Rattle.example_host.specs.Offered.{masks_of};
 
 use ang_drivers::Console;
 use ang_engine::{Command, Engine, NewRefused, Outcome, Reply};
@@ -42,7 +44,10 @@ const PEEK: &str = "uint64 peek() { return given; }\n";
 
 /// What scripts may ask, each entry under a mask. Of driver 0 the functions 0 and 1, of driver 1 the
 /// function 0, and, for the staff alone, its property 0.
-fn offered(alloc: Global) -> Result<Registry, RegError> {
+#[tactic(auto, using(crate::proofs::Masks::masks_added))]
+fn offered(alloc: Global) -> Result<Registry, RegError>
+    ensures masks { IfOk result (λ r. masks_of r.entries ≡ Some 1 ∷ Some 1 ∷ Some 1 ∷ Some 2 ∷ []) }
+{
     let mut registry = Registry::new(alloc);
     registry.set_default_mask(PLAYERS);
     registry.function(0, 0, b"void print(int64)")?;
