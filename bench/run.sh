@@ -12,11 +12,11 @@ builds=${2:-5}
 folder=$(mktemp -d)
 trap 'rm -rf "$folder"' EXIT
 python3 bench/sections.py "$folder"
-cd crates/parse_speed
+cd crates/bench_parse
 rt run -- "$folder/ordinary.as" 1 > "$folder/built" 2>&1 || { cat "$folder/built" >&2; exit 1; }
 for section in "$folder"/*.as; do
-    out/parse_speed "$section" "$turns"
+    out/bench_parse "$section" "$turns"
 done
-cd ../build_speed
+cd ../bench_build
 rt run > "$folder/built" 2>&1 || { cat "$folder/built" >&2; exit 1; }
-out/build_speed "$folder/functions.as" "$builds"
+out/bench_build "$folder/functions.as" "$builds"

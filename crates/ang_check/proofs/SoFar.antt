@@ -8,11 +8,11 @@ use Rattle.ang_tree.specs.declared.statement.Variable.{Variable}
 use Rattle.ang_tree.specs.declared.type_name.TypeName.{TypeName}
 use Rattle.ang_types.specs.declared.arg_type.ArgType.{ArgType}
 use Rattle.ang_typed.specs.Typed as t
-use Rattle.ang_typing.specs.declared.scope.Pair.{Pair}
-use Rattle.ang_operators.specs.declared.refusal.Refusal.{Refusal}
-use Rattle.ang_operators.specs.declared.refusal.Stop.{Stop}
-use Rattle.ang_operators.specs.declared.refusal.Stop.TheVariants as stop
-use Rattle.ang_operators.specs.Refusals.{Judged, ◌>>=◌, Gives}
+use Rattle.ang_check_typing.specs.declared.scope.Pair.{Pair}
+use Rattle.ang_check_operators.specs.declared.refusal.Refusal.{Refusal}
+use Rattle.ang_check_operators.specs.declared.refusal.Stop.{Stop}
+use Rattle.ang_check_operators.specs.declared.refusal.Stop.TheVariants as stop
+use Rattle.ang_check_operators.specs.Refusals.{Judged, ◌>>=◌, Gives}
 use Rattle.ang_typed.specs.View.{view_stmt}
 use Rattle.ang_typed.specs.declared.statement.Statement as typed
 use Rattle.ang_check.specs.declared.frame.Frame.{Frame}

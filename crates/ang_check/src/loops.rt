@@ -3,18 +3,18 @@ ghost use Rattle.std.specs.Prelude.{◌≡◌, ◌≤◌, ◌∷◌, [], length,
 ghost use Rattle.ang_tree.specs.View as trees;
 ghost use Rattle.ang_typed.specs.Typed as tree;
 ghost use Rattle.ang_typed.specs.View.{view_block, view_expr, view_option, view_stmt};
-ghost use Rattle.ang_operators.specs.Refusals.{Gives};
+ghost use Rattle.ang_check_operators.specs.Refusals.{Gives};
 ghost use Rattle.ang_check.specs.Statements as spec;
 ghost use Rattle.ang_check.specs.View.{view_boxed};
 
 use crate::frame::Frame;
 use crate::locals::locals_statement;
 use crate::values::{expression_statement, optional_condition, steps};
-use ang_operators::Stop;
+use ang_check_operators::Stop;
+use ang_check_typing::Pair;
 use ang_tree as written;
 use ang_tree::{Argument, ForStart};
 use ang_typed::{Block, Expression, Statement};
-use ang_typing::Pair;
 use std::alloc::{AllocError, Global};
 
 /// What stands in the parentheses of a `for`.

@@ -3,7 +3,7 @@ ghost use Rattle.std.specs.Prelude.{◌≡◌, ◌≤◌, ◌++◌, ◌∷◌, [
 ghost use Rattle.ang_tree.specs.View as trees;
 ghost use Rattle.ang_typed.specs.Typed as tree;
 ghost use Rattle.ang_typed.specs.View.{view_block, view_expr, view_option, view_stmt, view_tree};
-ghost use Rattle.ang_operators.specs.Refusals.{Gives};
+ghost use Rattle.ang_check_operators.specs.Refusals.{Gives};
 ghost use Rattle.ang_check.specs.Statements as spec;
 ghost use Rattle.ang_check.specs.View.{view_boxed};
 
@@ -11,13 +11,13 @@ use crate::frame::Frame;
 use crate::locals::locals_statement;
 use crate::loops::{LoopHead, for_of, list_of_one, loop_head};
 use crate::values::{condition, expression_statement, returned};
+use ang_check_operators::{Stop, refused};
+use ang_check_typing::Pair;
 use ang_kinds::ErrorKind;
 use ang_lex::Token;
-use ang_operators::{Stop, refused};
 use ang_tree as written;
 use ang_tree::{Argument, ForStart, Statement as Written};
 use ang_typed::{Block, Expression, Statement};
-use ang_typing::Pair;
 use std::alloc::{AllocError, Global};
 
 /// `break` or `continue`; `Jump` at the word where no loop stands around it.

@@ -2,19 +2,19 @@
 ghost use Rattle.std.specs.Prelude.{◌≡◌, ◌++◌, ◌∷◌, [], map as list_map, IfOk};
 ghost use Rattle.ang_tree.specs.View as trees;
 ghost use Rattle.ang_typed.specs.View.{view_expr, view_option, view_stmt, view_tree};
-ghost use Rattle.ang_operators.specs.Refusals.{Gives};
-ghost use Rattle.ang_operators.specs.View.{view_operand, view_operands};
+ghost use Rattle.ang_check_operators.specs.Refusals.{Gives};
+ghost use Rattle.ang_check_operators.specs.View.{view_operand, view_operands};
 ghost use Rattle.ang_check.specs.Statements as spec;
 
 use crate::frame::Frame;
+use ang_check_operators::{Operand, Stop, fault, fit, truth};
+use ang_check_typing::{Pair, Setting, typing, typing_of_all};
 use ang_kinds::ErrorKind;
 use ang_lex::Token;
-use ang_operators::{Operand, Stop, fault, fit, truth};
 use ang_tree as written;
 use ang_tree::Argument;
 use ang_typed::{Expression, Statement};
 use ang_types::{ArgType, Lineage};
-use ang_typing::{Pair, Setting, typing, typing_of_all};
 use std::alloc::{AllocError, Global};
 
 fn optional(

@@ -3,7 +3,7 @@ use Rattle.std.proofs.Common.{◌≡◌, ℕ, ◌<◌, List, [], length, None, O
 use Rattle.ang_lex.specs.declared.token.Token.{Token}
 use Rattle.ang_tree.specs.Depth.{too_deep}
 use Rattle.ang_tree.specs.Declarations.{Decl, SpellsScript}
-use Rattle.ang_read.proofs.Whole.{Exact, one_reading}
+use Rattle.ang_parse_read.proofs.Whole.{Exact, one_reading}
 use Rattle.ang_parse.specs.ReadScript as r
 use Rattle.ang_parse.proofs.SoundScript.{AreDecls, script_reads}
 use Rattle.ang_parse.proofs.CompleteScript.{script_complete}

@@ -4,8 +4,8 @@ use Rattle.ang_lex.specs.declared.token.Token.{Token}
 use Rattle.ang_lex.specs.declared.token.TokenKind.{TokenKind}
 use Rattle.ang_lex.specs.declared.token.TokenKind.TheVariants as k
 use Rattle.ang_tree.specs.Declarations.{Decl, empty}
-use Rattle.ang_read.specs.Read.{pure}
-use Rattle.ang_read.proofs.Tame.{Tame, Both, tame_pure, tame_bind, tame_look, tame_repeat}
+use Rattle.ang_parse_read.specs.Read.{pure}
+use Rattle.ang_parse_read.proofs.Tame.{Tame, Both, tame_pure, tame_bind, tame_look, tame_repeat}
 use Rattle.ang_parse_stmt.proofs.Ahead.{tame_ahead}
 use Rattle.ang_parse_function.specs.ReadFunction.{function_or_globals}
 use Rattle.ang_parse_function.proofs.TameFunction.{function_or_globals_tame, import_tame}

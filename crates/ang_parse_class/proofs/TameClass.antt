@@ -8,10 +8,10 @@ use Rattle.ang_tree.specs.declared.declaration.BaseName.{BaseName}
 use Rattle.ang_tree.specs.declared.declaration.FieldName.{FieldName}
 use Rattle.ang_tree.specs.Kinds.{access_kind, attribute_kind}
 use Rattle.ang_tree.specs.Declarations as tree
-use Rattle.ang_read.specs.Read.{Parser, pure, ◌>>=◌, Choice, look, repeat}
-use Rattle.ang_read.specs.Tokens.{a_token, perhaps, is_name, is_left_paren, is_left_brace, is_right_brace, is_semicolon, is_const}
-use Rattle.ang_read.proofs.Tame.{Tame, Both, both_given, tame_pure, tame_bind, tame_look, tame_repeat}
-use Rattle.ang_read.proofs.Tokens.{a_token_tame, perhaps_tame}
+use Rattle.ang_parse_read.specs.Read.{Parser, pure, ◌>>=◌, Choice, look, repeat}
+use Rattle.ang_parse_read.specs.Tokens.{a_token, perhaps, is_name, is_left_paren, is_left_brace, is_right_brace, is_semicolon, is_const}
+use Rattle.ang_parse_read.proofs.Tame.{Tame, Both, both_given, tame_pure, tame_bind, tame_look, tame_repeat}
+use Rattle.ang_parse_read.proofs.Tokens.{a_token_tame, perhaps_tame}
 use Rattle.ang_parse_expr.specs.ReadType.{a_type, type_named}
 use Rattle.ang_parse_expr.specs.ReadExpr.{expr, args}
 use Rattle.ang_parse_expr.proofs.TameExpr.{a_type_tame, type_named_tame, args_at_tame}

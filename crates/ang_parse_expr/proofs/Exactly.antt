@@ -2,7 +2,7 @@
 use Rattle.std.proofs.Common.{◌≡◌, ℕ, ◌+◌, ◌<◌, ◌≤◌, List, [], ◌∷◌, length, Some, None, Ok, ap, ◌∙◌, arith}
 use Rattle.ang_lex.specs.declared.token.Token.{Token}
 use Rattle.ang_tree.specs.Tree.{Tree, Args, Trees, literal, name, call, scoped_call, cast, convert, group, postfix, member, method_call, prefix, binary, conditional, assignment, arguments, none, more, spelled, spelled_args, listed, Fits, FitsArgs, AllFit, OthersFit, Spells}
-use Rattle.ang_read.proofs.Whole.{Exact, one_reading}
+use Rattle.ang_parse_read.proofs.Whole.{Exact, one_reading}
 use Rattle.ang_parse_expr.specs.ReadExpr as r
 use Rattle.ang_parse_expr.proofs.SoundType.{optional-length, type-length}
 use Rattle.ang_parse_expr.proofs.Sound.{IsExpr, expr_reads}

@@ -8,10 +8,10 @@ use Rattle.ang_lex.specs.declared.token.TokenKind.{TokenKind}
 use Rattle.ang_lex.specs.declared.token.TokenKind.TheVariants as k
 use Rattle.ang_tree.specs.Kinds.{Is, literal_kind, type_kind, prefix_kind, step_kind, assignment_kind, precedence}
 use Rattle.ang_tree.specs.Tree.{Tree, Trees, literal, name, call, scoped_call, cast, convert, group, postfix, member, method_call, prefix, binary, conditional, assignment, arguments, none, more, added}
-use Rattle.ang_read.specs.Read.{Parser, pure, ◌>>=◌, refuse, Choice, given, look, Turn}
-use Rattle.ang_read.specs.Tokens.{a_token, perhaps, is_name, is_left_paren, is_right_paren, is_less, is_greater, is_colon, is_const}
-use Rattle.ang_read.proofs.Tame.{Tame, Both, both_given, tame_pure, tame_refuse, tame_bind, tame_look, tame_repeat}
-use Rattle.ang_read.proofs.Tokens.{a_token_tame, perhaps_tame}
+use Rattle.ang_parse_read.specs.Read.{Parser, pure, ◌>>=◌, refuse, Choice, given, look, Turn}
+use Rattle.ang_parse_read.specs.Tokens.{a_token, perhaps, is_name, is_left_paren, is_right_paren, is_less, is_greater, is_colon, is_const}
+use Rattle.ang_parse_read.proofs.Tame.{Tame, Both, both_given, tame_pure, tame_refuse, tame_bind, tame_look, tame_repeat}
+use Rattle.ang_parse_read.proofs.Tokens.{a_token_tame, perhaps_tame}
 use Rattle.ang_parse_expr.specs.ReadType as y
 use Rattle.ang_parse_expr.specs.ReadExpr as r
 

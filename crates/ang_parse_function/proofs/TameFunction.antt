@@ -9,12 +9,12 @@ use Rattle.ang_tree.specs.Tree.{Args}
 use Rattle.ang_tree.specs.Stmt.{constructor}
 use Rattle.ang_tree.specs.Declarations.{Params}
 use Rattle.ang_tree.specs.Declarations as decl
-use Rattle.ang_read.specs.Read.{Parser, pure, ◌>>=◌, Choice, look}
-use Rattle.ang_read.specs.Tokens.{a_token, is_name, is_semicolon, is_from, is_text}
-use Rattle.ang_read.specs.Law.{finish}
-use Rattle.ang_read.proofs.Tame.{Filled, Kept, Past, Agree, Tame, Both, tame_pure, tame_refuse, tame_bind, tame_look}
-use Rattle.ang_read.proofs.Tokens.{a_token_tame}
-use Rattle.ang_read.proofs.TameGroup.{both_tame}
+use Rattle.ang_parse_read.specs.Read.{Parser, pure, ◌>>=◌, Choice, look}
+use Rattle.ang_parse_read.specs.Tokens.{a_token, is_name, is_semicolon, is_from, is_text}
+use Rattle.ang_parse_read.specs.Law.{finish}
+use Rattle.ang_parse_read.proofs.Tame.{Filled, Kept, Past, Agree, Tame, Both, tame_pure, tame_refuse, tame_bind, tame_look}
+use Rattle.ang_parse_read.proofs.Tokens.{a_token_tame}
+use Rattle.ang_parse_read.proofs.TameGroup.{both_tame}
 use Rattle.ang_parse_expr.specs.ReadType.{a_type}
 use Rattle.ang_parse_expr.specs.ReadExpr.{expr, args}
 use Rattle.ang_parse_expr.proofs.TameExpr.{a_type_tame, args_at_tame}

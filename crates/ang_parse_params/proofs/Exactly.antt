@@ -2,7 +2,7 @@
 use Rattle.std.proofs.Common.{◌≡◌, ℕ, ◌<◌, List, [], length, Ok, ap, ◌∙◌, arith}
 use Rattle.ang_lex.specs.declared.token.Token.{Token}
 use Rattle.ang_tree.specs.Declarations.{Params}
-use Rattle.ang_read.proofs.Whole.{Exact, one_reading}
+use Rattle.ang_parse_read.proofs.Whole.{Exact, one_reading}
 use Rattle.ang_parse_params.specs.Params.{SpellsParams}
 use Rattle.ang_parse_params.specs.ReadParams as r
 use Rattle.ang_parse_params.proofs.SoundParams.{IsParams, a_params_reads}

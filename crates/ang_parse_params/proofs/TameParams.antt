@@ -6,10 +6,10 @@ use Rattle.ang_lex.specs.declared.token.TokenKind.TheVariants as k
 use Rattle.ang_tree.specs.declared.type_name.TypeName.{TypeName}
 use Rattle.ang_tree.specs.declared.declaration.Parameter.{Parameter}
 use Rattle.ang_tree.specs.Kinds.{direction_kind}
-use Rattle.ang_read.specs.Read.{Parser, pure, ◌>>=◌, Choice, look, repeat}
-use Rattle.ang_read.specs.Tokens.{a_token, perhaps, is_name, is_left_paren, is_right_paren}
-use Rattle.ang_read.proofs.Tame.{Tame, Both, tame_pure, tame_bind, tame_look, tame_repeat}
-use Rattle.ang_read.proofs.Tokens.{a_token_tame, perhaps_tame}
+use Rattle.ang_parse_read.specs.Read.{Parser, pure, ◌>>=◌, Choice, look, repeat}
+use Rattle.ang_parse_read.specs.Tokens.{a_token, perhaps, is_name, is_left_paren, is_right_paren}
+use Rattle.ang_parse_read.proofs.Tame.{Tame, Both, tame_pure, tame_bind, tame_look, tame_repeat}
+use Rattle.ang_parse_read.proofs.Tokens.{a_token_tame, perhaps_tame}
 use Rattle.ang_parse_expr.specs.ReadType.{a_type, type_named}
 use Rattle.ang_parse_expr.proofs.TameExpr.{a_type_tame, type_named_tame}
 use Rattle.ang_parse_params.specs.ReadParams as r

@@ -2,10 +2,10 @@
 use Rattle.std.proofs.Common.{◌≡◌, ℕ, ◌≤◌, Bool, true, false, List, [], ◌∷◌, ◌++◌, length, refl, ap}
 use Rattle.ang_lex.specs.declared.token.Token.{Token}
 use Rattle.ang_lex.specs.declared.token.TokenKind.{TokenKind}
-use Rattle.ang_read.specs.Read.{Outcome, Parser}
-use Rattle.ang_read.proofs.Outcomes.{Reads}
-use Rattle.ang_read.proofs.Tokens.{begins}
-use Rattle.ang_read.proofs.Tame.{Tame, Agree, Past, Kept, Filled}
+use Rattle.ang_parse_read.specs.Read.{Outcome, Parser}
+use Rattle.ang_parse_read.proofs.Outcomes.{Reads}
+use Rattle.ang_parse_read.proofs.Tokens.{begins}
+use Rattle.ang_parse_read.proofs.Tame.{Tame, Agree, Past, Kept, Filled}
 use Rattle.ang_parse_stmt.specs.Ahead.{one_of, ahead}
 
 -- ---- what is read

@@ -2,7 +2,7 @@
 use Rattle.std.proofs.Common.{◌≡◌, ℕ, ◌<◌, List, [], length, Ok, refl, ap, ◌∙◌, arith}
 use Rattle.ang_lex.specs.declared.token.Token.{Token}
 use Rattle.ang_tree.specs.Stmt.{Stmt, SpellsStmt}
-use Rattle.ang_read.proofs.Whole.{Exact, one_reading}
+use Rattle.ang_parse_read.proofs.Whole.{Exact, one_reading}
 use Rattle.ang_parse_stmt.specs.ReadStmt as r
 use Rattle.ang_parse_stmt.proofs.SoundStmt.{IsStmt, stmt_reads}
 use Rattle.ang_parse_stmt.proofs.CompleteStmt.{stmt_read}

@@ -5,10 +5,10 @@ use Rattle.ang_lex.specs.declared.token.TokenKind.{TokenKind}
 use Rattle.ang_lex.specs.declared.token.TokenKind.TheVariants as k
 use Rattle.ang_tree.specs.Tree.{none}
 use Rattle.ang_tree.specs.Stmt.{Stmt, Stmts, block, break, continue, return, body, end, added_stmt}
-use Rattle.ang_read.specs.Read.{Parser, pure, ◌>>=◌, Choice, look}
-use Rattle.ang_read.specs.Tokens.{a_token, is_semicolon, is_left_paren, is_right_paren, is_right_brace, is_while}
-use Rattle.ang_read.proofs.Tame.{Tame, Both, tame_pure, tame_bind, tame_look, tame_repeat}
-use Rattle.ang_read.proofs.Tokens.{a_token_tame}
+use Rattle.ang_parse_read.specs.Read.{Parser, pure, ◌>>=◌, Choice, look}
+use Rattle.ang_parse_read.specs.Tokens.{a_token, is_semicolon, is_left_paren, is_right_paren, is_right_brace, is_while}
+use Rattle.ang_parse_read.proofs.Tame.{Tame, Both, tame_pure, tame_bind, tame_look, tame_repeat}
+use Rattle.ang_parse_read.proofs.Tokens.{a_token_tame}
 use Rattle.ang_parse_expr.specs.ReadExpr.{expr, expressions}
 use Rattle.ang_parse_expr.proofs.TameExpr.{expr_tame, expressions_at_tame}
 use Rattle.ang_parse_variables.specs.ReadVars as v

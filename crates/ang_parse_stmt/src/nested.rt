@@ -4,8 +4,8 @@
 //! `limit` bounds the nested calls of expressions and the turns of each loop, `depth` the nested calls
 //! of statements.
 ghost use Rattle.std.specs.Prelude.{◌≡◌, option_map};
-ghost use Rattle.ang_read.specs.Gives.{Gives, NeedsNoMemory};
-ghost use Rattle.ang_read.specs.Read.{repeat};
+ghost use Rattle.ang_parse_read.specs.Gives.{Gives, NeedsNoMemory};
+ghost use Rattle.ang_parse_read.specs.Read.{repeat};
 ghost use Rattle.ang_tree.specs.View.{view_stmt, view_stmts, view_body, view_else, view_items};
 ghost use Rattle.ang_parse_stmt.specs.Parts.{view_condition, view_ending, view_head, view_guarded};
 ghost use Rattle.ang_parse_stmt.specs.ReadStmt as read;
@@ -14,8 +14,8 @@ use crate::build;
 use crate::parts::{Condition, Ending, Guarded, Head};
 use ang_lex::{Token, TokenKind};
 use ang_parse_expr::{expression, expressions};
+use ang_parse_read::{ReadError, a_left_paren, a_right_brace, a_right_paren, a_semicolon, a_while};
 use ang_parse_variables::{ended, start};
-use ang_read::{ReadError, a_left_paren, a_right_brace, a_right_paren, a_semicolon, a_while};
 use ang_tree::{Argument, Block, Else, Statement};
 use std::alloc::Global;
 

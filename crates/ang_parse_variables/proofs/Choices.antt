@@ -2,8 +2,8 @@
 use Rattle.std.proofs.Common.{◌≡◌, ◌≤◌, inr, List, [], ◌∷◌, ◌++◌, length, Some, None, Ok, Err, refl, arith}
 use Rattle.ang_lex.specs.declared.token.Token.{Token}
 use Rattle.ang_lex.specs.declared.token.TokenKind.{TokenKind}
-use Rattle.ang_read.specs.Read.{at, deep, Outcome, Parser, Choice, chosen, look}
-use Rattle.ang_read.proofs.Tame.{Tame, Agree, Past, Kept, Filled}
+use Rattle.ang_parse_read.specs.Read.{at, deep, Outcome, Parser, Choice, chosen, look}
+use Rattle.ang_parse_read.proofs.Tame.{Tame, Agree, Past, Kept, Filled}
 
 module _ (r z : List Token) where
   past_agrees : {A : Type 0} (o o' : Outcome A) → Past r z o → Agree r z o o'

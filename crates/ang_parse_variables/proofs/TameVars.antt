@@ -8,10 +8,10 @@ use Rattle.ang_tree.specs.declared.type_name.TypeName.{TypeName}
 use Rattle.ang_tree.specs.Kinds.{Is, type_kind}
 use Rattle.ang_tree.specs.Tree.{Tree}
 use Rattle.ang_tree.specs.Stmt.{absent, value, constructor, Var, with_variables, with_expression}
-use Rattle.ang_read.specs.Read.{Parser, pure, ◌>>=◌, Choice, look, repeat}
-use Rattle.ang_read.specs.Tokens.{a_token, perhaps, is_name, is_semicolon, is_const}
-use Rattle.ang_read.proofs.Tame.{Tame, Both, tame_pure, tame_bind, tame_look, tame_repeat}
-use Rattle.ang_read.proofs.Tokens.{a_token_tame, perhaps_tame}
+use Rattle.ang_parse_read.specs.Read.{Parser, pure, ◌>>=◌, Choice, look, repeat}
+use Rattle.ang_parse_read.specs.Tokens.{a_token, perhaps, is_name, is_semicolon, is_const}
+use Rattle.ang_parse_read.proofs.Tame.{Tame, Both, tame_pure, tame_bind, tame_look, tame_repeat}
+use Rattle.ang_parse_read.proofs.Tokens.{a_token_tame, perhaps_tame}
 use Rattle.ang_parse_expr.specs.ReadType.{handle_of, type_of, type_named}
 use Rattle.ang_parse_expr.specs.ReadExpr.{expr, args}
 use Rattle.ang_parse_expr.proofs.TameExpr.{type_named_tame, expr_tame, args_at_tame, expr_named_tame, expr_primitive_tame}

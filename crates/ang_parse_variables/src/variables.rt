@@ -3,14 +3,14 @@
 //! `limit` bounds the nested calls of expressions and the turns of each loop. One more than the number
 //! of tokens is always enough.
 ghost use Rattle.std.specs.Prelude.{◌≡◌, ◌++◌, [], ◌∷◌, map, IfOk};
-ghost use Rattle.ang_read.specs.Gives.{Gives};
-ghost use Rattle.ang_read.specs.Read.{repeat};
+ghost use Rattle.ang_parse_read.specs.Gives.{Gives};
+ghost use Rattle.ang_parse_read.specs.Read.{repeat};
 ghost use Rattle.ang_tree.specs.View.{view_init, view_var, view_vars, view_start, view_option};
 ghost use Rattle.ang_parse_variables.specs.ReadVars as read;
 
 use ang_lex::{Token, TokenKind};
 use ang_parse_expr::{arguments, expression, is_type_name, type_named};
-use ang_read::{ReadError, a_name, a_semicolon, perhaps_const};
+use ang_parse_read::{ReadError, a_name, a_semicolon, perhaps_const};
 use ang_tree::{Expression, ForStart, Handle, Initializer, TypeName, Variable, Variables};
 use std::alloc::{AllocError, Global};
 
@@ -292,7 +292,7 @@ fn typed(
 }
 
 /// Reads variables, behind the word `const`.
-#[tactic(auto, unfolding(crate::specs::ReadVars::constant_typed, ang_read::specs::Tokens::a_token))]
+#[tactic(auto, unfolding(crate::specs::ReadVars::constant_typed, ang_parse_read::specs::Tokens::a_token))]
 fn constant_typed(
     alloc: Global,
     word: Token,

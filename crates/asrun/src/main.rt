@@ -12,7 +12,7 @@ use crate::command::Options;
 use crate::ending::{Ending, code_of};
 use ang_drivers::{Cell, Console, Counter};
 use ang_host::Driver;
-pub use ang_session::{IoFault, SessionEnd, Status, session};
+pub use asrun_session::{IoFault, SessionEnd, Status, session};
 use std::alloc::AllocError;
 use std::fs::File;
 use std::process::ExitCode;

@@ -11,9 +11,9 @@ use Rattle.ang_typed.specs.declared.statement.Block as blocks
 use Rattle.ang_typed.specs.declared.statement.Statement as statements
 use Rattle.ang_typed.specs.declared.statement.Statement.TheVariants as to
 use Rattle.ang_typed.specs.declared.statement.Statement.TheOpen as open_tree
-use Rattle.ang_operators.specs.declared.refusal.Stop.{Stop}
-use Rattle.ang_operators.specs.Refusals.{Judged, Gives}
-use Rattle.ang_typing.specs.declared.scope.Pair.{Pair}
+use Rattle.ang_check_operators.specs.declared.refusal.Stop.{Stop}
+use Rattle.ang_check_operators.specs.Refusals.{Judged, Gives}
+use Rattle.ang_check_typing.specs.declared.scope.Pair.{Pair}
 use Rattle.ang_check.specs.declared.frame.Frame.{Frame}
 use Rattle.ang_check.specs.Statements.{with_same, jump, stmt_typing, stmts_typing}
 use Rattle.ang_check.proofs.SoFar.{gives_same, keeps_same, keeps_on, stmts_behind, statements_turn, statements_end}

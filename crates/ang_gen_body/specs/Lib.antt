@@ -1,0 +1,5 @@
+pub mod Code
+pub mod Heights
+pub mod Behaves
+pub mod Rows
+pub mod Told

@@ -1,0 +1,283 @@
+//! A small module, with the code that docs/MEANING.md ("Code") gives for it.
+use ang_code::{Instruction, RoutineCode};
+use ang_gen::compile;
+use ang_kinds::{List, Pass, Prim};
+use ang_meaning::{Arithmetic, Change, Comparison as Test, Operation, Passing};
+use ang_typed::{
+    Block, Comparison, Expression, Function, Global as GlobalVariable, Local, Operator, Parameter,
+    Statement, StepKind, Typed, Variable,
+};
+use ang_types::ArgType;
+use std::alloc::{AllocError, Global};
+
+const INT: ArgType = ArgType::Plain(Prim::I32);
+
+type Tree = Result<Box<Expression>, AllocError>;
+
+type Row = Result<Box<Statement>, AllocError>;
+
+fn leaf(alloc: Global, e: Expression) -> Tree {
+    Ok(Box::new(alloc, e)?)
+}
+
+fn row(alloc: Global, statement: Statement) -> Row {
+    Ok(Box::new(alloc, statement)?)
+}
+
+fn number(alloc: Global, value: u64) -> Tree {
+    leaf(
+        alloc,
+        Expression::Number {
+            ty: Prim::I32,
+            value,
+        },
+    )
+}
+
+fn local(alloc: Global, i: usize) -> Tree {
+    leaf(
+        alloc,
+        Expression::Variable {
+            variable: Variable::Local(i),
+            ty: INT,
+        },
+    )
+}
+
+/// `int c = a + 1;`
+fn declared(alloc: Global) -> Row {
+    let left = local(alloc, 0)?;
+    let right = number(alloc, 1)?;
+    let sum = leaf(
+        alloc,
+        Expression::Operate {
+            operator: Operator::Add,
+            ty: Prim::I32,
+            left,
+            right,
+        },
+    )?;
+    let locals = vec![in alloc;
+        Local {
+            ty: INT,
+            initializer: Some(sum)
+        },
+    ]?;
+    row(alloc, Statement::Locals(locals))
+}
+
+/// `b = c;`
+fn stored(alloc: Global) -> Row {
+    let value = local(alloc, 2)?;
+    let stored = leaf(
+        alloc,
+        Expression::Assign {
+            variable: Variable::Local(1),
+            ty: INT,
+            value,
+        },
+    )?;
+    row(alloc, Statement::Expression(Some(stored)))
+}
+
+/// `return c;`
+fn given_back(alloc: Global) -> Row {
+    let value = local(alloc, 2)?;
+    row(alloc, Statement::Return(Some(value)))
+}
+
+/// `while (n > 0) { --n; }`
+fn counted_down(alloc: Global) -> Row {
+    let left = local(alloc, 0)?;
+    let right = number(alloc, 0)?;
+    let condition = leaf(
+        alloc,
+        Expression::Compare {
+            comparison: Comparison::Greater,
+            ty: Prim::I32,
+            left,
+            right,
+        },
+    )?;
+    let step = leaf(
+        alloc,
+        Expression::Step {
+            variable: Variable::Local(0),
+            ty: Prim::I32,
+            step: StepKind::DecrementBefore,
+        },
+    )?;
+    let statements = vec![in alloc; Statement::Expression(Some(step))]?;
+    let body = Block { statements };
+    row(alloc, Statement::While { condition, body })
+}
+
+fn add(statements: &mut Vec<Statement>, statement: Row) -> Result<(), AllocError> {
+    statements.push(Box::into_inner(statement?))?;
+    Ok(())
+}
+
+/// A function of `int` parameters that are passed so.
+fn function(
+    alloc: Global,
+    passes: &[Pass],
+    statements: Vec<Statement>,
+) -> Result<Function, AllocError> {
+    let mut parameters = Vec::new(alloc);
+    for pass in passes {
+        parameters.push(Parameter {
+            ty: INT,
+            pass: *pass,
+        })?;
+    }
+    Ok(Function {
+        parameters: List::from_vec(parameters),
+        result: INT,
+        body: Block { statements },
+    })
+}
+
+/// `int f(int a, int &out b) { int c = a + 1; b = c; return c; }`
+fn counting(alloc: Global) -> Result<Function, AllocError> {
+    let mut statements = Vec::with_capacity(alloc, 3)?;
+    add(&mut statements, declared(alloc))?;
+    add(&mut statements, stored(alloc))?;
+    add(&mut statements, given_back(alloc))?;
+    function(alloc, &[Pass::Value, Pass::RefOut], statements)
+}
+
+/// `void f(int n) { while (n > 0) { --n; } }`
+fn looping(alloc: Global) -> Result<Function, AllocError> {
+    let mut statements = Vec::with_capacity(alloc, 1)?;
+    add(&mut statements, counted_down(alloc))?;
+    function(alloc, &[Pass::Value], statements)
+}
+
+fn functions(alloc: Global) -> Result<Vec<Function>, AllocError> {
+    let mut functions = Vec::with_capacity(alloc, 2)?;
+    functions.push(counting(alloc)?)?;
+    functions.push(looping(alloc)?)?;
+    Ok(functions)
+}
+
+/// `int a; int b = 5;`
+fn globals(alloc: Global) -> Result<Vec<GlobalVariable>, AllocError> {
+    let mut globals = Vec::with_capacity(alloc, 2)?;
+    globals.push(GlobalVariable {
+        ty: INT,
+        initializer: None,
+    })?;
+    globals.push(GlobalVariable {
+        ty: INT,
+        initializer: Some(number(alloc, 5)?),
+    })?;
+    Ok(globals)
+}
+
+/// The module of these.
+fn module(alloc: Global) -> Result<Typed, AllocError> {
+    let functions = functions(alloc)?;
+    let globals = globals(alloc)?;
+    Ok(Typed {
+        functions: List::from_vec(functions),
+        globals: List::from_vec(globals),
+    })
+}
+
+/// The code of a module that is not used again.
+fn codes_of(alloc: Global, module: Typed) -> Result<Vec<RoutineCode>, AllocError> {
+    compile(alloc, &module)
+}
+
+/// How code takes its arguments, its height, and its instructions.
+type Code = (&'static [Passing], usize, &'static [Instruction]);
+
+const COUNTING: Code = (
+    &[Passing::Out, Passing::In],
+    2,
+    &[
+        Instruction::Load(1),
+        Instruction::PushBits(1),
+        Instruction::Do(Operation::Work(Arithmetic::Add, Prim::I32)),
+        Instruction::Load(0),
+        Instruction::Store(1),
+        Instruction::Drop,
+        Instruction::Load(0),
+        Instruction::Return(1),
+        Instruction::Leave(1),
+        Instruction::PushBits(0),
+        Instruction::Return(0),
+    ],
+);
+
+const LESS: Change = Change {
+    work: Arithmetic::Subtract,
+    at: Prim::I32,
+    to: Prim::I32,
+    old: false,
+};
+
+const LOOPING: Code = (
+    &[Passing::In],
+    2,
+    &[
+        Instruction::Tick,
+        Instruction::Load(0),
+        Instruction::PushBits(0),
+        Instruction::Do(Operation::Compare(Test::Greater, true)),
+        Instruction::SkipIfFalse(4),
+        Instruction::PushBits(1),
+        Instruction::Change(LESS, 0),
+        Instruction::Drop,
+        Instruction::Back(7),
+        Instruction::PushBits(0),
+        Instruction::Return(0),
+    ],
+);
+
+const INITIALIZER: Code = (
+    &[],
+    1,
+    &[
+        Instruction::PushBits(5),
+        Instruction::Do(Operation::GlobalSet(1)),
+        Instruction::Drop,
+        Instruction::PushBits(0),
+        Instruction::Return(0),
+    ],
+);
+
+const CODES: [Code; 3] = [COUNTING, LOOPING, INITIALIZER];
+
+fn is_code(code: &RoutineCode, want: Option<&Code>) -> bool {
+    match want {
+        Some((params, height, text)) => {
+            code.params.as_slice() == *params
+                && code.height == *height
+                && code.text.as_slice() == *text
+        }
+        None => false,
+    }
+}
+
+/// The place of the first code that is not the one that is wanted, or that one of the two lists lacks.
+fn first_unlike(codes: &[RoutineCode], wanted: &[Code]) -> Option<usize> {
+    for (at, code) in codes.iter().enumerate() {
+        if !is_code(code, wanted.get(at)) {
+            return Some(at);
+        }
+    }
+    (codes.len() < wanted.len()).then_some(codes.len())
+}
+
+fn first_wrong(alloc: Global, module: Typed) -> Result<Option<usize>, AllocError> {
+    let codes = codes_of(alloc, module)?;
+    Ok(first_unlike(&codes, &CODES))
+}
+
+#[test]
+fn functions_and_then_initializers(rt: HostRuntime) -> Result<(), AllocError> {
+    let wrong = first_wrong(rt.alloc(), module(rt.alloc())?)?;
+    assert_eq!(rt; wrong, None);
+    Ok(())
+}
