@@ -13,7 +13,7 @@ use Rattle.ang_tree.specs.Tree.{Tree, Args, Trees, literal, name, call, scoped_c
 use Rattle.ang_tree.specs.Stmt.{each, Every}
 use Rattle.ang_tree.specs.Declarations.{Params, spelled_reference, spelled_param, FitsReference, FitsParam, FitsItems, FitsParams}
 use Rattle.ang_parse_read.specs.Group.{fronted, deeper, cut, split}
-use Rattle.ang_parse_read.proofs.TameGroup.{parts}
+use Rattle.ang_parse_read.proofs.PrefixGroup.{parts}
 
 -- ---- what holds no parenthesis, or closes those that it opens
 

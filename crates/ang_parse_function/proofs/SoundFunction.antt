@@ -18,7 +18,7 @@ use Rattle.ang_parse_read.specs.Law.{finish}
 use Rattle.ang_parse_read.specs.Group.{split, merged, both}
 use Rattle.ang_parse_read.proofs.Outcomes.{Reads, and_reads, along, further, behind, ChoiceReads, look_reads, From-self, From-one}
 use Rattle.ang_parse_read.proofs.Tokens.{Token_read, a_token_reads, name_is, semicolon_is, from_is, text_is}
-use Rattle.ang_parse_read.proofs.TameGroup.{parts}
+use Rattle.ang_parse_read.proofs.PrefixGroup.{parts}
 use Rattle.ang_parse_expr.specs.ReadType.{a_type}
 use Rattle.ang_parse_expr.specs.ReadExpr.{expr, args}
 use Rattle.ang_parse_expr.proofs.SoundType.{Type_read, a_type_reads, type-length}

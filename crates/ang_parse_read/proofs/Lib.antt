@@ -1,7 +1,7 @@
 pub mod Turns
 pub mod Outcomes
-pub mod Tame
+pub mod DependsOnPrefix
 pub mod Tokens
 pub mod Loops
 pub mod Whole
-pub mod TameGroup
+pub mod PrefixGroup

@@ -6,7 +6,7 @@ use Rattle.ang_lex.specs.declared.token.TokenKind.TheVariants as k
 use Rattle.ang_parse_read.specs.Read.{Parser, pure, refuse, Choice, given, chosen, look}
 use Rattle.ang_parse_read.specs.Tokens.{a_token, perhaps, is_name, is_left_paren, is_right_paren, is_left_brace, is_right_brace, is_semicolon, is_colon, is_less, is_greater, is_while, is_from, is_text, is_const}
 use Rattle.ang_parse_read.proofs.Outcomes.{Reads, From-self, From-one, look_reads, given_reads}
-use Rattle.ang_parse_read.proofs.Tame.{Tame, tame_pure, tame_refuse, tame_look, both_given}
+use Rattle.ang_parse_read.proofs.DependsOnPrefix.{DependsOnPrefix, prefix_pure, prefix_refuse, prefix_look, both_given}
 
 -- ---- what is read
 
@@ -69,15 +69,15 @@ perhaps_not test (t ∷ ts) h = ap (λ b. chosen (given b (λ t. pure (Some t)))
 
 -- ---- they look no further
 
-pub a_token_tame : (r z : List Token) (test : TokenKind → Bool) → Tame r z (a_token test) (a_token test)
+pub a_token_prefix : (r z : List Token) (test : TokenKind → Bool) → DependsOnPrefix r z (a_token test) (a_token test)
 unfolding a_token
-a_token_tame r z test = tame_look r z (λ kind. given (test kind) pure) (λ kind. given (test kind) pure) refuse refuse
-    (λ kind. both_given r z (test kind) pure pure (λ t. tame_pure r z t)) (tame_refuse r z)
+a_token_prefix r z test = prefix_look r z (λ kind. given (test kind) pure) (λ kind. given (test kind) pure) refuse refuse
+    (λ kind. both_given r z (test kind) pure pure (λ t. prefix_pure r z t)) (prefix_refuse r z)
 
-pub perhaps_tame : (r z : List Token) (test : TokenKind → Bool) → Tame r z (perhaps test) (perhaps test)
+pub perhaps_prefix : (r z : List Token) (test : TokenKind → Bool) → DependsOnPrefix r z (perhaps test) (perhaps test)
 unfolding perhaps
-perhaps_tame r z test = tame_look r z (λ kind. given (test kind) (λ t. pure (Some t))) (λ kind. given (test kind) (λ t. pure (Some t))) (pure None) (pure None)
-    (λ kind. both_given r z (test kind) (λ t. pure (Some t)) (λ t. pure (Some t)) (λ t. tame_pure r z (Some t))) (tame_pure r z None)
+perhaps_prefix r z test = prefix_look r z (λ kind. given (test kind) (λ t. pure (Some t))) (λ kind. given (test kind) (λ t. pure (Some t))) (pure None) (pure None)
+    (λ kind. both_given r z (test kind) (λ t. pure (Some t)) (λ t. pure (Some t)) (λ t. prefix_pure r z (Some t))) (prefix_pure r z None)
 
 -- ---- what a test accepts
 

@@ -9,7 +9,7 @@ use Rattle.ang_parse_read.specs.Read.{at, deep, Parser, Outcome, and_then}
 use Rattle.ang_parse_read.specs.Gives.{Gives, Fails}
 use Rattle.ang_parse_read.specs.Law.{Refused, Faulty, finish, all_of}
 use Rattle.ang_parse_read.proofs.Outcomes.{Reads}
-use Rattle.ang_parse_read.proofs.Tame.{Agree, Tame, Filled}
+use Rattle.ang_parse_read.proofs.DependsOnPrefix.{Agree, DependsOnPrefix, Filled}
 
 -- A reader that is exact for a relation: what it reads to the end of the tokens is spelled so, if they are such tokens; what is
 -- spelled so is read, with any bound above the number of the tokens; and it looks no further than the token at which it stops.
@@ -17,7 +17,7 @@ pub record Exact {A : Type 0} (reader : ℕ → Parser A) (Such : List Token →
   pub reads : (n : ℕ) (ts : List Token) → Reads n ts (Read ts) (reader n ts)
   pub whole : (ts : List Token) (x : A) → Such ts → Read ts x [] → Spells x ts
   pub again : (x : A) (ts : List Token) (n : ℕ) → Spells x ts → length ts < n → reader n ts ≡ Ok (x, [])
-  pub tame : (r z : List Token) (m n : ℕ) → m ≤ n → Tame r z (reader m) (reader n)
+  pub on_prefix : (r z : List Token) (m n : ℕ) → m ≤ n → DependsOnPrefix r z (reader m) (reader n)
 
 no_rest : (c z : List Token) → [] ≡ c ++ z → Filled c → ⊥
 no_rest [] z e f = f
@@ -84,9 +84,9 @@ module _ (A : Type 0) where
         let m = length ts + length (from.front ++ t ∷ z) + 1 in
         let left : ts ≡ c ++ u = from.parts ∙ ap (λ v. from.front ++ v) is ∙ sym (append_assoc from.front (t ∷ []) u) in
         let right : from.front ++ t ∷ z ≡ c ++ z = sym (append_assoc from.front (t ∷ []) z) in
-        let tame : Tame u z (reader n) (reader m) = exact.tame u z n m (omega arith) in
+        let on_prefix : DependsOnPrefix u z (reader n) (reader m) = exact.on_prefix u z n m (omega arith) in
         let whole : reader m (from.front ++ t ∷ z) ≡ Ok (x, []) = exact.again x (from.front ++ t ∷ z) m h (omega arith) in
-        let agree : Agree u z (reader n (c ++ u)) (reader m (c ++ z)) = tame.common c (last_filled from.front t) in
+        let agree : Agree u z (reader n (c ++ u)) (reader m (c ++ z)) = on_prefix.common c (last_filled from.front t) in
         clash t u z x (reader n ts) (subst (λ v. Agree u z (reader n v) (Ok (x, []))) (sym left) (subst (λ v. Agree u z (reader n (c ++ u)) v) (ap (reader m) (sym right) ∙ whole) agree)) (e ∙ ap (λ v. Err (at v)) is)
 
     pub all_refused : (ts s : List Token) → all_of reader ts ≡ Err (at s) → Refused Spells ts s

@@ -43,23 +43,23 @@ module _ (r z : List Token) where
   past_agrees (Err (at s)) o' h = inr h
   past_agrees (Err deep) o' h = tt
 
-  pub record Tame {A : Type 0} (p q : Parser A) : Type 0 where
+  pub record DependsOnPrefix {A : Type 0} (p q : Parser A) : Type 0 where
     pub common : (c : List Token) → Filled c → Agree (p (c ++ r)) (q (c ++ z))
     pub past : (s : List Token) → length s ≤ length r → Past (p s)
     pub same : (s : List Token) → Kept (p s) (q s)
 
-  pub tame_pure : {A : Type 0} (x : A) → Tame (pure x) (pure x)
-  tame_pure x = record { common = λ c f. inl (record { rest = c; filled = f; is = refl; same = refl }); past = λ s h. h; same = λ s. refl }
+  pub prefix_pure : {A : Type 0} (x : A) → DependsOnPrefix (pure x) (pure x)
+  prefix_pure x = record { common = λ c f. inl (record { rest = c; filled = f; is = refl; same = refl }); past = λ s h. h; same = λ s. refl }
 
-  pub tame_refuse : {A : Type 0} → Tame {A = A} refuse refuse
-  tame_refuse = record { common = λ c f. inl (record { rest = c; filled = f; is = refl; same = refl }); past = λ s h. h; same = λ s. refl }
+  pub prefix_refuse : {A : Type 0} → DependsOnPrefix {A = A} refuse refuse
+  prefix_refuse = record { common = λ c f. inl (record { rest = c; filled = f; is = refl; same = refl }); past = λ s h. h; same = λ s. refl }
 
   bind_past : {A B : Type 0} (o : Outcome A) (f : A → Parser B) → Past o → ((x : A) (s : List Token) → length s ≤ length r → Past (f x s)) → Past (and_then o f)
   bind_past (Ok p) f h k = k p.0 p.1 h
   bind_past (Err (at s)) f h k = h
   bind_past (Err deep) f h k = tt
 
-  bind_agrees : {A B : Type 0} (o o' : Outcome A) (f g : A → Parser B) → Agree o o' → ((x : A) → Tame (f x) (g x)) → Agree (and_then o f) (and_then o' g)
+  bind_agrees : {A B : Type 0} (o o' : Outcome A) (f g : A → Parser B) → Agree o o' → ((x : A) → DependsOnPrefix (f x) (g x)) → Agree (and_then o f) (and_then o' g)
   bind_agrees (Ok p) o' f g (inl h) k =
       subst (λ v. Agree (f p.0 v) (and_then o' g)) (sym h.is) (subst (λ v. Agree (f p.0 (h.rest ++ r)) (and_then v g)) (sym h.same) ((k p.0).common h.rest h.filled))
   bind_agrees (Ok p) o' f g (inr h) k = past_agrees (f p.0 p.1) (and_then o' g) ((k p.0).past p.1 h)
@@ -67,8 +67,8 @@ module _ (r z : List Token) where
   bind_agrees (Err (at s)) o' f g (inr h) k = inr h
   bind_agrees (Err deep) o' f g h k = tt
 
-  pub tame_bind : {A B : Type 0} (p q : Parser A) (f g : A → Parser B) → Tame p q → ((x : A) → Tame (f x) (g x)) → Tame (p >>= f) (q >>= g)
-  tame_bind p q f g h k = record {
+  pub prefix_bind : {A B : Type 0} (p q : Parser A) (f g : A → Parser B) → DependsOnPrefix p q → ((x : A) → DependsOnPrefix (f x) (g x)) → DependsOnPrefix (p >>= f) (q >>= g)
+  prefix_bind p q f g h k = record {
     common = λ c filled. bind_agrees (p (c ++ r)) (q (c ++ z)) f g (h.common c filled) k;
     past = λ s le. bind_past (p s) f (h.past s le) (λ x u l. (k x).past u l);
     same = λ s. bind_kept (p s) (q s) f g (h.same s) (λ x u. (k x).same u);
@@ -77,10 +77,10 @@ module _ (r z : List Token) where
   -- two choices of one kind of token
   abbrev pub Both : {A : Type 0} → Choice A → Choice A → Type 0
   Both None None = Unit {0}
-  Both (Some p) (Some q) = (t : Token) → Tame (p t) (q t)
+  Both (Some p) (Some q) = (t : Token) → DependsOnPrefix (p t) (q t)
   Both _ _ = ⊥
 
-  pub both_given : {A : Type 0} (b : Bool) (p q : Token → Parser A) → ((t : Token) → Tame (p t) (q t)) → Both (given b p) (given b q)
+  pub both_given : {A : Type 0} (b : Bool) (p q : Token → Parser A) → ((t : Token) → DependsOnPrefix (p t) (q t)) → Both (given b p) (given b q)
   both_given true p q h = h
   both_given false p q h = tt
 
@@ -96,11 +96,11 @@ module _ (r z : List Token) where
   chosen_past (Some p) None t s o h le k = absurd h
   chosen_past (Some p) (Some q) t s o h le k = (h t).past s le
 
-  look_common : {A : Type 0} (f g : TokenKind → Choice A) (p q : Parser A) → ((kind : TokenKind) → Both (f kind) (g kind)) → Tame p q → (c : List Token) → Filled c → Agree (look f p (c ++ r)) (look g q (c ++ z))
+  look_common : {A : Type 0} (f g : TokenKind → Choice A) (p q : Parser A) → ((kind : TokenKind) → Both (f kind) (g kind)) → DependsOnPrefix p q → (c : List Token) → Filled c → Agree (look f p (c ++ r)) (look g q (c ++ z))
   look_common f g p q h k [] filled = absurd filled
   look_common f g p q h k (t ∷ c) filled = chosen_agrees (f t.kind) (g t.kind) t c (p (t ∷ c ++ r)) (q (t ∷ c ++ z)) (h t.kind) (k.common (t ∷ c) tt)
 
-  look_past : {A : Type 0} (f g : TokenKind → Choice A) (p q : Parser A) → ((kind : TokenKind) → Both (f kind) (g kind)) → Tame p q → (s : List Token) → length s ≤ length r → Past (look f p s)
+  look_past : {A : Type 0} (f g : TokenKind → Choice A) (p q : Parser A) → ((kind : TokenKind) → Both (f kind) (g kind)) → DependsOnPrefix p q → (s : List Token) → length s ≤ length r → Past (look f p s)
   look_past f g p q h k [] le = k.past [] le
   look_past f g p q h k (t ∷ u) le = chosen_past (f t.kind) (g t.kind) t u (p (t ∷ u)) (h t.kind) (omega arith) (k.past (t ∷ u) le)
 
@@ -110,19 +110,19 @@ module _ (r z : List Token) where
   chosen_kept (Some p) None t s o o' h k = absurd h
   chosen_kept (Some p) (Some q) t s o o' h k = (h t).same s
 
-  look_kept : {A : Type 0} (f g : TokenKind → Choice A) (p q : Parser A) → ((kind : TokenKind) → Both (f kind) (g kind)) → Tame p q → (s : List Token) → Kept (look f p s) (look g q s)
+  look_kept : {A : Type 0} (f g : TokenKind → Choice A) (p q : Parser A) → ((kind : TokenKind) → Both (f kind) (g kind)) → DependsOnPrefix p q → (s : List Token) → Kept (look f p s) (look g q s)
   look_kept f g p q h k [] = k.same []
   look_kept f g p q h k (t ∷ u) = chosen_kept (f t.kind) (g t.kind) t u (p (t ∷ u)) (q (t ∷ u)) (h t.kind) (k.same (t ∷ u))
 
-  pub tame_look : {A : Type 0} (f g : TokenKind → Choice A) (p q : Parser A) → ((kind : TokenKind) → Both (f kind) (g kind)) → Tame p q → Tame (look f p) (look g q)
-  tame_look f g p q h k = record { common = look_common f g p q h k; past = look_past f g p q h k; same = look_kept f g p q h k }
+  pub prefix_look : {A : Type 0} (f g : TokenKind → Choice A) (p q : Parser A) → ((kind : TokenKind) → Both (f kind) (g kind)) → DependsOnPrefix p q → DependsOnPrefix (look f p) (look g q)
+  prefix_look f g p q h k = record { common = look_common f g p q h k; past = look_past f g p q h k; same = look_kept f g p q h k }
 
-  tame_turned : {A : Type 0} (f g : A → Parser A) → ((x : A) → Tame (f x) (g x)) → (y : A × Bool) → Tame (turned f y) (turned g y)
-  tame_turned f g h (x, true) = h x
-  tame_turned f g h (x, false) = tame_pure x
+  prefix_turned : {A : Type 0} (f g : A → Parser A) → ((x : A) → DependsOnPrefix (f x) (g x)) → (y : A × Bool) → DependsOnPrefix (turned f y) (turned g y)
+  prefix_turned f g h (x, true) = h x
+  prefix_turned f g h (x, false) = prefix_pure x
 
-  pub tame_repeat : {A : Type 0} (once again : A → Turn A) → ((x : A) → Tame (once x) (again x)) → (m n : ℕ) → m ≤ n → (x : A) → Tame (repeat once m x) (repeat again n x)
+  pub prefix_repeat : {A : Type 0} (once again : A → Turn A) → ((x : A) → DependsOnPrefix (once x) (again x)) → (m n : ℕ) → m ≤ n → (x : A) → DependsOnPrefix (repeat once m x) (repeat again n x)
   unfolding repeat
-  tame_repeat once again h zero n le x = record { common = λ c f. tt; past = λ s le. tt; same = λ s. tt }
-  tame_repeat once again h (suc m) zero le x = absurd (omega arith)
-  tame_repeat once again h (suc m) (suc n) le x = tame_bind (once x) (again x) (turned (repeat once m)) (turned (repeat again n)) (h x) (tame_turned (repeat once m) (repeat again n) (tame_repeat once again h m n (omega arith)))
+  prefix_repeat once again h zero n le x = record { common = λ c f. tt; past = λ s le. tt; same = λ s. tt }
+  prefix_repeat once again h (suc m) zero le x = absurd (omega arith)
+  prefix_repeat once again h (suc m) (suc n) le x = prefix_bind (once x) (again x) (turned (repeat once m)) (turned (repeat again n)) (h x) (prefix_turned (repeat once m) (repeat again n) (prefix_repeat once again h m n (omega arith)))

@@ -6,7 +6,7 @@ use Rattle.std.proofs.lemmas.Bool.{lt-ltb, le-ltb, ltb-false}
 use borrow.Author.Tests.{ltb-true}
 use Rattle.ang_lex.specs.declared.token.Token.{Token}
 use Rattle.ang_parse_read.specs.Read.{at, deep, Parser, Outcome}
-use Rattle.ang_parse_read.proofs.Tame.{Filled, Kept, Past, Common, Agree, Tame}
+use Rattle.ang_parse_read.proofs.DependsOnPrefix.{Filled, Kept, Past, Common, Agree, DependsOnPrefix}
 use Rattle.ang_parse_read.specs.Group.{fronted, deeper, cut, split, merged, both_at, both}
 
 cut_parts : (t : Token) (s : List Token) → ((d : ℕ) → s ≡ (split s d).0 ++ (split s d).1) → (o : Option ℕ) → t ∷ s ≡ (cut t s (split s) o).0 ++ (cut t s (split s) o).1
@@ -125,7 +125,7 @@ module _ (r z : List Token) where
   merged_past g s (Err (at v)) (Err deep) h k l = tt
   merged_past g s (Err deep) u h k l = tt
 
-  module _ {A B : Type 0} (p p' : Parser A) (q q' : Parser B) (P : (r z : List Token) → Tame r z p p') (Q : (r z : List Token) → Tame r z q q') where
+  module _ {A B : Type 0} (p p' : Parser A) (q q' : Parser B) (P : (r z : List Token) → DependsOnPrefix r z p p') (Q : (r z : List Token) → DependsOnPrefix r z q q') where
     group_common : (c : List Token) → Filled c → Within r z c 0 ⊎ Beyond r z c 0 → Agree r z (both_at p q (split (c ++ r) 0)) (both_at p' q' (split (c ++ z) 0))
     group_common c f (inl w) = rw (w.one, w.other) (within_agrees r z (p w.group) (p' w.group) (q w.group) (q' w.group) w.left ((P r z).same w.group) ((Q r z).same w.group))
     group_common c f (inr w) =
@@ -133,9 +133,9 @@ module _ (r z : List Token) where
         (subst (λ v. Agree (w.r-in ++ w.r-behind) v (both_at p q (split (c ++ r) 0)) (both_at p' q' (split (c ++ z) 0))) (sym w.z-is)
         (rw (w.one, w.other) (beyond_agrees w.r-in w.r-behind w.z-in w.z-behind (p (c ++ w.r-in)) (p' (c ++ w.z-in)) (q (c ++ w.r-in)) (q' (c ++ w.z-in)) ((P w.r-in w.z-in).common c f) ((Q w.r-in w.z-in).common c f))))
 
-    pub both_tame : Tame r z (both p q) (both p' q')
+    pub both_prefix : DependsOnPrefix r z (both p q) (both p' q')
     unfolding both
-    both_tame = record {
+    both_prefix = record {
       common = λ c f. group_common c f (ways r z c 0);
       past = λ s le. let g = split s 0 in merged_past g.0 g.1 (p g.0) (q g.0) ((P g.0 z).past g.0 (omega arith)) ((Q g.0 z).past g.0 (omega arith)) (omega (arith, ap length (parts s 0), length-append g.0 g.1));
       same = λ s. let g = split s 0 in merged_kept (p g.0) (p' g.0) (q g.0) (q' g.0) g.1 ((P r z).same g.0) ((Q r z).same g.0);
