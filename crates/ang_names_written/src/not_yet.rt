@@ -172,7 +172,7 @@ fn are_beyond(view: &View, text: &[u8], items: &[Argument]) -> bool
     false
 }
 
-fn is_option_beyond(view: &View, text: &[u8], expression: &Option<Expression>) -> bool
+fn is_option_beyond(view: &View, text: &[u8], expression: &Option<Box<Expression>>) -> bool
     ensures exact { result ≡ spec.is_option_beyond view.now text.now (view_option expression.now) }
 {
     match expression {
@@ -227,45 +227,33 @@ fn is_statement_beyond(view: &View, text: &[u8], statement: &Statement) -> bool
     match statement {
         Statement::Block(block) => is_body_beyond(view, text, block),
         Statement::Variables(variables) => are_locals_beyond(view, text, variables),
-        Statement::Expression { value, .. } => is_option_beyond(view, text, value),
-        Statement::Break { .. } | Statement::Continue { .. } => false,
-        Statement::Return { value, .. } => is_option_beyond(view, text, value),
+        Statement::Expression(simple) => is_option_beyond(view, text, &simple.value),
+        Statement::Break(_) | Statement::Continue(_) => false,
+        Statement::Return(returned) => is_option_beyond(view, text, &returned.value),
         Statement::If {
-            condition,
+            head,
             then,
             otherwise: None,
-            ..
-        } => is_beyond(view, text, condition) || is_statement_beyond(view, text, then),
+        } => is_beyond(view, text, &head.condition) || is_statement_beyond(view, text, then),
         Statement::If {
-            condition,
+            head,
             then,
             otherwise: Some(other),
-            ..
         } => {
-            is_beyond(view, text, condition)
+            is_beyond(view, text, &head.condition)
                 || is_statement_beyond(view, text, then)
                 || is_statement_beyond(view, text, &other.branch)
         }
-        Statement::While {
-            condition,
-            body,
-            ..
-        } => is_beyond(view, text, condition) || is_statement_beyond(view, text, body),
-        Statement::DoWhile {
-            body,
-            condition,
-            ..
-        } => is_statement_beyond(view, text, body) || is_beyond(view, text, condition),
-        Statement::For {
-            start,
-            condition,
-            steps,
-            body,
-            ..
-        } => {
-            is_start_beyond(view, text, start)
-                || is_option_beyond(view, text, condition)
-                || are_beyond(view, text, steps.as_slice())
+        Statement::While { head, body } => {
+            is_beyond(view, text, &head.condition) || is_statement_beyond(view, text, body)
+        }
+        Statement::DoWhile { body, ending } => {
+            is_statement_beyond(view, text, body) || is_beyond(view, text, &ending.condition)
+        }
+        Statement::For { head, body } => {
+            is_start_beyond(view, text, &head.start)
+                || is_option_beyond(view, text, &head.condition)
+                || are_beyond(view, text, head.steps.as_slice())
                 || is_statement_beyond(view, text, body)
         }
     }

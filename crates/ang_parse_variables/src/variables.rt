@@ -206,11 +206,12 @@ fn some_ended(
     alloc: Global,
     tokens: &[Token],
     limit: usize,
-) -> Result<((Option<Expression>, Token), &[Token]), ReadError<'_>>
+) -> Result<((Option<Box<Expression>>, Token), &[Token]), ReadError<'_>>
     ensures reads { Gives (λ x. ((view_option x.0.0, x.0.1), x.1.now)) result (read.some_ended limit tokens.now) }
 {
     let (value, rest) = expression(alloc, tokens, limit, 0)?;
     let (semicolon, rest) = a_semicolon(rest)?;
+    let value = Box::new(alloc, value)?;
     Ok(((Some(value), semicolon), rest))
 }
 
@@ -228,7 +229,7 @@ pub fn ended(
     alloc: Global,
     tokens: &[Token],
     limit: usize,
-) -> Result<((Option<Expression>, Token), &[Token]), ReadError<'_>>
+) -> Result<((Option<Box<Expression>>, Token), &[Token]), ReadError<'_>>
     ensures reads { Gives (λ x. ((view_option x.0.0, x.0.1), x.1.now)) result (read.ended limit tokens.now) }
 {
     match tokens {
