@@ -1,7 +1,7 @@
 //! The parser against the recognizer, on scripts and on what a change of a word makes of them.
 
-use super::recognizer::{Chart, Grammar};
-use super::{Want, answers};
+use crate::answers::{Want, answers};
+use crate::recognizer::{Chart, Grammar};
 use std::alloc::{AllocError, Global};
 use std::process::Abort;
 
