@@ -45,13 +45,13 @@ mutual
 mutual
   below_statement : (h n : ℕ) (s : Statement) → statement_peak n s ≤ h → BelowStatement h n s
   below_statement h n Skip le = tt
-  below_statement h n (Evaluate e) le = below h n e le
-  below_statement h n (Declare e) le = below h n e le
+  below_statement h n (Evaluate e) le = below h n e.value le
+  below_statement h n (Declare e) le = below h n e.value le
   below_statement h n (Block' shape row) le = below_row h n row le
-  below_statement h n (If' e x a y b) le = (below h n e (omega arith), below_statement h n a (omega arith), below_statement h n b (omega arith))
-  below_statement h n (While' e x s y step) le = (below h n e (omega arith), below_statement h n s (omega arith), below_statement h n step (omega arith))
-  below_statement h n (DoWhile' e x s) le = (below h n e (omega arith), below_statement h n s (omega arith))
-  below_statement h n (Return e) le = below h n e le
+  below_statement h n (If' e x a y b) le = (below h n e.value (omega arith), below_statement h n a (omega arith), below_statement h n b (omega arith))
+  below_statement h n (While' e x s y step) le = (below h n e.value (omega arith), below_statement h n s (omega arith), below_statement h n step (omega arith))
+  below_statement h n (DoWhile' e x s) le = (below h n e.value (omega arith), below_statement h n s (omega arith))
+  below_statement h n (Return e) le = below h n e.value le
   below_statement h n Break le = tt
   below_statement h n Continue le = tt
 
@@ -62,13 +62,13 @@ mutual
 mutual
   peaks_statement : (h n : ℕ) (s : Statement) → BelowStatement h n s → statement_peak n s ≤ h
   peaks_statement h n Skip b = omega arith
-  peaks_statement h n (Evaluate e) b = peaks h n e b
-  peaks_statement h n (Declare e) b = peaks h n e b
+  peaks_statement h n (Evaluate e) b = peaks h n e.value b
+  peaks_statement h n (Declare e) b = peaks h n e.value b
   peaks_statement h n (Block' shape row) b = peaks_row h n row b
-  peaks_statement h n (If' e x s y r) b = omega (arith, peaks h n e b.0, peaks_statement h n s b.1, peaks_statement h n r b.2)
-  peaks_statement h n (While' e x s y step) b = omega (arith, peaks h n e b.0, peaks_statement h n s b.1, peaks_statement h n step b.2)
-  peaks_statement h n (DoWhile' e x s) b = omega (arith, peaks h n e b.0, peaks_statement h n s b.1)
-  peaks_statement h n (Return e) b = peaks h n e b
+  peaks_statement h n (If' e x s y r) b = omega (arith, peaks h n e.value b.0, peaks_statement h n s b.1, peaks_statement h n r b.2)
+  peaks_statement h n (While' e x s y step) b = omega (arith, peaks h n e.value b.0, peaks_statement h n s b.1, peaks_statement h n step b.2)
+  peaks_statement h n (DoWhile' e x s) b = omega (arith, peaks h n e.value b.0, peaks_statement h n s b.1)
+  peaks_statement h n (Return e) b = peaks h n e.value b
   peaks_statement h n Break b = omega arith
   peaks_statement h n Continue b = omega arith
 

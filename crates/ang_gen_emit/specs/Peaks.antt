@@ -32,13 +32,13 @@ list_peak d (e ∷ es) = max (peak d e) (list_peak (suc d) es)
 abbrev mutual
   pub statement_peak : ℕ → Statement → ℕ
   statement_peak n Skip = 0
-  statement_peak n (Evaluate e) = peak n e
-  statement_peak n (Declare e) = peak n e
+  statement_peak n (Evaluate e) = peak n e.value
+  statement_peak n (Declare e) = peak n e.value
   statement_peak n (Block' shape row) = row_peak n row
-  statement_peak n (If' e x a y b) = max (peak n e) (max (statement_peak n a) (statement_peak n b))
-  statement_peak n (While' e x s y step) = max (peak n e) (max (statement_peak n s) (statement_peak n step))
-  statement_peak n (DoWhile' e x s) = max (peak n e) (statement_peak n s)
-  statement_peak n (Return e) = peak n e
+  statement_peak n (If' e x a y b) = max (peak n e.value) (max (statement_peak n a) (statement_peak n b))
+  statement_peak n (While' e x s y step) = max (peak n e.value) (max (statement_peak n s) (statement_peak n step))
+  statement_peak n (DoWhile' e x s) = max (peak n e.value) (statement_peak n s)
+  statement_peak n (Return e) = peak n e.value
   statement_peak n Break = 0
   statement_peak n Continue = 0
 

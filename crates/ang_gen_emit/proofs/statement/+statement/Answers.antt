@@ -120,8 +120,8 @@ write_statement-returns-in_ok-write_block-in-If-2 t c =
     c.in_ok-write_block-in-If.ensures.code ∙ ap (λ z. block_at q n j (length t0 - x.exit) (length t0 - x.again) z ++ t0) c.deref-in-If.ensures in
     let e3 : t3 ≡ block_at q n j (length t2 - x.exit) (length t2 - x.again) c.in-If.one.value ++ t2 =
     c.in_ok-write_block-in-If-2.ensures.code ∙ ap (λ z. block_at q n j (length t2 - x.exit) (length t2 - x.again) z ++ t2) c.deref-in-If-2.ensures in
-    let same : expr_code 0 c.in-If.test ++ (SkipIfFalse (length t3 - c.len-second.result) ∷ t3) ≡ stmt_code q n j (length t0 - x.exit) (length t0 - x.again) c.args.s.now ++ t0 =
-    if_arm t0 t1 t2 t3 q n j x.exit x.again c.len-second.result c.len-end.result c.in-If.test c.in-If.one.value c.in-If.two.value c.requires.exit c.requires.again
+    let same : expr_code 0 c.in-If.test.value ++ (SkipIfFalse (length t3 - c.len-second.result) ∷ t3) ≡ stmt_code q n j (length t0 - x.exit) (length t0 - x.again) c.args.s.now ++ t0 =
+    if_arm t0 t1 t2 t3 q n j x.exit x.again c.len-second.result c.len-end.result c.in-If.test.value c.in-If.one.value c.in-If.two.value c.requires.exit c.requires.again
     e1 c.len-end.ensures.count c.len-second.ensures.count c.in_ok-write_past-in-If.ensures.code e3
     ∙ ap (λ z. stmt_code q n j (length t0 - x.exit) (length t0 - x.again) z ++ t0) (sym c.in-If.is) in
     record { code = subst (λ l. OnOk c.write_test.result (c.write_test.new.text ≡ l)) same c.write_test.ensures.code }
