@@ -1,5 +1,4 @@
-//! Tests of the way from resolved trees to code, by public calls: core trees, the generator and its text, numbers, plain
-//! entries.
+//! Tests of the way from resolved trees to code, by public calls: core trees, the generator, numbers, plain entries.
 #![tactic(auto)]
 
 #[cfg(test)]
@@ -14,8 +13,6 @@ mod modules;
 mod numbers;
 #[cfg(test)]
 mod shown;
-#[cfg(test)]
-mod texts;
 #[cfg(test)]
 mod trees;
 #[cfg(test)]
