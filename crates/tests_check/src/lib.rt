@@ -1,5 +1,5 @@
-//! Tests from a section's text on, by public calls: what the checker refuses and gives, and which function a call from
-//! outside names, with what values.
+//! Tests from a section's text on, by public calls: what the checker refuses and gives, what operators are between
+//! operands made by hand, and which function a call from outside names, with what values.
 #![tactic(auto)]
 
 #[cfg(test)]
@@ -10,5 +10,7 @@ mod errors;
 mod headings;
 #[cfg(test)]
 mod limits;
+#[cfg(test)]
+mod operators;
 #[cfg(test)]
 mod rows;

@@ -51,7 +51,7 @@ fn is_built(alloc: Global, text: &str) -> bool {
 /// A section of one line, and the kind, the column and the name of its only error.
 type Row = (&'static str, ErrorKind, u32, &'static str);
 
-const BODIES: [Row; 9] = [
+const BODIES: [Row; 16] = [
     ("void m() { if (1) {} }", ErrorKind::NotBool, 16, ""),
     ("void m() { break; }", ErrorKind::Jump, 12, "break"),
     (
@@ -69,6 +69,30 @@ const BODIES: [Row; 9] = [
     ("void w() { limit = 4; }", ErrorKind::Const, 12, "limit"),
     ("int m() { while (false) {} }", ErrorKind::NoReturn, 5, "m"),
     ("void main(){ log(1); }", ErrorKind::UnknownName, 14, "log"),
+    // a variable in parentheses, or one that can't be written, takes no `&out` value
+    (
+        "void o(int &out a) {} void m() { int x; o((x)); }",
+        ErrorKind::BadOut,
+        43,
+        "",
+    ),
+    (
+        "void o(int64 &out a) {} void m() { o(limit); }",
+        ErrorKind::BadOut,
+        38,
+        "",
+    ),
+    (
+        "void f(int a, int b) {} void m() { f(1); }",
+        ErrorKind::NoMatch,
+        36,
+        "f",
+    ),
+    // arguments are judged before what is called
+    ("void m() { g(q); }", ErrorKind::UnknownName, 14, "q"),
+    ("void m() { g(1); }", ErrorKind::UnknownName, 12, "g"),
+    ("int m() { return 1 ? 2 : 3; }", ErrorKind::NotBool, 18, ""),
+    ("void m() { 5 = 6; }", ErrorKind::BadConversion, 12, ""),
     ("int n() { return; }", ErrorKind::BadConversion, 11, ""),
     ("void n() { return 1; }", ErrorKind::BadConversion, 19, ""),
 ];

@@ -1,10 +1,9 @@
-ghost use Rattle.std.specs.Prelude.{◌≡◌, ◌<◌, IfSome, length};
-ghost use Rattle.ang_host.specs.Boxes.{members};
+ghost use Rattle.std.specs.Prelude.{IfSome};
 ghost use Rattle.ang_host.specs.Laws.{IsLive, AreLive};
 
 use crate::drivers::asking::{Asking, Making, first_made, first_wrong, is_idle};
-use ang_drivers::{Cell, Console, Counter};
-use ang_host::{Answer, Driver, Drivers, DriversError, Made};
+use ang_drivers::{Cell, Counter};
+use ang_host::{Answer, Driver, Made};
 use ang_kinds::Value;
 use std::alloc::AllocError;
 use std::process::Abort;
@@ -207,90 +206,5 @@ fn a_cell_is_made_from_another(rt: HostRuntime) -> Result<(), AllocError> {
     assert!(rt; wrapped == Some((2, 3, int(-2_147_483_640))));
     assert!(rt; cut == Some((4, 5, int(10))));
     assert!(rt; picked == Some((6, Answer::Gave(Value::Key(Some(6))))));
-    Ok(())
-}
-
-// A new object of a driver in the list ends where the second of its two references is released.
-fn lives_twice(drivers: &mut Drivers, driver: u32, f: u32, number: i64) -> bool
-    requires listed { driver < length (members drivers.old) }
-    ensures as_many { length (members drivers.new) ≡ length (members drivers.old) }
-{
-    let Made::Key(key) = drivers.make(driver, f, &[Value::Int(number)]) else {
-        return false;
-    };
-    if !drivers.add_ref(driver, key) {
-        return false;
-    }
-    if drivers.release(driver, key) {
-        return false;
-    }
-    drivers.release(driver, key)
-}
-
-fn live_in_the_list(rt: &impl Abort, drivers: &mut Drivers) {
-    assert!(rt; drivers.len() == 3);
-    assert!(rt; lives_twice(drivers, 1, 1, 5));
-    assert!(rt; lives_twice(drivers, 2, 0, 5));
-    assert!(rt; !lives_twice(drivers, 0, 0, 5));
-    assert!(rt; drivers.idle(0) && drivers.idle(1) && drivers.idle(2));
-    let added = drivers.call(1, 2, None, &[]);
-    assert!(rt; added == Answer::Gave(Value::Uint(1)));
-    let picked = drivers.call(2, 2, None, &[Value::Key(None)]);
-    assert!(rt; picked == Answer::Gave(Value::Key(None)));
-}
-
-#[test]
-fn the_list_takes_the_three_drivers(rt: HostRuntime) -> Result<(), AllocError> {
-    let alloc = rt.alloc();
-    let mut boxes: Vec<Box<dyn Driver>> = Vec::new(alloc);
-    boxes.push(Box::new(alloc, Console::new(alloc)?)?)?;
-    boxes.push(Box::new(alloc, Counter::new(alloc)?)?)?;
-    boxes.push(Box::new(alloc, Cell::new(alloc)?)?)?;
-    let Ok(mut drivers) = Drivers::new(boxes) else {
-        panic!(rt; "three idle drivers were refused")
-    };
-    live_in_the_list(&rt, &mut drivers);
-    let count = drivers.into_boxes().len();
-    assert!(rt; count == 3);
-    Ok(())
-}
-
-fn refusal(taken: Result<Drivers, (DriversError, Vec<Box<dyn Driver>>)>) -> Option<DriversError> {
-    match taken {
-        Ok(drivers) => {
-            let _ = drivers.into_boxes();
-            None
-        }
-        Err((why, _boxes)) => Some(why),
-    }
-}
-
-#[test]
-fn the_list_refuses_a_driver_in_use(rt: HostRuntime) -> Result<(), AllocError> {
-    let alloc = rt.alloc();
-    let mut cell = Cell::new(alloc)?;
-    let key = made(&mut cell, 0, &[Value::Int(1)]);
-    let mut boxes: Vec<Box<dyn Driver>> = Vec::new(alloc);
-    boxes.push(Box::new(alloc, Counter::new(alloc)?)?)?;
-    boxes.push(Box::new(alloc, cell)?)?;
-    let refused = refusal(Drivers::new(boxes));
-    assert!(rt; key == Some(0));
-    assert!(rt; refused == Some(DriversError::Busy));
-    Ok(())
-}
-
-#[test]
-fn the_list_refuses_65_drivers_before_one_in_use(rt: HostRuntime) -> Result<(), AllocError> {
-    let alloc = rt.alloc();
-    let mut cell = Cell::new(alloc)?;
-    let key = made(&mut cell, 0, &[Value::Int(1)]);
-    let mut boxes: Vec<Box<dyn Driver>> = Vec::new(alloc);
-    boxes.push(Box::new(alloc, cell)?)?;
-    for _ in 0..64 {
-        boxes.push(Box::new(alloc, Counter::new(alloc)?)?)?;
-    }
-    let refused = refusal(Drivers::new(boxes));
-    assert!(rt; key == Some(0));
-    assert!(rt; refused == Some(DriversError::TooMany));
     Ok(())
 }
