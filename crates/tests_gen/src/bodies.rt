@@ -1,7 +1,7 @@
-//! Whole bodies, with the code that docs/MEANING.md ("Code") gives for each construct.
+//! Whole bodies and programs, with the code that docs/MEANING.md ("Code") gives for each construct.
 use ang_code::{Instruction, RoutineCode};
 use ang_core::{Body, Expression, Statement};
-use ang_gen_emit::generate_body;
+use ang_gen_emit::{generate, generate_body};
 use ang_kinds::Prim;
 use ang_meaning::{Arithmetic, Callee, Operation, Passing, Spot, Target};
 use std::alloc::{AllocError, Global};
@@ -242,5 +242,66 @@ fn bodies_have_their_code(rt: HostRuntime) -> Result<(), AllocError> {
         let is_code = is_code(rt.alloc(), made(rt.alloc(), sort), params, height, text)?;
         assert!(rt; is_code, "{sort:?}");
     }
+    Ok(())
+}
+
+fn bodies(alloc: Global, sorts: &[Sort]) -> Result<Vec<Body>, AllocError> {
+    let mut bodies = Vec::new(alloc);
+    for sort in sorts {
+        bodies.push(made(alloc, *sort)?)?;
+    }
+    Ok(bodies)
+}
+
+/// The bodies of two modules.
+const PROGRAM: [&[Sort]; 2] = [
+    &[Sort::Looping, Sort::Repeating, Sort::Calling],
+    &[Sort::Choosing],
+];
+
+/// The heights of their code, which tell the bodies apart.
+const HEIGHTS: [&[usize]; 2] = [&[2, 1, 3], &[1]];
+
+fn program(alloc: Global) -> Result<Vec<Vec<Body>>, AllocError> {
+    let mut program = Vec::new(alloc);
+    for sorts in PROGRAM {
+        program.push(bodies(alloc, sorts)?)?;
+    }
+    Ok(program)
+}
+
+fn codes(alloc: Global) -> Result<Vec<Vec<RoutineCode>>, AllocError> {
+    let program = program(alloc)?;
+    generate(alloc, &program)
+}
+
+fn are_heights(codes: &[RoutineCode], heights: &[usize]) -> bool {
+    for (at, code) in codes.iter().enumerate() {
+        if heights.get(at) != Some(&code.height) {
+            return false;
+        }
+    }
+    codes.len() == heights.len()
+}
+
+/// The first module that has other codes.
+fn first_other(codes: &[Vec<RoutineCode>]) -> Option<usize> {
+    for (at, codes) in codes.iter().enumerate() {
+        match HEIGHTS.get(at) {
+            Some(heights) if are_heights(codes, *heights) => {}
+            _ => return Some(at),
+        }
+    }
+    (codes.len() < HEIGHTS.len()).then_some(codes.len())
+}
+
+fn wrong_program(alloc: Global) -> Result<Option<usize>, AllocError> {
+    let codes = codes(alloc)?;
+    Ok(first_other(&codes))
+}
+
+#[test]
+fn one_list_of_codes_for_each_module(rt: HostRuntime) -> Result<(), AllocError> {
+    assert_eq!(rt; wrong_program(rt.alloc())?, None);
     Ok(())
 }
