@@ -5,8 +5,6 @@
 mod command;
 mod ending;
 mod options;
-#[cfg(test)]
-mod tests;
 
 use crate::command::Options;
 use crate::ending::{Ending, code_of};
