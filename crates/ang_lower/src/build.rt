@@ -101,7 +101,7 @@ pub struct Tested {
 
 /// A test and the statement where it is true, in a box.
 #[inline(never)]
-pub fn tested(
+pub fn make_tested(
     alloc: Global,
     test: Box<Expression>,
     then: Statement,

@@ -9,7 +9,7 @@ ghost use Rattle.ang_lower.specs.Lowered as spec;
 
 use crate::build::{
     LoopHead, Tested, add, block, block_with, either, late_loop_of, let_go_of_head, let_go_of_list,
-    let_go_of_test, let_go_of_tested, loop_of, tested,
+    let_go_of_test, let_go_of_tested, loop_of, make_tested,
 };
 use crate::expressions::{lower_boxed, lower_or};
 use ang_core::Statement;
@@ -193,7 +193,7 @@ fn lower_tested(
 {
     let test = lower_boxed(alloc, alive, condition)?;
     match lower_block(alloc, alive, then) {
-        Ok(then) => tested(alloc, test, then),
+        Ok(then) => make_tested(alloc, test, then),
         Err(error) => {
             let_go_of_test(test);
             Err(error)
