@@ -163,8 +163,8 @@ pub fn late_loop_of(
     Ok(Statement::DoWhile(test, body))
 }
 
-/// Lets a test go, apart from where a statement is lowered, so that what that takes of the stack is not
-/// there while the statements inside are lowered.
+/// Lets a test go, apart from where a statement is lowered, so that what that takes of the stack is
+/// not there while the statements inside are lowered.
 #[inline(never)]
 pub fn let_go_of_test(_test: Box<Expression>) {}
 

@@ -275,7 +275,8 @@ pub fn lower_or(
     number: u64,
     e: &Option<Box<typed::Expression>>,
 ) -> Result<Box<Expression>, AllocError>
-    ensures exact { IfOk result (λ x. plain_tree x ≡ spec.lowered_or alive number (view_option e.now)) }
+    ensures exact { IfOk result (λ x. plain_tree x
+        ≡ spec.lowered_or alive number (view_option e.now)) }
 {
     match e {
         Some(e) => lower_boxed(alloc, alive, e),

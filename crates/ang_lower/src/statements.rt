@@ -106,7 +106,8 @@ fn loop_head(
 /// The test of a loop that has no steps.
 #[inline(never)]
 fn head_of(alloc: Global, alive: usize, test: &Expression) -> Result<Box<LoopHead>, AllocError>
-    ensures test { IfOk result (λ h. plain_tree h.value.test ≡ spec.lowered alive (view_expr test.now)) }
+    ensures test { IfOk result (λ h. plain_tree h.value.test
+        ≡ spec.lowered alive (view_expr test.now)) }
     ensures step { IfOk result (λ h. plain_stmt h.value.step ≡ tree.skip) }
 {
     let test = lower_boxed(alloc, alive, test)?;
@@ -187,7 +188,8 @@ fn lower_tested(
     then: &Block,
     condition: &Expression,
 ) -> Result<Box<Tested>, AllocError>
-    ensures test { IfOk result (λ x. plain_tree x.value.test ≡ spec.lowered alive (view_expr condition.now)) }
+    ensures test { IfOk result (λ x. plain_tree x.value.test
+        ≡ spec.lowered alive (view_expr condition.now)) }
     ensures inside { IfOk result (λ x. plain_stmt x.value.«then»
         ≡ spec.lowered_block (spec.lowered_all alive (view_block «then».now))) }
 {
@@ -205,7 +207,8 @@ fn lower_tested(
 #[cycle(statement)]
 #[inline(never)]
 fn lower_if(alloc: Global, alive: usize, written: &Choice) -> Result<Statement, AllocError>
-    ensures exact { IfOk result (λ s. plain_stmt s ∷ [] ≡ spec.lowered_stmt alive (view_choice written.now)) }
+    ensures exact { IfOk result (λ s. plain_stmt s ∷ []
+        ≡ spec.lowered_stmt alive (view_choice written.now)) }
 {
     let tested = lower_tested(alloc, alive, &written.then, &written.condition)?;
     match lower_block(alloc, alive, &written.otherwise) {
@@ -227,7 +230,8 @@ fn lower_loop(
     head: Box<LoopHead>,
 ) -> Result<Statement, AllocError>
     ensures exact { IfOk result (λ s. plain_stmt s ≡ tree.while (plain_tree head.value.test)
-        (spec.lowered_block (spec.lowered_all alive (view_block body.now))) (plain_stmt head.value.step)) }
+        (spec.lowered_block (spec.lowered_all alive (view_block body.now)))
+        (plain_stmt head.value.step)) }
 {
     match lower_block(alloc, alive, body) {
         Ok(body) => loop_of(alloc, head, body),
@@ -242,7 +246,8 @@ fn lower_loop(
 #[cycle(statement)]
 #[inline(never)]
 fn lower_while(alloc: Global, alive: usize, written: &Loop) -> Result<Statement, AllocError>
-    ensures exact { IfOk result (λ s. plain_stmt s ≡ spec.lowered_while alive (view_loop written.now)) }
+    ensures exact { IfOk result (λ s. plain_stmt s
+        ≡ spec.lowered_while alive (view_loop written.now)) }
 {
     let head = head_of(alloc, alive, &written.condition)?;
     lower_loop(alloc, alive, &written.body, head)
@@ -252,7 +257,8 @@ fn lower_while(alloc: Global, alive: usize, written: &Loop) -> Result<Statement,
 #[cycle(statement)]
 #[inline(never)]
 fn lower_late_loop(alloc: Global, alive: usize, written: &Loop) -> Result<Statement, AllocError>
-    ensures exact { IfOk result (λ s. plain_stmt s ≡ spec.lowered_do_while alive (view_loop written.now)) }
+    ensures exact { IfOk result (λ s. plain_stmt s
+        ≡ spec.lowered_do_while alive (view_loop written.now)) }
 {
     let test = lower_boxed(alloc, alive, &written.condition)?;
     match lower_block(alloc, alive, &written.body) {
@@ -268,7 +274,8 @@ fn lower_late_loop(alloc: Global, alive: usize, written: &Loop) -> Result<Statem
 #[cycle(statement)]
 #[inline(never)]
 fn lower_for(alloc: Global, alive: usize, written: &For) -> Result<Statement, AllocError>
-    ensures exact { IfOk result (λ s. plain_stmt s ∷ [] ≡ spec.lowered_stmt alive (view_for written.now)) }
+    ensures exact { IfOk result (λ s. plain_stmt s ∷ []
+        ≡ spec.lowered_stmt alive (view_for written.now)) }
 {
     let mut inner = Vec::new(alloc);
     let inside = add_all(alloc, alive, written.start.as_slice(), &mut inner)?;
@@ -291,7 +298,8 @@ fn lower_statement(
     written: &typed::Statement,
 ) -> Result<Statement, AllocError>
     requires kind { is_single (view_stmt written.now) ≡ true }
-    ensures exact { IfOk result (λ s. plain_stmt s ∷ [] ≡ spec.lowered_stmt alive (view_stmt written.now)) }
+    ensures exact { IfOk result (λ s. plain_stmt s ∷ []
+        ≡ spec.lowered_stmt alive (view_stmt written.now)) }
 {
     match written {
         typed::Statement::Block(inner) => lower_block(alloc, alive, inner),
