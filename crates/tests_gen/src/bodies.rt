@@ -1,7 +1,8 @@
-//! Whole bodies and programs, with the code that docs/MEANING.md ("Code") gives for each construct.
+//! Whole bodies, with the code that docs/MEANING.md ("Code") gives for each construct.
+use crate::modules::{Code, first_unlike};
 use ang_code::{Instruction, RoutineCode};
 use ang_core::{Body, Expression, Statement};
-use ang_gen_emit::{generate, generate_body};
+use ang_gen_body::generate_module;
 use ang_kinds::Prim;
 use ang_meaning::{Arithmetic, Callee, Operation, Passing, Spot, Target};
 use std::alloc::{AllocError, Global};
@@ -122,46 +123,6 @@ fn calling(alloc: Global) -> Made {
     body(alloc, &[Passing::In], called(alloc))
 }
 
-/// The code of a body that is not used again.
-fn code_of(alloc: Global, body: Body) -> Result<RoutineCode, AllocError> {
-    generate_body(alloc, &body)
-}
-
-/// Whether a body's code has these parameters, that height, and these instructions.
-fn is_code(
-    alloc: Global,
-    body: Made,
-    params: &[Passing],
-    height: usize,
-    text: &[Instruction],
-) -> Result<bool, AllocError> {
-    let code = code_of(alloc, body?)?;
-    Ok(code.params.as_slice() == params && code.height == height && code.text.as_slice() == text)
-}
-
-/// A body of those above.
-#[derive(Clone, Copy, Debug)]
-enum Sort {
-    Choosing,
-    Looping,
-    Returning,
-    Repeating,
-    Calling,
-}
-
-fn made(alloc: Global, sort: Sort) -> Made {
-    match sort {
-        Sort::Choosing => choosing(alloc),
-        Sort::Looping => looping(alloc),
-        Sort::Returning => returning(alloc),
-        Sort::Repeating => repeating(alloc),
-        Sort::Calling => calling(alloc),
-    }
-}
-
-/// A body, how it takes its arguments, its height, and its instructions.
-type Code = (Sort, &'static [Passing], usize, &'static [Instruction]);
-
 const CHOICE: &[Instruction] = &[
     Instruction::Load(0),
     Instruction::SkipIfFalse(2),
@@ -229,79 +190,36 @@ const CALL: &[Instruction] = &[
 ];
 
 const CODES: [Code; 5] = [
-    (Sort::Choosing, &[Passing::In, Passing::In], 1, CHOICE),
-    (Sort::Looping, &[Passing::In], 2, LOOP),
-    (Sort::Returning, &[Passing::In], 1, CHOICE_WITHOUT_ELSE),
-    (Sort::Repeating, &[], 1, DO_LOOP),
-    (Sort::Calling, &[Passing::In], 3, CALL),
+    (&[Passing::In, Passing::In], 1, CHOICE),
+    (&[Passing::In], 2, LOOP),
+    (&[Passing::In], 1, CHOICE_WITHOUT_ELSE),
+    (&[], 1, DO_LOOP),
+    (&[Passing::In], 3, CALL),
 ];
 
-#[test]
-fn bodies_have_their_code(rt: HostRuntime) -> Result<(), AllocError> {
-    for (sort, params, height, text) in CODES {
-        let is_code = is_code(rt.alloc(), made(rt.alloc(), sort), params, height, text)?;
-        assert!(rt; is_code, "{sort:?}");
-    }
-    Ok(())
-}
-
-fn bodies(alloc: Global, sorts: &[Sort]) -> Result<Vec<Body>, AllocError> {
-    let mut bodies = Vec::new(alloc);
-    for sort in sorts {
-        bodies.push(made(alloc, *sort)?)?;
-    }
+/// The bodies of these codes.
+fn bodies(alloc: Global) -> Result<Vec<Body>, AllocError> {
+    let mut bodies = Vec::with_capacity(alloc, 5)?;
+    bodies.push(choosing(alloc)?)?;
+    bodies.push(looping(alloc)?)?;
+    bodies.push(returning(alloc)?)?;
+    bodies.push(repeating(alloc)?)?;
+    bodies.push(calling(alloc)?)?;
     Ok(bodies)
 }
 
-/// The bodies of two modules.
-const PROGRAM: [&[Sort]; 2] = [
-    &[Sort::Looping, Sort::Repeating, Sort::Calling],
-    &[Sort::Choosing],
-];
-
-/// The heights of their code, which tell the bodies apart.
-const HEIGHTS: [&[usize]; 2] = [&[2, 1, 3], &[1]];
-
-fn program(alloc: Global) -> Result<Vec<Vec<Body>>, AllocError> {
-    let mut program = Vec::new(alloc);
-    for sorts in PROGRAM {
-        program.push(bodies(alloc, sorts)?)?;
-    }
-    Ok(program)
+fn codes_of(alloc: Global) -> Result<Vec<RoutineCode>, AllocError> {
+    let bodies = bodies(alloc)?;
+    generate_module(alloc, &bodies)
 }
 
-fn codes(alloc: Global) -> Result<Vec<Vec<RoutineCode>>, AllocError> {
-    let program = program(alloc)?;
-    generate(alloc, &program)
-}
-
-fn are_heights(codes: &[RoutineCode], heights: &[usize]) -> bool {
-    for (at, code) in codes.iter().enumerate() {
-        if heights.get(at) != Some(&code.height) {
-            return false;
-        }
-    }
-    codes.len() == heights.len()
-}
-
-/// The first module that has other codes.
-fn first_other(codes: &[Vec<RoutineCode>]) -> Option<usize> {
-    for (at, codes) in codes.iter().enumerate() {
-        match HEIGHTS.get(at) {
-            Some(heights) if are_heights(codes, *heights) => {}
-            _ => return Some(at),
-        }
-    }
-    (codes.len() < HEIGHTS.len()).then_some(codes.len())
-}
-
-fn wrong_program(alloc: Global) -> Result<Option<usize>, AllocError> {
-    let codes = codes(alloc)?;
-    Ok(first_other(&codes))
+fn first_wrong(alloc: Global) -> Result<Option<usize>, AllocError> {
+    let codes = codes_of(alloc)?;
+    Ok(first_unlike(&codes, &CODES))
 }
 
 #[test]
-fn one_list_of_codes_for_each_module(rt: HostRuntime) -> Result<(), AllocError> {
-    assert_eq!(rt; wrong_program(rt.alloc())?, None);
+fn bodies_have_their_code(rt: HostRuntime) -> Result<(), AllocError> {
+    assert_eq!(rt; first_wrong(rt.alloc())?, None);
     Ok(())
 }

@@ -67,7 +67,7 @@ fn codes_of(alloc: Global, module: Typed) -> Result<Vec<RoutineCode>, AllocError
 }
 
 /// How code takes its arguments, its height, and its instructions.
-type Code = (&'static [Passing], usize, &'static [Instruction]);
+pub type Code = (&'static [Passing], usize, &'static [Instruction]);
 
 const COUNTING: Code = (
     &[Passing::Out, Passing::In],
@@ -138,7 +138,7 @@ fn is_code(code: &RoutineCode, want: Option<&Code>) -> bool {
 }
 
 /// The place of the first code that is not the one that is wanted, or that one of the two lists lacks.
-fn first_unlike(codes: &[RoutineCode], wanted: &[Code]) -> Option<usize> {
+pub fn first_unlike(codes: &[RoutineCode], wanted: &[Code]) -> Option<usize> {
     for (at, code) in codes.iter().enumerate() {
         if !is_code(code, wanted.get(at)) {
             return Some(at);

@@ -1,0 +1,464 @@
+#!/usr/bin/env python3
+"""The trials of trials/hostile.sh, whose head says what they are."""
+
+import os
+import random
+import re
+import resource
+import shutil
+import subprocess
+import sys
+import tempfile
+import time
+from collections import Counter, namedtuple
+
+MOST = 65536  # bytes of a section
+STACK = 8192  # KiB, with which each section has to build
+STEP = 64  # KiB, to which the least stack is found
+SECONDS = 120  # for one process
+GNU_TIME = "/usr/bin/time"
+
+PROFILE = "function 0 0 void put(int64)\nglobal 0 0 int64 reg\n"
+HEAD = "int x;bool b;int g(int n){return n;}void f(){"
+
+# How a run ended: its status, which is negative after a signal and None where it ran out of time, what it printed, its
+# seconds, and its greatest resident memory in bytes where it was measured.
+Ended = namedtuple("Ended", "status text seconds resident")
+
+
+class Trials:
+    """The program, and what was seen of it."""
+
+    def __init__(self, program, folder):
+        self.program = program
+        self.folder = folder
+        self.runs = 0
+        self.bad = Counter()
+
+    def run(self, session, profile=PROFILE, stack=STACK, measured=False):
+        """Runs a session, with that many KiB of stack."""
+        files = {"profile": profile, "session": session}
+        for name, text in files.items():
+            with open(f"{self.folder}/{name}", "w", newline="\n") as out:
+                out.write(text)
+        words = [self.program, "--profile", "profile", "--session", "session"]
+        if measured:
+            words = [GNU_TIME, "-q", "-f", "%M", "-o", "resident", *words]
+        limited = lambda: resource.setrlimit(resource.RLIMIT_STACK, (stack * 1024, stack * 1024))
+        start = time.monotonic()
+        try:
+            ran = subprocess.run(words, cwd=self.folder, env={}, capture_output=True, timeout=SECONDS, preexec_fn=limited)
+            status, text = ran.returncode, ran.stdout.decode("latin-1")
+        except subprocess.TimeoutExpired:
+            status, text = None, ""
+        seconds = time.monotonic() - start
+        resident = None
+        if measured and status is not None:
+            with open(f"{self.folder}/resident") as file:
+                resident = int(file.read().split()[-1]) * 1024
+            # GNU time ends with 128 and the signal's number.
+            status = status if status < 128 else 128 - status
+        return Ended(status, text, seconds, resident)
+
+    def tried(self, what, session, wanted, **how):
+        """Runs a session, whose answer is to be the wanted one, and counts it."""
+        ended = self.run(session, **how)
+        self.runs += 1
+        answer = answer_of(ended)
+        if not re.fullmatch(wanted, answer):
+            kind = "ended by a signal" if is_killed(ended) else "ran out of time" if ended.status is None else "answered otherwise"
+            self.bad[kind] += 1
+            print(f"{kind}: {what}: {answer}, where {wanted} is wanted", flush=True)
+        return ended
+
+    def held(self, what, figure, bound):
+        """Counts a figure that is above its bound."""
+        if figure > bound:
+            self.bad["above a bound"] += 1
+            print(f"above a bound: {what}: {figure:.1f}, where {bound} is the most", flush=True)
+
+    def least_stack(self, session, wanted):
+        """The least KiB of stack, up to a step, with which a session is answered so."""
+        low, high = 0, STACK // STEP
+        while high - low > 1:
+            middle = (low + high) // 2
+            if re.fullmatch(wanted, answer_of(self.run(session, stack=middle * STEP))):
+                high = middle
+            else:
+                low = middle
+        return high * STEP
+
+
+def is_killed(ended):
+    return ended.status is not None and ended.status < 0
+
+
+def answer_of(ended):
+    """The last answer of a run: an outcome, with the kind of the first error before it, or how the process was ended."""
+    if ended.status is None:
+        return "out of time"
+    if is_killed(ended):
+        return f"signal {-ended.status}"
+    lines = ended.text.splitlines() or [""]
+    kinds = [line.split()[1] for line in lines if line.startswith("error ")]
+    return f"{lines[-1]} {kinds[0]}" if kinds else lines[-1]
+
+
+def section(text):
+    return f"section m {text.count(chr(10)) + 1}\n{text}\n"
+
+
+def built(*texts, calls=()):
+    """A session that builds sections in one module, and then does the calls."""
+    lines = [f"{line}\n" for line in ("build m", *calls)]
+    return "module m 00000001\n" + "".join(map(section, texts)) + "".join(lines)
+
+
+def filled(unit, head=HEAD, tail="}"):
+    """The unit as often as there is room in a section, whose last byte is its line's end."""
+    return head + unit * ((MOST - 1 - len(head) - len(tail)) // len(unit)) + tail
+
+
+def table(titles, rows):
+    """Prints rows below their titles. The rows may come one by one."""
+    print("| " + " | ".join(titles) + " |")
+    print("|" + "---|" * len(titles))
+    for row in rows:
+        print("| " + " | ".join(map(str, row)) + " |", flush=True)
+
+
+# Statements inside statements, of which each has a `;` of its own, so that no limit but that of the section's bytes
+# holds: what stands before the inner statement, and what behind.
+NESTS = [
+    ("", ""),
+    ("for(;;)", ""),
+    ("if(b);else ", ""),
+    ("for(;;)if(b)", ""),
+    ("for(;;)while(b)", ""),
+    ("for(;;)do ", "while(b);"),
+    ("while(b)for(;;)", ""),
+    ("if(b)for(;;);else ", ""),
+    ("for(;;)if(b);else ", ""),
+    ("for(;;)for(;;)if(b)while(b)", ""),
+    ("for(;;)if(b)while(b)do ", "while(b);"),
+    ("for(x;b;x)", ""),
+]
+
+# What stands at the bottom: the deepest expressions that there may be, and what is refused.
+OK, REFUSED = "ok", "refused BuildErrors [A-Za-z]+"
+BOTTOMS = {
+    "`;`": (";", OK),
+    "`x=x=..`": ("x=" * 250 + "x;", OK),
+    "`b?x:..`": ("b?x:" * 250 + "x;", OK),
+    "63 brackets": ("(" * 63 + "x" + ")" * 63 + ";", OK),
+    "63 calls": ("g(x=x=x=" * 63 + "x" + ")" * 63 + ";", OK),
+    "a wrong name": ("y;", REFUSED),
+    "a wrong sign": (")", REFUSED),
+}
+
+
+def nested(nest, bottom):
+    """A section with a nest as deep as there is room, and its number of levels."""
+    before, behind = nest
+    room = MOST - 1 - len(HEAD) - len(bottom) - 1
+    levels = room // len(before + behind) if before else 0
+    return HEAD + before * levels + bottom + behind * levels + "}", levels
+
+
+def deep(trials):
+    """The deepest sections, and the declarations of calls that are as long."""
+
+    def rows():
+        for nest in NESTS:
+            name = f"`{'..'.join(filter(None, nest))}`" if nest[0] else "no statement around it"
+            row = [name, nested(nest, BOTTOMS["`;`"][0])[1]]
+            for bottom, (text, wanted) in BOTTOMS.items():
+                session = built(nested(nest, text)[0])
+                trials.tried(f"{name} around {bottom}", session, wanted)
+                row.append(trials.least_stack(session, wanted))
+            yield row
+
+    print(f"\nThe least stack with which the section builds, in KiB of {STACK}, by what stands at its bottom\n")
+    table(["Section of", "levels", *BOTTOMS], rows())
+    decls = [HEAD + "for(;;)" * 9000 + ";}", "void f" + "(" * 60000, "void f(" + "(int a," * 9000 + ")"]
+    decls += ["int " + "a," * 30000 + "a", "void f(){" + "{" * 60000, "f" * 60000, "x=" * 30000 + "x"]
+    for decl in decls:
+        session = built("void f(){}", calls=[f"call m () {decl}"])
+        trials.tried(f"call of {decl[:40]}..", session, "refused NoFunction")
+    print(f"\n{len(decls)} calls whose declarations are as long: refused NoFunction")
+
+
+# What stands before and behind a limit: what it is of, its last value, what makes a session of a number, and what such a
+# session is answered at the last value and one above.
+Limit = namedtuple("Limit", "what last session within above")
+
+
+def named(count, piece):
+    return "".join(piece % n for n in range(count))
+
+
+def operators(unit):
+    return lambda n: built(HEAD + unit * n + "x;}")
+
+
+def registered(line):
+    """A profile with that line as often as the number says."""
+    return lambda n: dict(session="", profile=named(n, line))
+
+
+DEEP = "refused BuildErrors TooDeep"
+LONG = "refused BuildErrors TooLong"
+MANY = "refused BuildErrors Limit"
+COUNT = "int f(int n){return n<2?n:f(n-1);}"
+LOOP = "void f(){for(int i;i<998;i++);}"
+
+LIMITS = [
+    Limit("bytes of a section", MOST, lambda n: built(";" * (n - 1)), OK, LONG),
+    Limit("bytes of a name", 255, lambda n: built(f"int {'a' * n};"), OK, LONG),
+    Limit("bytes of a text", 255, lambda n: built(f'import void f() from "{"a" * (n - 2)}";'), "refused BuildErrors NotYet", LONG),
+    Limit("a number", 2**64 - 1, lambda n: built(f"uint64 a={n};"), OK, "refused BuildErrors BadNumber"),
+    Limit("open brackets, of them (", 64, lambda n: built(HEAD + "(" * (n - 1) + "x" + ")" * (n - 1) + ";}"), OK, DEEP),
+    Limit("open brackets, of them {", 64, lambda n: built("void f()" + "{" * n + "}" * n), OK, DEEP),
+    Limit("operators: x=", 256, operators("x="), OK, DEEP),
+    Limit("operators: x+", 256, operators("x+"), OK, DEEP),
+    Limit("operators: ~", 256, operators("~"), OK, DEEP),
+    Limit("operators: b?x:", 256, operators("b?x:"), OK, DEEP),
+    Limit("operators: if(b)", 256, operators("if(b)"), OK, DEEP),
+    Limit("operators: while(b)", 256, operators("while(b)"), OK, DEEP),
+    Limit("functions", 4096, lambda n: built(named(n, "void f%d(){}")), OK, MANY),
+    Limit("globals", 4096, lambda n: built(named(n, "int a%d;")), OK, MANY),
+    Limit("globals of one list", 4096, lambda n: built(f"int a{named(n - 1, ',a%d')};"), OK, MANY),
+    Limit("parameters", 32, lambda n: built(f"void f({','.join(['int'] * n)}){{}}"), OK, MANY),
+    Limit("locals alive at once", 1024, lambda n: built(f"void f(){{{named(n, 'int a%d;')}}}"), OK, MANY),
+    Limit("locals of nested loops", 1024, lambda n: built("void f(){" + "for(int i;;)" * n + ";}"), OK, MANY),
+    Limit("functions one inside the other", 200, lambda n: built(COUNT, calls=[f"call m ({n}) int f(int)"]), "ok 1", "fault Depth"),
+    Limit("ticks, of a budget of 1000", 1000, lambda n: built(LOOP.replace("998", str(n - 2)), calls=["budget 1000", "call m () void f()"]), OK, "fault Budget"),
+    Limit("a budget", 2**31 - 1, lambda n: built("void f(){}", calls=[f"budget {n}", "call m () void f()"]), OK, "refused BadBudget"),
+    Limit("a signed argument", 127, lambda n: built("void f(int8 a){}", calls=[f"call m ({n}) void f(int8)"]), OK, "refused BadArguments"),
+    Limit("an unsigned argument", 255, lambda n: built("void f(uint8 a){}", calls=[f"call m ({n}u) void f(uint8)"]), OK, "refused BadArguments"),
+    Limit("bytes of a call's declaration", MOST, lambda n: built("void f(){}", calls=[f"call m () void f(){' ' * (n - 8)}"]), OK, "refused NoFunction"),
+    Limit("sections that wait", 64, lambda n: built()[:-8] + section("int a;")[:-1].replace("int a", "") .join(["", "\n"]) * n, OK, "refused Limit"),
+    Limit("modules", 1, lambda n: named(n, "module m%d 00000001\n"), OK, "refused Limit"),
+    Limit("bytes of a module's name", 255, lambda n: f"module {'m' * n} 00000001\n", OK, "refused BadName"),
+    Limit("registrations", 1024, registered("function 0 0 void f%d()\n"), "", "profile 1025 Limit"),
+    Limit("parameters of a registration", 32, lambda n: dict(session="", profile=f"function 0 0 void f({','.join(['int'] * n)})\n"), "", "profile 1 Limit"),
+    Limit("bytes of a profile", 2**20, lambda n: dict(session="", profile="#" * n), "", "profile 0 TooLong"),
+    Limit("bytes of a session", 2**24, lambda n: "#" * n, "", "line 0 TooLong"),
+]
+
+
+def limits(trials):
+    """Each limit at its last value, and one above."""
+
+    def rows():
+        for limit in LIMITS:
+            for number, wanted in ((limit.last, limit.within), (limit.last + 1, limit.above)):
+                made = limit.session(number)
+                made = made if isinstance(made, dict) else {"session": made}
+                trials.tried(f"{limit.what}: {number}", wanted=re.escape(wanted), **made)
+            yield limit.what, f"{limit.last:,}", f"`{limit.within or 'nothing'}`", f"`{limit.above}`"
+
+    print("\nEach limit at its last value and one above: what is answered last\n")
+    table(["Limit", "last value", "there", "one above"], rows())
+
+
+TOKEN = re.compile(r'//[^\n]*\n|/\*.*?\*/|\w+|"[^"\n]*"|[-+*/%&|^<>=!]+|\S', re.S)
+FUNCTION = re.compile(r"\b(\w+)\s+(\w+)\s*\(([^()]*)\)\s*\{")
+VALUES = {"bool": "true", "": ""}
+A_SESSION = 50  # changed sections
+
+
+def examples():
+    """The scripts of the examples: each session's profile, its module's mask, and its sections."""
+    folder = "crates/examples/data"
+    for file in sorted(os.listdir(folder)):
+        stem, kind = os.path.splitext(file)
+        profile = next(f"{folder}/{it}.profile" for it in (stem, stem.split("_")[0]) if os.path.isfile(f"{folder}/{it}.profile"))
+        if kind == ".session" and stem != "refused_profile":
+            lines = open(f"{folder}/{file}").read().split("\n")
+            mask = next(line.split()[2] for line in lines if line.startswith("module "))
+            yield open(profile).read(), mask, list(sections_in(lines))
+
+
+def sections_in(lines):
+    at = 0
+    while at < len(lines):
+        words = lines[at].split(" ")
+        at += 1
+        if words[0] == "section":
+            yield "\n".join(lines[at : at + int(words[2])])
+            at += int(words[2])
+
+
+def changed_text(dice, text, others):
+    """A script with one to six changes of its tokens. What is put in may come from another script."""
+    tokens = TOKEN.findall(text)
+    for _ in range(dice.randint(1, 6)):
+        at = dice.randrange(len(tokens) + 1)
+        to = min(len(tokens), at + dice.choice([1, 1, 1, 2, 5, 20, 100]))
+        other = dice.randrange(len(tokens) + 1)
+        piece = tokens[at:to]
+        change = dice.choice(["cut", "double", "swap", "take"])
+        if change == "cut":
+            del tokens[at:to]
+        elif change == "double":
+            tokens[other:other] = piece * dice.choice([1, 1, 2, 50])
+        elif change == "swap" and at < len(tokens) and other < len(tokens):
+            tokens[at], tokens[other] = tokens[other], tokens[at]
+        elif change == "take":
+            tokens[at:to] = [dice.choice(TOKEN.findall(dice.choice(others)))]
+    return " ".join(tokens)[: MOST - 1].replace("\r", " ")
+
+
+def calls_of(text):
+    """A call of each function of a script by its first declaration, with some value for each parameter."""
+    for result, name, params in FUNCTION.findall(text):
+        types = [" ".join(it.split()[:1]) for it in params.split(",") if it.strip()]
+        values = [VALUES.get(it, "1u" if it.startswith("u") else "1") for it in types]
+        yield f"call m ({','.join(values)}) {result} {name}({', '.join(types)})"
+
+
+def changed(trials, count=10000):
+    """Sections of the examples with changed tokens, each built, and its functions called."""
+    dice, seen, bytes_in, longest = random.Random(1), Counter(), 0, 0.0
+    scripts = list(examples())
+    others = [text for _, _, texts in scripts for text in texts]
+    for first in range(0, count, A_SESSION):
+        profile, mask, texts = dice.choice(scripts)
+        commands = [f"module m {mask}\n", "budget 2000\n"]
+        for _ in range(min(A_SESSION, count - first)):
+            text = changed_text(dice, dice.choice(texts), others)
+            bytes_in += len(text) + 1
+            commands += [section(text), "build m\n", *(f"{call}\n" for call in dict.fromkeys(calls_of(text)))][:12]
+        ended = trials.tried(f"changed sections from number {first}", "".join(commands), ".*", profile=profile)
+        outcomes = [line for line in ended.text.splitlines() if line.split(" ")[0] in ("ok", "fault", "refused")]
+        if ended.status in (0, 1) and len(outcomes) != len(commands):
+            trials.bad["answered otherwise"] += 1
+            print(f"answered otherwise: from section {first} {len(outcomes)} answers to {len(commands)} commands")
+        longest = max(longest, ended.seconds)
+        for command, outcome in zip(commands, outcomes):
+            what = command.split(" ")[0]
+            if what in ("build", "call"):
+                seen[f"{what}: {' '.join(outcome.split()[:2]) if outcome[:2] != 'ok' else 'ok'}"] += 1
+    print(f"\n{count} changed sections of {bytes_in // count} bytes each, {A_SESSION} a process, {longest:.1f} s the longest process\n")
+    table(["Command and answer", "times"], sorted(seen.items()))
+
+
+def names(count, first="int a", tail=";"):
+    """One list of names, each of them another."""
+    out, size = [first], len(first) + len(tail)
+    for n in range(count):
+        size += len(f",a{n}")
+        if size > MOST - 1:
+            break
+        out.append(f",a{n}")
+    return "".join(out) + tail
+
+
+def repeated(piece):
+    """A piece with a number in it as often as there is room."""
+    out, size = [], 0
+    for n in range(4096):
+        size += len(piece % n)
+        if size > MOST - 1:
+            break
+        out.append(piece % n)
+    return "".join(out)
+
+
+ANY = "ok|refused BuildErrors Limit"
+
+# The section, and the most bytes of memory for each of its bytes.
+KINDS = [
+    ("`;`", filled(";"), 150),
+    ("names: `int a,a0,a1..`", names(20000), 150),
+    ("`(x);`", filled("(x);"), 300),
+    ("60 brackets around each `x`", filled("(" * 60 + "x" + ")" * 60 + ";"), 300),
+    ("`x;`", filled("x;"), 300),
+    ("`x=x+1;`", filled("x=x+1;"), 300),
+    ("`void f0(){}`", repeated("void f%d(){}"), 300),
+    ("32 parameters: `void f0(int,int..){}`", repeated(f"void f%d({','.join(['int'] * 32)}){{}}"), 300),
+    ("`for(;;)` one inside the other", nested(("for(;;)", ""), ";")[0], 450),
+    ("`{int a;}`", filled("{int a;}"), 450),
+    ("250 times `x+` in a statement", filled("x+" * 250 + "x;"), 450),
+    ("250 times `~`", filled("~" * 250 + "x;"), 450),
+    ("`g(x);`", filled("g(x);"), 450),
+    ("60 calls `g(~..)` one inside the other", filled("g(~" * 60 + "x" + ")" * 60 + ";"), 450),
+]
+
+
+def memory(trials):
+    """The resident memory of a build above that of an empty one, for each byte of source."""
+    empty = trials.tried("an empty section", built(""), OK, measured=True).resident
+
+    def rows():
+        for name, text, bound in KINDS:
+            ended = trials.tried(name, built(text), ANY, measured=True)
+            figure = ((ended.resident or 0) - empty) / len(text)
+            trials.held(name, figure, bound)
+            yield name, f"{len(text):,}", f"{figure:.0f}", bound, f"`{answer_of(ended)}`"
+
+    print(f"\nMemory of a build, above the {empty // 1024} KiB of one of an empty section\n")
+    table(["Section of", "bytes", "bytes of memory a byte", "the most", "answer"], rows())
+    events(trials)
+
+
+def events(trials):
+    """The resident memory of a call, for each asking of the host in its reply."""
+    asking = {"`reg;`": "reg;", "`put(x);`": "put(x);"}
+
+    def rows():
+        for name, text in asking.items():
+            sizes = []
+            for count in (1 << 15, 1 << 18):
+                session = built(f"int64 x;void f(){{for(;;){text}}}", calls=[f"budget {count + 2}", "call m () void f()"])
+                sizes.append(trials.tried(f"{count} times {name}", session, "fault Budget", measured=True).resident)
+            yield name, f"{(sizes[1] - sizes[0]) / ((1 << 18) - (1 << 15)):.0f}"
+
+    print("\nMemory of a call for each asking of the host, with the text that asrun makes of it\n")
+    table(["Asking", "bytes"], rows())
+
+
+def full(trials):
+    """64 full sections in one build."""
+    several = lambda unit, head: [filled(unit, head % n) for n in range(64)]
+    kinds = {
+        "`for(;;)` one inside the other": several("for(;;)", "void f%d(){")[:],
+        "`;`": several(";", "void f%d(){"),
+        "`x=x+1;`": [it.replace("{", "{int x;", 1) for it in several("x=x+1;", "void f%d(){      ")],
+        "`f(~x)` in calls": several("x;", "int x%d;void f%d(){" if False else "void f%d(int x){"),
+    }
+
+    def rows():
+        for name, texts in kinds.items():
+            size = sum(len(it) + 1 for it in texts)
+            ended = trials.tried(f"64 sections of {name}", built(*texts), OK, measured=True)
+            figure = (ended.resident or 0) / size
+            trials.held(f"64 sections of {name}", figure, 450)
+            yield name, f"{size:,}", f"{ended.seconds:.1f}", f"{(ended.resident or 0) >> 20}", f"{figure:.0f}", f"`{answer_of(ended)}`"
+
+    print("\n64 full sections in one build\n")
+    table(["Sections of", "bytes", "seconds", "MiB", "bytes of memory a byte", "answer"], rows())
+
+
+PARTS = {"deep": deep, "limits": limits, "changed": changed, "full": full, "memory": memory}
+
+
+def main():
+    program, chosen = sys.argv[1], sys.argv[2:] or list(PARTS)
+    unknown = [part for part in chosen if part not in PARTS]
+    if unknown or ({"full", "memory"} & {*chosen} and not os.path.exists(GNU_TIME)):
+        sys.exit(f"no such part: {unknown}" if unknown else f"the parts full and memory need GNU time, at {GNU_TIME}")
+    folder = tempfile.mkdtemp()
+    trials = Trials(program, folder)
+    try:
+        for part in chosen:
+            PARTS[part](trials)
+    finally:
+        shutil.rmtree(folder)
+    ways = ("ended by a signal", "ran out of time", "answered otherwise", "above a bound")
+    print(f"\n{trials.runs} runs: " + ", ".join(f"{trials.bad[way]} {way}" for way in ways))
+    sys.exit(1 if trials.bad else 0)
+
+
+main()
