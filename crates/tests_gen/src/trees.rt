@@ -1,9 +1,9 @@
 //! Small modules as resolved trees, and the core trees that docs/MEANING.md gives them.
 use crate::forms::{
-    INT, Row, Tree, and, assign, block, choice, choose, compare, complement, converted, do_loop,
-    evaluate, for_loop, function, give_back, go_on, leaf, leave, local, module_of, negate, none,
-    not, nothing, number, one_local, one_value, only, operate, or, step, then, truth, two_locals,
-    two_out, value_of, while_loop,
+    INT, Row, Rows, Tree, and, assign, block, choice, choose, compare, complement, converted,
+    do_loop, evaluate, for_loop, function, give_back, go_on, leaf, leave, local, module_of, negate,
+    none, not, nothing, number, one_local, one_value, only, operate, or, step, then, truth,
+    two_locals, two_out, value_of, while_loop,
 };
 use crate::shown::show_body;
 use ang_core::Body;
@@ -44,14 +44,18 @@ fn first_wrong(alloc: Global, module: Typed, texts: &[&str]) -> Result<Option<us
     first_unlike(alloc, bodies.as_slice(), texts)
 }
 
-/// `int f(int a, int &out b) { int c = a + 1; b = c; return c; }`
-fn counting(alloc: Global) -> Result<Typed, AllocError> {
+/// `int c = a + 1; b = c; return c;`
+pub fn counting_rows(alloc: Global) -> Rows {
     let sum = operate(alloc, Operator::Add, local(alloc, 0), number(alloc, 1));
     let rows = only(alloc, one_local(alloc, sum));
     let stored = assign(alloc, Variable::Local(1), local(alloc, 2));
     let rows = then(rows, evaluate(alloc, stored));
-    let rows = then(rows, give_back(alloc, local(alloc, 2)));
-    module_of(alloc, &[Pass::Value, Pass::RefOut], rows)
+    then(rows, give_back(alloc, local(alloc, 2)))
+}
+
+/// `int f(int a, int &out b) { int c = a + 1; b = c; return c; }`
+fn counting(alloc: Global) -> Result<Typed, AllocError> {
+    module_of(alloc, &[Pass::Value, Pass::RefOut], counting_rows(alloc))
 }
 
 const COUNTING: &str = "[Out, In] { declare (Work(Add, I32)) l1 1; (l1 =) l0; return l0; }";

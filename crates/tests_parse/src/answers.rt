@@ -1,8 +1,4 @@
-//! Worked errors and limits of the grammar, and the parser against a recognizer of its own. A test's rows own nothing,
-//! and one small function owns the tokens and the tree of one row, so that little is proved of what is dropped.
-
-mod comparison;
-mod recognizer;
+//! What `parse` answers: worked errors and limits of the grammar.
 
 use ang_lex::lex;
 use ang_parse::{ParseError, parse};
@@ -11,7 +7,7 @@ use std::alloc::{AllocError, Global};
 
 /// What `parse` has to answer.
 #[derive(Clone, Copy)]
-enum Want<'a> {
+pub enum Want<'a> {
     Script,
     TooDeep {
         line: u32,
@@ -25,7 +21,7 @@ enum Want<'a> {
 }
 
 /// Whether `parse` answers so on the text.
-fn answers(alloc: Global, text: &[u8], want: Want<'_>) -> bool {
+pub fn answers(alloc: Global, text: &[u8], want: Want<'_>) -> bool {
     let Ok(tokens) = lex(alloc, text, 0) else {
         return false;
     };

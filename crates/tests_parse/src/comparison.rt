@@ -1,9 +1,8 @@
 //! The parser against the recognizer, on scripts and on what a change of a word makes of them.
 
-use super::recognizer::{Chart, Grammar};
-use super::{Want, answers};
+use crate::answers::{Want, answers};
+use crate::recognizer::{Chart, Grammar};
 use std::alloc::{AllocError, Global};
-use std::process::Abort;
 
 /// What is put in the place of a word.
 const OTHERS: [&str; 36] = [
@@ -233,96 +232,68 @@ fn first_wrong(alloc: Global, script: &str) -> Result<Option<Wrong>, AllocError>
     trial.run(&words)
 }
 
-/// Asserts that `parse` places each error of the script where the recognizer has it.
-fn compare(rt: &impl Abort, alloc: Global, script: &str) {
-    let wrong = first_wrong(alloc, script);
-    assert!(rt; matches!(wrong, Ok(None)), "{wrong:?} in {script}");
-}
+/// What a script is made of, and its words. What stands in parentheses may be parameters or arguments; the token behind
+/// them tells which.
+const SCRIPTS: [(&str, &str); 13] = [
+    (
+        "functions and globals",
+        "const int a = 1 , b ( 2 , c ) , d ; ; void g ( void ) { } A @ const h ;",
+    ),
+    (
+        "groups",
+        "A x ( B @ const & in , C y ) { } A x ( b , c ( d ) ) ; A x ( B , C ) { } A x ( B ) , y ;",
+    ),
+    (
+        "classes",
+        "class A : B , C { private int x , y ; A ( int n ) { super ( n ) ; x = n ; } } int z ;",
+    ),
+    (
+        "members",
+        "final class A { protected const T @ const h ; void m ( ) const final override { return ; } A ( ) { } }",
+    ),
+    (
+        "interfaces",
+        "interface I : J { void f ( int a , const T & in b ) const ; int8 g ( ) ; } ;",
+    ),
+    (
+        "imports",
+        "import int f ( T @ , int & out x , T & inout , T & ) from \"m\" ; uint a ;",
+    ),
+    (
+        "branches and loops",
+        "void m ( ) { if ( a ) b ; else if ( c ) { } else while ( d ) break ; do x ++ ; while ( y ) ; }",
+    ),
+    (
+        "for loops",
+        "void m ( ) { for ( int i = 0 , j ; i < 3 ; ++ i , j -- ) continue ; for ( ; ; ) for ( i = 1 ; ; ) { } }",
+    ),
+    (
+        "operands",
+        "void e ( ) { z = cast < T @ > ( p . q ( 1 ) . r ++ ) ; int ( 3 ) ; A :: f ( null , this ) ; ( a ) . b ( ) ; }",
+    ),
+    (
+        "operators",
+        "bool k = a * b / c % d + e - f << g >> h >>> i & j ^ k | l < m <= n > o >= p == q != r is s !is t ;",
+    ),
+    (
+        "words for operators",
+        "bool k = a xor b ^^ c && d and e || f or not ! - + ~ @ ++ -- g ;",
+    ),
+    (
+        "assignments",
+        "void s ( ) { a = b += c ? d : e = f ; a -= b *= c /= d %= e &= f |= g ^= h <<= i >>= j >>>= true ; }",
+    ),
+    (
+        "locals",
+        "void t ( ) { A b ; A @ c = d ; A ( b ) ; int16 e ( 1 ) ; uint64 ( f ) ; const A g ; void h ; }",
+    ),
+];
 
 #[test]
-fn functions_and_globals_agree(rt: HostRuntime) {
-    let script = "const int a = 1 , b ( 2 , c ) , d ; ; void g ( void ) { } A @ const h ;";
-    compare(&rt, rt.alloc(), script);
-}
-
-/// What stands in parentheses may be parameters or arguments; the token behind them tells which.
-#[test]
-fn groups_agree(rt: HostRuntime) {
-    let script =
-        "A x ( B @ const & in , C y ) { } A x ( b , c ( d ) ) ; A x ( B , C ) { } A x ( B ) , y ;";
-    compare(&rt, rt.alloc(), script);
-}
-
-#[test]
-fn classes_agree(rt: HostRuntime) {
-    let script =
-        "class A : B , C { private int x , y ; A ( int n ) { super ( n ) ; x = n ; } } int z ;";
-    compare(&rt, rt.alloc(), script);
-}
-
-#[test]
-fn members_agree(rt: HostRuntime) {
-    let script =
-        "final class A { protected const T @ const h ; void m ( ) const final override { return ; } A ( ) { } }";
-    compare(&rt, rt.alloc(), script);
-}
-
-#[test]
-fn interfaces_agree(rt: HostRuntime) {
-    let script = "interface I : J { void f ( int a , const T & in b ) const ; int8 g ( ) ; } ;";
-    compare(&rt, rt.alloc(), script);
-}
-
-#[test]
-fn imports_agree(rt: HostRuntime) {
-    let script = "import int f ( T @ , int & out x , T & inout , T & ) from \"m\" ; uint a ;";
-    compare(&rt, rt.alloc(), script);
-}
-
-#[test]
-fn branches_and_loops_agree(rt: HostRuntime) {
-    let script =
-        "void m ( ) { if ( a ) b ; else if ( c ) { } else while ( d ) break ; do x ++ ; while ( y ) ; }";
-    compare(&rt, rt.alloc(), script);
-}
-
-#[test]
-fn for_loops_agree(rt: HostRuntime) {
-    let script =
-        "void m ( ) { for ( int i = 0 , j ; i < 3 ; ++ i , j -- ) continue ; for ( ; ; ) for ( i = 1 ; ; ) { } }";
-    compare(&rt, rt.alloc(), script);
-}
-
-#[test]
-fn operands_agree(rt: HostRuntime) {
-    let script =
-        "void e ( ) { z = cast < T @ > ( p . q ( 1 ) . r ++ ) ; int ( 3 ) ; A :: f ( null , this ) ; ( a ) . b ( ) ; }";
-    compare(&rt, rt.alloc(), script);
-}
-
-#[test]
-fn operators_agree(rt: HostRuntime) {
-    let script =
-        "bool k = a * b / c % d + e - f << g >> h >>> i & j ^ k | l < m <= n > o >= p == q != r is s !is t ;";
-    compare(&rt, rt.alloc(), script);
-}
-
-#[test]
-fn words_for_operators_agree(rt: HostRuntime) {
-    let script = "bool k = a xor b ^^ c && d and e || f or not ! - + ~ @ ++ -- g ;";
-    compare(&rt, rt.alloc(), script);
-}
-
-#[test]
-fn assignments_agree(rt: HostRuntime) {
-    let script =
-        "void s ( ) { a = b += c ? d : e = f ; a -= b *= c /= d %= e &= f |= g ^= h <<= i >>= j >>>= true ; }";
-    compare(&rt, rt.alloc(), script);
-}
-
-#[test]
-fn locals_agree(rt: HostRuntime) {
-    let script =
-        "void t ( ) { A b ; A @ c = d ; A ( b ) ; int16 e ( 1 ) ; uint64 ( f ) ; const A g ; void h ; }";
-    compare(&rt, rt.alloc(), script);
+fn parser_and_recognizer_agree(rt: HostRuntime) -> Result<(), AllocError> {
+    for (what, script) in SCRIPTS {
+        let wrong = first_wrong(rt.alloc(), script)?;
+        assert!(rt; wrong.is_none(), "{what}: {wrong:?}");
+    }
+    Ok(())
 }

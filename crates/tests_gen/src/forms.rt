@@ -2,8 +2,8 @@
 //! a tree down has nothing to drop before its end.
 use ang_kinds::{List, Pass, Prim};
 use ang_typed::{
-    Argument, Block, Comparison, Expression, Function, Local, Operator, Parameter, Statement,
-    StepKind, Typed, Variable,
+    Argument, Block, Choice, Comparison, Expression, For, Function, Local, Loop, Operator,
+    Parameter, Statement, StepKind, Typed, Variable,
 };
 use ang_types::ArgType;
 use std::alloc::{AllocError, Global};
@@ -235,37 +235,37 @@ pub fn choice(alloc: Global, condition: Tree, then: Rows, otherwise: Rows) -> Ro
     let otherwise = otherwise?;
     row(
         alloc,
-        Statement::If {
-            condition,
-            then: Block { statements: then },
-            otherwise: Block {
-                statements: otherwise,
+        Statement::If(Box::new(
+            alloc,
+            Choice {
+                condition,
+                then: Block { statements: then },
+                otherwise: Block {
+                    statements: otherwise,
+                },
             },
-        },
+        )?),
     )
 }
 
-pub fn while_loop(alloc: Global, condition: Tree, statements: Rows) -> Row {
+fn loop_of(alloc: Global, condition: Tree, statements: Rows) -> Result<Box<Loop>, AllocError> {
     let condition = condition?;
     let statements = statements?;
+    let body = Block { statements };
+    Ok(Box::new(alloc, Loop { condition, body })?)
+}
+
+pub fn while_loop(alloc: Global, condition: Tree, statements: Rows) -> Row {
     row(
         alloc,
-        Statement::While {
-            condition,
-            body: Block { statements },
-        },
+        Statement::While(loop_of(alloc, condition, statements)?),
     )
 }
 
 pub fn do_loop(alloc: Global, statements: Rows, condition: Tree) -> Row {
-    let condition = condition?;
-    let statements = statements?;
     row(
         alloc,
-        Statement::DoWhile {
-            body: Block { statements },
-            condition,
-        },
+        Statement::DoWhile(loop_of(alloc, condition, statements)?),
     )
 }
 
@@ -277,12 +277,15 @@ pub fn for_loop(alloc: Global, start: Rows, condition: Tree, step: Tree, body: R
     let steps = vec![in alloc; Box::into_inner(step)]?;
     row(
         alloc,
-        Statement::For {
-            start,
-            condition: Some(condition),
-            steps,
-            body: Block { statements },
-        },
+        Statement::For(Box::new(
+            alloc,
+            For {
+                start,
+                condition: Some(condition),
+                steps,
+                body: Block { statements },
+            },
+        )?),
     )
 }
 
