@@ -1,7 +1,7 @@
 //! Whole bodies, with the code that docs/MEANING.md ("Code") gives for each construct.
 use ang_code::{Instruction, RoutineCode};
 use ang_core::{Body, Expression, Statement};
-use ang_gen_emit::generate_body;
+use ang_gen_body::generate_module;
 use ang_kinds::Prim;
 use ang_meaning::{Arithmetic, Callee, Operation, Passing, Spot, Target};
 use std::alloc::{AllocError, Global};
@@ -122,9 +122,11 @@ fn calling(alloc: Global) -> Made {
     body(alloc, &[Passing::In], called(alloc))
 }
 
-/// The code of a body that is not used again.
-fn code_of(alloc: Global, body: Body) -> Result<RoutineCode, AllocError> {
-    generate_body(alloc, &body)
+/// The codes of a module of this body alone.
+fn codes_of(alloc: Global, body: Body) -> Result<Vec<RoutineCode>, AllocError> {
+    let mut bodies = Vec::with_capacity(alloc, 1)?;
+    bodies.push(body)?;
+    generate_module(alloc, bodies.as_slice())
 }
 
 /// Whether a body's code has these parameters, that height, and these instructions.
@@ -135,8 +137,15 @@ fn is_code(
     height: usize,
     text: &[Instruction],
 ) -> Result<bool, AllocError> {
-    let code = code_of(alloc, body?)?;
-    Ok(code.params.as_slice() == params && code.height == height && code.text.as_slice() == text)
+    let codes = codes_of(alloc, body?)?;
+    Ok(match codes.as_slice() {
+        [code] => {
+            code.params.as_slice() == params
+                && code.height == height
+                && code.text.as_slice() == text
+        }
+        _ => false,
+    })
 }
 
 /// A body of those above.
