@@ -10,7 +10,7 @@ import subprocess
 import sys
 import tempfile
 import time
-from collections import Counter, namedtuple
+from collections import Counter, defaultdict, namedtuple
 
 MOST = 65536  # bytes of a section
 STACK = 8192  # KiB, with which each section has to build
@@ -108,10 +108,10 @@ def section(text):
     return f"section m {text.count(chr(10)) + 1}\n{text}\n"
 
 
-def built(*texts, calls=()):
+def built(*texts, calls=(), mask="00000001"):
     """A session that builds sections in one module, and then does the calls."""
     lines = [f"{line}\n" for line in ("build m", *calls)]
-    return "module m 00000001\n" + "".join(map(section, texts)) + "".join(lines)
+    return f"module m {mask}\n" + "".join(map(section, texts)) + "".join(lines)
 
 
 def filled(unit, head=HEAD, tail="}"):
@@ -236,8 +236,8 @@ LIMITS = [
     Limit("a budget", 2**31 - 1, lambda n: built("void f(){}", calls=[f"budget {n}", "call m () void f()"]), OK, "refused BadBudget"),
     Limit("a signed argument", 127, lambda n: built("void f(int8 a){}", calls=[f"call m ({n}) void f(int8)"]), OK, "refused BadArguments"),
     Limit("an unsigned argument", 255, lambda n: built("void f(uint8 a){}", calls=[f"call m ({n}u) void f(uint8)"]), OK, "refused BadArguments"),
-    Limit("bytes of a call's declaration", MOST, lambda n: built("void f(){}", calls=[f"call m () void f(){' ' * (n - 8)}"]), OK, "refused NoFunction"),
-    Limit("sections that wait", 64, lambda n: built()[:-8] + section("int a;")[:-1].replace("int a", "") .join(["", "\n"]) * n, OK, "refused Limit"),
+    Limit("bytes of a call's declaration", MOST - 3, lambda n: built("void f(){}", calls=[f"call m () void f(){' ' * (n - 8)}"]), OK, "refused NoFunction"),
+    Limit("sections that wait", 64, lambda n: "module m 00000001\n" + section(";") * n, OK, "refused Limit"),
     Limit("modules", 1, lambda n: named(n, "module m%d 00000001\n"), OK, "refused Limit"),
     Limit("bytes of a module's name", 255, lambda n: f"module {'m' * n} 00000001\n", OK, "refused BadName"),
     Limit("registrations", 1024, registered("function 0 0 void f%d()\n"), "", "profile 1025 Limit"),
@@ -264,12 +264,12 @@ def limits(trials):
 
 TOKEN = re.compile(r'//[^\n]*\n|/\*.*?\*/|\w+|"[^"\n]*"|[-+*/%&|^<>=!]+|\S', re.S)
 FUNCTION = re.compile(r"\b(\w+)\s+(\w+)\s*\(([^()]*)\)\s*\{")
-VALUES = {"bool": "true", "": ""}
-A_SESSION = 50  # changed sections
+WORDS = "if else while for do return break continue true false const in out".split()
+CHANGED, A_SESSION = 10000, 50  # changed sections in all, and of a process
 
 
-def examples():
-    """The scripts of the examples: each session's profile, its module's mask, and its sections."""
+def examples(trials):
+    """The scripts of the examples: each session's profile, its module's mask, and those of its sections that are read."""
     folder = "crates/examples/data"
     for file in sorted(os.listdir(folder)):
         stem, kind = os.path.splitext(file)
@@ -277,7 +277,15 @@ def examples():
         if kind == ".session" and stem != "refused_profile":
             lines = open(f"{folder}/{file}").read().split("\n")
             mask = next(line.split()[2] for line in lines if line.startswith("module "))
-            yield open(profile).read(), mask, list(sections_in(lines))
+            profile = open(profile).read()
+            texts = [it for it in sections_in(lines) if is_read(trials.run(built(it, mask=mask), profile))]
+            if texts:
+                yield profile, mask, texts
+
+
+def is_read(ended):
+    """Whether the lexer and the parser took the one section of a session."""
+    return not re.search("Syntax|BadByte|BadNumber", ended.text)
 
 
 def sections_in(lines):
@@ -290,23 +298,45 @@ def sections_in(lines):
             at += int(words[2])
 
 
+def kind_of(token):
+    """What a token may be put in for: a token of the same kind, so that the grammar mostly takes it."""
+    if re.fullmatch(r"bool|void|u?int(8|16|32|64)?", token):
+        return "type"
+    if token in WORDS:
+        return "statement"
+    if re.fullmatch(r"[-+*/%&|^<>=!]+", token):
+        return "operator"
+    return "name" if token[0].isalpha() else "number" if token[0].isdigit() else token
+
+
+def statement_at(tokens, at):
+    """Where the tokens begin and end that stand between two of `;` `{` `}` around a token, the last of them with it."""
+    first = max((n + 1 for n in range(at) if tokens[n] in ";{}"), default=0)
+    return first, next((n + 1 for n in range(at, len(tokens)) if tokens[n] in ";{}"), len(tokens))
+
+
+def change(dice, tokens, others):
+    """One change: a run of tokens is cut or doubled, two tokens are swapped, or one is put in for another of its kind."""
+    at, other = dice.randrange(len(tokens)), dice.randrange(len(tokens))
+    first, end = dice.choice([statement_at(tokens, at), (at, at + dice.choice([1, 1, 1, 2, 5, 20, 100]))])
+    how = dice.choice(["cut", "double", "double", "swap", "take", "take", "take", "take"])
+    if how == "cut":
+        del tokens[first:end]
+    elif how == "double":
+        to = dice.choice([first, first, other])
+        tokens[to:to] = tokens[first:end] * dice.choice([1, 1, 2, 50])
+    elif how == "swap":
+        tokens[at], tokens[other] = tokens[other], tokens[at]
+    else:
+        tokens[at] = dice.choice(others[kind_of(tokens[at])])
+
+
 def changed_text(dice, text, others):
-    """A script with one to six changes of its tokens. What is put in may come from another script."""
+    """A script with one to six changes."""
     tokens = TOKEN.findall(text)
-    for _ in range(dice.randint(1, 6)):
-        at = dice.randrange(len(tokens) + 1)
-        to = min(len(tokens), at + dice.choice([1, 1, 1, 2, 5, 20, 100]))
-        other = dice.randrange(len(tokens) + 1)
-        piece = tokens[at:to]
-        change = dice.choice(["cut", "double", "swap", "take"])
-        if change == "cut":
-            del tokens[at:to]
-        elif change == "double":
-            tokens[other:other] = piece * dice.choice([1, 1, 2, 50])
-        elif change == "swap" and at < len(tokens) and other < len(tokens):
-            tokens[at], tokens[other] = tokens[other], tokens[at]
-        elif change == "take":
-            tokens[at:to] = [dice.choice(TOKEN.findall(dice.choice(others)))]
+    for _ in range(dice.choice([1, 1, 1, 2, 3, 6])):
+        if 0 < len(tokens) < MOST:
+            change(dice, tokens, others)
     return " ".join(tokens)[: MOST - 1].replace("\r", " ")
 
 
@@ -314,33 +344,53 @@ def calls_of(text):
     """A call of each function of a script by its first declaration, with some value for each parameter."""
     for result, name, params in FUNCTION.findall(text):
         types = [" ".join(it.split()[:1]) for it in params.split(",") if it.strip()]
-        values = [VALUES.get(it, "1u" if it.startswith("u") else "1") for it in types]
+        values = ["true" if it == "bool" else "1u" if it.startswith("u") else "1" for it in types]
         yield f"call m ({','.join(values)}) {result} {name}({', '.join(types)})"
 
 
-def changed(trials, count=10000):
+def commands_of(dice, texts, others):
+    """Commands that build changed sections of a session and call what they have, and the bytes of these sections."""
+    commands, size = [], 0
+    for _ in range(A_SESSION):
+        text = changed_text(dice, dice.choice(texts), others)
+        size += len(text) + 1
+        commands += [section(text), "build m\n", *[f"{call}\n" for call in dict.fromkeys(calls_of(text))][:10]]
+    return commands, size
+
+
+def told(trials, seen, commands, ended):
+    """Counts what the commands were answered: each has one outcome, and a refused build its first error before it."""
+    kind, outcomes = "", []
+    for line in ended.text.splitlines():
+        words = line.split(" ")
+        if words[0] == "error":
+            kind = kind or words[1]
+        elif words[0] in ("ok", "fault", "refused"):
+            outcomes.append(words[0] if words[0] == "ok" else f"{' '.join(words[:2])} {kind}".strip())
+            kind = ""
+    if len(outcomes) != len(commands):
+        trials.bad["answered otherwise"] += 1
+        print(f"answered otherwise: {len(outcomes)} answers to {len(commands)} commands")
+    words = [command.split(" ")[0] for command in commands]
+    seen.update(f"`{word}`: {outcome}" for word, outcome in zip(words, outcomes) if word in ("build", "call"))
+
+
+def changed(trials):
     """Sections of the examples with changed tokens, each built, and its functions called."""
-    dice, seen, bytes_in, longest = random.Random(1), Counter(), 0, 0.0
-    scripts = list(examples())
-    others = [text for _, _, texts in scripts for text in texts]
-    for first in range(0, count, A_SESSION):
+    dice, seen, size, longest = random.Random(1), Counter(), 0, 0.0
+    scripts = list(examples(trials))
+    others = defaultdict(list)
+    for token in [it for _, _, texts in scripts for text in texts for it in TOKEN.findall(text)]:
+        others[kind_of(token)].append(token)
+    for first in range(0, CHANGED, A_SESSION):
         profile, mask, texts = dice.choice(scripts)
-        commands = [f"module m {mask}\n", "budget 2000\n"]
-        for _ in range(min(A_SESSION, count - first)):
-            text = changed_text(dice, dice.choice(texts), others)
-            bytes_in += len(text) + 1
-            commands += [section(text), "build m\n", *(f"{call}\n" for call in dict.fromkeys(calls_of(text)))][:12]
+        commands, more = commands_of(dice, texts, others)
+        commands = [f"module m {mask}\n", "budget 2000\n", *commands]
         ended = trials.tried(f"changed sections from number {first}", "".join(commands), ".*", profile=profile)
-        outcomes = [line for line in ended.text.splitlines() if line.split(" ")[0] in ("ok", "fault", "refused")]
-        if ended.status in (0, 1) and len(outcomes) != len(commands):
-            trials.bad["answered otherwise"] += 1
-            print(f"answered otherwise: from section {first} {len(outcomes)} answers to {len(commands)} commands")
-        longest = max(longest, ended.seconds)
-        for command, outcome in zip(commands, outcomes):
-            what = command.split(" ")[0]
-            if what in ("build", "call"):
-                seen[f"{what}: {' '.join(outcome.split()[:2]) if outcome[:2] != 'ok' else 'ok'}"] += 1
-    print(f"\n{count} changed sections of {bytes_in // count} bytes each, {A_SESSION} a process, {longest:.1f} s the longest process\n")
+        if ended.status in (0, 1):
+            told(trials, seen, commands, ended)
+        size, longest = size + more, max(longest, ended.seconds)
+    print(f"\n{CHANGED} changed sections of {size // CHANGED} bytes on average, at most {longest:.1f} s for {A_SESSION} of them\n")
     table(["Command and answer", "times"], sorted(seen.items()))
 
 
@@ -419,14 +469,19 @@ def events(trials):
     table(["Asking", "bytes"], rows())
 
 
+def sections(unit):
+    """64 full sections of a unit, each in a function of its own."""
+    return [filled(unit)] + [filled(unit, f"void f{n}(){{") for n in range(63)]
+
+
 def full(trials):
     """64 full sections in one build."""
-    several = lambda unit, head: [filled(unit, head % n) for n in range(64)]
     kinds = {
-        "`for(;;)` one inside the other": several("for(;;)", "void f%d(){")[:],
-        "`;`": several(";", "void f%d(){"),
-        "`x=x+1;`": [it.replace("{", "{int x;", 1) for it in several("x=x+1;", "void f%d(){      ")],
-        "`f(~x)` in calls": several("x;", "int x%d;void f%d(){" if False else "void f%d(int x){"),
+        "`for(;;)` one inside the other": [nested(("for(;;)", ""), ";")[0]]
+        + [nested(("for(;;)", ""), ";")[0].replace(HEAD, f"void f{n}(){{") for n in range(63)],
+        "`;`": sections(";"),
+        "`x=x+1;`": sections("x=x+1;"),
+        "60 calls `g(~..)` one inside the other": sections("g(~" * 60 + "x" + ")" * 60 + ";"),
     }
 
     def rows():
