@@ -17,6 +17,7 @@ STACK = 8192  # KiB, with which each section has to build
 STEP = 64  # KiB, to which the least stack is found
 SECONDS = 120  # for one process
 GNU_TIME = "/usr/bin/time"
+WAYS = ["ended by a signal", "ran out of time", "answered otherwise", "above a bound"]
 
 PROFILE = "function 0 0 void put(int64)\nglobal 0 0 int64 reg\n"
 HEAD = "int x;bool b;int g(int n){return n;}void f(){"
@@ -35,8 +36,8 @@ class Trials:
         self.runs = 0
         self.bad = Counter()
 
-    def run(self, session, profile=PROFILE, stack=STACK, measured=False):
-        """Runs a session, with that many KiB of stack."""
+    def run(self, session, profile=PROFILE, stack=STACK, memory=None, measured=False):
+        """Runs a session, with that many KiB of stack, and that many of memory if there is a limit."""
         files = {"profile": profile, "session": session}
         for name, text in files.items():
             with open(f"{self.folder}/{name}", "w", newline="\n") as out:
@@ -44,10 +45,10 @@ class Trials:
         words = [self.program, "--profile", "profile", "--session", "session"]
         if measured:
             words = [GNU_TIME, "-q", "-f", "%M", "-o", "resident", *words]
-        limited = lambda: resource.setrlimit(resource.RLIMIT_STACK, (stack * 1024, stack * 1024))
         start = time.monotonic()
+        how = {"cwd": self.folder, "env": {}, "capture_output": True, "timeout": SECONDS}
         try:
-            ran = subprocess.run(words, cwd=self.folder, env={}, capture_output=True, timeout=SECONDS, preexec_fn=limited)
+            ran = subprocess.run(words, preexec_fn=lambda: limit_to(stack, memory), **how)
             status, text = ran.returncode, ran.stdout.decode("latin-1")
         except subprocess.TimeoutExpired:
             status, text = None, ""
@@ -65,17 +66,19 @@ class Trials:
         ended = self.run(session, **how)
         self.runs += 1
         answer = answer_of(ended)
-        if not re.fullmatch(wanted, answer):
-            kind = "ended by a signal" if is_killed(ended) else "ran out of time" if ended.status is None else "answered otherwise"
-            self.bad[kind] += 1
-            print(f"{kind}: {what}: {answer}, where {wanted} is wanted", flush=True)
+        if ended.status is None or is_killed(ended) or not re.fullmatch(wanted, answer):
+            self.count(way_of(ended), f"{what}: {answer}, where {wanted} is wanted")
         return ended
+
+    def count(self, way, what):
+        """Counts and prints what did not go well."""
+        self.bad[way] += 1
+        print(f"{way}: {what}", flush=True)
 
     def held(self, what, figure, bound):
         """Counts a figure that is above its bound."""
         if figure > bound:
-            self.bad["above a bound"] += 1
-            print(f"above a bound: {what}: {figure:.1f}, where {bound} is the most", flush=True)
+            self.count(WAYS[3], f"{what}: {figure:.1f}, where {bound} is the most")
 
     def least_stack(self, session, wanted):
         """The least KiB of stack, up to a step, with which a session is answered so."""
@@ -89,12 +92,26 @@ class Trials:
         return high * STEP
 
 
+def limit_to(stack, memory):
+    """Limits this process, in KiB."""
+    resource.setrlimit(resource.RLIMIT_STACK, (stack * 1024, stack * 1024))
+    if memory:
+        resource.setrlimit(resource.RLIMIT_AS, (memory * 1024, memory * 1024))
+
+
+def way_of(ended):
+    """In which way a run ended whose answer is not the wanted one."""
+    if ended.status is None:
+        return WAYS[1]
+    return WAYS[0] if is_killed(ended) else WAYS[2]
+
+
 def is_killed(ended):
     return ended.status is not None and ended.status < 0
 
 
 def answer_of(ended):
-    """The last answer of a run: an outcome, with the kind of the first error before it, or how the process was ended."""
+    """The last line of a run, with the kind of the first error before it, or how the process was ended."""
     if ended.status is None:
         return "out of time"
     if is_killed(ended):
@@ -188,8 +205,8 @@ def deep(trials):
     print(f"\n{len(decls)} calls whose declarations are as long: refused NoFunction")
 
 
-# What stands before and behind a limit: what it is of, its last value, what makes a session of a number, and what such a
-# session is answered at the last value and one above.
+# What is limited, its last value, what makes a session of a number, and what that is answered at the last value and one
+# above.
 Limit = namedtuple("Limit", "what last session within above")
 
 
@@ -201,48 +218,66 @@ def operators(unit):
     return lambda n: built(HEAD + unit * n + "x;}")
 
 
-def registered(line):
-    """A profile with that line as often as the number says."""
-    return lambda n: dict(session="", profile=named(n, line))
+def called(text, call, *before):
+    return built(text, calls=[*before, f"call m {call}"])
+
+
+def profiled(profile):
+    """An empty session below a profile."""
+    return {"session": "", "profile": profile}
 
 
 DEEP = "refused BuildErrors TooDeep"
 LONG = "refused BuildErrors TooLong"
 MANY = "refused BuildErrors Limit"
+NOT_YET = "refused BuildErrors NotYet"
+ARGUMENTS = "refused BadArguments"
 COUNT = "int f(int n){return n<2?n:f(n-1);}"
-LOOP = "void f(){for(int i;i<998;i++);}"
+LOOP = "void f(){for(int i;i<%d;i++);}"  # takes two ticks more
 
 LIMITS = [
     Limit("bytes of a section", MOST, lambda n: built(";" * (n - 1)), OK, LONG),
     Limit("bytes of a name", 255, lambda n: built(f"int {'a' * n};"), OK, LONG),
-    Limit("bytes of a text", 255, lambda n: built(f'import void f() from "{"a" * (n - 2)}";'), "refused BuildErrors NotYet", LONG),
+    Limit("bytes of a text", 255, lambda n: built(f'import void f() from "{"a" * (n - 2)}";'), NOT_YET, LONG),
     Limit("a number", 2**64 - 1, lambda n: built(f"uint64 a={n};"), OK, "refused BuildErrors BadNumber"),
-    Limit("open brackets, of them (", 64, lambda n: built(HEAD + "(" * (n - 1) + "x" + ")" * (n - 1) + ";}"), OK, DEEP),
-    Limit("open brackets, of them {", 64, lambda n: built("void f()" + "{" * n + "}" * n), OK, DEEP),
-    Limit("operators: x=", 256, operators("x="), OK, DEEP),
-    Limit("operators: x+", 256, operators("x+"), OK, DEEP),
-    Limit("operators: ~", 256, operators("~"), OK, DEEP),
-    Limit("operators: b?x:", 256, operators("b?x:"), OK, DEEP),
-    Limit("operators: if(b)", 256, operators("if(b)"), OK, DEEP),
-    Limit("operators: while(b)", 256, operators("while(b)"), OK, DEEP),
+    Limit("open `(` and `{`", 64, lambda n: built(HEAD + "(" * (n - 1) + "x" + ")" * (n - 1) + ";}"), OK, DEEP),
+    Limit("open `{`", 64, lambda n: built("void f()" + "{" * n + "}" * n), OK, DEEP),
+    Limit("operators: `x=..`", 256, operators("x="), OK, DEEP),
+    Limit("operators: `x+..`", 256, operators("x+"), OK, DEEP),
+    Limit("operators: `~..`", 256, operators("~"), OK, DEEP),
+    Limit("operators: `b?x:..`", 256, operators("b?x:"), OK, DEEP),
+    Limit("operators: `if(b)..`", 256, operators("if(b)"), OK, DEEP),
+    Limit("operators: `while(b)..`", 256, operators("while(b)"), OK, DEEP),
     Limit("functions", 4096, lambda n: built(named(n, "void f%d(){}")), OK, MANY),
     Limit("globals", 4096, lambda n: built(named(n, "int a%d;")), OK, MANY),
     Limit("globals of one list", 4096, lambda n: built(f"int a{named(n - 1, ',a%d')};"), OK, MANY),
     Limit("parameters", 32, lambda n: built(f"void f({','.join(['int'] * n)}){{}}"), OK, MANY),
     Limit("locals alive at once", 1024, lambda n: built(f"void f(){{{named(n, 'int a%d;')}}}"), OK, MANY),
     Limit("locals of nested loops", 1024, lambda n: built("void f(){" + "for(int i;;)" * n + ";}"), OK, MANY),
-    Limit("functions one inside the other", 200, lambda n: built(COUNT, calls=[f"call m ({n}) int f(int)"]), "ok 1", "fault Depth"),
-    Limit("ticks, of a budget of 1000", 1000, lambda n: built(LOOP.replace("998", str(n - 2)), calls=["budget 1000", "call m () void f()"]), OK, "fault Budget"),
-    Limit("a budget", 2**31 - 1, lambda n: built("void f(){}", calls=[f"budget {n}", "call m () void f()"]), OK, "refused BadBudget"),
-    Limit("a signed argument", 127, lambda n: built("void f(int8 a){}", calls=[f"call m ({n}) void f(int8)"]), OK, "refused BadArguments"),
-    Limit("an unsigned argument", 255, lambda n: built("void f(uint8 a){}", calls=[f"call m ({n}u) void f(uint8)"]), OK, "refused BadArguments"),
-    Limit("bytes of a call's declaration", MOST - 3, lambda n: built("void f(){}", calls=[f"call m () void f(){' ' * (n - 8)}"]), OK, "refused NoFunction"),
+    Limit("functions one inside the other", 200, lambda n: called(COUNT, f"({n}) int f(int)"), "ok 1", "fault Depth"),
+    Limit("ticks", 1000, lambda n: called(LOOP % (n - 2), "() void f()", "budget 1000"), OK, "fault Budget"),
+    Limit("a budget", 2**31 - 1, lambda n: called("void f(){}", "() void f()", f"budget {n}"), OK, "refused BadBudget"),
+    Limit("a signed argument", 127, lambda n: called("void f(int8 a){}", f"({n}) void f(int8)"), OK, ARGUMENTS),
+    Limit("an unsigned argument", 255, lambda n: called("void f(uint8 a){}", f"({n}u) void f(uint8)"), OK, ARGUMENTS),
+    Limit(
+        "bytes of a call's declaration",
+        MOST - 3,
+        lambda n: called("void f(){}", "() void f()" + " " * (n - 8)),
+        OK,
+        "refused NoFunction",
+    ),
     Limit("sections that wait", 64, lambda n: "module m 00000001\n" + section(";") * n, OK, "refused Limit"),
     Limit("modules", 1, lambda n: named(n, "module m%d 00000001\n"), OK, "refused Limit"),
     Limit("bytes of a module's name", 255, lambda n: f"module {'m' * n} 00000001\n", OK, "refused BadName"),
-    Limit("registrations", 1024, registered("function 0 0 void f%d()\n"), "", "profile 1025 Limit"),
-    Limit("parameters of a registration", 32, lambda n: dict(session="", profile=f"function 0 0 void f({','.join(['int'] * n)})\n"), "", "profile 1 Limit"),
-    Limit("bytes of a profile", 2**20, lambda n: dict(session="", profile="#" * n), "", "profile 0 TooLong"),
+    Limit("registrations", 1024, lambda n: profiled(named(n, "function 0 0 void f%d()\n")), "", "profile 1025 Limit"),
+    Limit(
+        "parameters of a registration",
+        32,
+        lambda n: profiled(f"function 0 0 void f({','.join(['int'] * n)})\n"),
+        "",
+        "profile 1 Limit",
+    ),
+    Limit("bytes of a profile", 2**20, lambda n: profiled("#" * n), "", "profile 0 TooLong"),
     Limit("bytes of a session", 2**24, lambda n: "#" * n, "", "line 0 TooLong"),
 ]
 
@@ -269,15 +304,15 @@ CHANGED, A_SESSION = 10000, 50  # changed sections in all, and of a process
 
 
 def examples(trials):
-    """The scripts of the examples: each session's profile, its module's mask, and those of its sections that are read."""
+    """Of each session of the examples its profile, its module's mask, and those of its sections that are read."""
     folder = "crates/examples/data"
     for file in sorted(os.listdir(folder)):
         stem, kind = os.path.splitext(file)
-        profile = next(f"{folder}/{it}.profile" for it in (stem, stem.split("_")[0]) if os.path.isfile(f"{folder}/{it}.profile"))
         if kind == ".session" and stem != "refused_profile":
+            profiles = [f"{folder}/{it}.profile" for it in (stem, stem.split("_")[0])]
+            profile = open(next(filter(os.path.isfile, profiles))).read()
             lines = open(f"{folder}/{file}").read().split("\n")
             mask = next(line.split()[2] for line in lines if line.startswith("module "))
-            profile = open(profile).read()
             texts = [it for it in sections_in(lines) if is_read(trials.run(built(it, mask=mask), profile))]
             if texts:
                 yield profile, mask, texts
@@ -316,7 +351,7 @@ def statement_at(tokens, at):
 
 
 def change(dice, tokens, others):
-    """One change: a run of tokens is cut or doubled, two tokens are swapped, or one is put in for another of its kind."""
+    """One change: some tokens are cut or doubled, two are swapped, or one is put in for another of its kind."""
     at, other = dice.randrange(len(tokens)), dice.randrange(len(tokens))
     first, end = dice.choice([statement_at(tokens, at), (at, at + dice.choice([1, 1, 1, 2, 5, 20, 100]))])
     how = dice.choice(["cut", "double", "double", "swap", "take", "take", "take", "take"])
@@ -369,8 +404,7 @@ def told(trials, seen, commands, ended):
             outcomes.append(words[0] if words[0] == "ok" else f"{' '.join(words[:2])} {kind}".strip())
             kind = ""
     if len(outcomes) != len(commands):
-        trials.bad["answered otherwise"] += 1
-        print(f"answered otherwise: {len(outcomes)} answers to {len(commands)} commands")
+        trials.count(WAYS[2], f"{len(outcomes)} answers to {len(commands)} commands")
     words = [command.split(" ")[0] for command in commands]
     seen.update(f"`{word}`: {outcome}" for word, outcome in zip(words, outcomes) if word in ("build", "call"))
 
@@ -390,50 +424,43 @@ def changed(trials):
         if ended.status in (0, 1):
             told(trials, seen, commands, ended)
         size, longest = size + more, max(longest, ended.seconds)
-    print(f"\n{CHANGED} changed sections of {size // CHANGED} bytes on average, at most {longest:.1f} s for {A_SESSION} of them\n")
+    mean = size // CHANGED
+    print(f"\n{CHANGED} changed sections of {mean} bytes on average, {A_SESSION} in at most {longest:.1f} s\n")
     table(["Command and answer", "times"], sorted(seen.items()))
 
 
-def names(count, first="int a", tail=";"):
-    """One list of names, each of them another."""
-    out, size = [first], len(first) + len(tail)
-    for n in range(count):
-        size += len(f",a{n}")
-        if size > MOST - 1:
-            break
-        out.append(f",a{n}")
-    return "".join(out) + tail
-
-
-def repeated(piece):
-    """A piece with a number in it as often as there is room."""
-    out, size = [], 0
-    for n in range(4096):
+def numbered(head, piece, tail="", most=20000):
+    """A piece with a number in it as often as there is room, and at most so often."""
+    out, size = [head], len(head) + len(tail)
+    for n in range(most):
         size += len(piece % n)
         if size > MOST - 1:
             break
         out.append(piece % n)
-    return "".join(out)
+    return "".join(out) + tail
 
 
 ANY = "ok|refused BuildErrors Limit"
 
+WORST = "g(~" * 60 + "x" + ")" * 60 + ";"  # takes most memory
+PARAMETERS = ",".join(["int"] * 32)
+
 # The section, and the most bytes of memory for each of its bytes.
 KINDS = [
     ("`;`", filled(";"), 150),
-    ("names: `int a,a0,a1..`", names(20000), 150),
+    ("names: `int a,a0,a1..`", numbered("int a", ",a%d", ";"), 150),
     ("`(x);`", filled("(x);"), 300),
     ("60 brackets around each `x`", filled("(" * 60 + "x" + ")" * 60 + ";"), 300),
     ("`x;`", filled("x;"), 300),
     ("`x=x+1;`", filled("x=x+1;"), 300),
-    ("`void f0(){}`", repeated("void f%d(){}"), 300),
-    ("32 parameters: `void f0(int,int..){}`", repeated(f"void f%d({','.join(['int'] * 32)}){{}}"), 300),
+    ("`void f0(){}`", numbered("", "void f%d(){}", most=4096), 300),
+    ("32 parameters: `void f0(int,int..){}`", numbered("", f"void f%d({PARAMETERS}){{}}"), 300),
     ("`for(;;)` one inside the other", nested(("for(;;)", ""), ";")[0], 450),
     ("`{int a;}`", filled("{int a;}"), 450),
     ("250 times `x+` in a statement", filled("x+" * 250 + "x;"), 450),
     ("250 times `~`", filled("~" * 250 + "x;"), 450),
     ("`g(x);`", filled("g(x);"), 450),
-    ("60 calls `g(~..)` one inside the other", filled("g(~" * 60 + "x" + ")" * 60 + ";"), 450),
+    ("60 calls `g(~..)` one inside the other", filled(WORST), 450),
 ]
 
 
@@ -453,20 +480,28 @@ def memory(trials):
     events(trials)
 
 
+# What asks the host, the line of asrun for it, and the most bytes of an event: 128, 32 for the name of the caller, and for
+# an argument 32, and 24 that the console notes.
+ASKINGS = [("reg;", "host m 1 0 - () 0\n", 128 + 32), ("put(x);", "host m 0 0 - (0) void\n", 128 + 32 + 32 + 24)]
+
+
 def events(trials):
-    """The resident memory of a call, for each asking of the host in its reply."""
-    asking = {"`reg;`": "reg;", "`put(x);`": "put(x);"}
+    """The resident memory of a call, for each asking of the host in its reply, without asrun's text of it."""
+    few, many = 1 << 15, 1 << 18
+
+    def resident(text, count):
+        script = f"int64 x;void f(){{for(;;){text}}}"
+        session = called(script, "() void f()", f"budget {count + 2}")
+        return trials.tried(f"{count} times {text}", session, "fault Budget", measured=True).resident or 0
 
     def rows():
-        for name, text in asking.items():
-            sizes = []
-            for count in (1 << 15, 1 << 18):
-                session = built(f"int64 x;void f(){{for(;;){text}}}", calls=[f"budget {count + 2}", "call m () void f()"])
-                sizes.append(trials.tried(f"{count} times {name}", session, "fault Budget", measured=True).resident)
-            yield name, f"{(sizes[1] - sizes[0]) / ((1 << 18) - (1 << 15)):.0f}"
+        for text, line, bound in ASKINGS:
+            figure = (resident(text, many) - resident(text, few)) / (many - few) - len(line)
+            trials.held(text, figure, bound)
+            yield f"`{text}`", f"{figure:.0f}", bound
 
-    print("\nMemory of a call for each asking of the host, with the text that asrun makes of it\n")
-    table(["Asking", "bytes"], rows())
+    print("\nMemory of a call for each asking of the host\n")
+    table(["Asking", "bytes", "the most"], rows())
 
 
 def sections(unit):
@@ -474,29 +509,47 @@ def sections(unit):
     return [filled(unit)] + [filled(unit, f"void f{n}(){{") for n in range(63)]
 
 
+def limited(trials):
+    """The sections that take most memory, and one that takes most stack, below limits of the process's memory.
+
+    The deepest section is built first, so that the stack has grown before memory runs out: a stack that can't grow ends
+    the process.
+    """
+    deepest = nested(("for(;;)if(b)", ""), BOTTOMS["`x=x=..`"][0])[0]
+    then = sections(WORST)[:5] + [deepest.replace(HEAD, "void deep(){")]
+    session = built(deepest) + "".join(map(section, then)) + "build m\n"
+    seen = Counter()
+    for memory in range(24, 224, 4):
+        ended = trials.tried(f"below {memory} MiB", session, "ok|refused BuildMemory", memory=memory << 10)
+        seen[answer_of(ended)] += 1
+    print("\nBuilds below limits of memory from 24 to 220 MiB (`ulimit -v`), each behind one of the deepest section\n")
+    table(["Answer", "times"], sorted(seen.items()))
+
+
 def full(trials):
     """64 full sections in one build."""
+    loops = nested(("for(;;)", ""), ";")[0]
     kinds = {
-        "`for(;;)` one inside the other": [nested(("for(;;)", ""), ";")[0]]
-        + [nested(("for(;;)", ""), ";")[0].replace(HEAD, f"void f{n}(){{") for n in range(63)],
+        "`for(;;)` one inside the other": [loops, *(loops.replace(HEAD, f"void f{n}(){{") for n in range(63))],
         "`;`": sections(";"),
         "`x=x+1;`": sections("x=x+1;"),
-        "60 calls `g(~..)` one inside the other": sections("g(~" * 60 + "x" + ")" * 60 + ";"),
+        "60 calls `g(~..)` one inside the other": sections(WORST),
     }
 
     def rows():
         for name, texts in kinds.items():
             size = sum(len(it) + 1 for it in texts)
             ended = trials.tried(f"64 sections of {name}", built(*texts), OK, measured=True)
-            figure = (ended.resident or 0) / size
-            trials.held(f"64 sections of {name}", figure, 450)
-            yield name, f"{size:,}", f"{ended.seconds:.1f}", f"{(ended.resident or 0) >> 20}", f"{figure:.0f}", f"`{answer_of(ended)}`"
+            resident = ended.resident or 0
+            trials.held(f"64 sections of {name}", resident / size, 450)
+            figures = [f"{size:,}", f"{ended.seconds:.1f}", resident >> 20, f"{resident / size:.0f}"]
+            yield name, *figures, f"`{answer_of(ended)}`"
 
     print("\n64 full sections in one build\n")
     table(["Sections of", "bytes", "seconds", "MiB", "bytes of memory a byte", "answer"], rows())
 
 
-PARTS = {"deep": deep, "limits": limits, "changed": changed, "full": full, "memory": memory}
+PARTS = {"deep": deep, "limits": limits, "changed": changed, "limited": limited, "full": full, "memory": memory}
 
 
 def main():
@@ -511,8 +564,7 @@ def main():
             PARTS[part](trials)
     finally:
         shutil.rmtree(folder)
-    ways = ("ended by a signal", "ran out of time", "answered otherwise", "above a bound")
-    print(f"\n{trials.runs} runs: " + ", ".join(f"{trials.bad[way]} {way}" for way in ways))
+    print(f"\n{trials.runs} runs: " + ", ".join(f"{trials.bad[way]} {way}" for way in WAYS))
     sys.exit(1 if trials.bad else 0)
 
 
