@@ -1,9 +1,13 @@
-//! Why typing a statement stops, in few bytes.
+//! Why the typing of statements stops, in few bytes: each function between a statement and the statements in
+//! it holds such a result, so a nesting takes less of the process's stack.
+ghost use Rattle.std.specs.Prelude.{◌≡◌};
+ghost use Rattle.ang_check.specs.Halts as spec;
+ghost use Rattle.ang_check.specs.declared.halt.Halt.TheVariants.{Memory};
 
 use ang_check_operators::{Refusal, Stop};
 use std::alloc::{AllocError, AllocFailed, Global};
 
-/// A refusal, or want of memory.
+/// As `Stop`, with the refusal in a box.
 #[derive(Drop)]
 pub enum Halt {
     /// The first refusal.
@@ -13,20 +17,26 @@ pub enum Halt {
 }
 
 impl From<AllocError> for Halt {
+    ghost from_gives = { λ _ e. e ≡ Memory };
+
     fn from(_e: AllocError) -> Self {
         Halt::Memory
     }
 }
 
 impl<T: Drop> From<AllocFailed<T>> for Halt {
+    ghost from_gives = { λ _ e. e ≡ Memory };
+
     fn from(_e: AllocFailed<T>) -> Self {
         Halt::Memory
     }
 }
 
-/// The refusal in a box.
+/// The same with the refusal in a box; `Memory` where there is none for the box.
 #[inline(never)]
-pub fn make_halt(alloc: Global, stop: Stop) -> Halt {
+pub fn halt_of(alloc: Global, stop: Stop) -> Halt
+    ensures boxed { spec.IsBoxed result stop }
+{
     match stop {
         Stop::Memory => Halt::Memory,
         Stop::Refused(refusal) => match Box::new(alloc, refusal) {
@@ -36,8 +46,10 @@ pub fn make_halt(alloc: Global, stop: Stop) -> Halt {
     }
 }
 
-/// The refusal out of its box.
-pub fn stop(halt: Halt) -> Stop {
+/// The same with the refusal out of its box.
+pub fn stop_of(halt: Halt) -> Stop
+    ensures exact { result ≡ spec.stop_of halt }
+{
     match halt {
         Halt::Memory => Stop::Memory,
         Halt::Refused(refusal) => Stop::Refused(Box::into_inner(refusal)),

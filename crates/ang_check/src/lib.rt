@@ -6,9 +6,9 @@ mod checking;
 mod found;
 mod frame;
 mod halt;
-mod leaves;
 mod locals;
 mod loops;
+mod parts;
 mod statements;
 mod values;
 

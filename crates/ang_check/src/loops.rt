@@ -1,13 +1,15 @@
 //! What stands in the parentheses of a `for`.
-ghost use Rattle.std.specs.Prelude.{◌≡◌, ◌≤◌, ◌∷◌, [], length, map as list_map, IfOk, OnOk};
+ghost use Rattle.std.specs.Prelude.{◌≡◌, ◌≤◌, ◌∷◌, [], length, map as list_map, IfOk, Ok, OnOk};
 ghost use Rattle.ang_tree.specs.View as trees;
 ghost use Rattle.ang_typed.specs.Typed as tree;
 ghost use Rattle.ang_typed.specs.View.{view_block, view_expr, view_option, view_stmt};
 ghost use Rattle.ang_check_operators.specs.Refusals.{Gives};
+ghost use Rattle.ang_check.specs.Halts.{GivesOrHalts};
 ghost use Rattle.ang_check.specs.Statements as spec;
 ghost use Rattle.ang_check.specs.View.{view_boxed};
 
 use crate::frame::Frame;
+use crate::halt::Halt;
 use crate::locals::locals_statement;
 use crate::values::{expression_statement, optional_condition, steps};
 use ang_check_operators::Stop;
@@ -97,7 +99,11 @@ pub fn list_of_one(alloc: Global, statement: Statement) -> Result<Vec<Statement>
 
 /// A `for` of these parts.
 #[inline(never)]
-pub fn for_of(alloc: Global, head: Box<LoopHead>, body: Block) -> Result<Statement, AllocError> {
+pub fn for_of(alloc: Global, head: Box<LoopHead>, body: Block) -> Result<Statement, Halt>
+    ensures exact { GivesOrHalts view_stmt result (Ok (tree.for
+        (tree.«then» (view_boxed head.value.start) tree.end) (view_option head.value.condition)
+        (list_map view_expr head.value.steps.items) (view_block body))) }
+{
     let LoopHead {
         start,
         condition,

@@ -1,18 +1,22 @@
 //! The typing of statements.
-ghost use Rattle.std.specs.Prelude.{◌≡◌, ◌≤◌, ◌++◌, ◌∷◌, [], true, length, map as list_map, IfOk, OnOk};
+//!
+//! A nesting of statements is a nesting of calls here, as deep as the text is long. So what a function holds
+//! while it calls the next one is small: one box, and what stops it in few bytes.
+ghost use Rattle.std.specs.Prelude.{◌≡◌, ◌≤◌, ◌++◌, ◌∷◌, [], true, length, map as list_map, IfOk, Ok, OnOk};
 ghost use Rattle.ang_tree.specs.View as trees;
 ghost use Rattle.ang_typed.specs.Typed as tree;
 ghost use Rattle.ang_typed.specs.View.{view_block, view_expr, view_option, view_stmt, view_tree};
 ghost use Rattle.ang_check_operators.specs.Refusals.{Gives};
+ghost use Rattle.ang_check.specs.Halts.{GivesOrHalts};
 ghost use Rattle.ang_check.specs.Statements as spec;
 ghost use Rattle.ang_check.specs.View.{view_boxed};
 
 use crate::frame::Frame;
-use crate::halt::{Halt, stop};
-use crate::leaves::{
-    leaf_condition, leaf_expression, leaf_head, leaf_jump, leaf_locals, leaf_return,
-};
+use crate::halt::{Halt, stop_of};
 use crate::loops::{LoopHead, for_of, list_of_one};
+use crate::parts::{
+    condition_or_halt, expression_or_halt, head_or_halt, jump, locals_or_halt, return_or_halt,
+};
 use ang_check_operators::Stop;
 use ang_check_typing::Pair;
 use ang_tree as written;
@@ -22,8 +26,9 @@ use std::alloc::{AllocError, Global};
 
 /// A block of one statement.
 #[inline(never)]
-fn block_of_one(alloc: Global, statement: Result<Statement, Halt>) -> Result<Block, Halt> {
-    let statement = statement?;
+fn block_of_one(alloc: Global, statement: Statement) -> Result<Block, Halt>
+    ensures exact { GivesOrHalts view_block result (Ok (tree.«then» (view_stmt statement) tree.end)) }
+{
     let statements = list_of_one(alloc, statement)?;
     Ok(Block { statements })
 }
@@ -38,12 +43,10 @@ fn empty_block(alloc: Global) -> Block
 }
 
 /// The list with one more statement at its end.
-#[inline(never)]
-fn with_statement(
-    first: Vec<Statement>,
-    statement: Result<Statement, Halt>,
-) -> Result<Vec<Statement>, Halt> {
-    let statement = statement?;
+fn with_statement(first: Vec<Statement>, statement: Statement) -> Result<Vec<Statement>, AllocError>
+    ensures exact { IfOk result (λ v. list_map view_stmt v.items
+        ≡ list_map view_stmt first.items ++ (view_stmt statement ∷ [])) }
+{
     let mut found = first;
     found.push(statement)?;
     Ok(found)
@@ -56,12 +59,21 @@ struct Tested {
     then: Block,
 }
 
+/// A condition and what runs where it is true, in a box.
 #[inline(never)]
-fn either_of(
-    alloc: Global,
-    tested: Box<Tested>,
-    otherwise: Block,
-) -> Result<Statement, AllocError> {
+fn tested_of(alloc: Global, condition: Box<Expression>, then: Block) -> Result<Box<Tested>, Halt>
+    ensures exact { GivesOrHalts (λ x. (view_tree x.value.condition, view_block x.value.«then»)) result
+        (Ok (view_tree condition, view_block «then»)) }
+{
+    Ok(Box::new(alloc, Tested { condition, then })?)
+}
+
+/// An `if` of these parts.
+#[inline(never)]
+fn either_of(alloc: Global, tested: Box<Tested>, otherwise: Block) -> Result<Statement, Halt>
+    ensures exact { GivesOrHalts view_stmt result (Ok (tree.either
+        (view_tree tested.value.condition) (view_block tested.value.«then») (view_block otherwise))) }
+{
     let Tested { condition, then } = Box::into_inner(tested);
     let found = Box::new(
         alloc,
@@ -74,14 +86,39 @@ fn either_of(
     Ok(Statement::If(found))
 }
 
+/// An `if` without an `else`.
 #[inline(never)]
-fn make_tested(
+fn when_of(alloc: Global, tested: Box<Tested>) -> Result<Statement, Halt>
+    ensures exact { GivesOrHalts view_stmt result (Ok (tree.either
+        (view_tree tested.value.condition) (view_block tested.value.«then») tree.end)) }
+{
+    either_of(alloc, tested, empty_block(alloc))
+}
+
+/// A `while` of these parts.
+#[inline(never)]
+fn while_of(alloc: Global, condition: Box<Expression>, body: Block) -> Result<Statement, Halt>
+    ensures exact { GivesOrHalts view_stmt result (Ok (tree.while (view_tree condition) (view_block body))) }
+{
+    let found = Box::new(alloc, Loop { condition, body })?;
+    Ok(Statement::While(found))
+}
+
+/// A `do` with this body, whose condition is typed behind it.
+#[inline(never)]
+fn do_while_of(
     alloc: Global,
-    condition: Box<Expression>,
-    then: Block,
-) -> Result<Box<Tested>, AllocError> {
-    let found = Box::new(alloc, Tested { condition, then })?;
-    Ok(found)
+    frame: &Frame<'_>,
+    pairs: &[Pair<'_>],
+    body: Block,
+    test: &written::Expression,
+) -> Result<Statement, Halt>
+    ensures exact { GivesOrHalts view_stmt result (spec.do_while_of (Ok (view_block body))
+        (spec.condition_typing frame.now.setting pairs.now (trees.view_expr test.now))) }
+{
+    let condition = condition_or_halt(alloc, frame, pairs, test)?;
+    let found = Box::new(alloc, Loop { condition, body })?;
+    Ok(Statement::DoWhile(found))
 }
 
 #[inline(never)]
@@ -92,33 +129,6 @@ fn let_go_of_tested(_tested: Box<Tested>) {}
 
 #[inline(never)]
 fn let_go_of_head(_head: Box<LoopHead>) {}
-
-#[inline(never)]
-fn while_of(
-    alloc: Global,
-    condition: Box<Expression>,
-    body: Block,
-) -> Result<Statement, AllocError> {
-    let found = Box::new(alloc, Loop { condition, body })?;
-    Ok(Statement::While(found))
-}
-
-#[inline(never)]
-fn do_while_of(
-    alloc: Global,
-    body: Block,
-    condition: Result<Box<Expression>, Halt>,
-) -> Result<Statement, Halt> {
-    let condition = condition?;
-    let found = Box::new(alloc, Loop { condition, body })?;
-    Ok(Statement::DoWhile(found))
-}
-
-#[inline(never)]
-fn block_of(found: Result<Block, Halt>) -> Result<Statement, Halt> {
-    let found = found?;
-    Ok(Statement::Block(found))
-}
 
 /// The statements of a block that begins at pair `start`, with the pairs that are alive behind the last.
 #[cycle(statement)]
@@ -133,12 +143,13 @@ fn statements<'a>(
 ) -> Result<Block, Halt>
     requires block { start ≤ length pairs.old.items }
     requires parameters { frame.now.parameters ≤ length pairs.old.items }
-    ensures exact { Gives view_block result (spec.stmts_typing frame.now in_loop start pairs.old.items (trees.view_stmts written.now)) }
+    ensures exact { GivesOrHalts view_block result
+        (spec.stmts_typing frame.now in_loop start pairs.old.items (trees.view_stmts written.now)) }
     ensures kept { OnOk result (spec.Keeps pairs.old.items pairs.new.items) }
 {
     let mut found = Vec::new(alloc);
     for item in written {
-        let typed = statement(alloc, frame, in_loop, start, pairs, item);
+        let typed = statement(alloc, frame, in_loop, start, pairs, item)?;
         found = with_statement(found, typed)?;
     }
     Ok(Block { statements: found })
@@ -155,27 +166,14 @@ fn inner_block<'a>(
     written: &[Written],
 ) -> Result<Block, Halt>
     requires parameters { frame.now.parameters ≤ length pairs.old.items }
-    ensures exact { Gives view_block result (spec.stmts_typing frame.now in_loop (length pairs.old.items) pairs.old.items (trees.view_stmts written.now)) }
+    ensures exact { GivesOrHalts view_block result (spec.stmts_typing frame.now in_loop
+        (length pairs.old.items) pairs.old.items (trees.view_stmts written.now)) }
     ensures same { OnOk result (pairs.new.items ≡ pairs.old.items) }
 {
     let start = pairs.len();
     let found = statements(alloc, frame, in_loop, start, pairs, written)?;
     pairs.truncate(start);
     Ok(found)
-}
-
-/// Statements in a block of their own.
-pub fn block<'a>(
-    alloc: Global,
-    frame: &Frame<'a>,
-    in_loop: bool,
-    pairs: &mut Vec<Pair<'a>>,
-    written: &[Written],
-) -> Result<Block, Stop> {
-    match inner_block(alloc, frame, in_loop, pairs, written) {
-        Ok(found) => Ok(found),
-        Err(halted) => Err(stop(halted)),
-    }
 }
 
 /// A statement in a block of its own.
@@ -189,13 +187,18 @@ fn branch<'a>(
     written: &Written,
 ) -> Result<Block, Halt>
     requires parameters { frame.now.parameters ≤ length pairs.old.items }
-    ensures exact { Gives view_block result (spec.branch_typing frame.now in_loop pairs.old.items (trees.view_stmt written.now)) }
+    ensures exact { GivesOrHalts view_block result
+        (spec.branch_typing frame.now in_loop pairs.old.items (trees.view_stmt written.now)) }
     ensures same { OnOk result (pairs.new.items ≡ pairs.old.items) }
 {
     let start = pairs.len();
-    let typed = statement(alloc, frame, in_loop, start, pairs, written);
-    pairs.truncate(start);
-    block_of_one(alloc, typed)
+    match statement(alloc, frame, in_loop, start, pairs, written) {
+        Ok(typed) => {
+            pairs.truncate(start);
+            block_of_one(alloc, typed)
+        }
+        Err(halted) => Err(halted),
+    }
 }
 
 /// A block as a statement.
@@ -210,11 +213,15 @@ fn block_statement<'a>(
     written: &written::Block,
 ) -> Result<Statement, Halt>
     requires parameters { frame.now.parameters ≤ length pairs.old.items }
-    ensures exact { Gives (λ x. (pairs.new.items, view_stmt x)) result
-        (spec.with_same pairs.old.items (spec.block_of (spec.block_typing frame.now in_loop pairs.old.items (trees.view_body written.now)))) }
+    ensures exact { GivesOrHalts (λ x. (pairs.new.items, view_stmt x)) result
+        (spec.with_same pairs.old.items (spec.block_of
+        (spec.block_typing frame.now in_loop pairs.old.items (trees.view_body written.now)))) }
     ensures kept { OnOk result (spec.Keeps pairs.old.items pairs.new.items) }
 {
-    block_of(inner_block(alloc, frame, in_loop, pairs, written.statements.as_slice()))
+    match inner_block(alloc, frame, in_loop, pairs, written.statements.as_slice()) {
+        Ok(found) => Ok(Statement::Block(found)),
+        Err(halted) => Err(halted),
+    }
 }
 
 /// The condition of an `if`, and what runs where it is true.
@@ -229,13 +236,14 @@ fn first_branch<'a>(
     test: &written::Expression,
 ) -> Result<Box<Tested>, Halt>
     requires parameters { frame.now.parameters ≤ length pairs.old.items }
-    ensures exact { Gives (λ x. (view_tree x.condition, view_block x.«then»)) result
-        (spec.tested_typing frame.now in_loop pairs.old.items (trees.view_expr test.now) (trees.view_stmt «then».now)) }
+    ensures exact { GivesOrHalts (λ x. (view_tree x.value.condition, view_block x.value.«then»)) result
+        (spec.tested_typing frame.now in_loop pairs.old.items (trees.view_expr test.now)
+        (trees.view_stmt «then».now)) }
     ensures same { OnOk result (pairs.new.items ≡ pairs.old.items) }
 {
-    let condition = leaf_condition(alloc, frame, pairs.as_slice(), test)?;
+    let condition = condition_or_halt(alloc, frame, pairs.as_slice(), test)?;
     match branch(alloc, frame, in_loop, pairs, then) {
-        Ok(then) => Ok(make_tested(alloc, condition, then)?),
+        Ok(then) => tested_of(alloc, condition, then),
         Err(halted) => {
             let_go_of_condition(condition);
             Err(halted)
@@ -243,28 +251,29 @@ fn first_branch<'a>(
     }
 }
 
-/// An `if`.
+/// What runs where the condition of an `if` is false, behind what runs where it is true.
 #[cycle(statement)]
 #[inline(never)]
-fn if_statement<'a>(
+fn second_branch<'a>(
     alloc: Global,
     frame: &Frame<'a>,
     in_loop: bool,
     pairs: &mut Vec<Pair<'a>>,
-    then: &Written,
-    otherwise: &Option<Box<written::Else>>,
-    test: &written::Expression,
-) -> Result<Statement, Halt> {
-    let tested = first_branch(alloc, frame, in_loop, pairs, then, test)?;
-    match otherwise {
-        None => Ok(either_of(alloc, tested, empty_block(alloc))?),
-        Some(other) => match branch(alloc, frame, in_loop, pairs, &other.branch) {
-            Ok(other) => Ok(either_of(alloc, tested, other)?),
-            Err(halted) => {
-                let_go_of_tested(tested);
-                Err(halted)
-            }
-        },
+    otherwise: &Written,
+    tested: Box<Tested>,
+) -> Result<Statement, Halt>
+    requires parameters { frame.now.parameters ≤ length pairs.old.items }
+    ensures exact { GivesOrHalts view_stmt result (spec.either_of
+        (Ok (view_tree tested.value.condition, view_block tested.value.«then»))
+        (spec.branch_typing frame.now in_loop pairs.old.items (trees.view_stmt otherwise.now))) }
+    ensures same { OnOk result (pairs.new.items ≡ pairs.old.items) }
+{
+    match branch(alloc, frame, in_loop, pairs, otherwise) {
+        Ok(otherwise) => either_of(alloc, tested, otherwise),
+        Err(halted) => {
+            let_go_of_tested(tested);
+            Err(halted)
+        }
     }
 }
 
@@ -280,14 +289,14 @@ fn while_statement<'a>(
     test: &written::Expression,
 ) -> Result<Statement, Halt>
     requires parameters { frame.now.parameters ≤ length pairs.old.items }
-    ensures exact { Gives (λ x. (pairs.new.items, view_stmt x)) result
-        (spec.with_same pairs.old.items (spec.while_of (spec.condition_typing frame.now.setting pairs.old.items (trees.view_expr test.now))
-        (spec.branch_typing frame.now true pairs.old.items (trees.view_stmt body.now)))) }
-    ensures kept { OnOk result (spec.Keeps pairs.old.items pairs.new.items) }
+    ensures exact { GivesOrHalts view_stmt result (spec.while_of
+        (spec.condition_typing frame.now.setting pairs.old.items (trees.view_expr test.now))
+        (spec.branch_typing frame.now true pairs.old.items (trees.view_stmt body.now))) }
+    ensures same { OnOk result (pairs.new.items ≡ pairs.old.items) }
 {
-    let condition = leaf_condition(alloc, frame, pairs.as_slice(), test)?;
+    let condition = condition_or_halt(alloc, frame, pairs.as_slice(), test)?;
     match branch(alloc, frame, true, pairs, body) {
-        Ok(body) => Ok(while_of(alloc, condition, body)?),
+        Ok(body) => while_of(alloc, condition, body),
         Err(halted) => {
             let_go_of_condition(condition);
             Err(halted)
@@ -307,17 +316,15 @@ fn do_while_statement<'a>(
     test: &written::Expression,
 ) -> Result<Statement, Halt>
     requires parameters { frame.now.parameters ≤ length pairs.old.items }
-    ensures exact { Gives (λ x. (pairs.new.items, view_stmt x)) result
-        (spec.with_same pairs.old.items (spec.do_while_of (spec.branch_typing frame.now true pairs.old.items (trees.view_stmt repeated.now))
-        (spec.condition_typing frame.now.setting pairs.old.items (trees.view_expr test.now)))) }
-    ensures kept { OnOk result (spec.Keeps pairs.old.items pairs.new.items) }
+    ensures exact { GivesOrHalts view_stmt result (spec.do_while_of
+        (spec.branch_typing frame.now true pairs.old.items (trees.view_stmt repeated.now))
+        (spec.condition_typing frame.now.setting pairs.old.items (trees.view_expr test.now))) }
+    ensures same { OnOk result (pairs.new.items ≡ pairs.old.items) }
 {
-    let body = branch(alloc, frame, true, pairs, repeated)?;
-    do_while_of(
-        alloc,
-        body,
-        leaf_condition(alloc, frame, pairs.as_slice(), test),
-    )
+    match branch(alloc, frame, true, pairs, repeated) {
+        Ok(body) => do_while_of(alloc, frame, pairs.as_slice(), body, test),
+        Err(halted) => Err(halted),
+    }
 }
 
 /// The body of a `for`, behind what stands in its parentheses.
@@ -330,13 +337,16 @@ fn for_body<'a>(
     head: Box<LoopHead>,
 ) -> Result<Statement, Halt>
     requires parameters { frame.now.parameters ≤ length pairs.old.items }
-    ensures exact { Gives view_stmt result
-        (spec.for_of (view_boxed head.start, view_option head.condition, list_map view_expr head.steps.items)
+    ensures exact { GivesOrHalts view_stmt result (spec.for_of (
+      view_boxed head.value.start,
+      view_option head.value.condition,
+      list_map view_expr head.value.steps.items,
+    )
         (spec.branch_typing frame.now true pairs.old.items (trees.view_stmt passed.now))) }
     ensures same { OnOk result (pairs.new.items ≡ pairs.old.items) }
 {
     match branch(alloc, frame, true, pairs, passed) {
-        Ok(body) => Ok(for_of(alloc, head, body)?),
+        Ok(body) => for_of(alloc, head, body),
         Err(halted) => {
             let_go_of_head(head);
             Err(halted)
@@ -358,12 +368,13 @@ fn for_statement<'a>(
     steps: &[Argument],
 ) -> Result<Statement, Halt>
     requires parameters { frame.now.parameters ≤ length pairs.old.items }
-    ensures exact { Gives (λ x. (pairs.new.items, view_stmt x)) result
-        (spec.for_typing frame.now pairs.old.items (trees.view_start first.now) (trees.view_option test.now) (trees.view_items steps.now) (trees.view_stmt passed.now)) }
+    ensures exact { GivesOrHalts (λ x. (pairs.new.items, view_stmt x)) result
+        (spec.for_typing frame.now pairs.old.items (trees.view_start first.now)
+        (trees.view_option test.now) (trees.view_items steps.now) (trees.view_stmt passed.now)) }
     ensures kept { OnOk result (spec.Keeps pairs.old.items pairs.new.items) }
 {
     let outside = pairs.len();
-    let head = leaf_head(alloc, frame, pairs, first, test, steps)?;
+    let head = head_or_halt(alloc, frame, pairs, first, test, steps)?;
     let found = for_body(alloc, frame, pairs, passed, head)?;
     pairs.truncate(outside);
     Ok(found)
@@ -382,32 +393,30 @@ fn statement<'a>(
 ) -> Result<Statement, Halt>
     requires block { start ≤ length pairs.old.items }
     requires parameters { frame.now.parameters ≤ length pairs.old.items }
-    ensures exact { Gives (λ x. (pairs.new.items, view_stmt x)) result
+    ensures exact { GivesOrHalts (λ x. (pairs.new.items, view_stmt x)) result
         (spec.stmt_typing frame.now in_loop start pairs.old.items (trees.view_stmt written.now)) }
     ensures kept { OnOk result (spec.Keeps pairs.old.items pairs.new.items) }
 {
     match written {
         Written::Block(inner) => block_statement(alloc, frame, in_loop, pairs, inner),
-        Written::Variables(variables) => leaf_locals(alloc, frame, start, pairs, variables),
-        Written::Expression(simple) => leaf_expression(alloc, frame, pairs, &simple.value),
-        Written::Break(found) => leaf_jump(alloc, in_loop, &found.word, Statement::Break),
-        Written::Continue(found) => leaf_jump(alloc, in_loop, &found.word, Statement::Continue),
-        Written::Return(found) => leaf_return(alloc, frame, pairs, &found.word, &found.value),
+        Written::Variables(variables) => locals_or_halt(alloc, frame, start, pairs, variables),
+        Written::Expression(simple) => expression_or_halt(alloc, frame, pairs, &simple.value),
+        Written::Break(found) => jump(alloc, in_loop, &found.word, Statement::Break),
+        Written::Continue(found) => jump(alloc, in_loop, &found.word, Statement::Continue),
+        Written::Return(found) => return_or_halt(alloc, frame, pairs, &found.word, &found.value),
         Written::If {
             head,
             then,
             otherwise,
-        } => {
-            if_statement(
-                alloc,
-                frame,
-                in_loop,
-                pairs,
-                then,
-                otherwise,
-                &head.condition,
-            )
-        }
+        } => match first_branch(alloc, frame, in_loop, pairs, then, &head.condition) {
+            Ok(tested) => match otherwise {
+                None => when_of(alloc, tested),
+                Some(other) => {
+                    second_branch(alloc, frame, in_loop, pairs, &other.branch, tested)
+                }
+            },
+            Err(halted) => Err(halted),
+        },
         Written::While { head, body } => {
             while_statement(alloc, frame, pairs, body, &head.condition)
         }
@@ -423,5 +432,25 @@ fn statement<'a>(
             &head.condition,
             head.steps.as_slice(),
         ),
+    }
+}
+
+/// Statements in a block of their own, as the body of a function.
+#[tactic(auto, using(crate::proofs::Stopping::stops_as_halted))]
+pub fn block<'a>(
+    alloc: Global,
+    frame: &Frame<'a>,
+    in_loop: bool,
+    pairs: &mut Vec<Pair<'a>>,
+    written: &[Written],
+) -> Result<Block, Stop>
+    requires parameters { frame.now.parameters ≤ length pairs.old.items }
+    ensures exact { Gives view_block result (spec.stmts_typing frame.now in_loop
+        (length pairs.old.items) pairs.old.items (trees.view_stmts written.now)) }
+    ensures same { OnOk result (pairs.new.items ≡ pairs.old.items) }
+{
+    match inner_block(alloc, frame, in_loop, pairs, written) {
+        Ok(found) => Ok(found),
+        Err(halted) => Err(stop_of(halted)),
     }
 }

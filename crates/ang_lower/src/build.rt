@@ -1,7 +1,7 @@
 //! Core trees made of their parts.
 ghost use Rattle.std.specs.Prelude.{◌≡◌, ◌++◌, ◌∷◌, [], map as list_map, IfOk, OnOk};
 ghost use Rattle.ang_lower.specs.Tree as tree;
-ghost use Rattle.ang_lower.specs.Plain.{plain_expr, plain_stmt};
+ghost use Rattle.ang_lower.specs.Plain.{plain_expr, plain_stmt, plain_tree};
 ghost use Rattle.ang_lower.specs.Lowered as spec;
 
 use ang_core::{Expression, Statement};
@@ -99,13 +99,29 @@ pub struct Tested {
     pub then: Statement,
 }
 
+/// A test and the statement where it is true, in a box.
+#[inline(never)]
+pub fn make_tested(
+    alloc: Global,
+    test: Box<Expression>,
+    then: Statement,
+) -> Result<Box<Tested>, AllocError>
+    ensures test { IfOk result (λ x. x.value.test ≡ test) }
+    ensures inside { IfOk result (λ x. x.value.«then» ≡ «then») }
+{
+    Ok(Box::new(alloc, Tested { test, then })?)
+}
+
 /// A choice between two statements.
 #[inline(never)]
 pub fn either(
     alloc: Global,
     tested: Box<Tested>,
     otherwise: Statement,
-) -> Result<Statement, AllocError> {
+) -> Result<Statement, AllocError>
+    ensures exact { IfOk result (λ s. plain_stmt s ≡ tree.either (plain_tree tested.value.test)
+        (plain_stmt tested.value.«then») (plain_stmt otherwise)) }
+{
     let Tested { test, then } = Box::into_inner(tested);
     let then = Box::new(alloc, then)?;
     let otherwise = Box::new(alloc, otherwise)?;
@@ -121,35 +137,12 @@ pub struct LoopHead {
     pub step: Statement,
 }
 
-#[inline(never)]
-pub fn make_tested(
-    alloc: Global,
-    test: Box<Expression>,
-    then: Statement,
-) -> Result<Box<Tested>, AllocError> {
-    let found = Box::new(alloc, Tested { test, then })?;
-    Ok(found)
-}
-
-#[inline(never)]
-pub fn let_go_of_test(_test: Box<Expression>) {}
-
-#[inline(never)]
-pub fn let_go_of_tested(_tested: Box<Tested>) {}
-
-#[inline(never)]
-pub fn let_go_of_head(_head: Box<LoopHead>) {}
-
-#[inline(never)]
-pub fn let_go_of_list(_list: Vec<Statement>) {}
-
 /// A loop.
 #[inline(never)]
-pub fn loop_of(
-    alloc: Global,
-    head: Box<LoopHead>,
-    body: Statement,
-) -> Result<Statement, AllocError> {
+pub fn loop_of(alloc: Global, head: Box<LoopHead>, body: Statement) -> Result<Statement, AllocError>
+    ensures exact { IfOk result (λ s. plain_stmt s ≡ tree.while (plain_tree head.value.test)
+        (plain_stmt body) (plain_stmt head.value.step)) }
+{
     let LoopHead { test, step } = Box::into_inner(head);
     let body = Box::new(alloc, body)?;
     let step = Box::new(alloc, step)?;
@@ -162,10 +155,30 @@ pub fn late_loop_of(
     alloc: Global,
     test: Box<Expression>,
     body: Statement,
-) -> Result<Statement, AllocError> {
+) -> Result<Statement, AllocError>
+    ensures exact { IfOk result (λ s. plain_stmt s ≡ tree.do_while (plain_tree test)
+        (plain_stmt body)) }
+{
     let body = Box::new(alloc, body)?;
     Ok(Statement::DoWhile(test, body))
 }
+
+/// Lets a test go, apart from where a statement is lowered, so that what that takes of the stack is
+/// not there while the statements inside are lowered.
+#[inline(never)]
+pub fn let_go_of_test(_test: Box<Expression>) {}
+
+/// Lets a test and a statement go in the same way.
+#[inline(never)]
+pub fn let_go_of_tested(_tested: Box<Tested>) {}
+
+/// Lets a loop's test and its step go in the same way.
+#[inline(never)]
+pub fn let_go_of_head(_head: Box<LoopHead>) {}
+
+/// Lets statements go in the same way.
+#[inline(never)]
+pub fn let_go_of_list(_list: Vec<Statement>) {}
 
 /// One more statement at the end.
 pub fn add(found: &mut Vec<Statement>, statement: Statement) -> Result<(), AllocError>
@@ -173,4 +186,15 @@ pub fn add(found: &mut Vec<Statement>, statement: Statement) -> Result<(), Alloc
 {
     found.push(statement)?;
     Ok(())
+}
+
+/// Statements in a block of their own, with one more at their end.
+#[inline(never)]
+pub fn block_with(first: Vec<Statement>, last: Statement) -> Result<Statement, AllocError>
+    ensures exact { IfOk result (λ s. plain_stmt s
+        ≡ spec.lowered_block (list_map plain_stmt first.items ++ (plain_stmt last ∷ []))) }
+{
+    let mut found = first;
+    add(&mut found, last)?;
+    Ok(block(found))
 }

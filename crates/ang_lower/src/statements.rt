@@ -1,20 +1,20 @@
 //! The core trees of statements.
 ghost use Rattle.std.specs.Prelude.{◌≡◌, ◌+◌, ◌++◌, ◌∷◌, [], suc, length, IfOk, OnOk, true, map as list_map};
-ghost use Rattle.ang_typed.specs.View.{view_block, view_expr, view_local, view_option, view_stmt, view_stmts};
+ghost use Rattle.ang_typed.specs.View.{view_block, view_choice, view_expr, view_for, view_local, view_loop, view_option, view_stmt, view_stmts};
 ghost use Rattle.ang_source.specs.Sound.{declared, declared_by};
 ghost use Rattle.ang_lower.specs.Tree as tree;
-ghost use Rattle.ang_lower.specs.Plain.{plain_expr, plain_stmt};
-ghost use Rattle.ang_lower.specs.Kinds.{is_loop};
+ghost use Rattle.ang_lower.specs.Plain.{plain_stmt, plain_tree};
+ghost use Rattle.ang_lower.specs.Kinds.{is_single};
 ghost use Rattle.ang_lower.specs.Lowered as spec;
 
 use crate::build::{
-    LoopHead, Tested, add, block, either, late_loop_of, let_go_of_head, let_go_of_list,
+    LoopHead, Tested, add, block, block_with, either, late_loop_of, let_go_of_head, let_go_of_list,
     let_go_of_test, let_go_of_tested, loop_of, make_tested,
 };
 use crate::expressions::{lower_boxed, lower_or};
 use ang_core::Statement;
 use ang_typed as typed;
-use ang_typed::{Block, Expression, For, Local};
+use ang_typed::{Block, Choice, Expression, For, Local, Loop};
 use std::alloc::{AllocError, Global};
 
 /// One more local, or want of memory where no memory could have so many.
@@ -74,25 +74,6 @@ fn each(alloc: Global, alive: usize, items: &[Expression]) -> Result<Vec<Stateme
     Ok(found)
 }
 
-/// The value of a `return`.
-#[inline(never)]
-fn returned(
-    alloc: Global,
-    alive: usize,
-    e: &Option<Box<Expression>>,
-) -> Result<Statement, AllocError> {
-    let value = lower_or(alloc, alive, 0, e)?;
-    Ok(Statement::Return(value))
-}
-
-/// Statements in a block of their own, with one more at their end.
-#[inline(never)]
-fn block_with(first: Vec<Statement>, last: Statement) -> Result<Statement, AllocError> {
-    let mut found = first;
-    add(&mut found, last)?;
-    Ok(block(found))
-}
-
 /// The steps of a loop.
 fn steps(alloc: Global, alive: usize, items: &[Expression]) -> Result<Statement, AllocError>
     ensures exact { IfOk result (λ s. plain_stmt s ≡ spec.lowered_steps alive (list_map view_expr items.now)) }
@@ -112,12 +93,55 @@ fn loop_head(
     condition: &Option<Box<Expression>>,
     items: &[Expression],
 ) -> Result<Box<LoopHead>, AllocError>
-    ensures test { IfOk result (λ h. plain_expr h.test ≡ spec.lowered_or alive 1 (view_option condition.now)) }
-    ensures step { IfOk result (λ h. plain_stmt h.step ≡ spec.lowered_steps alive (list_map view_expr items.now)) }
+    ensures test { IfOk result (λ h. plain_tree h.value.test
+        ≡ spec.lowered_or alive 1 (view_option condition.now)) }
+    ensures step { IfOk result (λ h. plain_stmt h.value.step
+        ≡ spec.lowered_steps alive (list_map view_expr items.now)) }
 {
     let test = lower_or(alloc, alive, 1, condition)?;
     let step = steps(alloc, alive, items)?;
     Ok(Box::new(alloc, LoopHead { test, step })?)
+}
+
+/// The test of a loop that has no steps.
+#[inline(never)]
+fn head_of(alloc: Global, alive: usize, test: &Expression) -> Result<Box<LoopHead>, AllocError>
+    ensures test { IfOk result (λ h. plain_tree h.value.test
+        ≡ spec.lowered alive (view_expr test.now)) }
+    ensures step { IfOk result (λ h. plain_stmt h.value.step ≡ tree.skip) }
+{
+    let test = lower_boxed(alloc, alive, test)?;
+    let step = Statement::Skip;
+    Ok(Box::new(alloc, LoopHead { test, step })?)
+}
+
+/// A `return` with its value.
+#[inline(never)]
+fn returned(
+    alloc: Global,
+    alive: usize,
+    e: &Option<Box<Expression>>,
+) -> Result<Statement, AllocError>
+    ensures exact { IfOk result (λ s. plain_stmt s
+        ≡ tree.return (spec.lowered_or alive 0 (view_option e.now))) }
+{
+    let value = lower_or(alloc, alive, 0, e)?;
+    Ok(Statement::Return(value))
+}
+
+/// One statement that leaves as many locals as there were.
+#[inline(never)]
+fn add_one(
+    found: &mut Vec<Statement>,
+    statement: Statement,
+    alive: usize,
+) -> Result<usize, AllocError>
+    ensures exact { OnOk result (list_map plain_stmt found.new.items
+        ≡ list_map plain_stmt found.old.items ++ (plain_stmt statement ∷ [])) }
+    ensures count { IfOk result (λ n. n ≡ alive) }
+{
+    add(found, statement)?;
+    Ok(alive)
 }
 
 /// Statements in a block of their own.
@@ -164,8 +188,10 @@ fn lower_tested(
     then: &Block,
     condition: &Expression,
 ) -> Result<Box<Tested>, AllocError>
-    ensures test { IfOk result (λ x. plain_expr x.test ≡ spec.lowered alive (view_expr condition.now)) }
-    ensures inside { IfOk result (λ x. plain_stmt x.«then» ≡ spec.lowered_block (spec.lowered_all alive (view_block «then».now))) }
+    ensures test { IfOk result (λ x. plain_tree x.value.test
+        ≡ spec.lowered alive (view_expr condition.now)) }
+    ensures inside { IfOk result (λ x. plain_stmt x.value.«then»
+        ≡ spec.lowered_block (spec.lowered_all alive (view_block «then».now))) }
 {
     let test = lower_boxed(alloc, alive, condition)?;
     match lower_block(alloc, alive, then) {
@@ -177,18 +203,15 @@ fn lower_tested(
     }
 }
 
-/// The whole of an `if`.
+/// A choice between two blocks.
 #[cycle(statement)]
 #[inline(never)]
-fn lower_if(
-    alloc: Global,
-    alive: usize,
-    then: &Block,
-    otherwise: &Block,
-    condition: &Expression,
-) -> Result<Statement, AllocError> {
-    let tested = lower_tested(alloc, alive, then, condition)?;
-    match lower_block(alloc, alive, otherwise) {
+fn lower_if(alloc: Global, alive: usize, written: &Choice) -> Result<Statement, AllocError>
+    ensures exact { IfOk result (λ s. plain_stmt s ∷ []
+        ≡ spec.lowered_stmt alive (view_choice written.now)) }
+{
+    let tested = lower_tested(alloc, alive, &written.then, &written.condition)?;
+    match lower_block(alloc, alive, &written.otherwise) {
         Ok(otherwise) => either(alloc, tested, otherwise),
         Err(error) => {
             let_go_of_tested(tested);
@@ -206,8 +229,9 @@ fn lower_loop(
     body: &Block,
     head: Box<LoopHead>,
 ) -> Result<Statement, AllocError>
-    ensures exact { IfOk result (λ s. plain_stmt s ≡ tree.while (plain_expr head.test)
-        (spec.lowered_block (spec.lowered_all alive (view_block body.now))) (plain_stmt head.step)) }
+    ensures exact { IfOk result (λ s. plain_stmt s ≡ tree.while (plain_tree head.value.test)
+        (spec.lowered_block (spec.lowered_all alive (view_block body.now)))
+        (plain_stmt head.value.step)) }
 {
     match lower_block(alloc, alive, body) {
         Ok(body) => loop_of(alloc, head, body),
@@ -218,20 +242,26 @@ fn lower_loop(
     }
 }
 
+/// A `while`.
+#[cycle(statement)]
+#[inline(never)]
+fn lower_while(alloc: Global, alive: usize, written: &Loop) -> Result<Statement, AllocError>
+    ensures exact { IfOk result (λ s. plain_stmt s
+        ≡ spec.lowered_while alive (view_loop written.now)) }
+{
+    let head = head_of(alloc, alive, &written.condition)?;
+    lower_loop(alloc, alive, &written.body, head)
+}
+
 /// A loop whose body runs before the first test.
 #[cycle(statement)]
 #[inline(never)]
-fn lower_late_loop(
-    alloc: Global,
-    alive: usize,
-    body: &Block,
-    condition: &Expression,
-) -> Result<Statement, AllocError>
-    ensures exact { IfOk result (λ s. plain_stmt s ≡ tree.do_while (spec.lowered alive (view_expr condition.now))
-        (spec.lowered_block (spec.lowered_all alive (view_block body.now)))) }
+fn lower_late_loop(alloc: Global, alive: usize, written: &Loop) -> Result<Statement, AllocError>
+    ensures exact { IfOk result (λ s. plain_stmt s
+        ≡ spec.lowered_do_while alive (view_loop written.now)) }
 {
-    let test = lower_boxed(alloc, alive, condition)?;
-    match lower_block(alloc, alive, body) {
+    let test = lower_boxed(alloc, alive, &written.condition)?;
+    match lower_block(alloc, alive, &written.body) {
         Ok(body) => late_loop_of(alloc, test, body),
         Err(error) => {
             let_go_of_test(test);
@@ -240,15 +270,49 @@ fn lower_late_loop(
     }
 }
 
-/// One statement that leaves as many locals as there were.
+/// A `for`, with what it starts from in a block around it.
+#[cycle(statement)]
 #[inline(never)]
-fn add_one(
-    found: &mut Vec<Statement>,
-    statement: Statement,
+fn lower_for(alloc: Global, alive: usize, written: &For) -> Result<Statement, AllocError>
+    ensures exact { IfOk result (λ s. plain_stmt s ∷ []
+        ≡ spec.lowered_stmt alive (view_for written.now)) }
+{
+    let mut inner = Vec::new(alloc);
+    let inside = add_all(alloc, alive, written.start.as_slice(), &mut inner)?;
+    let head = loop_head(alloc, inside, &written.condition, written.steps.as_slice())?;
+    match lower_loop(alloc, inside, &written.body, head) {
+        Ok(whole) => block_with(inner, whole),
+        Err(error) => {
+            let_go_of_list(inner);
+            Err(error)
+        }
+    }
+}
+
+/// The one statement that stands for one that is no declaration.
+#[cycle(statement)]
+#[inline(never)]
+fn lower_statement(
+    alloc: Global,
     alive: usize,
-) -> Result<usize, AllocError> {
-    add(found, statement)?;
-    Ok(alive)
+    written: &typed::Statement,
+) -> Result<Statement, AllocError>
+    requires kind { is_single (view_stmt written.now) ≡ true }
+    ensures exact { IfOk result (λ s. plain_stmt s ∷ []
+        ≡ spec.lowered_stmt alive (view_stmt written.now)) }
+{
+    match written {
+        typed::Statement::Block(inner) => lower_block(alloc, alive, inner),
+        typed::Statement::Expression(e) => simple(alloc, alive, e),
+        typed::Statement::Break => Ok(Statement::Break),
+        typed::Statement::Continue => Ok(Statement::Continue),
+        typed::Statement::Return(e) => returned(alloc, alive, e),
+        typed::Statement::If(choice) => lower_if(alloc, alive, choice),
+        typed::Statement::While(inner) => lower_while(alloc, alive, inner),
+        typed::Statement::DoWhile(inner) => lower_late_loop(alloc, alive, inner),
+        typed::Statement::For(inner) => lower_for(alloc, alive, inner),
+        typed::Statement::Locals(_) => unreachable!(),
+    }
 }
 
 /// The statements that stand for one, behind those that there are. The result is how many locals are then
@@ -270,82 +334,6 @@ fn add_statement(
         _ => {
             let one = lower_statement(alloc, alive, written)?;
             add_one(found, one, alive)
-        }
-    }
-}
-
-/// One statement for one, where it is no declaration.
-#[cycle(statement)]
-#[inline(never)]
-fn lower_statement(
-    alloc: Global,
-    alive: usize,
-    written: &typed::Statement,
-) -> Result<Statement, AllocError> {
-    match written {
-        typed::Statement::Block(inner) => lower_block(alloc, alive, inner),
-        typed::Statement::Locals(_) => Ok(Statement::Skip),
-        typed::Statement::Expression(e) => simple(alloc, alive, e),
-        typed::Statement::Break => Ok(Statement::Break),
-        typed::Statement::Continue => Ok(Statement::Continue),
-        typed::Statement::Return(e) => returned(alloc, alive, e),
-        typed::Statement::If(choice) => lower_if(
-            alloc,
-            alive,
-            &choice.then,
-            &choice.otherwise,
-            &choice.condition,
-        ),
-        typed::Statement::While(inner) => {
-            lower_while(alloc, alive, &inner.body, &inner.condition)
-        }
-        typed::Statement::DoWhile(inner) => {
-            lower_late_loop(alloc, alive, &inner.body, &inner.condition)
-        }
-        typed::Statement::For(inner) => lower_for(alloc, alive, inner),
-    }
-}
-
-/// The test of a `while`.
-#[inline(never)]
-fn while_head(
-    alloc: Global,
-    alive: usize,
-    condition: &Expression,
-) -> Result<Box<LoopHead>, AllocError> {
-    let test = lower_boxed(alloc, alive, condition)?;
-    let head = LoopHead {
-        test,
-        step: Statement::Skip,
-    };
-    Ok(Box::new(alloc, head)?)
-}
-
-/// A `while`.
-#[cycle(statement)]
-#[inline(never)]
-fn lower_while(
-    alloc: Global,
-    alive: usize,
-    body: &Block,
-    condition: &Expression,
-) -> Result<Statement, AllocError> {
-    let head = while_head(alloc, alive, condition)?;
-    lower_loop(alloc, alive, body, head)
-}
-
-/// A `for`, with what it starts from in a block around it.
-#[cycle(statement)]
-#[inline(never)]
-fn lower_for(alloc: Global, alive: usize, written: &For) -> Result<Statement, AllocError> {
-    let mut inner = Vec::new(alloc);
-    let inside = add_all(alloc, alive, written.start.as_slice(), &mut inner)?;
-    let head = loop_head(alloc, inside, &written.condition, written.steps.as_slice())?;
-    match lower_loop(alloc, inside, &written.body, head) {
-        Ok(whole) => block_with(inner, whole),
-        Err(error) => {
-            let_go_of_list(inner);
-            Err(error)
         }
     }
 }

@@ -100,12 +100,3 @@ pub(crate) fn whole_block(alloc: Global, found: Block) -> Result<Statement, Allo
     let found = Box::new(alloc, found)?;
     Ok(Statement::Block(found))
 }
-
-/// Lets a word and a condition go, apart from where a statement is read, so that what that takes of the
-/// stack is not there while the statements inside are read.
-#[inline(never)]
-pub(crate) fn let_go_of_guard(_head: Box<Guard>) {}
-
-/// Lets the head of a `for` go.
-#[inline(never)]
-pub(crate) fn let_go_of_head(_head: Box<Head>) {}

@@ -3,6 +3,10 @@
 //!
 //! `limit` bounds the nested calls of expressions and the turns of each loop, `depth` the nested calls
 //! of statements.
+//!
+//! Statements nest as deep as a script is long, and the stack has to do for all of them. So what has no
+//! statement inside is read by functions that are never inlined, and a part that waits for a statement
+//! inside is in a box, which is let go by a call and not by a `?`: see `parts`.
 ghost use Rattle.std.specs.Prelude.{◌≡◌, option_map, IfOk};
 ghost use Rattle.ang_parse_read.specs.Gives.{Gives};
 ghost use Rattle.ang_parse_read.specs.Read.{repeat};
@@ -11,7 +15,7 @@ ghost use Rattle.ang_parse_stmt.specs.Parts.{view_condition, view_ending, view_h
 ghost use Rattle.ang_parse_stmt.specs.ReadStmt as read;
 
 use crate::build;
-use crate::parts::Guarded;
+use crate::parts::{Guarded, let_go_of_guard, let_go_of_guarded, let_go_of_head};
 use ang_lex::{Token, TokenKind};
 use ang_parse_expr::{expression, expressions};
 use ang_parse_read::{ReadError, a_left_paren, a_right_brace, a_right_paren, a_semicolon, a_while};
@@ -19,7 +23,7 @@ use ang_parse_variables::{ended, start};
 use ang_tree::{Argument, Block, Else, Ending, Guard, Head, Jump, Returned, Statement};
 use std::alloc::Global;
 
-/// Reads `"(" assign ")"` behind the word.
+/// Reads `"(" assign ")"` behind the word, `if` or `while`, which the guard keeps.
 #[tactic(auto, unfolding(crate::specs::ReadStmt::condition))]
 #[inline(never)]
 fn guard<'a>(
@@ -46,7 +50,8 @@ fn guard<'a>(
     Ok((found, rest))
 }
 
-/// Reads the end of a `do`.
+/// Reads `"while" "(" assign ")" ";"`, the end of a `do`. The word `do` is read already, and the ending
+/// keeps it.
 #[tactic(auto, unfolding(crate::specs::ReadStmt::ending, crate::specs::ReadStmt::condition))]
 #[inline(never)]
 fn ending<'a>(
@@ -77,6 +82,7 @@ fn ending<'a>(
     Ok((found, rest))
 }
 
+/// Reads the steps of a `for`, at least one, and the right parenthesis.
 #[tactic(auto, unfolding(crate::specs::ReadStmt::some_steps))]
 fn some_steps(
     alloc: Global,
@@ -90,7 +96,7 @@ fn some_steps(
     Ok(((steps, close), rest))
 }
 
-/// Reads the steps of a `for` and the right parenthesis.
+/// Reads the steps of a `for`, of which there may be none, and the right parenthesis.
 #[tactic(auto, unfolding(crate::specs::ReadStmt::steps))]
 fn steps(
     alloc: Global,
@@ -107,7 +113,7 @@ fn steps(
     }
 }
 
-/// Reads the head of a `for`.
+/// Reads the head of a `for`, behind the word, which the head keeps.
 #[tactic(auto, unfolding(crate::specs::ReadStmt::head))]
 #[inline(never)]
 fn head<'a>(
@@ -138,6 +144,7 @@ fn head<'a>(
     Ok((found, rest))
 }
 
+/// Reads variables, or an expression for what it does, with the semicolon.
 #[tactic(auto, unfolding(crate::specs::ReadStmt::simple))]
 #[inline(never)]
 fn simple(
@@ -216,10 +223,6 @@ fn returned<'a>(
     Ok((Statement::Return(found), rest))
 }
 
-/// Lets a word, a condition and a statement go.
-#[inline(never)]
-fn let_go_of_guarded(_guarded: Guarded) {}
-
 /// Reads one more statement, where no right brace stands.
 #[cycle(statement)]
 #[tactic(auto, unfolding(crate::specs::ReadStmt::other_statement, crate::specs::ReadStmt::next_statement))]
@@ -290,7 +293,7 @@ pub(crate) fn block<'a>(
     ))
 }
 
-/// Reads a statement to be a part of another.
+/// Reads a statement to be a part of another, and puts it into its box.
 #[cycle(statement)]
 fn inner_statement(
     alloc: Global,
@@ -305,7 +308,7 @@ fn inner_statement(
     Ok((found, rest))
 }
 
-/// Reads `"(" assign ")" stmt` behind the word.
+/// Reads `"(" assign ")" stmt` behind the word, `if` or `while`, which the guard keeps.
 #[cycle(statement)]
 #[tactic(auto, unfolding(crate::specs::ReadStmt::guarded))]
 fn guarded<'a>(
@@ -322,7 +325,7 @@ fn guarded<'a>(
     match inner_statement(alloc, rest, depth, limit) {
         Ok((statement, rest)) => Ok((Guarded { head, statement }, rest)),
         Err(error) => {
-            build::let_go_of_guard(head);
+            let_go_of_guard(head);
             Err(error)
         }
     }
@@ -422,12 +425,13 @@ fn for_loop<'a>(
     match inner_statement(alloc, rest, depth, limit) {
         Ok((body, rest)) => Ok((build::for_loop(head, body), rest)),
         Err(error) => {
-            build::let_go_of_head(head);
+            let_go_of_head(head);
             Err(error)
         }
     }
 }
 
+/// Reads a block, behind its left brace.
 #[cycle(statement)]
 #[tactic(auto, unfolding(crate::specs::ReadStmt::braced))]
 fn braced<'a>(

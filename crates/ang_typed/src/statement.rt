@@ -30,7 +30,7 @@ pub enum Statement {
     For(Box<For>),
 }
 
-/// One of two blocks, by a condition. `otherwise` is an empty block where no `else` is written.
+/// A condition and the two blocks of which it picks one.
 #[cycle(statement)]
 #[derive(Drop)]
 pub struct Choice {
@@ -38,21 +38,21 @@ pub struct Choice {
     pub condition: Box<Expression>,
     /// What runs where the condition is true.
     pub then: Block,
-    /// What runs where the condition is false.
+    /// What runs where the condition is false: an empty block where no `else` is written.
     pub otherwise: Block,
 }
 
-/// A condition and what is repeated.
+/// A loop that has a condition alone, as `while` and `do` are written.
 #[cycle(statement)]
 #[derive(Drop)]
 pub struct Loop {
-    /// The truth value that is tested.
+    /// The truth value that is tested: of a `While` before each pass, of a `DoWhile` after it.
     pub condition: Box<Expression>,
     /// What runs in each pass.
     pub body: Block,
 }
 
-/// A `for`.
+/// A loop with a start and steps of its own, as `for` is written.
 #[cycle(statement)]
 #[derive(Drop)]
 pub struct For {

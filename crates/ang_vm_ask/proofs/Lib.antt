@@ -1,5 +1,4 @@
 pub mod Drivers
-pub mod Fits
 pub mod Handed
 pub mod Meanings
 pub mod Performed

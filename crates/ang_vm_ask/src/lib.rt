@@ -3,13 +3,11 @@
 #![tactic(auto)]
 
 mod asking;
-mod fitting;
 mod operation;
 mod plain;
 mod replies;
 mod values;
 
-pub use fitting::{operand_count, suits};
 pub use operation::ask;
 pub use plain::{entity_of, is_plain};
 pub use replies::reply_from;

@@ -2,7 +2,6 @@
 ghost use Rattle.std.specs.Prelude.{◌≡◌, ◌<◌, ◌≤◌, length};
 ghost use Rattle.ang_code.specs.declared.instruction.Instruction.TheVariants.{Do};
 ghost use Rattle.ang_vm_steps.specs.declared.table.Table.{Table};
-ghost use Rattle.ang_vm_steps.specs.Asking.{asks_host as is_asking};
 ghost use Rattle.ang_vm_steps.specs.Turns.{Turned, IsNext};
 
 use crate::doing::{do_compare, do_complement, do_convert, do_negate, do_not, do_work};
@@ -12,28 +11,6 @@ use crate::jumps::next;
 use crate::place::{Pause, Place};
 use crate::store::Store;
 use ang_meaning::{Operation, Routine, Slot};
-
-/// Whether an operation asks the host.
-pub fn asks_host(operation: Operation) -> bool
-    ensures exact { result ≡ is_asking operation }
-{
-    match operation {
-        Operation::Work(_, _) => false,
-        Operation::Compare(_, _) => false,
-        Operation::Convert(_) => false,
-        Operation::Negate(_) => false,
-        Operation::Complement(_) => false,
-        Operation::Not => false,
-        Operation::Same => false,
-        Operation::GlobalGet(_) => false,
-        Operation::GlobalSet(_) => false,
-        Operation::GlobalChange(_, _) => false,
-        Operation::Ask(_) => true,
-        Operation::Read(_) => true,
-        Operation::Write(_) => true,
-        Operation::Alter(_, _) => true,
-    }
-}
 
 /// `Do`: an operation takes its operands from the stack, and puts its value there. Before one that asks the
 /// host the body pauses, and nothing has changed.

@@ -47,7 +47,7 @@ pub(crate) fn put_answer(
 
 /// A binary operator on the two top values.
 #[inline(always)]
-pub fn do_work(
+pub(crate) fn do_work(
     stack: &mut [Slot],
     top: usize,
     room: usize,
@@ -70,7 +70,7 @@ pub fn do_work(
 
 /// A comparison of the two top values.
 #[inline(always)]
-pub fn do_compare(
+pub(crate) fn do_compare(
     stack: &mut [Slot],
     top: usize,
     room: usize,
@@ -93,7 +93,12 @@ pub fn do_compare(
 
 /// The conversion of the top value.
 #[inline(always)]
-pub fn do_convert(stack: &mut [Slot], top: usize, room: usize, to: Prim) -> Result<usize, Stop>
+pub(crate) fn do_convert(
+    stack: &mut [Slot],
+    top: usize,
+    room: usize,
+    to: Prim,
+) -> Result<usize, Stop>
     requires in_room { top ≤ room }
     requires within { room ≤ length stack.old }
     ensures acts { (z : Setting) (code : Texts) (w : World) → Acts z code (Do (Convert to)) room top stack.old w result stack.new w }
@@ -109,7 +114,12 @@ pub fn do_convert(stack: &mut [Slot], top: usize, room: usize, to: Prim) -> Resu
 
 /// Unary `-` of the top value.
 #[inline(always)]
-pub fn do_negate(stack: &mut [Slot], top: usize, room: usize, at: Prim) -> Result<usize, Stop>
+pub(crate) fn do_negate(
+    stack: &mut [Slot],
+    top: usize,
+    room: usize,
+    at: Prim,
+) -> Result<usize, Stop>
     requires in_room { top ≤ room }
     requires within { room ≤ length stack.old }
     ensures acts { (z : Setting) (code : Texts) (w : World) → Acts z code (Do (Negate at)) room top stack.old w result stack.new w }
@@ -125,7 +135,12 @@ pub fn do_negate(stack: &mut [Slot], top: usize, room: usize, at: Prim) -> Resul
 
 /// `~` of the top value.
 #[inline(always)]
-pub fn do_complement(stack: &mut [Slot], top: usize, room: usize, at: Prim) -> Result<usize, Stop>
+pub(crate) fn do_complement(
+    stack: &mut [Slot],
+    top: usize,
+    room: usize,
+    at: Prim,
+) -> Result<usize, Stop>
     requires in_room { top ≤ room }
     requires within { room ≤ length stack.old }
     ensures acts { (z : Setting) (code : Texts) (w : World) → Acts z code (Do (Complement at)) room top stack.old w result stack.new w }
@@ -141,7 +156,7 @@ pub fn do_complement(stack: &mut [Slot], top: usize, room: usize, at: Prim) -> R
 
 /// `!` of the top value.
 #[inline(always)]
-pub fn do_not(stack: &mut [Slot], top: usize, room: usize) -> Result<usize, Stop>
+pub(crate) fn do_not(stack: &mut [Slot], top: usize, room: usize) -> Result<usize, Stop>
     requires in_room { top ≤ room }
     requires within { room ≤ length stack.old }
     ensures acts { (z : Setting) (code : Texts) (w : World) → Acts z code (Do Not) room top stack.old w result stack.new w }

@@ -73,7 +73,7 @@ fn alter<S: Store>(
 }
 
 /// `GlobalGet`: the value of a global goes on top.
-pub fn get_global<S: Store>(
+pub(crate) fn get_global<S: Store>(
     body: Routine,
     stack: &mut [Slot],
     store: &mut S,
@@ -96,7 +96,7 @@ pub fn get_global<S: Store>(
 }
 
 /// `GlobalSet`: the top value is stored into a global, and stays on top.
-pub fn set_global<S: Store>(
+pub(crate) fn set_global<S: Store>(
     body: Routine,
     stack: &mut [Slot],
     store: &mut S,
@@ -120,7 +120,7 @@ pub fn set_global<S: Store>(
 }
 
 /// `GlobalChange`: a global changes by the top value, which the change's value replaces.
-pub fn change_global<S: Store>(
+pub(crate) fn change_global<S: Store>(
     body: Routine,
     stack: &mut [Slot],
     store: &mut S,

@@ -57,7 +57,7 @@ pub(crate) fn are_one(x: Slot, y: Slot) -> bool
 
 /// `is`: whether two handles name one object, or are both null.
 #[tactic(auto, unfolding(ang_meaning::specs::Perform::is_same))]
-pub fn are_same(x: Slot, y: Slot) -> bool
+fn are_same(x: Slot, y: Slot) -> bool
     ensures exact { result ≡ is_same x y }
 {
     is_null(x) && is_null(y) || are_one(x, y)
@@ -81,7 +81,7 @@ fn compare_handles<S: Store>(store: &mut S, first: Slot, second: Slot) -> Slot
 }
 
 /// `is` of the two top values.
-pub fn do_same<S: Store>(
+pub(crate) fn do_same<S: Store>(
     stack: &mut [Slot],
     store: &mut S,
     top: usize,

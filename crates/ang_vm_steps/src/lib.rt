@@ -8,7 +8,7 @@
 
 pub mod arms;
 pub mod dispatch;
-pub mod doing;
+mod doing;
 pub mod globals;
 pub mod handles;
 pub mod jumps;

@@ -2,10 +2,9 @@
 ghost use Rattle.std.specs.Prelude.{◌≡◌, ℕ, List, Some, None, MatchOption};
 ghost use Rattle.ang_meaning.specs.declared.slot.Slot.{Slot};
 ghost use Rattle.ang_meaning.specs.World.{World};
-ghost use Rattle.ang_meaning.specs.Setting.{params_of, target, bound as bound_to};
-ghost use Rattle.ang_vm_steps.specs.Tables.{body_of, import_of, setting_of, texts_of, found};
+ghost use Rattle.ang_meaning.specs.Setting.{target, bound as bound_to};
+ghost use Rattle.ang_vm_steps.specs.Tables.{body_of, import_of, setting_of, found};
 
-use ang_code::Instruction;
 use ang_kinds::Fault;
 use ang_meaning::{Callee, HostUse, Passing, Routine};
 use ang_vm_fuse::body::Body;
@@ -48,31 +47,9 @@ pub fn body_at(table: &Table, body: Routine) -> Option<&Body>
     module.bodies.get(body.number as usize)
 }
 
-/// The instructions of a body, none where there is no such body.
-#[inline(always)]
-pub fn text_at(table: &Table, body: Routine) -> &[Instruction]
-    ensures exact { result.now ≡ (texts_of table.now).text body }
-{
-    match body_at(table, body) {
-        Some(code) => code.text(),
-        None => &[],
-    }
-}
-
-/// How a body's parameters take their arguments, the last parameter first.
-#[inline(always)]
-pub fn params_at(table: &Table, body: Routine) -> &[Passing]
-    ensures exact { (nesting : ℕ) → result.now ≡ params_of (setting_of table.now nesting) body }
-{
-    match body_at(table, body) {
-        Some(code) => code.params(),
-        None => &[],
-    }
-}
-
 /// An import of a module, where there is one.
 #[inline(always)]
-pub fn import_at(table: &Table, home: u32, number: u32) -> Option<&Import>
+fn import_at(table: &Table, home: u32, number: u32) -> Option<&Import>
     ensures exact { MatchOption result (import_of table.now home number ≡ None) (λ import. import_of table.now home number ≡ Some import.now) }
 {
     let module = table.modules.get(home as usize)?;

@@ -1,8 +1,8 @@
-//! Builds a section again and again, and prints how many bytes of it a second went through, up to each stage of a
-//! build.
+//! Lexes and parses a section again and again, or builds it, and prints how many bytes of it a second went through:
+//! of a build, up to each of its stages.
 //!
-//! `bench_build FILE TURNS` (bench/run.sh writes the files and runs it). Without words it builds a small section
-//! once.
+//! `bench_build FILE TURNS [BUILDS]` (bench/run.sh writes the files and runs it over each). Without words it builds a
+//! small section once.
 #![tactic(auto)]
 
 ghost use Rattle.std.specs.Prelude.{◌≡◌};
@@ -33,8 +33,10 @@ enum Stage {
     Built,
 }
 
+const PARSED: (Stage, &str) = (Stage::Parsed, "parsed");
+
 const STAGES: [(Stage, &str); 4] = [
-    (Stage::Parsed, "parsed"),
+    PARSED,
     (Stage::Declared, "declared"),
     (Stage::Checked, "checked"),
     (Stage::Built, "built"),
@@ -52,6 +54,13 @@ fn built(alloc: Global, view: &View, text: &[u8]) -> Option<Program> {
     let section = Vec::from_slice(alloc, text).ok()?;
     let sections = [List::from_vec(section)];
     build_sections(alloc, view, &sections).ok()
+}
+
+/// How many tokens and declarations a section has, or nothing where it is refused.
+fn counts(alloc: Global, text: &[u8]) -> Option<(usize, usize)> {
+    let tokens = lex(alloc, text, 0).ok()?;
+    let script = parse(alloc, text, tokens.as_slice()).ok()?;
+    Some((tokens.len(), script.declarations.len()))
 }
 
 /// Goes through a section up to a stage. Nothing where it is refused.
@@ -100,44 +109,104 @@ fn time_of(
     Ok(Some(start.elapsed(rt)?.as_nanos()))
 }
 
-/// Takes the time up to each stage. Prints the figures.
-fn measure(rt: &HostRuntime, view: &View, name: &str, text: &[u8], turns: u32) -> io::Result<u8> {
-    for (stage, done) in STAGES {
-        let Some(nanos) = time_of(rt, view, text, turns, stage)? else {
-            eprintln!(rt; "bench_build: {name} is refused")?;
-            return Ok(1);
-        };
-        let speed = bytes_a_second(text.len(), turns, nanos);
-        println!(rt; "{name}: {speed} bytes a second {done}")?;
-    }
+/// Takes the time of all turns up to a stage. Prints the figure.
+fn measure(
+    rt: &HostRuntime,
+    view: &View,
+    name: &str,
+    text: &[u8],
+    turns: u32,
+    stage: (Stage, &str),
+) -> io::Result<u8> {
+    let (stage, done) = stage;
+    let Some(nanos) = time_of(rt, view, text, turns, stage)? else {
+        return refuse(rt, name);
+    };
+    let speed = bytes_a_second(text.len(), turns, nanos);
+    println!(rt; "{name}: {speed} bytes a second {done}")?;
     Ok(0)
+}
+
+fn refuse(rt: &HostRuntime, name: &str) -> io::Result<u8> {
+    eprintln!(rt; "bench_build: {name} is refused")?;
+    Ok(1)
 }
 
 /// Prints what a section builds to.
 fn print_built(rt: &HostRuntime, view: &View, name: &str, text: &[u8]) -> io::Result<u8> {
-    match built(rt.alloc(), view, text) {
-        Some(program) => {
-            let functions = program.names.functions.as_slice().len();
-            println!(rt; "{name}: {} bytes, {functions} functions", text.len())?;
-            Ok(0)
-        }
-        None => {
-            eprintln!(rt; "bench_build: {name} is refused")?;
-            Ok(1)
+    let Some(program) = built(rt.alloc(), view, text) else {
+        return refuse(rt, name);
+    };
+    let functions = program.names.functions.as_slice().len();
+    println!(rt; "{name}: {} bytes, {functions} functions", text.len())?;
+    Ok(0)
+}
+
+/// Lexes and parses a section. Prints what it has, and the figure.
+fn measure_parsing(
+    rt: &HostRuntime,
+    view: &View,
+    name: &str,
+    text: &[u8],
+    turns: u32,
+) -> io::Result<u8> {
+    let Some((tokens, declarations)) = counts(rt.alloc(), text) else {
+        return refuse(rt, name);
+    };
+    println!(rt;
+        "{name}: {} bytes, {tokens} tokens, {declarations} declarations, {turns} turns",
+        text.len()
+    )?;
+    measure(rt, view, name, text, turns, PARSED)
+}
+
+/// Builds a section up to each stage. Prints what it builds to, and the figures.
+fn measure_builds(
+    rt: &HostRuntime,
+    view: &View,
+    name: &str,
+    text: &[u8],
+    builds: u32,
+) -> io::Result<u8> {
+    let status = print_built(rt, view, name, text)?;
+    if status != 0 {
+        return Ok(status);
+    }
+    for stage in STAGES {
+        let status = measure(rt, view, name, text, builds, stage)?;
+        if status != 0 {
+            return Ok(status);
         }
     }
+    Ok(0)
 }
 
 /// Measures the section of a file.
-fn measure_file(rt: &HostRuntime, view: &View, path: &str, turns: &str) -> io::Result<u8> {
+fn measure_file(
+    rt: &HostRuntime,
+    view: &View,
+    path: &str,
+    turns: &str,
+    builds: Option<&str>,
+) -> io::Result<u8> {
     let Ok(turns) = turns.parse::<u32>() else {
-        eprintln!(rt; "bench_build FILE TURNS")?;
-        return Ok(2);
+        return show_use(rt);
+    };
+    let Ok(builds) = builds.unwrap_or("0").parse::<u32>() else {
+        return show_use(rt);
     };
     let mut text = Vec::new(rt.alloc());
     File::open(rt, path)?.read_to_end(&mut text)?;
-    print_built(rt, view, path, text.as_slice())?;
-    measure(rt, view, path, text.as_slice(), turns)
+    let status = measure_parsing(rt, view, path, text.as_slice(), turns)?;
+    if status != 0 || builds == 0 {
+        return Ok(status);
+    }
+    measure_builds(rt, view, path, text.as_slice(), builds)
+}
+
+fn show_use(rt: &HostRuntime) -> io::Result<u8> {
+    eprintln!(rt; "bench_build FILE TURNS [BUILDS]")?;
+    Ok(2)
 }
 
 fn run(rt: &HostRuntime) -> io::Result<u8> {
@@ -148,11 +217,9 @@ fn run(rt: &HostRuntime) -> io::Result<u8> {
     let words: Vec<String> = env::args(rt)?.collect(alloc)?;
     match words.as_slice() {
         [_] => print_built(rt, &view, "small", SMALL.as_bytes()),
-        [_, path, turns] => measure_file(rt, &view, path, turns),
-        _ => {
-            eprintln!(rt; "bench_build FILE TURNS")?;
-            Ok(2)
-        }
+        [_, path, turns] => measure_file(rt, &view, path, turns, None),
+        [_, path, turns, builds] => measure_file(rt, &view, path, turns, Some(builds.as_str())),
+        _ => show_use(rt),
     }
 }
 

@@ -1,9 +1,13 @@
-//! Tests of the checker from a section's text on, by public calls. They stand in a crate of their own, so that
-//! the crates below are not proved once more with them.
+//! Tests from a section's text on, by public calls: what the checker refuses and gives, and which function a call from
+//! outside names, with what values.
 #![tactic(auto)]
 
 #[cfg(test)]
+mod arguments;
+#[cfg(test)]
 mod errors;
+#[cfg(test)]
+mod headings;
 #[cfg(test)]
 mod limits;
 #[cfg(test)]

@@ -1,7 +1,7 @@
-//! Whole bodies and programs, with the code that docs/MEANING.md ("Code") gives for each construct.
+//! Whole bodies, with the code that docs/MEANING.md ("Code") gives for each construct.
 use ang_code::{Instruction, RoutineCode};
 use ang_core::{Body, Expression, Statement};
-use ang_gen_emit::{generate, generate_body, generate_module};
+use ang_gen_body::generate_module;
 use ang_kinds::Prim;
 use ang_meaning::{Arithmetic, Callee, Operation, Passing, Spot, Target};
 use std::alloc::{AllocError, Global};
@@ -12,6 +12,10 @@ type Made = Result<Body, AllocError>;
 
 fn row(alloc: Global, statement: Statement) -> Row {
     Ok(Box::new(alloc, statement)?)
+}
+
+fn boxed(alloc: Global, expression: Expression) -> Result<Box<Expression>, AllocError> {
+    Ok(Box::new(alloc, expression)?)
 }
 
 fn body(alloc: Global, params: &[Passing], statement: Row) -> Made {
@@ -25,10 +29,11 @@ fn body(alloc: Global, params: &[Passing], statement: Row) -> Made {
 
 /// `return b ? a : 2;`
 fn chosen(alloc: Global) -> Row {
-    let test = Box::new(alloc, Expression::Local(0))?;
-    let one = Box::new(alloc, Expression::Local(1))?;
-    let two = Box::new(alloc, Expression::Number(2))?;
-    row(alloc, Statement::Return(Expression::Choose(test, one, two)))
+    let test = boxed(alloc, Expression::Local(0))?;
+    let one = boxed(alloc, Expression::Local(1))?;
+    let two = boxed(alloc, Expression::Number(2))?;
+    let choice = boxed(alloc, Expression::Choose(test, one, two))?;
+    row(alloc, Statement::Return(choice))
 }
 
 /// `return b ? a : 2;` with the parameters a and b.
@@ -40,14 +45,15 @@ fn choosing(alloc: Global) -> Made {
 fn choice(alloc: Global) -> Row {
     let leave = row(alloc, Statement::Break)?;
     let again = row(alloc, Statement::Continue)?;
-    row(alloc, Statement::If(Expression::Local(1), leave, again))
+    let test = boxed(alloc, Expression::Local(1))?;
+    row(alloc, Statement::If(test, leave, again))
 }
 
 /// `{ int x = 7; if (b) break; else continue; }`
 fn declaring(alloc: Global) -> Row {
     let choice = choice(alloc)?;
     let mut rows = Vec::with_capacity(alloc, 2)?;
-    rows.push(Statement::Declare(Expression::Number(7)))?;
+    rows.push(Statement::Declare(boxed(alloc, Expression::Number(7))?))?;
     rows.push(Box::into_inner(choice))?;
     row(alloc, Statement::Block(rows))
 }
@@ -55,7 +61,8 @@ fn declaring(alloc: Global) -> Row {
 fn repeated(alloc: Global) -> Row {
     let inner = declaring(alloc)?;
     let step = row(alloc, Statement::Skip)?;
-    row(alloc, Statement::While(Expression::Local(0), inner, step))
+    let test = boxed(alloc, Expression::Local(0))?;
+    row(alloc, Statement::While(test, inner, step))
 }
 
 /// `while (b) { int x = 7; if (b) break; else continue; }` with the parameter b.
@@ -64,9 +71,11 @@ fn looping(alloc: Global) -> Made {
 }
 
 fn left(alloc: Global) -> Row {
-    let back = row(alloc, Statement::Return(Expression::Number(7)))?;
+    let seven = boxed(alloc, Expression::Number(7))?;
+    let back = row(alloc, Statement::Return(seven))?;
     let nothing = row(alloc, Statement::Block(Vec::new(alloc)))?;
-    row(alloc, Statement::If(Expression::Local(0), back, nothing))
+    let test = boxed(alloc, Expression::Local(0))?;
+    row(alloc, Statement::If(test, back, nothing))
 }
 
 /// `if (b) return 7;` with the parameter b.
@@ -76,7 +85,8 @@ fn returning(alloc: Global) -> Made {
 
 fn endless(alloc: Global) -> Row {
     let inner = row(alloc, Statement::Skip)?;
-    row(alloc, Statement::DoWhile(Expression::Number(1), inner))
+    let test = boxed(alloc, Expression::Number(1))?;
+    row(alloc, Statement::DoWhile(test, inner))
 }
 
 /// `do { } while (true);`
@@ -103,10 +113,8 @@ fn called(alloc: Global) -> Row {
     operands.push(Expression::Number(1))?;
     operands.push(Expression::Call(Callee::Own(3), arguments, targets))?;
     let minus = Operation::Work(Arithmetic::Subtract, Prim::I32);
-    row(
-        alloc,
-        Statement::Evaluate(Expression::Apply(minus, operands)),
-    )
+    let difference = boxed(alloc, Expression::Apply(minus, operands))?;
+    row(alloc, Statement::Evaluate(difference))
 }
 
 /// `1 - f(a, a);` where the second parameter of f is `&out`, with the parameter a.
@@ -114,9 +122,11 @@ fn calling(alloc: Global) -> Made {
     body(alloc, &[Passing::In], called(alloc))
 }
 
-/// The code of a body that is not used again.
-fn code_of(alloc: Global, body: Body) -> Result<RoutineCode, AllocError> {
-    generate_body(alloc, &body)
+/// The codes of a module of this body alone.
+fn codes_of(alloc: Global, body: Body) -> Result<Vec<RoutineCode>, AllocError> {
+    let mut bodies = Vec::with_capacity(alloc, 1)?;
+    bodies.push(body)?;
+    generate_module(alloc, bodies.as_slice())
 }
 
 /// Whether a body's code has these parameters, that height, and these instructions.
@@ -127,11 +137,41 @@ fn is_code(
     height: usize,
     text: &[Instruction],
 ) -> Result<bool, AllocError> {
-    let code = code_of(alloc, body?)?;
-    Ok(code.params.as_slice() == params && code.height == height && code.text.as_slice() == text)
+    let codes = codes_of(alloc, body?)?;
+    Ok(match codes.as_slice() {
+        [code] => {
+            code.params.as_slice() == params
+                && code.height == height
+                && code.text.as_slice() == text
+        }
+        _ => false,
+    })
 }
 
-const CHOICE: [Instruction; 8] = [
+/// A body of those above.
+#[derive(Clone, Copy, Debug)]
+enum Sort {
+    Choosing,
+    Looping,
+    Returning,
+    Repeating,
+    Calling,
+}
+
+fn made(alloc: Global, sort: Sort) -> Made {
+    match sort {
+        Sort::Choosing => choosing(alloc),
+        Sort::Looping => looping(alloc),
+        Sort::Returning => returning(alloc),
+        Sort::Repeating => repeating(alloc),
+        Sort::Calling => calling(alloc),
+    }
+}
+
+/// A body, how it takes its arguments, its height, and its instructions.
+type Code = (Sort, &'static [Passing], usize, &'static [Instruction]);
+
+const CHOICE: &[Instruction] = &[
     Instruction::Load(0),
     Instruction::SkipIfFalse(2),
     Instruction::Load(1),
@@ -142,15 +182,7 @@ const CHOICE: [Instruction; 8] = [
     Instruction::Return(0),
 ];
 
-#[test]
-fn a_choice(rt: HostRuntime) -> Result<(), AllocError> {
-    let alloc = rt.alloc();
-    let params = [Passing::In, Passing::In];
-    assert!(rt; is_code(alloc, choosing(alloc), &params, 1, &CHOICE)?);
-    Ok(())
-}
-
-const LOOP: [Instruction; 15] = [
+const LOOP: &[Instruction] = &[
     Instruction::Tick,
     Instruction::Load(0),
     Instruction::SkipIfFalse(10),
@@ -168,14 +200,7 @@ const LOOP: [Instruction; 15] = [
     Instruction::Return(0),
 ];
 
-#[test]
-fn a_loop(rt: HostRuntime) -> Result<(), AllocError> {
-    let alloc = rt.alloc();
-    assert!(rt; is_code(alloc, looping(alloc), &[Passing::In], 2, &LOOP)?);
-    Ok(())
-}
-
-const CHOICE_WITHOUT_ELSE: [Instruction; 6] = [
+const CHOICE_WITHOUT_ELSE: &[Instruction] = &[
     Instruction::Load(0),
     Instruction::SkipIfFalse(2),
     Instruction::PushBits(7),
@@ -184,22 +209,7 @@ const CHOICE_WITHOUT_ELSE: [Instruction; 6] = [
     Instruction::Return(0),
 ];
 
-#[test]
-fn a_choice_without_else(rt: HostRuntime) -> Result<(), AllocError> {
-    let alloc = rt.alloc();
-    assert!(rt;
-        is_code(
-            alloc,
-            returning(alloc),
-            &[Passing::In],
-            1,
-            &CHOICE_WITHOUT_ELSE
-        )?
-    );
-    Ok(())
-}
-
-const DO_LOOP: [Instruction; 7] = [
+const DO_LOOP: &[Instruction] = &[
     Instruction::GoOn(3),
     Instruction::Tick,
     Instruction::PushBits(1),
@@ -209,14 +219,8 @@ const DO_LOOP: [Instruction; 7] = [
     Instruction::Return(0),
 ];
 
-#[test]
-fn a_loop_that_begins_with_its_body(rt: HostRuntime) -> Result<(), AllocError> {
-    let alloc = rt.alloc();
-    assert!(rt; is_code(alloc, repeating(alloc), &[], 1, &DO_LOOP)?);
-    Ok(())
-}
-
-const CALL: [Instruction; 10] = [
+/// Operands from left to right.
+const CALL: &[Instruction] = &[
     Instruction::PushBits(1),
     Instruction::Load(1),
     Instruction::PushBits(0),
@@ -233,78 +237,19 @@ const CALL: [Instruction; 10] = [
     Instruction::Return(0),
 ];
 
+const CODES: [Code; 5] = [
+    (Sort::Choosing, &[Passing::In, Passing::In], 1, CHOICE),
+    (Sort::Looping, &[Passing::In], 2, LOOP),
+    (Sort::Returning, &[Passing::In], 1, CHOICE_WITHOUT_ELSE),
+    (Sort::Repeating, &[], 1, DO_LOOP),
+    (Sort::Calling, &[Passing::In], 3, CALL),
+];
+
 #[test]
-fn operands_from_left_to_right(rt: HostRuntime) -> Result<(), AllocError> {
-    let alloc = rt.alloc();
-    assert!(rt; is_code(alloc, calling(alloc), &[Passing::In], 3, &CALL)?);
-    Ok(())
-}
-
-/// The bodies of a module.
-fn three_bodies(alloc: Global) -> Result<Vec<Body>, AllocError> {
-    let mut bodies = Vec::with_capacity(alloc, 3)?;
-    bodies.push(looping(alloc)?)?;
-    bodies.push(repeating(alloc)?)?;
-    bodies.push(calling(alloc)?)?;
-    Ok(bodies)
-}
-
-fn one_body(alloc: Global) -> Result<Vec<Body>, AllocError> {
-    let mut bodies = Vec::with_capacity(alloc, 1)?;
-    bodies.push(choosing(alloc)?)?;
-    Ok(bodies)
-}
-
-/// Whether codes have these heights, which tell them apart.
-fn are_heights(codes: &[RoutineCode], heights: &[usize]) -> bool {
-    for (at, code) in codes.iter().enumerate() {
-        if heights.get(at) != Some(&code.height) {
-            return false;
-        }
+fn bodies_have_their_code(rt: HostRuntime) -> Result<(), AllocError> {
+    for (sort, params, height, text) in CODES {
+        let is_code = is_code(rt.alloc(), made(rt.alloc(), sort), params, height, text)?;
+        assert!(rt; is_code, "{sort:?}");
     }
-    codes.len() == heights.len()
-}
-
-fn codes_of_three(alloc: Global) -> Result<Vec<RoutineCode>, AllocError> {
-    let bodies = three_bodies(alloc)?;
-    generate_module(alloc, &bodies)
-}
-
-fn have_heights(alloc: Global, heights: &[usize]) -> Result<bool, AllocError> {
-    let codes = codes_of_three(alloc)?;
-    Ok(are_heights(&codes, heights))
-}
-
-#[test]
-fn one_code_for_each_body(rt: HostRuntime) -> Result<(), AllocError> {
-    assert!(rt; have_heights(rt.alloc(), &[2, 1, 3])?);
-    Ok(())
-}
-
-/// A program of two modules, the second one of one body.
-fn two_modules(alloc: Global) -> Result<Vec<Vec<Body>>, AllocError> {
-    let mut program = Vec::with_capacity(alloc, 2)?;
-    program.push(three_bodies(alloc)?)?;
-    program.push(one_body(alloc)?)?;
-    Ok(program)
-}
-
-fn codes_of_two(alloc: Global) -> Result<Vec<Vec<RoutineCode>>, AllocError> {
-    let program = two_modules(alloc)?;
-    generate(alloc, &program)
-}
-
-/// How many codes each of two modules has.
-fn sizes_of_two(alloc: Global) -> Result<Option<(usize, usize)>, AllocError> {
-    let codes = codes_of_two(alloc)?;
-    Ok(match codes.as_slice() {
-        [one, other] => Some((one.len(), other.len())),
-        _ => None,
-    })
-}
-
-#[test]
-fn one_list_for_each_module(rt: HostRuntime) -> Result<(), AllocError> {
-    assert!(rt; sizes_of_two(rt.alloc())? == Some((3, 1)));
     Ok(())
 }

@@ -1,6 +1,4 @@
-//! Tests of the way from resolved trees to code, and of what stands beside it, by public calls: the compiler, the
-//! generator and its text, numbers, plain entries. They stand in a crate of their own, so that the crates below
-//! are not proved once more with them.
+//! Tests of the way from resolved trees to code, by public calls: core trees, the generator, numbers, plain entries.
 #![tactic(auto)]
 
 #[cfg(test)]
@@ -8,8 +6,14 @@ mod bodies;
 #[cfg(test)]
 mod entries;
 #[cfg(test)]
+mod forms;
+#[cfg(test)]
 mod modules;
 #[cfg(test)]
 mod numbers;
 #[cfg(test)]
-mod texts;
+mod shown;
+#[cfg(test)]
+mod trees;
+#[cfg(test)]
+mod uses;

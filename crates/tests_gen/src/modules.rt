@@ -1,156 +1,33 @@
 //! A small module, with the code that docs/MEANING.md ("Code") gives for it.
+use crate::forms::{INT, compare, evaluate, function, local, number, only, step, while_loop};
+use crate::trees::counting_rows;
 use ang_code::{Instruction, RoutineCode};
 use ang_gen::compile;
 use ang_kinds::{List, Pass, Prim};
 use ang_meaning::{Arithmetic, Change, Comparison as Test, Operation, Passing};
-use ang_typed::{
-    Block, Comparison, Expression, Function, Global as GlobalVariable, Local, Operator, Parameter,
-    Statement, StepKind, Typed, Variable,
-};
-use ang_types::ArgType;
+use ang_typed::{Comparison, Function, Global as GlobalVariable, StepKind, Typed, Variable};
 use std::alloc::{AllocError, Global};
-
-const INT: ArgType = ArgType::Plain(Prim::I32);
-
-type Tree = Result<Box<Expression>, AllocError>;
-
-type Row = Result<Box<Statement>, AllocError>;
-
-fn leaf(alloc: Global, e: Expression) -> Tree {
-    Ok(Box::new(alloc, e)?)
-}
-
-fn row(alloc: Global, statement: Statement) -> Row {
-    Ok(Box::new(alloc, statement)?)
-}
-
-fn number(alloc: Global, value: u64) -> Tree {
-    leaf(
-        alloc,
-        Expression::Number {
-            ty: Prim::I32,
-            value,
-        },
-    )
-}
-
-fn local(alloc: Global, i: usize) -> Tree {
-    leaf(
-        alloc,
-        Expression::Variable {
-            variable: Variable::Local(i),
-            ty: INT,
-        },
-    )
-}
-
-/// `int c = a + 1;`
-fn declared(alloc: Global) -> Row {
-    let left = local(alloc, 0)?;
-    let right = number(alloc, 1)?;
-    let sum = leaf(
-        alloc,
-        Expression::Operate {
-            operator: Operator::Add,
-            ty: Prim::I32,
-            left,
-            right,
-        },
-    )?;
-    let locals = vec![in alloc;
-        Local {
-            ty: INT,
-            initializer: Some(sum)
-        },
-    ]?;
-    row(alloc, Statement::Locals(locals))
-}
-
-/// `b = c;`
-fn stored(alloc: Global) -> Row {
-    let value = local(alloc, 2)?;
-    let stored = leaf(
-        alloc,
-        Expression::Assign {
-            variable: Variable::Local(1),
-            ty: INT,
-            value,
-        },
-    )?;
-    row(alloc, Statement::Expression(Some(stored)))
-}
-
-/// `return c;`
-fn given_back(alloc: Global) -> Row {
-    let value = local(alloc, 2)?;
-    row(alloc, Statement::Return(Some(value)))
-}
-
-/// `while (n > 0) { --n; }`
-fn counted_down(alloc: Global) -> Row {
-    let left = local(alloc, 0)?;
-    let right = number(alloc, 0)?;
-    let condition = leaf(
-        alloc,
-        Expression::Compare {
-            comparison: Comparison::Greater,
-            ty: Prim::I32,
-            left,
-            right,
-        },
-    )?;
-    let step = leaf(
-        alloc,
-        Expression::Step {
-            variable: Variable::Local(0),
-            ty: Prim::I32,
-            step: StepKind::DecrementBefore,
-        },
-    )?;
-    let statements = vec![in alloc; Statement::Expression(Some(step))]?;
-    let body = Block { statements };
-    row(alloc, Statement::While { condition, body })
-}
-
-fn add(statements: &mut Vec<Statement>, statement: Row) -> Result<(), AllocError> {
-    statements.push(Box::into_inner(statement?))?;
-    Ok(())
-}
-
-/// A function of `int` parameters that are passed so.
-fn function(
-    alloc: Global,
-    passes: &[Pass],
-    statements: Vec<Statement>,
-) -> Result<Function, AllocError> {
-    let mut parameters = Vec::new(alloc);
-    for pass in passes {
-        parameters.push(Parameter {
-            ty: INT,
-            pass: *pass,
-        })?;
-    }
-    Ok(Function {
-        parameters: List::from_vec(parameters),
-        result: INT,
-        body: Block { statements },
-    })
-}
 
 /// `int f(int a, int &out b) { int c = a + 1; b = c; return c; }`
 fn counting(alloc: Global) -> Result<Function, AllocError> {
-    let mut statements = Vec::with_capacity(alloc, 3)?;
-    add(&mut statements, declared(alloc))?;
-    add(&mut statements, stored(alloc))?;
-    add(&mut statements, given_back(alloc))?;
-    function(alloc, &[Pass::Value, Pass::RefOut], statements)
+    function(alloc, &[Pass::Value, Pass::RefOut], counting_rows(alloc))
 }
 
 /// `void f(int n) { while (n > 0) { --n; } }`
 fn looping(alloc: Global) -> Result<Function, AllocError> {
-    let mut statements = Vec::with_capacity(alloc, 1)?;
-    add(&mut statements, counted_down(alloc))?;
-    function(alloc, &[Pass::Value], statements)
+    let test = compare(
+        alloc,
+        Comparison::Greater,
+        local(alloc, 0),
+        number(alloc, 0),
+    );
+    let less = step(alloc, Variable::Local(0), StepKind::DecrementBefore);
+    let body = only(alloc, evaluate(alloc, less));
+    function(
+        alloc,
+        &[Pass::Value],
+        only(alloc, while_loop(alloc, test, body)),
+    )
 }
 
 fn functions(alloc: Global) -> Result<Vec<Function>, AllocError> {

@@ -1,7 +1,15 @@
-//! Tests of the trees that the parser makes, by its public calls: whole scripts through `parse`, and readers of parts
-//! that no script calls with a rest. They stand in a crate of their own, so that the parser's crates are not proved once
-//! more with them.
+//! Tests of the parser by public calls: what it accepts and refuses, and where, also beside a recognizer of its own; and
+//! the trees that it makes. A test's rows own nothing, and one small function owns the tokens and the tree of one row, so
+//! that little is proved of what is dropped.
 #![tactic(auto)]
 
 #[cfg(test)]
-mod tests;
+mod answers;
+#[cfg(test)]
+mod comparison;
+#[cfg(test)]
+mod readers;
+#[cfg(test)]
+mod recognizer;
+#[cfg(test)]
+mod trees;

@@ -1,401 +1,236 @@
-ghost use Rattle.std.specs.Prelude.{◌≡◌, ◌<◌, ◌&&◌, ltb, length, IsTrue};
-ghost use Rattle.std.specs.List.{list_all};
-ghost use Rattle.ang_host.specs.Boxes.{members};
-ghost use Rattle.ang_vm_ask.specs.Plain.{is_plain};
-ghost use Rattle.ang_vm.specs.Machines.{HasPlainEntities};
-
-use ang_code::{Instruction, RoutineCode};
-use ang_drivers::Console;
-use ang_host::{Answer, Driver, Drivers, HostEvent, HostReply, Role};
-use ang_kinds::{EntityNo, Fault, List, Prim, Value};
-use ang_meaning::{
-    Arithmetic, Callee, Change, Comparison, HostType, HostUse, Operation, Passing, Routine, Slot,
-};
-use ang_vm::{Globals, Machine, run, run_initializer};
-use ang_vm_ask::is_plain;
-use ang_vm_fuse::body::Body;
-use ang_vm_steps::table::{ModuleCode, Table};
+//! Runs on one machine, one behind the other: what each gives, and what the host was asked.
+use crate::machine::{call, end, initialize, machine};
+use crate::texts::{REGISTER, table};
+use ang_host::{Answer, HostEvent, HostReply};
+use ang_kinds::{EntityNo, Fault, Value};
+use ang_meaning::Slot;
+use ang_vm::Machine;
+use ang_vm_steps::table::Table;
 use std::alloc::{AllocError, Global};
 use std::test::Fail;
 
-const ADD: Instruction = Instruction::Do(Operation::Work(Arithmetic::Add, Prim::I32));
-
-const SUBTRACT: Instruction = Instruction::Do(Operation::Work(Arithmetic::Subtract, Prim::I32));
-
-const DIVIDE: Instruction = Instruction::Do(Operation::Work(Arithmetic::Divide, Prim::I32));
-
-const LESS: Instruction = Instruction::Do(Operation::Compare(Comparison::Less, true));
-
-/// `note`, which gives nothing, of an `int`.
-const NOTE: Instruction = Instruction::Do(Operation::Ask(EntityNo(0)));
-
-/// `sum`, of two `int`s.
-const SUM: Instruction = Instruction::Do(Operation::Ask(EntityNo(1)));
-
-/// `fault`, of a `uint`.
-const FAULT: Instruction = Instruction::Do(Operation::Ask(EntityNo(2)));
-
-/// The register, as a property of type `int`.
-const REGISTER: EntityNo = EntityNo(3);
-
-fn entity(
-    alloc: Global,
-    role: Role,
-    params: &[HostType],
-    of: HostType,
-) -> Result<HostUse, AllocError> {
-    Ok(HostUse {
-        driver: 0,
-        role,
-        member: false,
-        params: List::from_vec(Vec::from_slice(alloc, params)?),
-        result: of,
-    })
+/// A run of a body of the table with a budget, and what it gives.
+#[derive(Clone, Copy, Debug)]
+enum Turn {
+    /// A call, with arguments.
+    Call(u32, &'static [Slot], u64, Result<Slot, Fault>),
+    /// A call without arguments that gives a number, on ten ticks.
+    Gives(u32, u64),
+    /// A call without arguments that faults, on ten ticks.
+    Faults(u32, Fault),
+    /// An initializer, and the ticks that it leaves.
+    Initializes(u32, u64, Result<u64, Fault>),
 }
 
-fn entities(alloc: Global) -> Result<Vec<HostUse>, AllocError> {
-    let int = HostType::Plain(Prim::I32);
-    let natural = HostType::Plain(Prim::U32);
-    let note = entity(alloc, Role::Calling(0), &[int], HostType::Nothing)?;
-    let sum = entity(alloc, Role::Calling(1), &[int, int], int)?;
-    let fault = entity(alloc, Role::Calling(2), &[natural], int)?;
-    let register = entity(alloc, Role::Property(0), &[], int)?;
-    Ok(vec![in alloc; note, sum, fault, register]?)
+const FIB_OF_10: Turn = Turn::Call(0, &[Slot::Bits(10)], 1000, Ok(Slot::Bits(55)));
+
+/// A loop takes a tick at its entry, one before it and one for each turn back. A body that calls itself ends by the
+/// depth, or by the budget where that is less. Where there is less on the stack than is taken, a run is `Null`, and
+/// so is one without room for its values.
+const TURNS: [Turn; 29] = [
+    FIB_OF_10,
+    Turn::Call(0, &[], 1000, Err(Fault::Null)),
+    Turn::Call(1, &[], 12, Ok(Slot::Bits(10))),
+    Turn::Call(1, &[], 11, Err(Fault::Budget)),
+    Turn::Call(1, &[], 0, Err(Fault::Budget)),
+    Turn::Call(2, &[], 1000, Err(Fault::Depth)),
+    Turn::Call(2, &[], 200, Err(Fault::Depth)),
+    Turn::Call(2, &[], 199, Err(Fault::Budget)),
+    Turn::Gives(3, u64::MAX - 24),
+    Turn::Faults(5, Fault::DivideByZero),
+    Turn::Gives(6, 40),
+    Turn::Gives(6, 80),
+    Turn::Faults(7, Fault::Host(77)),
+    Turn::Gives(8, u64::MAX - 2),
+    Turn::Faults(9, Fault::BadAnswer),
+    Turn::Faults(10, Fault::BadAnswer),
+    Turn::Gives(11, 300),
+    Turn::Faults(12, Fault::BadAnswer),
+    Turn::Faults(13, Fault::Host(1)),
+    Turn::Faults(14, Fault::DivideByZero),
+    Turn::Faults(15, Fault::Null),
+    Turn::Faults(16, Fault::DivideByZero),
+    Turn::Faults(17, Fault::Null),
+    Turn::Gives(18, 10),
+    Turn::Gives(19, 3),
+    Turn::Faults(20, Fault::Null),
+    Turn::Gives(21, 9),
+    Turn::Initializes(23, 3, Ok(3)),
+    Turn::Gives(24, 6),
+];
+
+/// An asking: the entity, the arguments and the answer.
+type Listed = (EntityNo, &'static [Value], Answer);
+
+const LISTED: [Listed; 17] = [
+    (EntityNo(0), &[Value::Int(5)], Answer::Void),
+    (
+        EntityNo(1),
+        &[Value::Int(30), Value::Int(2)],
+        Answer::Gave(Value::Int(32)),
+    ),
+    (EntityNo(0), &[Value::Int(9)], Answer::Void),
+    (EntityNo(0), &[Value::Int(1)], Answer::Void),
+    (REGISTER, &[], Answer::Gave(Value::Int(0))),
+    (REGISTER, &[Value::Int(40)], Answer::Void),
+    (REGISTER, &[], Answer::Gave(Value::Int(40))),
+    (REGISTER, &[Value::Int(80)], Answer::Void),
+    (EntityNo(4), &[Value::Uint(77)], Answer::Fault(77)),
+    (
+        EntityNo(2),
+        &[Value::Int(2), Value::Int(-5)],
+        Answer::Gave(Value::Int(-3)),
+    ),
+    (
+        EntityNo(2),
+        &[Value::Int(200), Value::Int(0)],
+        Answer::Gave(Value::Int(200)),
+    ),
+    (
+        EntityNo(3),
+        &[Value::Int(2), Value::Int(-5)],
+        Answer::Gave(Value::Int(-3)),
+    ),
+    (REGISTER, &[Value::Int(300)], Answer::Void),
+    (REGISTER, &[], Answer::Gave(Value::Int(300))),
+    (EntityNo(6), &[], Answer::Gave(Value::Int(300))),
+    (EntityNo(7), &[Value::Uint(300)], Answer::Fault(1)),
+    (REGISTER, &[], Answer::Gave(Value::Int(300))),
+];
+
+fn runs_so(table: &Table, machine: &mut Machine, turn: &Turn, events: &mut Vec<HostEvent>) -> bool {
+    match *turn {
+        Turn::Call(number, args, budget, want) => {
+            call(table, machine, number, args, budget, events) == Some(want)
+        }
+        Turn::Gives(number, value) => {
+            call(table, machine, number, &[], 10, events) == Some(Ok(Slot::Bits(value)))
+        }
+        Turn::Faults(number, fault) => {
+            call(table, machine, number, &[], 10, events) == Some(Err(fault))
+        }
+        Turn::Initializes(number, ticks, want) => {
+            initialize(table, machine, number, ticks, events) == Some(want)
+        }
+    }
 }
 
-fn body(
-    alloc: Global,
-    params: &[Passing],
-    height: usize,
-    text: &[Instruction],
-) -> Result<Body, AllocError> {
-    let code = RoutineCode {
-        params: params.to_vec(alloc)?,
-        height,
-        text: text.to_vec(alloc)?,
-    };
-    Body::new(alloc, code)
-}
-
-fn table_of(alloc: Global, bodies: Vec<Body>) -> Result<Table, AllocError> {
-    let module = ModuleCode {
-        name: Vec::from_slice(alloc, b"m".as_slice())?,
-        bodies,
-        imports: Vec::new(alloc),
-    };
-    let mut modules = Vec::new(alloc);
-    modules.push(module)?;
-    Ok(Table {
-        modules,
-        entities: entities(alloc)?,
-    })
-}
-
-/// The machine with one console, and one module of two globals.
-fn globals_of(alloc: Global) -> Result<Globals, AllocError> {
-    let mut modules = Vec::new(alloc);
-    modules.push(vec![in alloc; Slot::Bits(0); 2]?)?;
-    Ok(Globals { modules })
-}
-
-/// Whether an entity is one of the only driver, by which no objects pass.
-fn is_plain_use(host: &HostUse) -> bool
-    ensures exact { result ≡ (is_plain host.now && ltb host.now.driver 1) }
-{
-    is_plain(host) && host.driver < 1
-}
-
-fn are_plain(entities: &[HostUse]) -> bool
-    ensures exact { result ≡ list_all (λ u. is_plain u && ltb u.driver 1) entities.now }
-{
-    entities.iter().all(|host| is_plain_use(host))
-}
-
-/// Whether each entity of a table is such a one.
-fn has_plain_entities(table: &Table) -> bool
-    ensures plain { IsTrue result → HasPlainEntities table.now 1 }
-{
-    are_plain(table.entities.as_slice())
-}
-
-/// A call of a body; nothing where the table has other entities than plain ones.
-fn call(
+/// The first turn that gives something else.
+fn first_wrong(
     table: &Table,
     machine: &mut Machine,
-    number: u32,
-    args: &[Slot],
-    budget: u64,
+    turns: &[Turn],
     events: &mut Vec<HostEvent>,
-) -> Option<Result<Slot, Fault>>
-    requires one_driver { length (members machine.old.drivers) ≡ 1 }
-    ensures one_driver { length (members machine.new.drivers) ≡ 1 }
-{
-    if !has_plain_entities(table) {
-        return None;
+) -> Option<usize> {
+    for (at, turn) in turns.iter().enumerate() {
+        if !runs_so(table, machine, turn, events) {
+            return Some(at);
+        }
     }
-    let entry = Routine { home: 0, number };
-    Some(run(table, machine, entry, args, budget, events))
+    None
 }
 
-/// The reply of an event of the module `m`, with its arguments.
-fn reply_of(event: &HostEvent) -> Option<(EntityNo, &[Value], HostReply)> {
+/// What is wrong with the turns on a machine of their own, which lists its events behind those there.
+fn wrong_of(
+    alloc: Global,
+    table: &Table,
+    turns: &[Turn],
+    events: &mut Vec<HostEvent>,
+) -> Result<Option<usize>, AllocError> {
+    let Some(mut machine) = machine(alloc)? else {
+        return Ok(Some(turns.len()));
+    };
+    let wrong = first_wrong(table, &mut machine, turns, events);
+    end(machine);
+    Ok(wrong)
+}
+
+/// Whether an event lists such an asking by the module "m".
+fn lists(event: &HostEvent, want: &Listed) -> bool {
     match event {
         HostEvent::Called {
             caller,
             entity,
-            args,
+            driver,
+            object,
+            args: listed,
             reply,
-            ..
         } => {
-            if caller.as_slice() == b"m".as_slice() {
-                Some((*entity, args.as_slice(), *reply))
-            } else {
-                None
-            }
+            caller.as_slice() == b"m".as_slice()
+                && *entity == want.0
+                && *driver == 0
+                && object.is_none()
+                && listed.as_slice() == want.1
+                && *reply == HostReply::Asking(want.2)
         }
-        HostEvent::Ended { .. } => None,
+        HostEvent::Ended { .. } => false,
     }
 }
 
-/// `int fib(int n) { return n < 2 ? n : fib(n - 1) + fib(n - 2); }`, a loop, and one that never ends.
-fn recursion(alloc: Global) -> Result<Table, AllocError> {
-    let again = Instruction::Enter(Callee::Own(0));
-    let fib = [
-        Instruction::Load(0),
-        Instruction::PushBits(2),
-        LESS,
-        Instruction::SkipIfFalse(2),
-        Instruction::Load(0),
-        Instruction::Return(0),
-        Instruction::Load(0),
-        Instruction::PushBits(1),
-        SUBTRACT,
-        again,
-        Instruction::Load(1),
-        Instruction::PushBits(2),
-        SUBTRACT,
-        again,
-        ADD,
-        Instruction::Return(0),
-    ];
-    let counting = [
-        Instruction::PushBits(0),
-        Instruction::Tick,
-        Instruction::Load(0),
-        Instruction::PushBits(10),
-        LESS,
-        Instruction::SkipIfFalse(6),
-        Instruction::Load(0),
-        Instruction::PushBits(1),
-        ADD,
-        Instruction::Store(0),
-        Instruction::Drop,
-        Instruction::Back(9),
-        Instruction::Load(0),
-        Instruction::Return(1),
-    ];
-    let deep = [Instruction::Enter(Callee::Own(2)), Instruction::Return(0)];
-    let mut bodies = Vec::new(alloc);
-    bodies.push(body(alloc, &[Passing::In], 4, &fib)?)?;
-    bodies.push(body(alloc, &[], 3, &counting)?)?;
-    bodies.push(body(alloc, &[], 1, &deep)?)?;
-    table_of(alloc, bodies)
+/// The place of the first event that lists something else, or that one of the two lists lacks.
+fn first_unlisted(events: &[HostEvent], wanted: &[Listed]) -> Option<usize> {
+    for (at, event) in events.iter().enumerate() {
+        match wanted.get(at) {
+            Some(want) if lists(event, want) => {}
+            _ => return Some(at),
+        }
+    }
+    (events.len() < wanted.len()).then_some(events.len())
+}
+
+/// The first turn that gives something else, and the first event that is not as listed.
+fn wrong_runs(
+    alloc: Global,
+    turns: &[Turn],
+    wanted: &[Listed],
+) -> Result<(Option<usize>, Option<usize>), AllocError> {
+    let table = table(alloc)?;
+    let mut events = Vec::new(alloc);
+    let wrong = wrong_of(alloc, &table, turns, &mut events)?;
+    Ok((wrong, first_unlisted(&events, wanted)))
 }
 
 #[test]
-fn functions_run(rt: HostRuntime) -> Result<(), Fail> {
-    let alloc = rt.alloc();
-    let table = recursion(alloc)?;
-    let globals = globals_of(alloc)?;
-    let mut boxes: Vec<Box<dyn Driver>> = Vec::new(alloc);
-    boxes.push(Box::new(alloc, Console::new(alloc)?)?)?;
-    let Ok(drivers) = Drivers::new(boxes) else {
-        panic!(rt; "an idle driver was refused")
-    };
-    let mut machine = Machine { drivers, globals };
-    let mut events = Vec::new(alloc);
-    let fib = call(
-        &table,
-        &mut machine,
-        0,
-        &[Slot::Bits(10)],
-        1000,
-        &mut events,
-    );
-    let loops = call(&table, &mut machine, 1, &[], 12, &mut events);
-    let spent = call(&table, &mut machine, 1, &[], 11, &mut events);
-    let none = call(&table, &mut machine, 1, &[], 0, &mut events);
-    let deep = call(&table, &mut machine, 2, &[], 1000, &mut events);
-    let lost = call(&table, &mut machine, 0, &[], 1000, &mut events);
-    let Machine {
-        drivers,
-        globals: _,
-    } = machine;
-    assert_eq!(rt; drivers.into_boxes().len(), 1);
-    assert_eq!(rt; fib, Some(Ok(Slot::Bits(55))));
-    assert_eq!(rt; loops, Some(Ok(Slot::Bits(10))));
-    assert_eq!(rt; spent, Some(Err(Fault::Budget)));
-    assert_eq!(rt; none, Some(Err(Fault::Budget)));
-    assert_eq!(rt; deep, Some(Err(Fault::Depth)));
-    assert_eq!(rt; lost, Some(Err(Fault::Null)));
-    assert_eq!(rt; events.len(), 0);
+fn runs_give_and_ask(rt: HostRuntime) -> Result<(), Fail> {
+    assert_eq!(rt; wrong_runs(rt.alloc(), &TURNS, &LISTED)?, (None, None));
     Ok(())
 }
 
-/// A host call between two instructions, whose value is worked on; a fault in a function that is called; and
-/// a property that is changed.
-fn asking(alloc: Global) -> Result<Table, AllocError> {
-    let asks = [
-        Instruction::PushBits(5),
-        NOTE,
-        Instruction::Drop,
-        Instruction::PushBits(7),
-        Instruction::PushBits(30),
-        Instruction::PushBits(2),
-        SUM,
-        SUBTRACT,
-        Instruction::Return(0),
-    ];
-    let divides = [
-        Instruction::PushBits(1),
-        NOTE,
-        Instruction::Drop,
-        Instruction::PushBits(1),
-        Instruction::PushBits(0),
-        DIVIDE,
-        Instruction::Return(0),
-    ];
-    let calls = [
-        Instruction::PushBits(9),
-        NOTE,
-        Instruction::Drop,
-        Instruction::Enter(Callee::Own(1)),
-        NOTE,
-        Instruction::Return(0),
-    ];
-    let by = Change {
-        work: Arithmetic::Add,
-        at: Prim::I32,
-        to: Prim::I32,
-        old: false,
-    };
-    let changes = [
-        Instruction::PushBits(40),
-        Instruction::Do(Operation::Alter(REGISTER, by)),
-        Instruction::Return(0),
-    ];
-    let faults = [Instruction::PushBits(77), FAULT, Instruction::Return(0)];
-    let mut bodies = Vec::new(alloc);
-    bodies.push(body(alloc, &[], 4, &asks)?)?;
-    bodies.push(body(alloc, &[], 2, &divides)?)?;
-    bodies.push(body(alloc, &[], 2, &calls)?)?;
-    bodies.push(body(alloc, &[], 2, &changes)?)?;
-    bodies.push(body(alloc, &[], 2, &faults)?)?;
-    table_of(alloc, bodies)
-}
+/// An initializer takes no tick at its entry.
+const INITIALIZERS: [Turn; 2] = [
+    Turn::Initializes(25, 3, Ok(1)),
+    Turn::Initializes(25, 1, Err(Fault::Budget)),
+];
 
 #[test]
-fn host_is_asked(rt: HostRuntime) -> Result<(), Fail> {
-    let alloc = rt.alloc();
-    let table = asking(alloc)?;
-    let globals = globals_of(alloc)?;
-    let mut boxes: Vec<Box<dyn Driver>> = Vec::new(alloc);
-    boxes.push(Box::new(alloc, Console::new(alloc)?)?)?;
-    let Ok(drivers) = Drivers::new(boxes) else {
-        panic!(rt; "an idle driver was refused")
-    };
-    let mut machine = Machine { drivers, globals };
-    let mut events = Vec::new(alloc);
-    let asked = call(&table, &mut machine, 0, &[], 10, &mut events);
-    let divided = call(&table, &mut machine, 2, &[], 10, &mut events);
-    let changed = call(&table, &mut machine, 3, &[], 10, &mut events);
-    let again = call(&table, &mut machine, 3, &[], 10, &mut events);
-    let faulted = call(&table, &mut machine, 4, &[], 10, &mut events);
-    let Machine {
-        drivers,
-        globals: _,
-    } = machine;
-    assert_eq!(rt; drivers.into_boxes().len(), 1);
-    assert_eq!(rt; asked, Some(Ok(Slot::Bits(u64::MAX - 24))));
-    assert_eq!(rt; divided, Some(Err(Fault::DivideByZero)));
-    assert_eq!(rt; changed, Some(Ok(Slot::Bits(40))));
-    assert_eq!(rt; again, Some(Ok(Slot::Bits(80))));
-    assert_eq!(rt; faulted, Some(Err(Fault::Host(77))));
-    let void = HostReply::Asking(Answer::Void);
-    let gave = |n: i64| HostReply::Asking(Answer::Gave(Value::Int(n)));
-    let listed: [(EntityNo, &[Value], HostReply); 9] = [
-        (EntityNo(0), &[Value::Int(5)], void),
-        (EntityNo(1), &[Value::Int(30), Value::Int(2)], gave(32)),
-        (EntityNo(0), &[Value::Int(9)], void),
-        (EntityNo(0), &[Value::Int(1)], void),
-        (REGISTER, &[], gave(0)),
-        (REGISTER, &[Value::Int(40)], void),
-        (REGISTER, &[], gave(40)),
-        (REGISTER, &[Value::Int(80)], void),
-        (
-            EntityNo(2),
-            &[Value::Uint(77)],
-            HostReply::Asking(Answer::Fault(77)),
-        ),
-    ];
-    assert_eq!(rt; events.len(), 9);
-    for (event, wanted) in events.iter().zip(listed) {
-        assert_eq!(rt; reply_of(event), Some(wanted));
-    }
+fn initializers_take_their_ticks(rt: HostRuntime) -> Result<(), Fail> {
+    assert_eq!(rt; wrong_runs(rt.alloc(), &INITIALIZERS, &[])?, (None, None));
     Ok(())
 }
 
-/// An initializer stores into a global, which a function then reads; and one that takes two ticks.
-#[test]
-fn initializers_run(rt: HostRuntime) -> Result<(), Fail> {
-    let alloc = rt.alloc();
-    let stores = [
-        Instruction::PushBits(6),
-        Instruction::Do(Operation::GlobalSet(1)),
-        Instruction::Return(0),
-    ];
-    let reads = [
-        Instruction::Do(Operation::GlobalGet(1)),
-        Instruction::Do(Operation::GlobalGet(0)),
-        SUBTRACT,
-        Instruction::Return(0),
-    ];
-    let ticks = [
-        Instruction::Tick,
-        Instruction::Tick,
-        Instruction::PushBits(0),
-        Instruction::Return(0),
-    ];
-    let mut bodies = Vec::new(alloc);
-    bodies.push(body(alloc, &[], 1, &stores)?)?;
-    bodies.push(body(alloc, &[], 2, &reads)?)?;
-    bodies.push(body(alloc, &[], 1, &ticks)?)?;
-    let table = table_of(alloc, bodies)?;
-    let globals = globals_of(alloc)?;
-    let mut boxes: Vec<Box<dyn Driver>> = Vec::new(alloc);
-    boxes.push(Box::new(alloc, Console::new(alloc)?)?)?;
-    let Ok(drivers) = Drivers::new(boxes) else {
-        panic!(rt; "an idle driver was refused")
+/// Run with each growth of memory refused in turn, a call may find none, and the next one does.
+fn runs_again(
+    alloc: Global,
+    table: &Table,
+    events: &mut Vec<HostEvent>,
+) -> Result<bool, AllocError> {
+    let Some(mut machine) = machine(alloc)? else {
+        return Ok(false);
     };
-    let mut machine = Machine { drivers, globals };
-    let mut events = Vec::new(alloc);
-    if !has_plain_entities(&table) {
-        panic!(rt; "a plain table was refused")
-    }
-    let first = Routine { home: 0, number: 0 };
-    let third = Routine { home: 0, number: 2 };
-    let stored = run_initializer(&table, &mut machine, first, 3, &mut events);
-    let read = call(&table, &mut machine, 1, &[], 10, &mut events);
-    let ticked = run_initializer(&table, &mut machine, third, 3, &mut events);
-    let spent = run_initializer(&table, &mut machine, third, 1, &mut events);
-    let Machine {
-        drivers,
-        globals: _,
-    } = machine;
-    assert_eq!(rt; drivers.into_boxes().len(), 1);
-    assert_eq!(rt; stored, Ok(3));
-    assert_eq!(rt; read, Some(Ok(Slot::Bits(6))));
-    assert_eq!(rt; ticked, Ok(1));
-    assert_eq!(rt; spent, Err(Fault::Budget));
+    let again = runs_so(table, &mut machine, &FIB_OF_10, events)
+        || runs_so(table, &mut machine, &FIB_OF_10, events);
+    let asks = Turn::Gives(3, u64::MAX - 24);
+    let asked = runs_so(table, &mut machine, &asks, events)
+        || runs_so(table, &mut machine, &asks, events);
+    end(machine);
+    Ok(again && asked)
+}
+
+#[test]
+fn a_refused_growth_is_a_fault(rt: HostRuntime) -> Result<(), Fail> {
+    let table = table(rt.alloc())?;
+    let mut events = Vec::new(rt.alloc());
+    let runs = runs_again(rt.alloc(), &table, &mut events)?;
+    assert!(rt; runs);
     Ok(())
 }
