@@ -10,13 +10,14 @@ import subprocess
 import sys
 import tempfile
 import time
-from collections import Counter, namedtuple
+from collections import Counter, defaultdict, namedtuple
 
 MOST = 65536  # bytes of a section
 STACK = 8192  # KiB, with which each section has to build
 STEP = 64  # KiB, to which the least stack is found
 SECONDS = 120  # for one process
 GNU_TIME = "/usr/bin/time"
+WAYS = ["ended by a signal", "ran out of time", "answered otherwise", "above a bound"]
 
 PROFILE = "function 0 0 void put(int64)\nglobal 0 0 int64 reg\n"
 HEAD = "int x;bool b;int g(int n){return n;}void f(){"
@@ -35,8 +36,8 @@ class Trials:
         self.runs = 0
         self.bad = Counter()
 
-    def run(self, session, profile=PROFILE, stack=STACK, measured=False):
-        """Runs a session, with that many KiB of stack."""
+    def run(self, session, profile=PROFILE, stack=STACK, memory=None, measured=False):
+        """Runs a session, with that many KiB of stack, and that many of memory if there is a limit."""
         files = {"profile": profile, "session": session}
         for name, text in files.items():
             with open(f"{self.folder}/{name}", "w", newline="\n") as out:
@@ -44,10 +45,10 @@ class Trials:
         words = [self.program, "--profile", "profile", "--session", "session"]
         if measured:
             words = [GNU_TIME, "-q", "-f", "%M", "-o", "resident", *words]
-        limited = lambda: resource.setrlimit(resource.RLIMIT_STACK, (stack * 1024, stack * 1024))
         start = time.monotonic()
+        how = {"cwd": self.folder, "env": {}, "capture_output": True, "timeout": SECONDS}
         try:
-            ran = subprocess.run(words, cwd=self.folder, env={}, capture_output=True, timeout=SECONDS, preexec_fn=limited)
+            ran = subprocess.run(words, preexec_fn=lambda: limit_to(stack, memory), **how)
             status, text = ran.returncode, ran.stdout.decode("latin-1")
         except subprocess.TimeoutExpired:
             status, text = None, ""
@@ -65,17 +66,19 @@ class Trials:
         ended = self.run(session, **how)
         self.runs += 1
         answer = answer_of(ended)
-        if not re.fullmatch(wanted, answer):
-            kind = "ended by a signal" if is_killed(ended) else "ran out of time" if ended.status is None else "answered otherwise"
-            self.bad[kind] += 1
-            print(f"{kind}: {what}: {answer}, where {wanted} is wanted", flush=True)
+        if ended.status is None or is_killed(ended) or not re.fullmatch(wanted, answer):
+            self.count(way_of(ended), f"{what}: {answer}, where {wanted} is wanted")
         return ended
+
+    def count(self, way, what):
+        """Counts and prints what did not go well."""
+        self.bad[way] += 1
+        print(f"{way}: {what}", flush=True)
 
     def held(self, what, figure, bound):
         """Counts a figure that is above its bound."""
         if figure > bound:
-            self.bad["above a bound"] += 1
-            print(f"above a bound: {what}: {figure:.1f}, where {bound} is the most", flush=True)
+            self.count(WAYS[3], f"{what}: {figure:.1f}, where {bound} is the most")
 
     def least_stack(self, session, wanted):
         """The least KiB of stack, up to a step, with which a session is answered so."""
@@ -89,12 +92,26 @@ class Trials:
         return high * STEP
 
 
+def limit_to(stack, memory):
+    """Limits this process, in KiB."""
+    resource.setrlimit(resource.RLIMIT_STACK, (stack * 1024, stack * 1024))
+    if memory:
+        resource.setrlimit(resource.RLIMIT_AS, (memory * 1024, memory * 1024))
+
+
+def way_of(ended):
+    """In which way a run ended whose answer is not the wanted one."""
+    if ended.status is None:
+        return WAYS[1]
+    return WAYS[0] if is_killed(ended) else WAYS[2]
+
+
 def is_killed(ended):
     return ended.status is not None and ended.status < 0
 
 
 def answer_of(ended):
-    """The last answer of a run: an outcome, with the kind of the first error before it, or how the process was ended."""
+    """The last line of a run, with the kind of the first error before it, or how the process was ended."""
     if ended.status is None:
         return "out of time"
     if is_killed(ended):
@@ -108,10 +125,10 @@ def section(text):
     return f"section m {text.count(chr(10)) + 1}\n{text}\n"
 
 
-def built(*texts, calls=()):
+def built(*texts, calls=(), mask="00000001"):
     """A session that builds sections in one module, and then does the calls."""
     lines = [f"{line}\n" for line in ("build m", *calls)]
-    return "module m 00000001\n" + "".join(map(section, texts)) + "".join(lines)
+    return f"module m {mask}\n" + "".join(map(section, texts)) + "".join(lines)
 
 
 def filled(unit, head=HEAD, tail="}"):
@@ -188,8 +205,8 @@ def deep(trials):
     print(f"\n{len(decls)} calls whose declarations are as long: refused NoFunction")
 
 
-# What stands before and behind a limit: what it is of, its last value, what makes a session of a number, and what such a
-# session is answered at the last value and one above.
+# What is limited, its last value, what makes a session of a number, and what that is answered at the last value and one
+# above.
 Limit = namedtuple("Limit", "what last session within above")
 
 
@@ -201,48 +218,66 @@ def operators(unit):
     return lambda n: built(HEAD + unit * n + "x;}")
 
 
-def registered(line):
-    """A profile with that line as often as the number says."""
-    return lambda n: dict(session="", profile=named(n, line))
+def called(text, call, *before):
+    return built(text, calls=[*before, f"call m {call}"])
+
+
+def profiled(profile):
+    """An empty session below a profile."""
+    return {"session": "", "profile": profile}
 
 
 DEEP = "refused BuildErrors TooDeep"
 LONG = "refused BuildErrors TooLong"
 MANY = "refused BuildErrors Limit"
+NOT_YET = "refused BuildErrors NotYet"
+ARGUMENTS = "refused BadArguments"
 COUNT = "int f(int n){return n<2?n:f(n-1);}"
-LOOP = "void f(){for(int i;i<998;i++);}"
+LOOP = "void f(){for(int i;i<%d;i++);}"  # takes two ticks more
 
 LIMITS = [
     Limit("bytes of a section", MOST, lambda n: built(";" * (n - 1)), OK, LONG),
     Limit("bytes of a name", 255, lambda n: built(f"int {'a' * n};"), OK, LONG),
-    Limit("bytes of a text", 255, lambda n: built(f'import void f() from "{"a" * (n - 2)}";'), "refused BuildErrors NotYet", LONG),
+    Limit("bytes of a text", 255, lambda n: built(f'import void f() from "{"a" * (n - 2)}";'), NOT_YET, LONG),
     Limit("a number", 2**64 - 1, lambda n: built(f"uint64 a={n};"), OK, "refused BuildErrors BadNumber"),
-    Limit("open brackets, of them (", 64, lambda n: built(HEAD + "(" * (n - 1) + "x" + ")" * (n - 1) + ";}"), OK, DEEP),
-    Limit("open brackets, of them {", 64, lambda n: built("void f()" + "{" * n + "}" * n), OK, DEEP),
-    Limit("operators: x=", 256, operators("x="), OK, DEEP),
-    Limit("operators: x+", 256, operators("x+"), OK, DEEP),
-    Limit("operators: ~", 256, operators("~"), OK, DEEP),
-    Limit("operators: b?x:", 256, operators("b?x:"), OK, DEEP),
-    Limit("operators: if(b)", 256, operators("if(b)"), OK, DEEP),
-    Limit("operators: while(b)", 256, operators("while(b)"), OK, DEEP),
+    Limit("open `(` and `{`", 64, lambda n: built(HEAD + "(" * (n - 1) + "x" + ")" * (n - 1) + ";}"), OK, DEEP),
+    Limit("open `{`", 64, lambda n: built("void f()" + "{" * n + "}" * n), OK, DEEP),
+    Limit("operators: `x=..`", 256, operators("x="), OK, DEEP),
+    Limit("operators: `x+..`", 256, operators("x+"), OK, DEEP),
+    Limit("operators: `~..`", 256, operators("~"), OK, DEEP),
+    Limit("operators: `b?x:..`", 256, operators("b?x:"), OK, DEEP),
+    Limit("operators: `if(b)..`", 256, operators("if(b)"), OK, DEEP),
+    Limit("operators: `while(b)..`", 256, operators("while(b)"), OK, DEEP),
     Limit("functions", 4096, lambda n: built(named(n, "void f%d(){}")), OK, MANY),
     Limit("globals", 4096, lambda n: built(named(n, "int a%d;")), OK, MANY),
     Limit("globals of one list", 4096, lambda n: built(f"int a{named(n - 1, ',a%d')};"), OK, MANY),
     Limit("parameters", 32, lambda n: built(f"void f({','.join(['int'] * n)}){{}}"), OK, MANY),
     Limit("locals alive at once", 1024, lambda n: built(f"void f(){{{named(n, 'int a%d;')}}}"), OK, MANY),
     Limit("locals of nested loops", 1024, lambda n: built("void f(){" + "for(int i;;)" * n + ";}"), OK, MANY),
-    Limit("functions one inside the other", 200, lambda n: built(COUNT, calls=[f"call m ({n}) int f(int)"]), "ok 1", "fault Depth"),
-    Limit("ticks, of a budget of 1000", 1000, lambda n: built(LOOP.replace("998", str(n - 2)), calls=["budget 1000", "call m () void f()"]), OK, "fault Budget"),
-    Limit("a budget", 2**31 - 1, lambda n: built("void f(){}", calls=[f"budget {n}", "call m () void f()"]), OK, "refused BadBudget"),
-    Limit("a signed argument", 127, lambda n: built("void f(int8 a){}", calls=[f"call m ({n}) void f(int8)"]), OK, "refused BadArguments"),
-    Limit("an unsigned argument", 255, lambda n: built("void f(uint8 a){}", calls=[f"call m ({n}u) void f(uint8)"]), OK, "refused BadArguments"),
-    Limit("bytes of a call's declaration", MOST, lambda n: built("void f(){}", calls=[f"call m () void f(){' ' * (n - 8)}"]), OK, "refused NoFunction"),
-    Limit("sections that wait", 64, lambda n: built()[:-8] + section("int a;")[:-1].replace("int a", "") .join(["", "\n"]) * n, OK, "refused Limit"),
+    Limit("functions one inside the other", 200, lambda n: called(COUNT, f"({n}) int f(int)"), "ok 1", "fault Depth"),
+    Limit("ticks", 1000, lambda n: called(LOOP % (n - 2), "() void f()", "budget 1000"), OK, "fault Budget"),
+    Limit("a budget", 2**31 - 1, lambda n: called("void f(){}", "() void f()", f"budget {n}"), OK, "refused BadBudget"),
+    Limit("a signed argument", 127, lambda n: called("void f(int8 a){}", f"({n}) void f(int8)"), OK, ARGUMENTS),
+    Limit("an unsigned argument", 255, lambda n: called("void f(uint8 a){}", f"({n}u) void f(uint8)"), OK, ARGUMENTS),
+    Limit(
+        "bytes of a call's declaration",
+        MOST - 3,
+        lambda n: called("void f(){}", "() void f()" + " " * (n - 8)),
+        OK,
+        "refused NoFunction",
+    ),
+    Limit("sections that wait", 64, lambda n: "module m 00000001\n" + section(";") * n, OK, "refused Limit"),
     Limit("modules", 1, lambda n: named(n, "module m%d 00000001\n"), OK, "refused Limit"),
     Limit("bytes of a module's name", 255, lambda n: f"module {'m' * n} 00000001\n", OK, "refused BadName"),
-    Limit("registrations", 1024, registered("function 0 0 void f%d()\n"), "", "profile 1025 Limit"),
-    Limit("parameters of a registration", 32, lambda n: dict(session="", profile=f"function 0 0 void f({','.join(['int'] * n)})\n"), "", "profile 1 Limit"),
-    Limit("bytes of a profile", 2**20, lambda n: dict(session="", profile="#" * n), "", "profile 0 TooLong"),
+    Limit("registrations", 1024, lambda n: profiled(named(n, "function 0 0 void f%d()\n")), "", "profile 1025 Limit"),
+    Limit(
+        "parameters of a registration",
+        32,
+        lambda n: profiled(f"function 0 0 void f({','.join(['int'] * n)})\n"),
+        "",
+        "profile 1 Limit",
+    ),
+    Limit("bytes of a profile", 2**20, lambda n: profiled("#" * n), "", "profile 0 TooLong"),
     Limit("bytes of a session", 2**24, lambda n: "#" * n, "", "line 0 TooLong"),
 ]
 
@@ -264,20 +299,28 @@ def limits(trials):
 
 TOKEN = re.compile(r'//[^\n]*\n|/\*.*?\*/|\w+|"[^"\n]*"|[-+*/%&|^<>=!]+|\S', re.S)
 FUNCTION = re.compile(r"\b(\w+)\s+(\w+)\s*\(([^()]*)\)\s*\{")
-VALUES = {"bool": "true", "": ""}
-A_SESSION = 50  # changed sections
+WORDS = "if else while for do return break continue true false const in out".split()
+CHANGED, A_SESSION = 10000, 50  # changed sections in all, and of a process
 
 
-def examples():
-    """The scripts of the examples: each session's profile, its module's mask, and its sections."""
+def examples(trials):
+    """Of each session of the examples its profile, its module's mask, and those of its sections that are read."""
     folder = "crates/examples/data"
     for file in sorted(os.listdir(folder)):
         stem, kind = os.path.splitext(file)
-        profile = next(f"{folder}/{it}.profile" for it in (stem, stem.split("_")[0]) if os.path.isfile(f"{folder}/{it}.profile"))
         if kind == ".session" and stem != "refused_profile":
+            profiles = [f"{folder}/{it}.profile" for it in (stem, stem.split("_")[0])]
+            profile = open(next(filter(os.path.isfile, profiles))).read()
             lines = open(f"{folder}/{file}").read().split("\n")
             mask = next(line.split()[2] for line in lines if line.startswith("module "))
-            yield open(profile).read(), mask, list(sections_in(lines))
+            texts = [it for it in sections_in(lines) if is_read(trials.run(built(it, mask=mask), profile))]
+            if texts:
+                yield profile, mask, texts
+
+
+def is_read(ended):
+    """Whether the lexer and the parser took the one section of a session."""
+    return not re.search("Syntax|BadByte|BadNumber", ended.text)
 
 
 def sections_in(lines):
@@ -290,23 +333,45 @@ def sections_in(lines):
             at += int(words[2])
 
 
+def kind_of(token):
+    """What a token may be put in for: a token of the same kind, so that the grammar mostly takes it."""
+    if re.fullmatch(r"bool|void|u?int(8|16|32|64)?", token):
+        return "type"
+    if token in WORDS:
+        return "statement"
+    if re.fullmatch(r"[-+*/%&|^<>=!]+", token):
+        return "operator"
+    return "name" if token[0].isalpha() else "number" if token[0].isdigit() else token
+
+
+def statement_at(tokens, at):
+    """Where the tokens begin and end that stand between two of `;` `{` `}` around a token, the last of them with it."""
+    first = max((n + 1 for n in range(at) if tokens[n] in ";{}"), default=0)
+    return first, next((n + 1 for n in range(at, len(tokens)) if tokens[n] in ";{}"), len(tokens))
+
+
+def change(dice, tokens, others):
+    """One change: some tokens are cut or doubled, two are swapped, or one is put in for another of its kind."""
+    at, other = dice.randrange(len(tokens)), dice.randrange(len(tokens))
+    first, end = dice.choice([statement_at(tokens, at), (at, at + dice.choice([1, 1, 1, 2, 5, 20, 100]))])
+    how = dice.choice(["cut", "double", "double", "swap", "take", "take", "take", "take"])
+    if how == "cut":
+        del tokens[first:end]
+    elif how == "double":
+        to = dice.choice([first, first, other])
+        tokens[to:to] = tokens[first:end] * dice.choice([1, 1, 2, 50])
+    elif how == "swap":
+        tokens[at], tokens[other] = tokens[other], tokens[at]
+    else:
+        tokens[at] = dice.choice(others[kind_of(tokens[at])])
+
+
 def changed_text(dice, text, others):
-    """A script with one to six changes of its tokens. What is put in may come from another script."""
+    """A script with one to six changes."""
     tokens = TOKEN.findall(text)
-    for _ in range(dice.randint(1, 6)):
-        at = dice.randrange(len(tokens) + 1)
-        to = min(len(tokens), at + dice.choice([1, 1, 1, 2, 5, 20, 100]))
-        other = dice.randrange(len(tokens) + 1)
-        piece = tokens[at:to]
-        change = dice.choice(["cut", "double", "swap", "take"])
-        if change == "cut":
-            del tokens[at:to]
-        elif change == "double":
-            tokens[other:other] = piece * dice.choice([1, 1, 2, 50])
-        elif change == "swap" and at < len(tokens) and other < len(tokens):
-            tokens[at], tokens[other] = tokens[other], tokens[at]
-        elif change == "take":
-            tokens[at:to] = [dice.choice(TOKEN.findall(dice.choice(others)))]
+    for _ in range(dice.choice([1, 1, 1, 2, 3, 6])):
+        if 0 < len(tokens) < MOST:
+            change(dice, tokens, others)
     return " ".join(tokens)[: MOST - 1].replace("\r", " ")
 
 
@@ -314,76 +379,88 @@ def calls_of(text):
     """A call of each function of a script by its first declaration, with some value for each parameter."""
     for result, name, params in FUNCTION.findall(text):
         types = [" ".join(it.split()[:1]) for it in params.split(",") if it.strip()]
-        values = [VALUES.get(it, "1u" if it.startswith("u") else "1") for it in types]
+        values = ["true" if it == "bool" else "1u" if it.startswith("u") else "1" for it in types]
         yield f"call m ({','.join(values)}) {result} {name}({', '.join(types)})"
 
 
-def changed(trials, count=10000):
+def commands_of(dice, texts, others):
+    """Commands that build changed sections of a session and call what they have, and the bytes of these sections."""
+    commands, size = [], 0
+    for _ in range(A_SESSION):
+        text = changed_text(dice, dice.choice(texts), others)
+        size += len(text) + 1
+        commands += [section(text), "build m\n", *[f"{call}\n" for call in dict.fromkeys(calls_of(text))][:10]]
+    return commands, size
+
+
+def told(trials, seen, commands, ended):
+    """Counts what the commands were answered: each has one outcome, and a refused build its first error before it."""
+    kind, outcomes = "", []
+    for line in ended.text.splitlines():
+        words = line.split(" ")
+        if words[0] == "error":
+            kind = kind or words[1]
+        elif words[0] in ("ok", "fault", "refused"):
+            outcomes.append(words[0] if words[0] == "ok" else f"{' '.join(words[:2])} {kind}".strip())
+            kind = ""
+    if len(outcomes) != len(commands):
+        trials.count(WAYS[2], f"{len(outcomes)} answers to {len(commands)} commands")
+    words = [command.split(" ")[0] for command in commands]
+    seen.update(f"`{word}`: {outcome}" for word, outcome in zip(words, outcomes) if word in ("build", "call"))
+
+
+def changed(trials):
     """Sections of the examples with changed tokens, each built, and its functions called."""
-    dice, seen, bytes_in, longest = random.Random(1), Counter(), 0, 0.0
-    scripts = list(examples())
-    others = [text for _, _, texts in scripts for text in texts]
-    for first in range(0, count, A_SESSION):
+    dice, seen, size, longest = random.Random(1), Counter(), 0, 0.0
+    scripts = list(examples(trials))
+    others = defaultdict(list)
+    for token in [it for _, _, texts in scripts for text in texts for it in TOKEN.findall(text)]:
+        others[kind_of(token)].append(token)
+    for first in range(0, CHANGED, A_SESSION):
         profile, mask, texts = dice.choice(scripts)
-        commands = [f"module m {mask}\n", "budget 2000\n"]
-        for _ in range(min(A_SESSION, count - first)):
-            text = changed_text(dice, dice.choice(texts), others)
-            bytes_in += len(text) + 1
-            commands += [section(text), "build m\n", *(f"{call}\n" for call in dict.fromkeys(calls_of(text)))][:12]
+        commands, more = commands_of(dice, texts, others)
+        commands = [f"module m {mask}\n", "budget 2000\n", *commands]
         ended = trials.tried(f"changed sections from number {first}", "".join(commands), ".*", profile=profile)
-        outcomes = [line for line in ended.text.splitlines() if line.split(" ")[0] in ("ok", "fault", "refused")]
-        if ended.status in (0, 1) and len(outcomes) != len(commands):
-            trials.bad["answered otherwise"] += 1
-            print(f"answered otherwise: from section {first} {len(outcomes)} answers to {len(commands)} commands")
-        longest = max(longest, ended.seconds)
-        for command, outcome in zip(commands, outcomes):
-            what = command.split(" ")[0]
-            if what in ("build", "call"):
-                seen[f"{what}: {' '.join(outcome.split()[:2]) if outcome[:2] != 'ok' else 'ok'}"] += 1
-    print(f"\n{count} changed sections of {bytes_in // count} bytes each, {A_SESSION} a process, {longest:.1f} s the longest process\n")
+        if ended.status in (0, 1):
+            told(trials, seen, commands, ended)
+        size, longest = size + more, max(longest, ended.seconds)
+    mean = size // CHANGED
+    print(f"\n{CHANGED} changed sections of {mean} bytes on average, {A_SESSION} in at most {longest:.1f} s\n")
     table(["Command and answer", "times"], sorted(seen.items()))
 
 
-def names(count, first="int a", tail=";"):
-    """One list of names, each of them another."""
-    out, size = [first], len(first) + len(tail)
-    for n in range(count):
-        size += len(f",a{n}")
-        if size > MOST - 1:
-            break
-        out.append(f",a{n}")
-    return "".join(out) + tail
-
-
-def repeated(piece):
-    """A piece with a number in it as often as there is room."""
-    out, size = [], 0
-    for n in range(4096):
+def numbered(head, piece, tail="", most=20000):
+    """A piece with a number in it as often as there is room, and at most so often."""
+    out, size = [head], len(head) + len(tail)
+    for n in range(most):
         size += len(piece % n)
         if size > MOST - 1:
             break
         out.append(piece % n)
-    return "".join(out)
+    return "".join(out) + tail
 
 
 ANY = "ok|refused BuildErrors Limit"
 
+WORST = "g(~" * 60 + "x" + ")" * 60 + ";"  # takes most memory
+PARAMETERS = ",".join(["int"] * 32)
+
 # The section, and the most bytes of memory for each of its bytes.
 KINDS = [
     ("`;`", filled(";"), 150),
-    ("names: `int a,a0,a1..`", names(20000), 150),
+    ("names: `int a,a0,a1..`", numbered("int a", ",a%d", ";"), 150),
     ("`(x);`", filled("(x);"), 300),
     ("60 brackets around each `x`", filled("(" * 60 + "x" + ")" * 60 + ";"), 300),
     ("`x;`", filled("x;"), 300),
     ("`x=x+1;`", filled("x=x+1;"), 300),
-    ("`void f0(){}`", repeated("void f%d(){}"), 300),
-    ("32 parameters: `void f0(int,int..){}`", repeated(f"void f%d({','.join(['int'] * 32)}){{}}"), 300),
+    ("`void f0(){}`", numbered("", "void f%d(){}", most=4096), 300),
+    ("32 parameters: `void f0(int,int..){}`", numbered("", f"void f%d({PARAMETERS}){{}}"), 300),
     ("`for(;;)` one inside the other", nested(("for(;;)", ""), ";")[0], 450),
     ("`{int a;}`", filled("{int a;}"), 450),
     ("250 times `x+` in a statement", filled("x+" * 250 + "x;"), 450),
     ("250 times `~`", filled("~" * 250 + "x;"), 450),
     ("`g(x);`", filled("g(x);"), 450),
-    ("60 calls `g(~..)` one inside the other", filled("g(~" * 60 + "x" + ")" * 60 + ";"), 450),
+    ("60 calls `g(~..)` one inside the other", filled(WORST), 450),
 ]
 
 
@@ -403,45 +480,76 @@ def memory(trials):
     events(trials)
 
 
+# What asks the host, the line of asrun for it, and the most bytes of an event: 128, 32 for the name of the caller, and for
+# an argument 32, and 24 that the console notes.
+ASKINGS = [("reg;", "host m 1 0 - () 0\n", 128 + 32), ("put(x);", "host m 0 0 - (0) void\n", 128 + 32 + 32 + 24)]
+
+
 def events(trials):
-    """The resident memory of a call, for each asking of the host in its reply."""
-    asking = {"`reg;`": "reg;", "`put(x);`": "put(x);"}
+    """The resident memory of a call, for each asking of the host in its reply, without asrun's text of it."""
+    few, many = 1 << 15, 1 << 18
+
+    def resident(text, count):
+        script = f"int64 x;void f(){{for(;;){text}}}"
+        session = called(script, "() void f()", f"budget {count + 2}")
+        return trials.tried(f"{count} times {text}", session, "fault Budget", measured=True).resident or 0
 
     def rows():
-        for name, text in asking.items():
-            sizes = []
-            for count in (1 << 15, 1 << 18):
-                session = built(f"int64 x;void f(){{for(;;){text}}}", calls=[f"budget {count + 2}", "call m () void f()"])
-                sizes.append(trials.tried(f"{count} times {name}", session, "fault Budget", measured=True).resident)
-            yield name, f"{(sizes[1] - sizes[0]) / ((1 << 18) - (1 << 15)):.0f}"
+        for text, line, bound in ASKINGS:
+            figure = (resident(text, many) - resident(text, few)) / (many - few) - len(line)
+            trials.held(text, figure, bound)
+            yield f"`{text}`", f"{figure:.0f}", bound
 
-    print("\nMemory of a call for each asking of the host, with the text that asrun makes of it\n")
-    table(["Asking", "bytes"], rows())
+    print("\nMemory of a call for each asking of the host\n")
+    table(["Asking", "bytes", "the most"], rows())
+
+
+def sections(unit):
+    """64 full sections of a unit, each in a function of its own."""
+    return [filled(unit)] + [filled(unit, f"void f{n}(){{") for n in range(63)]
+
+
+def limited(trials):
+    """The sections that take most memory, and one that takes most stack, below limits of the process's memory.
+
+    The deepest section is built first, so that the stack has grown before memory runs out: a stack that can't grow ends
+    the process.
+    """
+    deepest = nested(("for(;;)if(b)", ""), BOTTOMS["`x=x=..`"][0])[0]
+    then = sections(WORST)[:5] + [deepest.replace(HEAD, "void deep(){")]
+    session = built(deepest) + "".join(map(section, then)) + "build m\n"
+    seen = Counter()
+    for memory in range(24, 224, 4):
+        ended = trials.tried(f"below {memory} MiB", session, "ok|refused BuildMemory", memory=memory << 10)
+        seen[answer_of(ended)] += 1
+    print("\nBuilds below limits of memory from 24 to 220 MiB (`ulimit -v`), each behind one of the deepest section\n")
+    table(["Answer", "times"], sorted(seen.items()))
 
 
 def full(trials):
     """64 full sections in one build."""
-    several = lambda unit, head: [filled(unit, head % n) for n in range(64)]
+    loops = nested(("for(;;)", ""), ";")[0]
     kinds = {
-        "`for(;;)` one inside the other": several("for(;;)", "void f%d(){")[:],
-        "`;`": several(";", "void f%d(){"),
-        "`x=x+1;`": [it.replace("{", "{int x;", 1) for it in several("x=x+1;", "void f%d(){      ")],
-        "`f(~x)` in calls": several("x;", "int x%d;void f%d(){" if False else "void f%d(int x){"),
+        "`for(;;)` one inside the other": [loops, *(loops.replace(HEAD, f"void f{n}(){{") for n in range(63))],
+        "`;`": sections(";"),
+        "`x=x+1;`": sections("x=x+1;"),
+        "60 calls `g(~..)` one inside the other": sections(WORST),
     }
 
     def rows():
         for name, texts in kinds.items():
             size = sum(len(it) + 1 for it in texts)
             ended = trials.tried(f"64 sections of {name}", built(*texts), OK, measured=True)
-            figure = (ended.resident or 0) / size
-            trials.held(f"64 sections of {name}", figure, 450)
-            yield name, f"{size:,}", f"{ended.seconds:.1f}", f"{(ended.resident or 0) >> 20}", f"{figure:.0f}", f"`{answer_of(ended)}`"
+            resident = ended.resident or 0
+            trials.held(f"64 sections of {name}", resident / size, 450)
+            figures = [f"{size:,}", f"{ended.seconds:.1f}", resident >> 20, f"{resident / size:.0f}"]
+            yield name, *figures, f"`{answer_of(ended)}`"
 
     print("\n64 full sections in one build\n")
     table(["Sections of", "bytes", "seconds", "MiB", "bytes of memory a byte", "answer"], rows())
 
 
-PARTS = {"deep": deep, "limits": limits, "changed": changed, "full": full, "memory": memory}
+PARTS = {"deep": deep, "limits": limits, "changed": changed, "limited": limited, "full": full, "memory": memory}
 
 
 def main():
@@ -456,8 +564,7 @@ def main():
             PARTS[part](trials)
     finally:
         shutil.rmtree(folder)
-    ways = ("ended by a signal", "ran out of time", "answered otherwise", "above a bound")
-    print(f"\n{trials.runs} runs: " + ", ".join(f"{trials.bad[way]} {way}" for way in ways))
+    print(f"\n{trials.runs} runs: " + ", ".join(f"{trials.bad[way]} {way}" for way in WAYS))
     sys.exit(1 if trials.bad else 0)
 
 

@@ -9,6 +9,7 @@
 #     deep      the deepest section of each kind, and the least stack with which it still builds
 #     limits    each limit of docs/LANGUAGE.md and docs/FORMATS.md, at its last value and one above
 #     changed   10,000 sections: those of crates/examples/data with tokens cut, doubled and swapped
+#     limited   builds below limits of the process's memory (`ulimit -v`)
 #     full      64 full sections in one build
 #     memory    the memory that a build takes for a byte of source, and a run for an asking of the host
 #
