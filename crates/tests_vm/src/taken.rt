@@ -8,19 +8,6 @@ use ang_vm_fused::fused::take;
 use ang_vm_steps::place::Place;
 use std::alloc::{AllocError, Global};
 
-/// The numbers in use, of which the last one is the top, as the first three places of a stack of four.
-type Use = (usize, [u64; 3]);
-
-const TWO: Use = (2, [5, 3, 0]);
-
-const THREE: Use = (3, [2, 9, 5]);
-
-/// The place that a step leads to, how many values are in use, the ticks, and the first three places of the stack.
-type After = (usize, usize, u64, [u64; 3]);
-
-/// What is in use, the ticks, the step at place 7, and what it comes to.
-type Row = (Use, u64, Step, Option<After>);
-
 const LESS: Comparison = Comparison::Less;
 
 const ADD: Arithmetic = Arithmetic::Add;
@@ -31,177 +18,54 @@ const I64: Prim = Prim::I64;
 
 const LATER: Change = INCREMENT;
 
-/// An odd number is 1 as a truth value. Calls and returns are left to the run, and so is what faults, finds no value
-/// or names no instructions.
-const ROWS: [Row; 40] = [
-    (TWO, 9, Step::Push(4), Some((8, 3, 9, [5, 3, 4]))),
-    (TWO, 9, Step::Load(1), Some((8, 3, 9, [5, 3, 5]))),
-    (TWO, 9, Step::Keep(0), Some((9, 1, 9, [3, 3, 0]))),
-    (TWO, 9, Step::Move(1, 0), Some((10, 2, 9, [5, 5, 0]))),
-    (
-        TWO,
-        9,
-        Step::LoadConverted(Prim::Bool, 1),
-        Some((9, 3, 9, [5, 3, 1])),
-    ),
-    (
-        TWO,
-        9,
-        Step::Convert(Prim::Bool),
-        Some((8, 2, 9, [5, 1, 0])),
-    ),
-    (
-        TWO,
-        9,
-        Step::TestLocals(LESS, true, 1, 0, 4),
-        Some((15, 2, 9, [5, 3, 0])),
-    ),
-    (
-        TWO,
-        9,
-        Step::TestConstant(LESS, true, 0, 10, 4),
-        Some((11, 2, 9, [5, 3, 0])),
-    ),
-    (
-        TWO,
-        9,
-        Step::TestTopLocal(LESS, true, 1, 4),
-        Some((10, 1, 9, [5, 3, 0])),
-    ),
-    (
-        TWO,
-        9,
-        Step::TestTopConstant(LESS, true, 2, 4),
-        Some((14, 1, 9, [5, 3, 0])),
-    ),
-    (
-        TWO,
-        9,
-        Step::TestTops(LESS, true, 4),
-        Some((13, 0, 9, [5, 3, 0])),
-    ),
-    (
-        TWO,
-        9,
-        Step::WorkLocals(ADD, I64, 1, 0),
-        Some((10, 3, 9, [5, 3, 8])),
-    ),
-    (
-        TWO,
-        9,
-        Step::WorkConstant(ADD, I64, 1, 10),
-        Some((10, 3, 9, [5, 3, 15])),
-    ),
-    (
-        TWO,
-        9,
-        Step::WorkTopLocal(ADD, I64, 1),
-        Some((9, 2, 9, [5, 8, 0])),
-    ),
-    (
-        TWO,
-        9,
-        Step::WorkTopConstant(ADD, I64, 10),
-        Some((9, 2, 9, [5, 13, 0])),
-    ),
-    (
-        TWO,
-        9,
-        Step::WorkTops(SUBTRACT, I64),
-        Some((8, 1, 9, [2, 3, 0])),
-    ),
-    (
-        TWO,
-        9,
-        Step::KeepLocals(ADD, I64, 1, 0, 1),
-        Some((12, 2, 9, [8, 3, 0])),
-    ),
-    (
-        TWO,
-        9,
-        Step::KeepConstant(ADD, I64, 0, 10, 0),
-        Some((12, 2, 9, [5, 13, 0])),
-    ),
-    (
-        TWO,
-        9,
-        Step::KeepTopLocal(ADD, I64, 1, 0),
-        Some((11, 1, 9, [8, 3, 0])),
-    ),
-    (
-        TWO,
-        9,
-        Step::KeepTopConstant(ADD, I64, 10, 0),
-        Some((11, 1, 9, [13, 3, 0])),
-    ),
-    (
-        THREE,
-        9,
-        Step::KeepTops(SUBTRACT, I64, 0),
-        Some((10, 1, 9, [4, 9, 5])),
-    ),
-    (
-        TWO,
-        9,
-        Step::ChangeConstant(LATER, 1, 2),
-        Some((10, 2, 9, [7, 3, 0])),
-    ),
-    (
-        TWO,
-        9,
-        Step::ChangeLocal(LATER, 0, 1),
-        Some((10, 2, 9, [5, 8, 0])),
-    ),
-    (
-        TWO,
-        9,
-        Step::ChangeTop(LATER, 0),
-        Some((9, 1, 9, [8, 3, 0])),
-    ),
-    (
-        TWO,
-        9,
-        Step::ChangeBack(LATER, 1, 2, 3),
-        Some((7, 2, 8, [7, 3, 0])),
-    ),
-    (
-        TWO,
-        9,
-        Step::AddBack32(true, 0, 1, 3),
-        Some((7, 2, 8, [5, 4, 0])),
-    ),
-    (
-        TWO,
-        9,
-        Step::AddBack64(true, 0, 1, 3),
-        Some((7, 2, 8, [5, 4, 0])),
-    ),
-    (TWO, 0, Step::ChangeBack(LATER, 1, 2, 3), None),
-    (TWO, 0, Step::AddBack32(true, 0, 1, 3), None),
-    (TWO, 0, Step::AddBack64(true, 0, 1, 3), None),
-    (TWO, 9, Step::Enter(Callee::Own(0)), None),
-    (TWO, 9, Step::Return(0), None),
-    (TWO, 9, Step::Other, None),
-    (TWO, 9, Step::Load(2), None),
-    (
-        TWO,
-        9,
-        Step::WorkTopConstant(Arithmetic::Divide, I64, 0),
-        None,
-    ),
-    (
-        TWO,
-        9,
-        Step::WorkTopConstant(Arithmetic::Divide, I64, 2),
-        Some((9, 2, 9, [5, 1, 0])),
-    ),
-    (THREE, 9, Step::Push(4), Some((8, 4, 9, [2, 9, 5]))),
-    ((4, [2, 9, 5]), 9, Step::Push(4), None),
-    ((4, [2, 9, 5]), 9, Step::Load(0), None),
-    ((1, [2, 9, 5]), 9, Step::WorkTops(ADD, I64), None),
+/// A step on a stack of four where 5 and 3 are in use, with nine ticks, which it leaves: the place behind it from place 7
+/// on, how many values are in use then, and the first three of them.
+type Row = (Step, [u64; 5]);
+
+/// An odd number is 1 as a truth value. Where a comparison does not hold, four instructions more are passed.
+const TAKEN: [Row; 23] = [
+    (Step::Push(4), [8, 3, 5, 3, 4]),
+    (Step::Load(1), [8, 3, 5, 3, 5]),
+    (Step::Keep(0), [9, 1, 3, 3, 0]),
+    (Step::Move(1, 0), [10, 2, 5, 5, 0]),
+    (Step::LoadConverted(Prim::Bool, 1), [9, 3, 5, 3, 1]),
+    (Step::Convert(Prim::Bool), [8, 2, 5, 1, 0]),
+    (Step::TestLocals(LESS, true, 1, 0, 4), [15, 2, 5, 3, 0]),
+    (Step::TestConstant(LESS, true, 0, 10, 4), [11, 2, 5, 3, 0]),
+    (Step::TestTopLocal(LESS, true, 1, 4), [10, 1, 5, 3, 0]),
+    (Step::TestTopConstant(LESS, true, 2, 4), [14, 1, 5, 3, 0]),
+    (Step::TestTops(LESS, true, 4), [13, 0, 5, 3, 0]),
+    (Step::WorkLocals(ADD, I64, 1, 0), [10, 3, 5, 3, 8]),
+    (Step::WorkConstant(ADD, I64, 1, 10), [10, 3, 5, 3, 15]),
+    (Step::WorkTopLocal(ADD, I64, 1), [9, 2, 5, 8, 0]),
+    (Step::WorkTopConstant(ADD, I64, 10), [9, 2, 5, 13, 0]),
+    (Step::WorkTops(SUBTRACT, I64), [8, 1, 2, 3, 0]),
+    (Step::KeepLocals(ADD, I64, 1, 0, 1), [12, 2, 8, 3, 0]),
+    (Step::KeepConstant(ADD, I64, 0, 10, 0), [12, 2, 5, 13, 0]),
+    (Step::KeepTopLocal(ADD, I64, 1, 0), [11, 1, 8, 3, 0]),
+    (Step::KeepTopConstant(ADD, I64, 10, 0), [11, 1, 13, 3, 0]),
+    (Step::ChangeConstant(LATER, 1, 2), [10, 2, 7, 3, 0]),
+    (Step::ChangeLocal(LATER, 0, 1), [10, 2, 5, 8, 0]),
+    (Step::ChangeTop(LATER, 0), [9, 1, 8, 3, 0]),
 ];
 
-/// What a step comes to.
+/// At a loop's end a tick is taken.
+const BACK: [Row; 3] = [
+    (Step::ChangeBack(LATER, 1, 2, 3), [7, 2, 7, 3, 0]),
+    (Step::AddBack32(true, 0, 1, 3), [7, 2, 5, 4, 0]),
+    (Step::AddBack64(true, 0, 1, 3), [7, 2, 5, 4, 0]),
+];
+
+/// Calls and returns are left to the run, and so is what faults, finds no value or names no instructions.
+const LEFT: [Step; 5] = [
+    Step::Enter(Callee::Own(0)),
+    Step::Return(0),
+    Step::Other,
+    Step::Load(2),
+    Step::WorkTopConstant(Arithmetic::Divide, I64, 0),
+];
+
+/// What a step comes to where so many of these numbers are in use.
 fn taken(top: usize, numbers: [u64; 3], ticks: u64, step: Step) -> Option<(Place, [Slot; 4])> {
     if top > 4 {
         return None;
@@ -218,24 +82,36 @@ fn taken(top: usize, numbers: [u64; 3], ticks: u64, step: Step) -> Option<(Place
     Some((place, stack))
 }
 
-fn comes_so(row: &Row) -> bool {
-    let ((top, numbers), ticks, step, want) = *row;
-    match (taken(top, numbers, ticks, step), want) {
-        (Some((place, stack)), Some((at, top, ticks, [first, second, third]))) => {
-            place == Place { at, top, ticks }
+/// Whether a step comes to this, with so many ticks left.
+fn comes_to(found: Option<(Place, [Slot; 4])>, ticks: u64, want: [u64; 5]) -> bool {
+    let [at, top, first, second, third] = want;
+    match found {
+        Some((place, stack)) => {
+            place.at as u64 == at
+                && place.top as u64 == top
+                && place.ticks == ticks
                 && stack[0] == Slot::Bits(first)
                 && stack[1] == Slot::Bits(second)
                 && stack[2] == Slot::Bits(third)
         }
-        (None, None) => true,
-        _ => false,
+        None => false,
     }
 }
 
 #[test]
 fn steps_are_taken(rt: HostRuntime) {
-    for row in ROWS {
-        assert!(rt; comes_so(&row), "{:?}", row.2);
+    for (step, want) in TAKEN {
+        assert!(rt; comes_to(taken(2, [5, 3, 0], 9, step), 9, want), "{step:?}");
+    }
+    for (step, want) in BACK {
+        assert!(rt; comes_to(taken(2, [5, 3, 0], 9, step), 8, want), "{step:?}");
+        assert!(rt; taken(2, [5, 3, 0], 0, step).is_none(), "{step:?}");
+    }
+    let tops = taken(3, [2, 9, 5], 9, Step::KeepTops(SUBTRACT, I64, 0));
+    assert!(rt; comes_to(tops, 9, [10, 1, 4, 9, 5]));
+    assert!(rt; taken(4, [2, 9, 5], 9, Step::Push(4)).is_none(), "no room");
+    for step in LEFT {
+        assert!(rt; taken(2, [5, 3, 0], 9, step).is_none(), "{step:?}");
     }
 }
 

@@ -13,21 +13,18 @@ const BYTE: HostType = HostType::Plain(Prim::I8);
 
 const NATURAL: HostType = HostType::Plain(Prim::U32);
 
-/// The role, the parameters and the result of each entity: `note`, which gives nothing; `sum`, once as it is, once
-/// with a result that is too small and once with none; `fault`; and the register, with three types.
-const ENTITIES: [(Role, &[HostType], HostType); 8] = [
+/// The role, the parameters and the result of each entity: `note`, which gives nothing; `sum`, once as it is and once
+/// with a result that is too small; `fault`; and the register.
+const ENTITIES: [(Role, &[HostType], HostType); 5] = [
     (Role::Calling(0), &[INT], HostType::Nothing),
     (Role::Calling(1), &[INT, INT], INT),
     (Role::Calling(1), &[INT, INT], BYTE),
-    (Role::Calling(1), &[INT, INT], HostType::Nothing),
     (Role::Calling(2), &[NATURAL], INT),
     (Role::Property(0), &[], INT),
-    (Role::Property(0), &[], BYTE),
-    (Role::Property(0), &[], NATURAL),
 ];
 
-/// The register as an `int`.
-pub const REGISTER: EntityNo = EntityNo(5);
+/// The register.
+pub const REGISTER: EntityNo = EntityNo(4);
 
 /// An addition of a number, whose value is the one before.
 pub const INCREMENT: Change = Change {
@@ -36,8 +33,6 @@ pub const INCREMENT: Change = Change {
     to: Prim::I64,
     old: true,
 };
-
-const MINUS_5: u64 = u64::MAX - 4;
 
 const ADD: Instruction = Instruction::Do(Operation::Work(Arithmetic::Add, Prim::I32));
 
@@ -53,27 +48,13 @@ const SUM: Instruction = Instruction::Do(Operation::Ask(EntityNo(1)));
 
 const SMALL_SUM: Instruction = Instruction::Do(Operation::Ask(EntityNo(2)));
 
-const BARE_SUM: Instruction = Instruction::Do(Operation::Ask(EntityNo(3)));
-
-const FAULT: Instruction = Instruction::Do(Operation::Ask(EntityNo(4)));
-
-const CALL_OF_REGISTER: Instruction = Instruction::Do(Operation::Ask(REGISTER));
+const FAULT: Instruction = Instruction::Do(Operation::Ask(EntityNo(3)));
 
 /// Adds an `int` to the register; its value is the new one.
 const ADD_TO_REGISTER: Instruction = Instruction::Do(Operation::Alter(
     REGISTER,
     Change {
         work: Arithmetic::Add,
-        at: Prim::I32,
-        to: Prim::I32,
-        old: false,
-    },
-));
-
-const DIVIDE_REGISTER: Instruction = Instruction::Do(Operation::Alter(
-    REGISTER,
-    Change {
-        work: Arithmetic::Divide,
         at: Prim::I32,
         to: Prim::I32,
         old: false,
@@ -119,252 +100,127 @@ const FIB: &[Instruction] = &[
 /// A body: its parameters, the most values that it has in use, and its text.
 type Text = (&'static [Passing], usize, &'static [Instruction]);
 
-/// The bodies by number.
-const TEXTS: [Text; 26] = [
-    (&[Passing::In], 4, FIB),
-    (&[], 3, COUNTING),
-    (
-        &[],
-        1,
-        &[Instruction::Enter(Callee::Own(2)), Instruction::Return(0)],
-    ),
-    // 7 - sum(30, 2), behind a note of 5
-    (
-        &[],
-        4,
-        &[
-            Instruction::PushBits(5),
-            NOTE,
-            Instruction::Drop,
-            Instruction::PushBits(7),
-            Instruction::PushBits(30),
-            Instruction::PushBits(2),
-            SUM,
-            SUBTRACT,
-            Instruction::Return(0),
-        ],
-    ),
-    // a note of 1, and 1 / 0
-    (
-        &[],
-        2,
-        &[
-            Instruction::PushBits(1),
-            NOTE,
-            Instruction::Drop,
-            Instruction::PushBits(1),
-            Instruction::PushBits(0),
-            DIVIDE,
-            Instruction::Return(0),
-        ],
-    ),
-    // a note of 9, a call of the body above, and a note of what it gives
-    (
-        &[],
-        2,
-        &[
-            Instruction::PushBits(9),
-            NOTE,
-            Instruction::Drop,
-            Instruction::Enter(Callee::Own(4)),
-            NOTE,
-            Instruction::Return(0),
-        ],
-    ),
-    (
-        &[],
-        2,
-        &[
-            Instruction::PushBits(40),
-            ADD_TO_REGISTER,
-            Instruction::Return(0),
-        ],
-    ),
-    (
-        &[],
-        2,
-        &[Instruction::PushBits(77), FAULT, Instruction::Return(0)],
-    ),
-    (
-        &[],
-        2,
-        &[
-            Instruction::PushBits(2),
-            Instruction::PushBits(MINUS_5),
-            SMALL_SUM,
-            Instruction::Return(0),
-        ],
-    ),
-    (
-        &[],
-        2,
-        &[
-            Instruction::PushBits(200),
-            Instruction::PushBits(0),
-            SMALL_SUM,
-            Instruction::Return(0),
-        ],
-    ),
-    (
-        &[],
-        2,
-        &[
-            Instruction::PushBits(2),
-            Instruction::PushBits(MINUS_5),
-            BARE_SUM,
-            Instruction::Return(0),
-        ],
-    ),
-    (
-        &[],
-        2,
-        &[
-            Instruction::PushBits(300),
-            Instruction::Do(Operation::Write(REGISTER)),
-            Instruction::Drop,
-            Instruction::Do(Operation::Read(REGISTER)),
-            Instruction::Return(0),
-        ],
-    ),
-    (
-        &[],
-        2,
-        &[
-            Instruction::Do(Operation::Read(EntityNo(6))),
-            Instruction::Return(0),
-        ],
-    ),
-    (
-        &[],
-        2,
-        &[
-            Instruction::PushBits(300),
-            Instruction::Do(Operation::Write(EntityNo(7))),
-            Instruction::Return(0),
-        ],
-    ),
-    (
-        &[],
-        2,
-        &[
-            Instruction::PushBits(0),
-            DIVIDE_REGISTER,
-            Instruction::Return(0),
-        ],
-    ),
-    // a call of a property
-    (&[], 2, &[CALL_OF_REGISTER, Instruction::Return(0)]),
-    // the quotient of two locals, stored at once
-    (
-        &[],
-        4,
-        &[
-            Instruction::PushBits(5),
-            Instruction::PushBits(0),
-            Instruction::Load(1),
-            Instruction::Load(1),
-            DIVIDE,
-            Instruction::Store(0),
-            Instruction::Drop,
-            Instruction::Return(2),
-        ],
-    ),
-    // null < 1
-    (
-        &[],
-        4,
-        &[
-            Instruction::PushNull,
-            Instruction::Load(0),
-            Instruction::PushBits(1),
-            LESS,
-            Instruction::SkipIfFalse(0),
-            Instruction::PushBits(1),
-            Instruction::Return(1),
-        ],
-    ),
-    // a jump into a sum: 8 and 2 are added, and not 5 and 2
-    (
-        &[],
-        4,
-        &[
-            Instruction::PushBits(5),
-            Instruction::PushBits(8),
-            Instruction::GoOn(1),
-            Instruction::Load(1),
-            Instruction::PushBits(2),
-            ADD,
-            Instruction::Return(1),
-        ],
-    ),
-    (&[], 3, SUM_OF_A_LOCAL),
-    (&[], 2, SUM_OF_A_LOCAL),
-    // a call of the body below, whose `&out` parameter is kept in the local
-    (
-        &[],
-        3,
-        &[
-            Instruction::PushBits(1),
-            Instruction::PushBits(0),
-            Instruction::PushBits(3),
-            Instruction::Enter(Callee::Own(22)),
-            Instruction::Swap {
-                to: None,
-                under: 1,
-                with: 2,
-            },
-            Instruction::DropUnder(1),
-            Instruction::Drop,
-            Instruction::Load(0),
-            Instruction::Return(1),
-        ],
-    ),
-    (
-        &[Passing::In, Passing::Out],
-        1,
-        &[
-            Instruction::PushBits(9),
-            Instruction::Store(1),
-            Instruction::Return(0),
-        ],
-    ),
-    (
-        &[],
-        1,
-        &[
-            Instruction::PushBits(6),
-            Instruction::Do(Operation::GlobalSet(1)),
-            Instruction::Return(0),
-        ],
-    ),
-    (
-        &[],
-        2,
-        &[
-            Instruction::Do(Operation::GlobalGet(1)),
-            Instruction::Do(Operation::GlobalGet(0)),
-            SUBTRACT,
-            Instruction::Return(0),
-        ],
-    ),
-    (
-        &[],
-        1,
-        &[
-            Instruction::Tick,
-            Instruction::Tick,
-            Instruction::PushBits(0),
-            Instruction::Return(0),
-        ],
-    ),
+/// 7 - sum(30, 2), behind a note of 5.
+const ASKING: &[Instruction] = &[
+    Instruction::PushBits(5),
+    NOTE,
+    Instruction::Drop,
+    Instruction::PushBits(7),
+    Instruction::PushBits(30),
+    Instruction::PushBits(2),
+    SUM,
+    SUBTRACT,
+    Instruction::Return(0),
 ];
 
-const SUM_OF_A_LOCAL: &[Instruction] = &[
+/// A note of 1, and 1 / 0.
+const DIVIDING: &[Instruction] = &[
     Instruction::PushBits(1),
+    NOTE,
+    Instruction::Drop,
+    Instruction::PushBits(1),
+    Instruction::PushBits(0),
+    DIVIDE,
+    Instruction::Return(0),
+];
+
+/// A note of 9, a call of the body that divides, and a note of what it gives.
+const CALLING: &[Instruction] = &[
+    Instruction::PushBits(9),
+    NOTE,
+    Instruction::Drop,
+    Instruction::Enter(Callee::Own(4)),
+    NOTE,
+    Instruction::Return(0),
+];
+
+const WRITING_AND_READING: &[Instruction] = &[
+    Instruction::PushBits(300),
+    Instruction::Do(Operation::Write(REGISTER)),
+    Instruction::Drop,
+    Instruction::Do(Operation::Read(REGISTER)),
+    Instruction::Return(0),
+];
+
+/// A sum of 200, which is too large.
+const TOO_LARGE: &[Instruction] = &[
+    Instruction::PushBits(200),
+    Instruction::PushBits(0),
+    SMALL_SUM,
+    Instruction::Return(0),
+];
+
+/// A call of the body below, whose `&out` parameter is kept in the local.
+const KEEPING: &[Instruction] = &[
+    Instruction::PushBits(1),
+    Instruction::PushBits(0),
+    Instruction::PushBits(3),
+    Instruction::Enter(Callee::Own(11)),
+    Instruction::Swap {
+        to: None,
+        under: 1,
+        with: 2,
+    },
+    Instruction::DropUnder(1),
+    Instruction::Drop,
     Instruction::Load(0),
-    Instruction::PushBits(2),
-    ADD,
     Instruction::Return(1),
+];
+
+const KEPT: &[Instruction] = &[
+    Instruction::PushBits(9),
+    Instruction::Store(1),
+    Instruction::Return(0),
+];
+
+const STORING: &[Instruction] = &[
+    Instruction::PushBits(6),
+    Instruction::Do(Operation::GlobalSet(1)),
+    Instruction::Return(0),
+];
+
+/// The difference of both globals.
+const READING: &[Instruction] = &[
+    Instruction::Do(Operation::GlobalGet(1)),
+    Instruction::Do(Operation::GlobalGet(0)),
+    SUBTRACT,
+    Instruction::Return(0),
+];
+
+const TICKING: &[Instruction] = &[
+    Instruction::Tick,
+    Instruction::Tick,
+    Instruction::PushBits(0),
+    Instruction::Return(0),
+];
+
+const DEEP: &[Instruction] = &[Instruction::Enter(Callee::Own(2)), Instruction::Return(0)];
+
+const ADDING: &[Instruction] = &[
+    Instruction::PushBits(40),
+    ADD_TO_REGISTER,
+    Instruction::Return(0),
+];
+
+const FAULTING: &[Instruction] = &[Instruction::PushBits(77), FAULT, Instruction::Return(0)];
+
+/// The bodies by number.
+const TEXTS: [Text; 15] = [
+    (&[Passing::In], 4, FIB),
+    (&[], 3, COUNTING),
+    (&[], 1, DEEP),
+    (&[], 4, ASKING),
+    (&[], 2, DIVIDING),
+    (&[], 2, CALLING),
+    (&[], 2, ADDING),
+    (&[], 2, FAULTING),
+    (&[], 2, TOO_LARGE),
+    (&[], 2, WRITING_AND_READING),
+    (&[], 3, KEEPING),
+    (&[Passing::In, Passing::Out], 1, KEPT),
+    (&[], 1, STORING),
+    (&[], 2, READING),
+    (&[], 1, TICKING),
 ];
 
 fn body(alloc: Global, text: &Text) -> Result<Body, AllocError> {
