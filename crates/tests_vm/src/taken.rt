@@ -20,40 +20,43 @@ const LATER: Change = INCREMENT;
 
 /// A step on a stack of four where 5 and 3 are in use, with nine ticks, which it leaves: the place behind it from place 7
 /// on, how many values are in use then, and the first three of them.
-type Row = (Step, [u64; 5]);
+type Row = (Step, Left);
+
+/// The place, how many values are in use, and the first three of them.
+type Left = (usize, usize, u64, u64, u64);
 
 /// An odd number is 1 as a truth value. Where a comparison does not hold, four instructions more are passed.
 const TAKEN: [Row; 23] = [
-    (Step::Push(4), [8, 3, 5, 3, 4]),
-    (Step::Load(1), [8, 3, 5, 3, 5]),
-    (Step::Keep(0), [9, 1, 3, 3, 0]),
-    (Step::Move(1, 0), [10, 2, 5, 5, 0]),
-    (Step::LoadConverted(Prim::Bool, 1), [9, 3, 5, 3, 1]),
-    (Step::Convert(Prim::Bool), [8, 2, 5, 1, 0]),
-    (Step::TestLocals(LESS, true, 1, 0, 4), [15, 2, 5, 3, 0]),
-    (Step::TestConstant(LESS, true, 0, 10, 4), [11, 2, 5, 3, 0]),
-    (Step::TestTopLocal(LESS, true, 1, 4), [10, 1, 5, 3, 0]),
-    (Step::TestTopConstant(LESS, true, 2, 4), [14, 1, 5, 3, 0]),
-    (Step::TestTops(LESS, true, 4), [13, 0, 5, 3, 0]),
-    (Step::WorkLocals(ADD, I64, 1, 0), [10, 3, 5, 3, 8]),
-    (Step::WorkConstant(ADD, I64, 1, 10), [10, 3, 5, 3, 15]),
-    (Step::WorkTopLocal(ADD, I64, 1), [9, 2, 5, 8, 0]),
-    (Step::WorkTopConstant(ADD, I64, 10), [9, 2, 5, 13, 0]),
-    (Step::WorkTops(SUBTRACT, I64), [8, 1, 2, 3, 0]),
-    (Step::KeepLocals(ADD, I64, 1, 0, 1), [12, 2, 8, 3, 0]),
-    (Step::KeepConstant(ADD, I64, 0, 10, 0), [12, 2, 5, 13, 0]),
-    (Step::KeepTopLocal(ADD, I64, 1, 0), [11, 1, 8, 3, 0]),
-    (Step::KeepTopConstant(ADD, I64, 10, 0), [11, 1, 13, 3, 0]),
-    (Step::ChangeConstant(LATER, 1, 2), [10, 2, 7, 3, 0]),
-    (Step::ChangeLocal(LATER, 0, 1), [10, 2, 5, 8, 0]),
-    (Step::ChangeTop(LATER, 0), [9, 1, 8, 3, 0]),
+    (Step::Push(4), (8, 3, 5, 3, 4)),
+    (Step::Load(1), (8, 3, 5, 3, 5)),
+    (Step::Keep(0), (9, 1, 3, 3, 0)),
+    (Step::Move(1, 0), (10, 2, 5, 5, 0)),
+    (Step::LoadConverted(Prim::Bool, 1), (9, 3, 5, 3, 1)),
+    (Step::Convert(Prim::Bool), (8, 2, 5, 1, 0)),
+    (Step::TestLocals(LESS, true, 1, 0, 4), (15, 2, 5, 3, 0)),
+    (Step::TestConstant(LESS, true, 0, 10, 4), (11, 2, 5, 3, 0)),
+    (Step::TestTopLocal(LESS, true, 1, 4), (10, 1, 5, 3, 0)),
+    (Step::TestTopConstant(LESS, true, 2, 4), (14, 1, 5, 3, 0)),
+    (Step::TestTops(LESS, true, 4), (13, 0, 5, 3, 0)),
+    (Step::WorkLocals(ADD, I64, 1, 0), (10, 3, 5, 3, 8)),
+    (Step::WorkConstant(ADD, I64, 1, 10), (10, 3, 5, 3, 15)),
+    (Step::WorkTopLocal(ADD, I64, 1), (9, 2, 5, 8, 0)),
+    (Step::WorkTopConstant(ADD, I64, 10), (9, 2, 5, 13, 0)),
+    (Step::WorkTops(SUBTRACT, I64), (8, 1, 2, 3, 0)),
+    (Step::KeepLocals(ADD, I64, 1, 0, 1), (12, 2, 8, 3, 0)),
+    (Step::KeepConstant(ADD, I64, 0, 10, 0), (12, 2, 5, 13, 0)),
+    (Step::KeepTopLocal(ADD, I64, 1, 0), (11, 1, 8, 3, 0)),
+    (Step::KeepTopConstant(ADD, I64, 10, 0), (11, 1, 13, 3, 0)),
+    (Step::ChangeConstant(LATER, 1, 2), (10, 2, 7, 3, 0)),
+    (Step::ChangeLocal(LATER, 0, 1), (10, 2, 5, 8, 0)),
+    (Step::ChangeTop(LATER, 0), (9, 1, 8, 3, 0)),
 ];
 
 /// At a loop's end a tick is taken.
 const BACK: [Row; 3] = [
-    (Step::ChangeBack(LATER, 1, 2, 3), [7, 2, 7, 3, 0]),
-    (Step::AddBack32(true, 0, 1, 3), [7, 2, 5, 4, 0]),
-    (Step::AddBack64(true, 0, 1, 3), [7, 2, 5, 4, 0]),
+    (Step::ChangeBack(LATER, 1, 2, 3), (7, 2, 7, 3, 0)),
+    (Step::AddBack32(true, 0, 1, 3), (7, 2, 5, 4, 0)),
+    (Step::AddBack64(true, 0, 1, 3), (7, 2, 5, 4, 0)),
 ];
 
 /// Calls and returns are left to the run, and so is what faults, finds no value or names no instructions.
@@ -65,8 +68,17 @@ const LEFT: [Step; 5] = [
     Step::WorkTopConstant(Arithmetic::Divide, I64, 0),
 ];
 
+/// A place, and the numbers in the first three places of the stack.
+#[derive(Clone, Copy, PartialEq, Eq, Debug)]
+struct After {
+    place: Place,
+    first: Slot,
+    second: Slot,
+    third: Slot,
+}
+
 /// What a step comes to where so many of these numbers are in use.
-fn taken(top: usize, numbers: [u64; 3], ticks: u64, step: Step) -> Option<(Place, [Slot; 4])> {
+fn taken(top: usize, numbers: [u64; 3], ticks: u64, step: Step) -> Option<After> {
     if top > 4 {
         return None;
     }
@@ -79,36 +91,36 @@ fn taken(top: usize, numbers: [u64; 3], ticks: u64, step: Step) -> Option<(Place
     ];
     let here = Place { at: 7, top, ticks };
     let place = take(&mut stack, here, 4, &step)?;
-    Some((place, stack))
+    Some(After {
+        place,
+        first: stack[0],
+        second: stack[1],
+        third: stack[2],
+    })
 }
 
-/// Whether a step comes to this, with so many ticks left.
-fn comes_to(found: Option<(Place, [Slot; 4])>, ticks: u64, want: [u64; 5]) -> bool {
-    let [at, top, first, second, third] = want;
-    match found {
-        Some((place, stack)) => {
-            place.at as u64 == at
-                && place.top as u64 == top
-                && place.ticks == ticks
-                && stack[0] == Slot::Bits(first)
-                && stack[1] == Slot::Bits(second)
-                && stack[2] == Slot::Bits(third)
-        }
-        None => false,
-    }
+/// That, with so many ticks left.
+fn left(ticks: u64, want: Left) -> Option<After> {
+    let (at, top, first, second, third) = want;
+    Some(After {
+        place: Place { at, top, ticks },
+        first: Slot::Bits(first),
+        second: Slot::Bits(second),
+        third: Slot::Bits(third),
+    })
 }
 
 #[test]
 fn steps_are_taken(rt: HostRuntime) {
     for (step, want) in TAKEN {
-        assert!(rt; comes_to(taken(2, [5, 3, 0], 9, step), 9, want), "{step:?}");
+        assert!(rt; taken(2, [5, 3, 0], 9, step) == left(9, want), "{step:?}");
     }
     for (step, want) in BACK {
-        assert!(rt; comes_to(taken(2, [5, 3, 0], 9, step), 8, want), "{step:?}");
+        assert!(rt; taken(2, [5, 3, 0], 9, step) == left(8, want), "{step:?}");
         assert!(rt; taken(2, [5, 3, 0], 0, step).is_none(), "{step:?}");
     }
     let tops = taken(3, [2, 9, 5], 9, Step::KeepTops(SUBTRACT, I64, 0));
-    assert!(rt; comes_to(tops, 9, [10, 1, 4, 9, 5]));
+    assert!(rt; tops == left(9, (10, 1, 4, 9, 5)));
     assert!(rt; taken(4, [2, 9, 5], 9, Step::Push(4)).is_none(), "no room");
     for step in LEFT {
         assert!(rt; taken(2, [5, 3, 0], 9, step).is_none(), "{step:?}");
