@@ -86,7 +86,7 @@ statement-returns-in-Break t c =
     let x = c.in-Break.found in
     let same : c.deref-in-Break.result.now ≡ x.value = search rules in
     let given : GivesOrHalts typed.view_stmt c.jump.result (jump c.args.in_loop x.value.word (typed.view_stmt to.Break)) =
-        subst (λ (y : Jump). GivesOrHalts typed.view_stmt c.jump.result (jump c.args.in_loop y.word (typed.view_stmt to.Break))) same c.jump.ensures.exact in
+    subst (λ (y : Jump). GivesOrHalts typed.view_stmt c.jump.result (jump c.args.in_loop y.word (typed.view_stmt to.Break))) same c.jump.ensures.exact in
     record {
       exact = jumped c.args.frame.now c.args.in_loop c.args.start ps c.args.written.now x.value.word to.Break (written.break x.value.word x.value.semicolon) tree.break c.jump.result
           (ap trees.view_stmt c.in-Break.is ∙ written_break x) typed_break refl given;
@@ -99,7 +99,7 @@ statement-returns-in-Continue t c =
     let x = c.in-Continue.found in
     let same : c.deref-in-Continue.result.now ≡ x.value = search rules in
     let given : GivesOrHalts typed.view_stmt c.jump-in-Continue.result (jump c.args.in_loop x.value.word (typed.view_stmt to.Continue)) =
-        subst (λ (y : Jump). GivesOrHalts typed.view_stmt c.jump-in-Continue.result (jump c.args.in_loop y.word (typed.view_stmt to.Continue))) same c.jump-in-Continue.ensures.exact in
+    subst (λ (y : Jump). GivesOrHalts typed.view_stmt c.jump-in-Continue.result (jump c.args.in_loop y.word (typed.view_stmt to.Continue))) same c.jump-in-Continue.ensures.exact in
     record {
       exact = jumped c.args.frame.now c.args.in_loop c.args.start ps c.args.written.now x.value.word to.Continue (written.continue x.value.word x.value.semicolon) tree.continue c.jump-in-Continue.result
           (ap trees.view_stmt c.in-Continue.is ∙ written_continue x) typed_continue refl given;
