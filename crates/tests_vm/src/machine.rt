@@ -34,7 +34,7 @@ fn has_plain_entities(table: &Table) -> bool
 }
 
 /// The machine with one console, and one module of two globals.
-pub fn machine(alloc: Global) -> Result<Option<Machine>, AllocError> {
+pub fn with_console(alloc: Global) -> Result<Option<Machine>, AllocError> {
     let mut modules = Vec::new(alloc);
     modules.push(vec![in alloc; Slot::Bits(0); 2]?)?;
     let globals = Globals { modules };

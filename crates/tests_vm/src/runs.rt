@@ -1,5 +1,5 @@
 //! Runs on one machine, one behind the other: what each gives, and what the host was asked.
-use crate::machine::{call, end, initialize, machine};
+use crate::machine::{call, end, initialize, with_console};
 use crate::texts::{REGISTER, table};
 use ang_host::{Answer, HostEvent, HostReply};
 use ang_kinds::{EntityNo, Fault, Value};
@@ -10,7 +10,7 @@ use std::alloc::{AllocError, Global};
 use std::test::Fail;
 
 /// A run of a body of the table with a budget, and what it gives.
-#[derive(Clone, Copy, Debug)]
+#[derive(Clone, Copy)]
 enum Turn {
     /// A call, with arguments.
     Call(u32, &'static [Slot], u64, Result<Slot, Fault>),
@@ -113,7 +113,7 @@ fn wrong_of(
     table: &Table,
     events: &mut Vec<HostEvent>,
 ) -> Result<Option<usize>, AllocError> {
-    let Some(mut machine) = machine(alloc)? else {
+    let Some(mut machine) = with_console(alloc)? else {
         return Ok(Some(TURNS.len()));
     };
     let wrong = first_wrong(table, &mut machine, &TURNS, events);
@@ -174,7 +174,7 @@ fn runs_again(
     table: &Table,
     events: &mut Vec<HostEvent>,
 ) -> Result<bool, AllocError> {
-    let Some(mut machine) = machine(alloc)? else {
+    let Some(mut machine) = with_console(alloc)? else {
         return Ok(false);
     };
     let again = runs_so(table, &mut machine, &FIB_OF_10, events)
