@@ -54,7 +54,7 @@ fn line_feeds_for_ever_are_a_read_fault(rt: HostRuntime) -> Result<(), Fail> {
 }
 
 /// How the first run is read and written: the most bytes a call, and the call that fails, counted from 1.
-#[derive(Clone, Copy, Debug)]
+#[derive(Clone, Copy)]
 struct Streams {
     read: usize,
     profile_fails: u64,

@@ -69,7 +69,7 @@ const LEFT: [Step; 5] = [
 ];
 
 /// A place, and the numbers in the first three places of the stack.
-#[derive(Clone, Copy, PartialEq, Eq, Debug)]
+#[derive(Clone, Copy, PartialEq, Eq)]
 struct After {
     place: Place,
     first: Slot,
