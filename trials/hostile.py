@@ -93,7 +93,8 @@ class Trials:
 
 
 def limit_to(stack, memory):
-    """Limits this process, in KiB."""
+    """Limits this process, in KiB. What is left of one that ran out of time ends by itself."""
+    resource.setrlimit(resource.RLIMIT_CPU, (2 * SECONDS, 2 * SECONDS))
     resource.setrlimit(resource.RLIMIT_STACK, (stack * 1024, stack * 1024))
     if memory:
         resource.setrlimit(resource.RLIMIT_AS, (memory * 1024, memory * 1024))
