@@ -1,5 +1,5 @@
 -- What is stopped is halted for the same reason, and the other way round.
-use Rattle.std.proofs.Common.{◌≡◌, subst, ap}
+use Rattle.std.proofs.Common.{subst}
 use Rattle.ang_check_operators.specs.declared.refusal.Stop.{Stop}
 use Rattle.ang_check_operators.specs.Refusals.{Judged, Stops}
 use Rattle.ang_check.specs.declared.halt.Halt.{Halt}

@@ -2,7 +2,7 @@
 use Rattle.std.specs.Prelude.{◌≡◌, Result, Ok, Err}
 use Rattle.ang_check_operators.specs.declared.refusal.Stop.{Stop}
 use Rattle.ang_check_operators.specs.declared.refusal.Stop.TheVariants as stop
-use Rattle.ang_check_operators.specs.Refusals.{Judged, Stops}
+use Rattle.ang_check_operators.specs.Refusals.{Judged}
 use Rattle.ang_check.specs.declared.halt.Halt.{Halt}
 use Rattle.ang_check.specs.declared.halt.Halt.TheVariants as halt
 

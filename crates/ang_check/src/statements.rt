@@ -63,7 +63,7 @@ struct Tested {
 #[inline(never)]
 fn tested_of(alloc: Global, condition: Box<Expression>, then: Block) -> Result<Box<Tested>, Halt>
     ensures exact { GivesOrHalts (λ x. (view_tree x.value.condition, view_block x.value.«then»)) result
-        (Ok (view_tree condition, view_block «then»)) }
+        (spec.tested_of (Ok (view_tree condition)) (Ok (view_block «then»))) }
 {
     Ok(Box::new(alloc, Tested { condition, then })?)
 }

@@ -1,4 +1,4 @@
-use Rattle.std.proofs.Common.{◌≡◌, ◌+◌, ℕ, Bool, refl, ap, sym, subst, ◌∙◌, List, Result, Ok, Err, OnOk, drop, map as list_map}
+use Rattle.std.proofs.Common.{◌≡◌, ◌+◌, ℕ, Bool, refl, ap, sym, subst, ◌∙◌, List, Result, Ok, Err, OnOk, drop, map as list_map, rules}
 use Rattle.std.specs.declared.boxed.Box.{Box}
 use Rattle.std.specs.declared.alloc.Global.{Global}
 use Rattle.ang_lex.specs.declared.token.Token.{Token}
@@ -83,17 +83,25 @@ statements-returns-clause-exact t c =
 pub statement-returns-in-Break : goal.statement-returns-in-Break
 statement-returns-in-Break t c =
     let ps = c.args.pairs.now.items in
+    let x = c.in-Break.found in
+    let same : c.deref-in-Break.result.now ≡ x.value = search rules in
+    let given : GivesOrHalts typed.view_stmt c.jump.result (jump c.args.in_loop x.value.word (typed.view_stmt to.Break)) =
+    subst (λ (y : Jump). GivesOrHalts typed.view_stmt c.jump.result (jump c.args.in_loop y.word (typed.view_stmt to.Break))) same c.jump.ensures.exact in
     record {
-      exact = jumped c.args.frame.now c.args.in_loop c.args.start ps c.args.written.now c.in-Break.word to.Break (written.break c.in-Break.word c.in-Break.semicolon) tree.break c.jump.result
-          (ap trees.view_stmt c.in-Break.is ∙ written_break c.in-Break.word c.in-Break.semicolon) typed_break refl c.jump.ensures.exact;
+      exact = jumped c.args.frame.now c.args.in_loop c.args.start ps c.args.written.now x.value.word to.Break (written.break x.value.word x.value.semicolon) tree.break c.jump.result
+          (ap trees.view_stmt c.in-Break.is ∙ written_break x) typed_break refl given;
       kept = on_ok c.jump.result (keeps_same ps ps refl);
     }
 
 pub statement-returns-in-Continue : goal.statement-returns-in-Continue
 statement-returns-in-Continue t c =
     let ps = c.args.pairs.now.items in
+    let x = c.in-Continue.found in
+    let same : c.deref-in-Continue.result.now ≡ x.value = search rules in
+    let given : GivesOrHalts typed.view_stmt c.jump-in-Continue.result (jump c.args.in_loop x.value.word (typed.view_stmt to.Continue)) =
+    subst (λ (y : Jump). GivesOrHalts typed.view_stmt c.jump-in-Continue.result (jump c.args.in_loop y.word (typed.view_stmt to.Continue))) same c.jump-in-Continue.ensures.exact in
     record {
-      exact = jumped c.args.frame.now c.args.in_loop c.args.start ps c.args.written.now c.in-Continue.word to.Continue (written.continue c.in-Continue.word c.in-Continue.semicolon) tree.continue c.jump-in-Continue.result
-          (ap trees.view_stmt c.in-Continue.is ∙ written_continue c.in-Continue.word c.in-Continue.semicolon) typed_continue refl c.jump-in-Continue.ensures.exact;
+      exact = jumped c.args.frame.now c.args.in_loop c.args.start ps c.args.written.now x.value.word to.Continue (written.continue x.value.word x.value.semicolon) tree.continue c.jump-in-Continue.result
+          (ap trees.view_stmt c.in-Continue.is ∙ written_continue x) typed_continue refl given;
       kept = on_ok c.jump-in-Continue.result (keeps_same ps ps refl);
     }
