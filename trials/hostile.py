@@ -175,29 +175,45 @@ BOTTOMS = {
 }
 
 
-def nested(nest, bottom):
+# Where the nest stands: what stands in front of it and behind, and what is answered where else all is well.
+PLACES = {
+    "a function": (HEAD, "}", OK),
+    "a method": ("class C{void f(){", "}}", "refused BuildErrors NotYet"),
+    "a method before a wrong sign": ("class C{void f(){", "})}", REFUSED),
+}
+
+
+def nested(nest, bottom, place="a function"):
     """A section with a nest as deep as there is room, and its number of levels."""
     before, behind = nest
-    room = MOST - 1 - len(HEAD) - len(bottom) - 1
+    head, tail, _ = PLACES[place]
+    room = MOST - 1 - len(head + bottom + tail)
     levels = room // len(before + behind) if before else 0
-    return HEAD + before * levels + bottom + behind * levels + "}", levels
+    return head + before * levels + bottom + behind * levels + tail, levels
 
 
 def deep(trials):
     """The deepest sections, and the declarations of calls that are as long."""
 
-    def rows():
-        for nest in NESTS:
-            name = f"`{'..'.join(filter(None, nest))}`" if nest[0] else "no statement around it"
-            row = [name, nested(nest, BOTTOMS["`;`"][0])[1]]
-            for bottom, (text, wanted) in BOTTOMS.items():
-                session = built(nested(nest, text)[0])
-                trials.tried(f"{name} around {bottom}", session, wanted)
-                row.append(trials.least_stack(session, wanted))
-            yield row
+    def least(nest, bottom, place):
+        text, wanted = BOTTOMS[bottom]
+        wanted = PLACES[place][2] if wanted == OK else wanted
+        session = built(nested(nest, text, place)[0])
+        trials.tried(f"{nest} around {bottom} in {place}", session, wanted)
+        return trials.least_stack(session, wanted)
 
-    print(f"\nThe least stack with which the section builds, in KiB of {STACK}, by what stands at its bottom\n")
-    table(["Section of", "levels", *BOTTOMS], rows())
+    def rows(place, nests, bottoms):
+        for nest in nests:
+            name = f"`{'..'.join(filter(None, nest))}`" if nest[0] else "no statement around it"
+            levels = nested(nest, BOTTOMS["`;`"][0], place)[1]
+            yield name, levels, *(least(nest, bottom, place) for bottom in bottoms)
+
+    print(f"\nThe least stack for the answer to a section, in KiB of {STACK}, by what stands at its bottom")
+    for place in PLACES:
+        few = place != "a function"
+        bottoms = list(BOTTOMS)[:3] if few else BOTTOMS
+        print(f"\nIn {place}:\n")
+        table(["Section of", "levels", *bottoms], rows(place, NESTS[1:5] if few else NESTS, bottoms))
     decls = [HEAD + "for(;;)" * 9000 + ";}", "void f" + "(" * 60000, "void f(" + "(int a," * 9000 + ")"]
     decls += ["int " + "a," * 30000 + "a", "void f(){" + "{" * 60000, "f" * 60000, "x=" * 30000 + "x"]
     for decl in decls:
@@ -481,8 +497,8 @@ def memory(trials):
     events(trials)
 
 
-# What asks the host, the line of asrun for it, and the most bytes of an event: 128, 32 for the name of the caller, and for
-# an argument 32, and 24 that the console notes.
+# What asks the host, the line of asrun for it, and the most bytes of an event: 128, 32 for the caller's name, and for an
+# argument 32, and 24 that the console notes.
 ASKINGS = [("reg;", "host m 1 0 - () 0\n", 128 + 32), ("put(x);", "host m 0 0 - (0) void\n", 128 + 32 + 32 + 24)]
 
 
