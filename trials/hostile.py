@@ -457,27 +457,35 @@ def numbered(head, piece, tail="", most=20000):
     return "".join(out) + tail
 
 
-ANY = "ok|refused BuildErrors Limit"
+ANY = "ok|refused BuildErrors (Limit|Duplicate)"
 
-WORST = "g(~" * 60 + "x" + ")" * 60 + ";"  # takes most memory
+# What takes most memory: calls inside one another, each with a conversion of its argument.
+WORST = "g(" * 62 + "x" + ")" * 62 + ";"
+WORST_HEAD = "int8 x;int8 g(int64 n){return n;}void f(){"
+MOST_BYTES = 550  # of memory for a byte of source: docs/EMBEDDING.md has it
 PARAMETERS = ",".join(["int"] * 32)
 
 # The section, and the most bytes of memory for each of its bytes.
 KINDS = [
     ("`;`", filled(";"), 150),
+    ("`;` outside of functions", ";" * (MOST - 1), 150),
     ("names: `int a,a0,a1..`", numbered("int a", ",a%d", ";"), 150),
+    ("names of one letter: `{int a,b..;}`", filled("{int " + ",".join("abcdefghijklmnopqrstuvw") + ";}"), 150),
+    ("refused names: `int a,a..`", "int a" + ",a" * 32000 + ";", 300),
+    ("refused names: `int a;int a..`", "int a;" * 10900, 300),
     ("`(x);`", filled("(x);"), 300),
     ("60 brackets around each `x`", filled("(" * 60 + "x" + ")" * 60 + ";"), 300),
     ("`x;`", filled("x;"), 300),
     ("`x=x+1;`", filled("x=x+1;"), 300),
     ("`void f0(){}`", numbered("", "void f%d(){}", most=4096), 300),
     ("32 parameters: `void f0(int,int..){}`", numbered("", f"void f%d({PARAMETERS}){{}}"), 300),
-    ("`for(;;)` one inside the other", nested(("for(;;)", ""), ";")[0], 450),
-    ("`{int a;}`", filled("{int a;}"), 450),
-    ("250 times `x+` in a statement", filled("x+" * 250 + "x;"), 450),
-    ("250 times `~`", filled("~" * 250 + "x;"), 450),
-    ("`g(x);`", filled("g(x);"), 450),
-    ("60 calls `g(~..)` one inside the other", filled(WORST), 450),
+    ("`for(;;)` one inside the other", nested(("for(;;)", ""), ";")[0], MOST_BYTES),
+    ("`{int a;}`", filled("{int a;}"), MOST_BYTES),
+    ("250 times `x+` in a statement", filled("x+" * 250 + "x;"), MOST_BYTES),
+    ("250 times `~`", filled("~" * 250 + "x;"), MOST_BYTES),
+    ("`g(x);`", filled("g(x);"), MOST_BYTES),
+    ("`x=u+x;` of small types", filled("x=u+x;", "int8 x;uint8 u;void f(){"), MOST_BYTES),
+    ("62 calls one inside the other", filled(WORST, WORST_HEAD), MOST_BYTES),
 ]
 
 
@@ -521,9 +529,9 @@ def events(trials):
     table(["Asking", "bytes", "the most"], rows())
 
 
-def sections(unit):
-    """64 full sections of a unit, each in a function of its own."""
-    return [filled(unit)] + [filled(unit, f"void f{n}(){{") for n in range(63)]
+def sections(unit, head=HEAD):
+    """64 full sections of a unit, each in a function of its own. The first has what all use."""
+    return [filled(unit, head)] + [filled(unit, f"void f{n}(){{") for n in range(63)]
 
 
 def limited(trials):
@@ -533,7 +541,7 @@ def limited(trials):
     the process.
     """
     deepest = nested(("for(;;)if(b)", ""), BOTTOMS["`x=x=..`"][0])[0]
-    then = sections(WORST)[:5] + [deepest.replace(HEAD, "void deep(){")]
+    then = sections(WORST, WORST_HEAD)[:5] + [deepest.replace(HEAD, "bool b;void deep(){")]
     session = built(deepest) + "".join(map(section, then)) + "build m\n"
     seen = Counter()
     for memory in range(24, 224, 4):
@@ -550,7 +558,7 @@ def full(trials):
         "`for(;;)` one inside the other": [loops, *(loops.replace(HEAD, f"void f{n}(){{") for n in range(63))],
         "`;`": sections(";"),
         "`x=x+1;`": sections("x=x+1;"),
-        "60 calls `g(~..)` one inside the other": sections(WORST),
+        "62 calls one inside the other": sections(WORST, WORST_HEAD),
     }
 
     def rows():
@@ -558,7 +566,7 @@ def full(trials):
             size = sum(len(it) + 1 for it in texts)
             ended = trials.tried(f"64 sections of {name}", built(*texts), OK, measured=True)
             resident = ended.resident or 0
-            trials.held(f"64 sections of {name}", resident / size, 450)
+            trials.held(f"64 sections of {name}", resident / size, MOST_BYTES)
             figures = [f"{size:,}", f"{ended.seconds:.1f}", resident >> 20, f"{resident / size:.0f}"]
             yield name, *figures, f"`{answer_of(ended)}`"
 
