@@ -9,13 +9,12 @@ import shutil
 import subprocess
 import sys
 import tempfile
-import time
 from collections import Counter, defaultdict, namedtuple
 
 MOST = 65536  # bytes of a section
 STACK = 8192  # KiB, with which each section has to build
 STEP = 64  # KiB, to which the least stack is found
-SECONDS = 120  # for one process
+SECONDS = 600  # for one process
 GNU_TIME = "/usr/bin/time"
 WAYS = ["ended by a signal", "ran out of time", "answered otherwise", "above a bound"]
 
@@ -23,7 +22,7 @@ PROFILE = "function 0 0 void put(int64)\nglobal 0 0 int64 reg\n"
 HEAD = "int x;bool b;int g(int n){return n;}void f(){"
 
 # How a run ended: its status, which is negative after a signal and None where it ran out of time, what it printed, its
-# seconds, and its greatest resident memory in bytes where it was measured.
+# seconds of processor, and its greatest resident memory in bytes where it was measured.
 Ended = namedtuple("Ended", "status text seconds resident")
 
 
@@ -45,14 +44,14 @@ class Trials:
         words = [self.program, "--profile", "profile", "--session", "session"]
         if measured:
             words = [GNU_TIME, "-q", "-f", "%M", "-o", "resident", *words]
-        start = time.monotonic()
+        start = seconds_of_children()
         how = {"cwd": self.folder, "env": {}, "capture_output": True, "timeout": SECONDS}
         try:
             ran = subprocess.run(words, preexec_fn=lambda: limit_to(stack, memory), **how)
             status, text = ran.returncode, ran.stdout.decode("latin-1")
         except subprocess.TimeoutExpired:
             status, text = None, ""
-        seconds = time.monotonic() - start
+        seconds = seconds_of_children() - start
         resident = None
         if measured and status is not None:
             with open(f"{self.folder}/resident") as file:
@@ -90,6 +89,12 @@ class Trials:
             else:
                 low = middle
         return high * STEP
+
+
+def seconds_of_children():
+    """The seconds of processor that the processes took that have ended."""
+    times = os.times()
+    return times.children_user + times.children_system
 
 
 def limit_to(stack, memory):
@@ -571,7 +576,7 @@ def full(trials):
             yield name, *figures, f"`{answer_of(ended)}`"
 
     print("\n64 full sections in one build\n")
-    table(["Sections of", "bytes", "seconds", "MiB", "bytes of memory a byte", "answer"], rows())
+    table(["Sections of", "bytes", "seconds of processor", "MiB", "bytes of memory a byte", "answer"], rows())
 
 
 PARTS = {"deep": deep, "limits": limits, "changed": changed, "limited": limited, "full": full, "memory": memory}
