@@ -9,13 +9,12 @@ import shutil
 import subprocess
 import sys
 import tempfile
-import time
 from collections import Counter, defaultdict, namedtuple
 
 MOST = 65536  # bytes of a section
 STACK = 8192  # KiB, with which each section has to build
 STEP = 64  # KiB, to which the least stack is found
-SECONDS = 120  # for one process
+SECONDS = 600  # for one process
 GNU_TIME = "/usr/bin/time"
 WAYS = ["ended by a signal", "ran out of time", "answered otherwise", "above a bound"]
 
@@ -23,7 +22,7 @@ PROFILE = "function 0 0 void put(int64)\nglobal 0 0 int64 reg\n"
 HEAD = "int x;bool b;int g(int n){return n;}void f(){"
 
 # How a run ended: its status, which is negative after a signal and None where it ran out of time, what it printed, its
-# seconds, and its greatest resident memory in bytes where it was measured.
+# seconds of processor, and its greatest resident memory in bytes where it was measured.
 Ended = namedtuple("Ended", "status text seconds resident")
 
 
@@ -45,14 +44,14 @@ class Trials:
         words = [self.program, "--profile", "profile", "--session", "session"]
         if measured:
             words = [GNU_TIME, "-q", "-f", "%M", "-o", "resident", *words]
-        start = time.monotonic()
+        start = seconds_of_children()
         how = {"cwd": self.folder, "env": {}, "capture_output": True, "timeout": SECONDS}
         try:
             ran = subprocess.run(words, preexec_fn=lambda: limit_to(stack, memory), **how)
             status, text = ran.returncode, ran.stdout.decode("latin-1")
         except subprocess.TimeoutExpired:
             status, text = None, ""
-        seconds = time.monotonic() - start
+        seconds = seconds_of_children() - start
         resident = None
         if measured and status is not None:
             with open(f"{self.folder}/resident") as file:
@@ -90,6 +89,12 @@ class Trials:
             else:
                 low = middle
         return high * STEP
+
+
+def seconds_of_children():
+    """The seconds of processor that the processes took that have ended."""
+    times = os.times()
+    return times.children_user + times.children_system
 
 
 def limit_to(stack, memory):
@@ -175,29 +180,45 @@ BOTTOMS = {
 }
 
 
-def nested(nest, bottom):
+# Where the nest stands: what stands in front of it and behind, and what is answered where else all is well.
+PLACES = {
+    "a function": (HEAD, "}", OK),
+    "a method": ("class C{void f(){", "}}", "refused BuildErrors NotYet"),
+    "a method before a wrong sign": ("class C{void f(){", "})}", REFUSED),
+}
+
+
+def nested(nest, bottom, place="a function"):
     """A section with a nest as deep as there is room, and its number of levels."""
     before, behind = nest
-    room = MOST - 1 - len(HEAD) - len(bottom) - 1
+    head, tail, _ = PLACES[place]
+    room = MOST - 1 - len(head + bottom + tail)
     levels = room // len(before + behind) if before else 0
-    return HEAD + before * levels + bottom + behind * levels + "}", levels
+    return head + before * levels + bottom + behind * levels + tail, levels
 
 
 def deep(trials):
     """The deepest sections, and the declarations of calls that are as long."""
 
-    def rows():
-        for nest in NESTS:
-            name = f"`{'..'.join(filter(None, nest))}`" if nest[0] else "no statement around it"
-            row = [name, nested(nest, BOTTOMS["`;`"][0])[1]]
-            for bottom, (text, wanted) in BOTTOMS.items():
-                session = built(nested(nest, text)[0])
-                trials.tried(f"{name} around {bottom}", session, wanted)
-                row.append(trials.least_stack(session, wanted))
-            yield row
+    def least(nest, bottom, place):
+        text, wanted = BOTTOMS[bottom]
+        wanted = PLACES[place][2] if wanted == OK else wanted
+        session = built(nested(nest, text, place)[0])
+        trials.tried(f"{nest} around {bottom} in {place}", session, wanted)
+        return trials.least_stack(session, wanted)
 
-    print(f"\nThe least stack with which the section builds, in KiB of {STACK}, by what stands at its bottom\n")
-    table(["Section of", "levels", *BOTTOMS], rows())
+    def rows(place, nests, bottoms):
+        for nest in nests:
+            name = f"`{'..'.join(filter(None, nest))}`" if nest[0] else "no statement around it"
+            levels = nested(nest, BOTTOMS["`;`"][0], place)[1]
+            yield name, levels, *(least(nest, bottom, place) for bottom in bottoms)
+
+    print(f"\nThe least stack for the answer to a section, in KiB of {STACK}, by what stands at its bottom")
+    for place in PLACES:
+        few = place != "a function"
+        bottoms = list(BOTTOMS)[:3] if few else BOTTOMS
+        print(f"\nIn {place}:\n")
+        table(["Section of", "levels", *bottoms], rows(place, NESTS[1:5] if few else NESTS, bottoms))
     decls = [HEAD + "for(;;)" * 9000 + ";}", "void f" + "(" * 60000, "void f(" + "(int a," * 9000 + ")"]
     decls += ["int " + "a," * 30000 + "a", "void f(){" + "{" * 60000, "f" * 60000, "x=" * 30000 + "x"]
     for decl in decls:
@@ -441,27 +462,35 @@ def numbered(head, piece, tail="", most=20000):
     return "".join(out) + tail
 
 
-ANY = "ok|refused BuildErrors Limit"
+ANY = "ok|refused BuildErrors (Limit|Duplicate)"
 
-WORST = "g(~" * 60 + "x" + ")" * 60 + ";"  # takes most memory
+# What takes most memory: calls inside one another, each with a conversion of its argument.
+WORST = "g(" * 62 + "x" + ")" * 62 + ";"
+WORST_HEAD = "int8 x;int8 g(int64 n){return n;}void f(){"
+MOST_BYTES = 550  # of memory for a byte of source: docs/EMBEDDING.md has it
 PARAMETERS = ",".join(["int"] * 32)
 
 # The section, and the most bytes of memory for each of its bytes.
 KINDS = [
     ("`;`", filled(";"), 150),
+    ("`;` outside of functions", ";" * (MOST - 1), 150),
     ("names: `int a,a0,a1..`", numbered("int a", ",a%d", ";"), 150),
+    ("names of one letter: `{int a,b..;}`", filled("{int " + ",".join("abcdefghijklmnopqrstuvw") + ";}"), 150),
+    ("refused names: `int a,a..`", "int a" + ",a" * 32000 + ";", 300),
+    ("refused names: `int a;int a..`", "int a;" * 10900, 300),
     ("`(x);`", filled("(x);"), 300),
     ("60 brackets around each `x`", filled("(" * 60 + "x" + ")" * 60 + ";"), 300),
     ("`x;`", filled("x;"), 300),
     ("`x=x+1;`", filled("x=x+1;"), 300),
     ("`void f0(){}`", numbered("", "void f%d(){}", most=4096), 300),
     ("32 parameters: `void f0(int,int..){}`", numbered("", f"void f%d({PARAMETERS}){{}}"), 300),
-    ("`for(;;)` one inside the other", nested(("for(;;)", ""), ";")[0], 450),
-    ("`{int a;}`", filled("{int a;}"), 450),
-    ("250 times `x+` in a statement", filled("x+" * 250 + "x;"), 450),
-    ("250 times `~`", filled("~" * 250 + "x;"), 450),
-    ("`g(x);`", filled("g(x);"), 450),
-    ("60 calls `g(~..)` one inside the other", filled(WORST), 450),
+    ("`for(;;)` one inside the other", nested(("for(;;)", ""), ";")[0], MOST_BYTES),
+    ("`{int a;}`", filled("{int a;}"), MOST_BYTES),
+    ("250 times `x+` in a statement", filled("x+" * 250 + "x;"), MOST_BYTES),
+    ("250 times `~`", filled("~" * 250 + "x;"), MOST_BYTES),
+    ("`g(x);`", filled("g(x);"), MOST_BYTES),
+    ("`x=u+x;` of small types", filled("x=u+x;", "int8 x;uint8 u;void f(){"), MOST_BYTES),
+    ("62 calls one inside the other", filled(WORST, WORST_HEAD), MOST_BYTES),
 ]
 
 
@@ -481,8 +510,8 @@ def memory(trials):
     events(trials)
 
 
-# What asks the host, the line of asrun for it, and the most bytes of an event: 128, 32 for the name of the caller, and for
-# an argument 32, and 24 that the console notes.
+# What asks the host, the line of asrun for it, and the most bytes of an event: 128, 32 for the caller's name, and for an
+# argument 32, and 24 that the console notes.
 ASKINGS = [("reg;", "host m 1 0 - () 0\n", 128 + 32), ("put(x);", "host m 0 0 - (0) void\n", 128 + 32 + 32 + 24)]
 
 
@@ -505,9 +534,9 @@ def events(trials):
     table(["Asking", "bytes", "the most"], rows())
 
 
-def sections(unit):
-    """64 full sections of a unit, each in a function of its own."""
-    return [filled(unit)] + [filled(unit, f"void f{n}(){{") for n in range(63)]
+def sections(unit, head=HEAD):
+    """64 full sections of a unit, each in a function of its own. The first has what all use."""
+    return [filled(unit, head)] + [filled(unit, f"void f{n}(){{") for n in range(63)]
 
 
 def limited(trials):
@@ -517,7 +546,7 @@ def limited(trials):
     the process.
     """
     deepest = nested(("for(;;)if(b)", ""), BOTTOMS["`x=x=..`"][0])[0]
-    then = sections(WORST)[:5] + [deepest.replace(HEAD, "void deep(){")]
+    then = sections(WORST, WORST_HEAD)[:5] + [deepest.replace(HEAD, "bool b;void deep(){")]
     session = built(deepest) + "".join(map(section, then)) + "build m\n"
     seen = Counter()
     for memory in range(24, 224, 4):
@@ -534,7 +563,7 @@ def full(trials):
         "`for(;;)` one inside the other": [loops, *(loops.replace(HEAD, f"void f{n}(){{") for n in range(63))],
         "`;`": sections(";"),
         "`x=x+1;`": sections("x=x+1;"),
-        "60 calls `g(~..)` one inside the other": sections(WORST),
+        "62 calls one inside the other": sections(WORST, WORST_HEAD),
     }
 
     def rows():
@@ -542,12 +571,12 @@ def full(trials):
             size = sum(len(it) + 1 for it in texts)
             ended = trials.tried(f"64 sections of {name}", built(*texts), OK, measured=True)
             resident = ended.resident or 0
-            trials.held(f"64 sections of {name}", resident / size, 450)
+            trials.held(f"64 sections of {name}", resident / size, MOST_BYTES)
             figures = [f"{size:,}", f"{ended.seconds:.1f}", resident >> 20, f"{resident / size:.0f}"]
             yield name, *figures, f"`{answer_of(ended)}`"
 
     print("\n64 full sections in one build\n")
-    table(["Sections of", "bytes", "seconds", "MiB", "bytes of memory a byte", "answer"], rows())
+    table(["Sections of", "bytes", "seconds of processor", "MiB", "bytes of memory a byte", "answer"], rows())
 
 
 PARTS = {"deep": deep, "limits": limits, "changed": changed, "limited": limited, "full": full, "memory": memory}

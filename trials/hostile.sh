@@ -13,7 +13,7 @@
 #     full      64 full sections in one build
 #     memory    the memory that a build takes for a byte of source, and a run for an asking of the host
 #
-# Prints a table for each part, and a last line with the number of runs. The status is 0 where no process ended by a
+# Prints tables for each part, what did not go well as it comes, and a last line with the number of runs. The status is 0 where no process ended by a
 # signal or ran out of time, each answer was the expected one, and each bound on memory was held. Needs python3, and
 # for the last two parts GNU time (/usr/bin/time). Ends in some ten minutes.
 set -eu
