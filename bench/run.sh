@@ -4,7 +4,7 @@
 #
 #     bench/run.sh [TURNS [BUILDS]]
 #
-# Proves and builds both programs first, and the libraries below them (half an hour and more in a fresh clone).
+# Proves and builds the program first, and the libraries below it (half an hour and more in a fresh clone).
 set -eu
 cd "$(dirname "$0")/.."
 turns=${1:-200}
@@ -12,11 +12,11 @@ builds=${2:-5}
 folder=$(mktemp -d)
 trap 'rm -rf "$folder"' EXIT
 python3 bench/sections.py "$folder"
-cd crates/parse_speed
-rt run -- "$folder/ordinary.as" 1 > "$folder/built" 2>&1 || { cat "$folder/built" >&2; exit 1; }
-for section in "$folder"/*.as; do
-    out/parse_speed "$section" "$turns"
-done
-cd ../build_speed
+cd crates/bench_build
 rt run > "$folder/built" 2>&1 || { cat "$folder/built" >&2; exit 1; }
-out/build_speed "$folder/functions.as" "$builds"
+for section in "$folder"/*.as; do
+    case $section in
+    */functions.as) out/bench_build "$section" "$turns" "$builds" ;;
+    *) out/bench_build "$section" "$turns" ;;
+    esac
+done

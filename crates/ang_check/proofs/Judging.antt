@@ -10,7 +10,7 @@ use Rattle.ang_tree.specs.Stmt.{Init, Body}
 use Rattle.ang_names.specs.declared.names.Names.{Names}
 use Rattle.ang_names.specs.declared.names.ScriptFunction.{ScriptFunction}
 use Rattle.ang_names.specs.declared.names.ScriptGlobal.{ScriptGlobal}
-use Rattle.ang_typing.specs.Scope.{Setting}
+use Rattle.ang_check_typing.specs.Scope.{Setting}
 use Rattle.ang_typed.specs.View.{view_function, view_global}
 use Rattle.ang_check.specs.declared.found.Found.{Found}
 use Rattle.ang_check.specs.Bodies.{Part, a_body, an_initializer, Judgement, a_function, a_global, function_typing, global_typing, setting_in, judged_from, refusal_in, function_in, global_in}

@@ -1,2 +1,3 @@
 pub mod SoFar
 pub mod Judging
+pub mod Stopping

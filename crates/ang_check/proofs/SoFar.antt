@@ -8,14 +8,15 @@ use Rattle.ang_tree.specs.declared.statement.Variable.{Variable}
 use Rattle.ang_tree.specs.declared.type_name.TypeName.{TypeName}
 use Rattle.ang_types.specs.declared.arg_type.ArgType.{ArgType}
 use Rattle.ang_typed.specs.Typed as t
-use Rattle.ang_typing.specs.declared.scope.Pair.{Pair}
-use Rattle.ang_operators.specs.declared.refusal.Refusal.{Refusal}
-use Rattle.ang_operators.specs.declared.refusal.Stop.{Stop}
-use Rattle.ang_operators.specs.declared.refusal.Stop.TheVariants as stop
-use Rattle.ang_operators.specs.Refusals.{Judged, ◌>>=◌, Gives}
+use Rattle.ang_check_typing.specs.declared.scope.Pair.{Pair}
+use Rattle.ang_check_operators.specs.declared.refusal.Refusal.{Refusal}
+use Rattle.ang_check_operators.specs.Refusals.{Judged, ◌>>=◌}
 use Rattle.ang_typed.specs.View.{view_stmt}
 use Rattle.ang_typed.specs.declared.statement.Statement as typed
 use Rattle.ang_check.specs.declared.frame.Frame.{Frame}
+use Rattle.ang_check.specs.declared.halt.Halt.{Halt}
+use Rattle.ang_check.specs.declared.halt.Halt.TheVariants as halt
+use Rattle.ang_check.specs.Halts.{GivesOrHalts}
 use Rattle.ang_check.specs.Statements.{Keeps, with_same, stmt_typing, stmts_typing, local_typing, each_local}
 
 -- ---- lists
@@ -46,11 +47,11 @@ pub ruleset keeps = (keeps_same, keeps_pushed, keeps_on)
 -- ---- statements
 
 -- a statement behind which the same pairs are alive
-pub gives_same : (ps : List Pair) (r : Result typed.Statement Stop) (j : Judged t.Stmt) → Gives view_stmt r j
-    → Gives (λ x. (ps, view_stmt x)) r (with_same ps j)
+pub gives_same : (ps : List Pair) (r : Result typed.Statement Halt) (j : Judged t.Stmt) → GivesOrHalts view_stmt r j
+    → GivesOrHalts (λ x. (ps, view_stmt x)) r (with_same ps j)
 gives_same ps (Ok x) j h = ap (λ k. with_same ps k) h
-gives_same ps (Err stop.Memory) j h = tt
-gives_same ps (Err (stop.Refused r)) j h = ap (λ k. with_same ps k) h
+gives_same ps (Err halt.Memory) j h = tt
+gives_same ps (Err (halt.Refused r)) j h = ap (λ k. with_same ps k) h
 
 -- statements in front of others
 abbrev pub in_front : List t.Stmt → t.Stmts → t.Stmts

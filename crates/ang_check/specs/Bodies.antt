@@ -17,12 +17,12 @@ use Rattle.ang_names.specs.declared.names.ScriptFunction.{ScriptFunction}
 use Rattle.ang_names.specs.declared.names.ScriptGlobal.{ScriptGlobal}
 use Rattle.ang_names.specs.declared.names.ScriptParameter.{ScriptParameter}
 use Rattle.ang_lex.specs.declared.token.Token.{Token}
-use Rattle.ang_written.specs.Sources.{Source, name_of}
-use Rattle.ang_operators.specs.declared.refusal.Refusal.{Refusal}
-use Rattle.ang_typing.specs.declared.scope.Pair.{Pair}
-use Rattle.ang_typing.specs.Scope.{Setting}
-use Rattle.ang_operators.specs.Refusals.{Judged, ◌>>=◌, refused_at}
-use Rattle.ang_paths.specs.Paths.{body_ends}
+use Rattle.ang_names_written.specs.Sources.{Source, name_of}
+use Rattle.ang_check_operators.specs.declared.refusal.Refusal.{Refusal}
+use Rattle.ang_check_typing.specs.declared.scope.Pair.{Pair}
+use Rattle.ang_check_typing.specs.Scope.{Setting}
+use Rattle.ang_check_operators.specs.Refusals.{Judged, ◌>>=◌, refused_at}
+use Rattle.ang_check_paths.specs.Paths.{body_ends}
 use Rattle.ang_check.specs.declared.frame.Frame.{Frame}
 use Rattle.ang_check.specs.Statements.{block_typing, initializer_typing}
 

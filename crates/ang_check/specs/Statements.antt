@@ -12,16 +12,16 @@ use Rattle.ang_tree.specs.Tree.{Tree, Trees}
 use Rattle.ang_tree.specs.Stmt.{Init, absent, value, constructor, Var, Vars, Start, with_variables, with_expression, Stmt, Body, Stmts, block, variables, expression, break, continue, return, when, either, while, do_while, for, body, end}
 use Rattle.ang_tree.specs.Stmt as written
 use Rattle.ang_typed.specs.Typed as t
-use Rattle.ang_written.specs.Sources.{text_of}
-use Rattle.ang_written.specs.Types.{Meaning, value_type_of, is_read_only}
-use Rattle.ang_operators.specs.declared.refusal.Asks.TheVariants as asks
-use Rattle.ang_operators.specs.declared.refusal.Refusal.{Refusal}
-use Rattle.ang_typing.specs.declared.scope.Pair.{Pair}
-use Rattle.ang_typing.specs.Scope.{Setting, last_named}
-use Rattle.ang_operators.specs.Refusals.{Judged, ◌>>=◌, fault_at, refused_at, use_refused}
-use Rattle.ang_operators.specs.Operands.{Operand, fit, truth}
+use Rattle.ang_names_written.specs.Sources.{text_of}
+use Rattle.ang_names_written.specs.Types.{Meaning, value_type_of, is_read_only}
+use Rattle.ang_check_operators.specs.declared.refusal.Asks.TheVariants as asks
+use Rattle.ang_check_operators.specs.declared.refusal.Refusal.{Refusal}
+use Rattle.ang_check_typing.specs.declared.scope.Pair.{Pair}
+use Rattle.ang_check_typing.specs.Scope.{Setting, last_named}
+use Rattle.ang_check_operators.specs.Refusals.{Judged, ◌>>=◌, fault_at, refused_at, use_refused}
+use Rattle.ang_check_operators.specs.Operands.{Operand, fit, truth}
 use Rattle.ang_check.specs.declared.frame.Frame.{Frame}
-use Rattle.ang_typing.specs.Typing.{typing_of, typing_of_args, typing_of_all}
+use Rattle.ang_check_typing.specs.Typing.{typing_of, typing_of_args, typing_of_all}
 
 -- the most locals that can be alive at once in one function
 abbrev pub most_locals : ℕ

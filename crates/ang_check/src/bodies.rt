@@ -2,23 +2,23 @@
 ghost use Rattle.std.specs.Prelude.{◌≡◌, IfOk, map as list_map};
 ghost use Rattle.ang_tree.specs.View.{view_body, view_init};
 ghost use Rattle.ang_typed.specs.View.{view_block, view_function, view_global};
-ghost use Rattle.ang_operators.specs.Refusals.{Gives};
+ghost use Rattle.ang_check_operators.specs.Refusals.{Gives};
 ghost use Rattle.ang_check.specs.Bodies as spec;
 
 use crate::frame::Frame;
 use crate::locals::initializer;
 use crate::statements::block;
+use ang_check_operators::{Stop, refused};
+use ang_check_paths::body_ends;
+use ang_check_typing::{Pair, Setting};
 use ang_kinds::{ErrorKind, List};
 use ang_lex::Token;
 use ang_names::{ScriptFunction, ScriptGlobal, ScriptParameter};
-use ang_operators::{Stop, refused};
-use ang_paths::body_ends;
+use ang_names_written::Text;
 use ang_tree as written;
 use ang_tree::{Initializer, TypeName};
 use ang_typed::{Block, Function, Global as TypedGlobal, Parameter};
 use ang_types::ArgType;
-use ang_typing::{Pair, Setting};
-use ang_written::Text;
 use std::alloc::{AllocError, Global};
 
 fn pairs_of<'a>(alloc: Global, params: &'a [ScriptParameter]) -> Result<Vec<Pair<'a>>, AllocError>

@@ -1,7 +1,7 @@
 //! All bodies and initializers of a build.
 ghost use Rattle.std.specs.Prelude.{◌≡◌, [], ◌∷◌, IfOk, IfErr, OnOk, map as list_map};
 ghost use Rattle.ang_names.specs.Phases.{IsRefused};
-ghost use Rattle.ang_written.specs.Sources.{source_of};
+ghost use Rattle.ang_names_written.specs.Sources.{source_of};
 ghost use Rattle.ang_tree.specs.View.{view_body, view_decl, view_init, view_vars};
 ghost use Rattle.ang_typed.specs.View.{view_function, view_global, view_typed};
 ghost use Rattle.ang_check.specs.Bodies as bodies;
@@ -9,6 +9,7 @@ ghost use Rattle.ang_check.specs.Judging as spec;
 
 use crate::bodies::{function_typing, global_typing};
 use crate::found::{Found, note_function, note_global};
+use ang_check_typing::Setting;
 use ang_kinds::{List, Unbuilt};
 use ang_names::Names;
 use ang_registry::View;
@@ -16,7 +17,6 @@ use ang_tree as written;
 use ang_tree::{Declaration, Initializer, Script, TypeName, Variables};
 use ang_typed::Typed;
 use ang_types::Lineage;
-use ang_typing::Setting;
 use std::alloc::{AllocError, Global};
 
 /// What is the same for all parts of a build.

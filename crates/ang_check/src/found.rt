@@ -1,16 +1,16 @@
 //! What the bodies and initializers of a build gave so far.
 ghost use Rattle.std.specs.Prelude.{◌≡◌, ◌++◌, ◌∷◌, [], IfOk, OnOk};
-ghost use Rattle.ang_operators.specs.Refusals.{Judged, Gives};
+ghost use Rattle.ang_check_operators.specs.Refusals.{Judged, Gives};
 ghost use Rattle.ang_typed.specs.Typed as tree;
 ghost use Rattle.ang_typed.specs.View.{view_function, view_global};
 ghost use Rattle.ang_check.specs.Bodies as bodies;
 ghost use Rattle.ang_check.specs.Judging as spec;
 
+use ang_check_operators::{Refusal, Stop};
 use ang_kinds::{Error, List};
 use ang_names::{ScriptFunction, ScriptGlobal};
-use ang_operators::{Refusal, Stop};
+use ang_names_written::text_at;
 use ang_typed::{Function, Global as TypedGlobal};
-use ang_written::text_at;
 use std::alloc::{AllocError, Global};
 
 /// What the bodies and initializers up to some place gave, and whose come next.

@@ -1,6 +1,6 @@
 //! What is the same for all statements of a function.
+use ang_check_typing::Setting;
 use ang_types::ArgType;
-use ang_typing::Setting;
 
 /// What is the same for all statements of a function.
 #[derive(Drop)]

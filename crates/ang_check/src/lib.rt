@@ -5,8 +5,10 @@ mod bodies;
 mod checking;
 mod found;
 mod frame;
+mod halt;
 mod locals;
 mod loops;
+mod parts;
 mod statements;
 mod values;
 

@@ -2,18 +2,18 @@
 ghost use Rattle.std.specs.Prelude.{◌≡◌, ◌≤◌, ◌++◌, ◌∷◌, [], length, map as list_map, IfOk, OnOk};
 ghost use Rattle.ang_tree.specs.View.{view_init, view_var, view_vars};
 ghost use Rattle.ang_typed.specs.View.{view_local, view_option, view_stmt};
-ghost use Rattle.ang_operators.specs.Refusals.{Gives};
+ghost use Rattle.ang_check_operators.specs.Refusals.{Gives};
 ghost use Rattle.ang_check.specs.Statements as spec;
 
 use crate::frame::Frame;
+use ang_check_operators::{Asks, Stop, fault, fit, refused, use_refused};
+use ang_check_typing::{Pair, Setting, find_pair, typing, typing_of_all};
 use ang_kinds::ErrorKind;
 use ang_lex::Token;
-use ang_operators::{Asks, Stop, fault, fit, refused, use_refused};
+use ang_names_written::{Text, is_read_only, value_type_of};
 use ang_tree::{Initializer, TypeName, Variable, Variables};
 use ang_typed::{Expression, Local, Statement};
 use ang_types::ArgType;
-use ang_typing::{Pair, Setting, find_pair, typing, typing_of_all};
-use ang_written::{Text, is_read_only, value_type_of};
 use std::alloc::{AllocError, Global};
 
 /// The most locals that can be alive at once in one function.
@@ -206,6 +206,7 @@ fn locals<'a>(
 
 /// The locals of a declaration as a statement.
 #[tactic(auto, using(crate::proofs::SoFar::keeps))]
+#[inline(never)]
 pub fn locals_statement<'a>(
     alloc: Global,
     frame: &Frame<'a>,

@@ -1,20 +1,22 @@
 //! What stands in the parentheses of a `for`.
-ghost use Rattle.std.specs.Prelude.{◌≡◌, ◌≤◌, ◌∷◌, [], length, map as list_map, IfOk, OnOk};
+ghost use Rattle.std.specs.Prelude.{◌≡◌, ◌≤◌, ◌∷◌, [], length, map as list_map, IfOk, Ok, OnOk};
 ghost use Rattle.ang_tree.specs.View as trees;
 ghost use Rattle.ang_typed.specs.Typed as tree;
 ghost use Rattle.ang_typed.specs.View.{view_block, view_expr, view_option, view_stmt};
-ghost use Rattle.ang_operators.specs.Refusals.{Gives};
+ghost use Rattle.ang_check_operators.specs.Refusals.{Gives};
+ghost use Rattle.ang_check.specs.Halts.{GivesOrHalts};
 ghost use Rattle.ang_check.specs.Statements as spec;
 ghost use Rattle.ang_check.specs.View.{view_boxed};
 
 use crate::frame::Frame;
+use crate::halt::Halt;
 use crate::locals::locals_statement;
 use crate::values::{expression_statement, optional_condition, steps};
-use ang_operators::Stop;
+use ang_check_operators::Stop;
+use ang_check_typing::Pair;
 use ang_tree as written;
 use ang_tree::{Argument, ForStart};
-use ang_typed::{Block, Expression, Statement};
-use ang_typing::Pair;
+use ang_typed::{Block, Expression, For, Statement};
 use std::alloc::{AllocError, Global};
 
 /// What stands in the parentheses of a `for`.
@@ -62,12 +64,13 @@ fn loop_start<'a>(
 
 /// What stands in the parentheses of a `for`, in the order of the text. The pairs are those of its body.
 #[tactic(auto, using(crate::proofs::SoFar::keeps))]
+#[inline(never)]
 pub fn loop_head<'a>(
     alloc: Global,
     frame: &Frame<'a>,
     pairs: &mut Vec<Pair<'a>>,
     first: &ForStart,
-    test: &Option<written::Expression>,
+    test: &Option<Box<written::Expression>>,
     items: &[Argument],
 ) -> Result<LoopHead, Stop>
     requires parameters { frame.now.parameters ≤ length pairs.old.items }
@@ -95,20 +98,26 @@ pub fn list_of_one(alloc: Global, statement: Statement) -> Result<Vec<Statement>
 }
 
 /// A `for` of these parts.
-pub fn for_of(alloc: Global, head: LoopHead, body: Block) -> Result<Statement, AllocError>
-    ensures exact { IfOk result (λ s. view_stmt s
-        ≡ tree.for (tree.«then» (view_boxed head.start) tree.end) (view_option head.condition) (list_map view_expr head.steps.items) (view_block body)) }
+#[inline(never)]
+pub fn for_of(alloc: Global, head: Box<LoopHead>, body: Block) -> Result<Statement, Halt>
+    ensures exact { GivesOrHalts view_stmt result (Ok (tree.for
+        (tree.«then» (view_boxed head.value.start) tree.end) (view_option head.value.condition)
+        (list_map view_expr head.value.steps.items) (view_block body))) }
 {
     let LoopHead {
         start,
         condition,
         steps,
-    } = head;
+    } = Box::into_inner(head);
     let first = list_of_one(alloc, Box::into_inner(start))?;
-    Ok(Statement::For {
-        start: first,
-        condition,
-        steps,
-        body,
-    })
+    let found = Box::new(
+        alloc,
+        For {
+            start: first,
+            condition,
+            steps,
+            body,
+        },
+    )?;
+    Ok(Statement::For(found))
 }

@@ -1,39 +1,33 @@
 //! The typing of statements.
-ghost use Rattle.std.specs.Prelude.{◌≡◌, ◌≤◌, ◌++◌, ◌∷◌, [], true, length, map as list_map, IfOk, OnOk};
+//!
+//! A nesting of statements is a nesting of calls here, as deep as the text is long. So what a function holds
+//! while it calls the next one is small: one box, and what stops it in few bytes.
+ghost use Rattle.std.specs.Prelude.{◌≡◌, ◌≤◌, ◌++◌, ◌∷◌, [], true, length, map as list_map, IfOk, Ok, OnOk};
 ghost use Rattle.ang_tree.specs.View as trees;
 ghost use Rattle.ang_typed.specs.Typed as tree;
 ghost use Rattle.ang_typed.specs.View.{view_block, view_expr, view_option, view_stmt, view_tree};
-ghost use Rattle.ang_operators.specs.Refusals.{Gives};
+ghost use Rattle.ang_check_operators.specs.Refusals.{Gives};
+ghost use Rattle.ang_check.specs.Halts.{GivesOrHalts};
 ghost use Rattle.ang_check.specs.Statements as spec;
 ghost use Rattle.ang_check.specs.View.{view_boxed};
 
 use crate::frame::Frame;
-use crate::locals::locals_statement;
-use crate::loops::{LoopHead, for_of, list_of_one, loop_head};
-use crate::values::{condition, expression_statement, returned};
-use ang_kinds::ErrorKind;
-use ang_lex::Token;
-use ang_operators::{Stop, refused};
+use crate::halt::{Halt, stop_of};
+use crate::loops::{LoopHead, for_of, list_of_one};
+use crate::parts::{
+    condition_or_halt, expression_or_halt, head_or_halt, jump, locals_or_halt, return_or_halt,
+};
+use ang_check_operators::Stop;
+use ang_check_typing::Pair;
 use ang_tree as written;
 use ang_tree::{Argument, ForStart, Statement as Written};
-use ang_typed::{Block, Expression, Statement};
-use ang_typing::Pair;
+use ang_typed::{Block, Choice, Expression, Loop, Statement};
 use std::alloc::{AllocError, Global};
 
-/// `break` or `continue`; `Jump` at the word where no loop stands around it.
-fn jump(in_loop: bool, word: &Token, statement: Statement) -> Result<Statement, Stop>
-    ensures exact { Gives view_stmt result (spec.jump in_loop word.now (view_stmt statement)) }
-{
-    if in_loop {
-        Ok(statement)
-    } else {
-        Err(refused(ErrorKind::Jump, word))
-    }
-}
-
 /// A block of one statement.
-fn block_of_one(alloc: Global, statement: Statement) -> Result<Block, AllocError>
-    ensures exact { IfOk result (λ b. view_block b ≡ tree.«then» (view_stmt statement) tree.end) }
+#[inline(never)]
+fn block_of_one(alloc: Global, statement: Statement) -> Result<Block, Halt>
+    ensures exact { GivesOrHalts view_block result (Ok (tree.«then» (view_stmt statement) tree.end)) }
 {
     let statements = list_of_one(alloc, statement)?;
     Ok(Block { statements })
@@ -50,7 +44,8 @@ fn empty_block(alloc: Global) -> Block
 
 /// The list with one more statement at its end.
 fn with_statement(first: Vec<Statement>, statement: Statement) -> Result<Vec<Statement>, AllocError>
-    ensures exact { IfOk result (λ v. list_map view_stmt v.items ≡ list_map view_stmt first.items ++ (view_stmt statement ∷ [])) }
+    ensures exact { IfOk result (λ v. list_map view_stmt v.items
+        ≡ list_map view_stmt first.items ++ (view_stmt statement ∷ [])) }
 {
     let mut found = first;
     found.push(statement)?;
@@ -64,16 +59,76 @@ struct Tested {
     then: Block,
 }
 
-fn either_of(tested: Tested, otherwise: Block) -> Statement
-    ensures exact { view_stmt result ≡ tree.either (view_tree tested.condition) (view_block tested.«then») (view_block otherwise) }
+/// A condition and what runs where it is true, in a box.
+#[inline(never)]
+fn tested_of(alloc: Global, condition: Box<Expression>, then: Block) -> Result<Box<Tested>, Halt>
+    ensures exact { GivesOrHalts (λ x. (view_tree x.value.condition, view_block x.value.«then»)) result
+        (spec.tested_of (Ok (view_tree condition)) (Ok (view_block «then»))) }
 {
-    let Tested { condition, then } = tested;
-    Statement::If {
-        condition,
-        then,
-        otherwise,
-    }
+    Ok(Box::new(alloc, Tested { condition, then })?)
 }
+
+/// An `if` of these parts.
+#[inline(never)]
+fn either_of(alloc: Global, tested: Box<Tested>, otherwise: Block) -> Result<Statement, Halt>
+    ensures exact { GivesOrHalts view_stmt result (Ok (tree.either
+        (view_tree tested.value.condition) (view_block tested.value.«then») (view_block otherwise))) }
+{
+    let Tested { condition, then } = Box::into_inner(tested);
+    let found = Box::new(
+        alloc,
+        Choice {
+            condition,
+            then,
+            otherwise,
+        },
+    )?;
+    Ok(Statement::If(found))
+}
+
+/// An `if` without an `else`.
+#[inline(never)]
+fn when_of(alloc: Global, tested: Box<Tested>) -> Result<Statement, Halt>
+    ensures exact { GivesOrHalts view_stmt result (Ok (tree.either
+        (view_tree tested.value.condition) (view_block tested.value.«then») tree.end)) }
+{
+    either_of(alloc, tested, empty_block(alloc))
+}
+
+/// A `while` of these parts.
+#[inline(never)]
+fn while_of(alloc: Global, condition: Box<Expression>, body: Block) -> Result<Statement, Halt>
+    ensures exact { GivesOrHalts view_stmt result (Ok (tree.while (view_tree condition) (view_block body))) }
+{
+    let found = Box::new(alloc, Loop { condition, body })?;
+    Ok(Statement::While(found))
+}
+
+/// A `do` with this body, whose condition is typed behind it.
+#[inline(never)]
+fn do_while_of(
+    alloc: Global,
+    frame: &Frame<'_>,
+    pairs: &[Pair<'_>],
+    body: Block,
+    test: &written::Expression,
+) -> Result<Statement, Halt>
+    ensures exact { GivesOrHalts view_stmt result (spec.do_while_of (Ok (view_block body))
+        (spec.condition_typing frame.now.setting pairs.now (trees.view_expr test.now))) }
+{
+    let condition = condition_or_halt(alloc, frame, pairs, test)?;
+    let found = Box::new(alloc, Loop { condition, body })?;
+    Ok(Statement::DoWhile(found))
+}
+
+#[inline(never)]
+fn let_go_of_condition(_condition: Box<Expression>) {}
+
+#[inline(never)]
+fn let_go_of_tested(_tested: Box<Tested>) {}
+
+#[inline(never)]
+fn let_go_of_head(_head: Box<LoopHead>) {}
 
 /// The statements of a block that begins at pair `start`, with the pairs that are alive behind the last.
 #[cycle(statement)]
@@ -85,10 +140,11 @@ fn statements<'a>(
     start: usize,
     pairs: &mut Vec<Pair<'a>>,
     written: &[Written],
-) -> Result<Block, Stop>
+) -> Result<Block, Halt>
     requires block { start ≤ length pairs.old.items }
     requires parameters { frame.now.parameters ≤ length pairs.old.items }
-    ensures exact { Gives view_block result (spec.stmts_typing frame.now in_loop start pairs.old.items (trees.view_stmts written.now)) }
+    ensures exact { GivesOrHalts view_block result
+        (spec.stmts_typing frame.now in_loop start pairs.old.items (trees.view_stmts written.now)) }
     ensures kept { OnOk result (spec.Keeps pairs.old.items pairs.new.items) }
 {
     let mut found = Vec::new(alloc);
@@ -102,15 +158,16 @@ fn statements<'a>(
 /// Statements in a block of their own. The pairs are those that they were where it is left.
 #[cycle(statement)]
 #[tactic(auto, using(crate::proofs::SoFar::keeps))]
-pub fn block<'a>(
+fn inner_block<'a>(
     alloc: Global,
     frame: &Frame<'a>,
     in_loop: bool,
     pairs: &mut Vec<Pair<'a>>,
     written: &[Written],
-) -> Result<Block, Stop>
+) -> Result<Block, Halt>
     requires parameters { frame.now.parameters ≤ length pairs.old.items }
-    ensures exact { Gives view_block result (spec.stmts_typing frame.now in_loop (length pairs.old.items) pairs.old.items (trees.view_stmts written.now)) }
+    ensures exact { GivesOrHalts view_block result (spec.stmts_typing frame.now in_loop
+        (length pairs.old.items) pairs.old.items (trees.view_stmts written.now)) }
     ensures same { OnOk result (pairs.new.items ≡ pairs.old.items) }
 {
     let start = pairs.len();
@@ -128,39 +185,48 @@ fn branch<'a>(
     in_loop: bool,
     pairs: &mut Vec<Pair<'a>>,
     written: &Written,
-) -> Result<Block, Stop>
+) -> Result<Block, Halt>
     requires parameters { frame.now.parameters ≤ length pairs.old.items }
-    ensures exact { Gives view_block result (spec.branch_typing frame.now in_loop pairs.old.items (trees.view_stmt written.now)) }
+    ensures exact { GivesOrHalts view_block result
+        (spec.branch_typing frame.now in_loop pairs.old.items (trees.view_stmt written.now)) }
     ensures same { OnOk result (pairs.new.items ≡ pairs.old.items) }
 {
     let start = pairs.len();
-    let typed = statement(alloc, frame, in_loop, start, pairs, written)?;
-    pairs.truncate(start);
-    let found = block_of_one(alloc, typed)?;
-    Ok(found)
+    match statement(alloc, frame, in_loop, start, pairs, written) {
+        Ok(typed) => {
+            pairs.truncate(start);
+            block_of_one(alloc, typed)
+        }
+        Err(halted) => Err(halted),
+    }
 }
 
 /// A block as a statement.
 #[cycle(statement)]
 #[tactic(auto, using(crate::proofs::SoFar::keeps))]
+#[inline(never)]
 fn block_statement<'a>(
     alloc: Global,
     frame: &Frame<'a>,
     in_loop: bool,
     pairs: &mut Vec<Pair<'a>>,
     written: &written::Block,
-) -> Result<Statement, Stop>
+) -> Result<Statement, Halt>
     requires parameters { frame.now.parameters ≤ length pairs.old.items }
-    ensures exact { Gives (λ x. (pairs.new.items, view_stmt x)) result
-        (spec.with_same pairs.old.items (spec.block_of (spec.block_typing frame.now in_loop pairs.old.items (trees.view_body written.now)))) }
+    ensures exact { GivesOrHalts (λ x. (pairs.new.items, view_stmt x)) result
+        (spec.with_same pairs.old.items (spec.block_of
+        (spec.block_typing frame.now in_loop pairs.old.items (trees.view_body written.now)))) }
     ensures kept { OnOk result (spec.Keeps pairs.old.items pairs.new.items) }
 {
-    let found = block(alloc, frame, in_loop, pairs, written.statements.as_slice())?;
-    Ok(Statement::Block(found))
+    match inner_block(alloc, frame, in_loop, pairs, written.statements.as_slice()) {
+        Ok(found) => Ok(Statement::Block(found)),
+        Err(halted) => Err(halted),
+    }
 }
 
 /// The condition of an `if`, and what runs where it is true.
 #[cycle(statement)]
+#[inline(never)]
 fn first_branch<'a>(
     alloc: Global,
     frame: &Frame<'a>,
@@ -168,57 +234,97 @@ fn first_branch<'a>(
     pairs: &mut Vec<Pair<'a>>,
     then: &Written,
     test: &written::Expression,
-) -> Result<Tested, Stop>
+) -> Result<Box<Tested>, Halt>
     requires parameters { frame.now.parameters ≤ length pairs.old.items }
-    ensures exact { Gives (λ x. (view_tree x.condition, view_block x.«then»)) result
-        (spec.tested_typing frame.now in_loop pairs.old.items (trees.view_expr test.now) (trees.view_stmt «then».now)) }
+    ensures exact { GivesOrHalts (λ x. (view_tree x.value.condition, view_block x.value.«then»)) result
+        (spec.tested_typing frame.now in_loop pairs.old.items (trees.view_expr test.now)
+        (trees.view_stmt «then».now)) }
     ensures same { OnOk result (pairs.new.items ≡ pairs.old.items) }
 {
-    let condition = condition(alloc, &frame.setting, pairs.as_slice(), test)?;
-    let then = branch(alloc, frame, in_loop, pairs, then)?;
-    Ok(Tested { condition, then })
+    let condition = condition_or_halt(alloc, frame, pairs.as_slice(), test)?;
+    match branch(alloc, frame, in_loop, pairs, then) {
+        Ok(then) => tested_of(alloc, condition, then),
+        Err(halted) => {
+            let_go_of_condition(condition);
+            Err(halted)
+        }
+    }
+}
+
+/// What runs where the condition of an `if` is false, behind what runs where it is true.
+#[cycle(statement)]
+#[inline(never)]
+fn second_branch<'a>(
+    alloc: Global,
+    frame: &Frame<'a>,
+    in_loop: bool,
+    pairs: &mut Vec<Pair<'a>>,
+    otherwise: &Written,
+    tested: Box<Tested>,
+) -> Result<Statement, Halt>
+    requires parameters { frame.now.parameters ≤ length pairs.old.items }
+    ensures exact { GivesOrHalts view_stmt result (spec.either_of
+        (Ok (view_tree tested.value.condition, view_block tested.value.«then»))
+        (spec.branch_typing frame.now in_loop pairs.old.items (trees.view_stmt otherwise.now))) }
+    ensures same { OnOk result (pairs.new.items ≡ pairs.old.items) }
+{
+    match branch(alloc, frame, in_loop, pairs, otherwise) {
+        Ok(otherwise) => either_of(alloc, tested, otherwise),
+        Err(halted) => {
+            let_go_of_tested(tested);
+            Err(halted)
+        }
+    }
 }
 
 /// A `while`: its condition, then its body.
 #[cycle(statement)]
 #[tactic(auto, using(crate::proofs::SoFar::keeps))]
+#[inline(never)]
 fn while_statement<'a>(
     alloc: Global,
     frame: &Frame<'a>,
     pairs: &mut Vec<Pair<'a>>,
     body: &Written,
     test: &written::Expression,
-) -> Result<Statement, Stop>
+) -> Result<Statement, Halt>
     requires parameters { frame.now.parameters ≤ length pairs.old.items }
-    ensures exact { Gives (λ x. (pairs.new.items, view_stmt x)) result
-        (spec.with_same pairs.old.items (spec.while_of (spec.condition_typing frame.now.setting pairs.old.items (trees.view_expr test.now))
-        (spec.branch_typing frame.now true pairs.old.items (trees.view_stmt body.now)))) }
-    ensures kept { OnOk result (spec.Keeps pairs.old.items pairs.new.items) }
+    ensures exact { GivesOrHalts view_stmt result (spec.while_of
+        (spec.condition_typing frame.now.setting pairs.old.items (trees.view_expr test.now))
+        (spec.branch_typing frame.now true pairs.old.items (trees.view_stmt body.now))) }
+    ensures same { OnOk result (pairs.new.items ≡ pairs.old.items) }
 {
-    let condition = condition(alloc, &frame.setting, pairs.as_slice(), test)?;
-    let body = branch(alloc, frame, true, pairs, body)?;
-    Ok(Statement::While { condition, body })
+    let condition = condition_or_halt(alloc, frame, pairs.as_slice(), test)?;
+    match branch(alloc, frame, true, pairs, body) {
+        Ok(body) => while_of(alloc, condition, body),
+        Err(halted) => {
+            let_go_of_condition(condition);
+            Err(halted)
+        }
+    }
 }
 
 /// A `do`: its body, then its condition.
 #[cycle(statement)]
 #[tactic(auto, using(crate::proofs::SoFar::keeps))]
+#[inline(never)]
 fn do_while_statement<'a>(
     alloc: Global,
     frame: &Frame<'a>,
     pairs: &mut Vec<Pair<'a>>,
     repeated: &Written,
     test: &written::Expression,
-) -> Result<Statement, Stop>
+) -> Result<Statement, Halt>
     requires parameters { frame.now.parameters ≤ length pairs.old.items }
-    ensures exact { Gives (λ x. (pairs.new.items, view_stmt x)) result
-        (spec.with_same pairs.old.items (spec.do_while_of (spec.branch_typing frame.now true pairs.old.items (trees.view_stmt repeated.now))
-        (spec.condition_typing frame.now.setting pairs.old.items (trees.view_expr test.now)))) }
-    ensures kept { OnOk result (spec.Keeps pairs.old.items pairs.new.items) }
+    ensures exact { GivesOrHalts view_stmt result (spec.do_while_of
+        (spec.branch_typing frame.now true pairs.old.items (trees.view_stmt repeated.now))
+        (spec.condition_typing frame.now.setting pairs.old.items (trees.view_expr test.now))) }
+    ensures same { OnOk result (pairs.new.items ≡ pairs.old.items) }
 {
-    let body = branch(alloc, frame, true, pairs, repeated)?;
-    let condition = condition(alloc, &frame.setting, pairs.as_slice(), test)?;
-    Ok(Statement::DoWhile { body, condition })
+    match branch(alloc, frame, true, pairs, repeated) {
+        Ok(body) => do_while_of(alloc, frame, pairs.as_slice(), body, test),
+        Err(halted) => Err(halted),
+    }
 }
 
 /// The body of a `for`, behind what stands in its parentheses.
@@ -228,38 +334,47 @@ fn for_body<'a>(
     frame: &Frame<'a>,
     pairs: &mut Vec<Pair<'a>>,
     passed: &Written,
-    head: LoopHead,
-) -> Result<Statement, Stop>
+    head: Box<LoopHead>,
+) -> Result<Statement, Halt>
     requires parameters { frame.now.parameters ≤ length pairs.old.items }
-    ensures exact { Gives view_stmt result
-        (spec.for_of (view_boxed head.start, view_option head.condition, list_map view_expr head.steps.items)
+    ensures exact { GivesOrHalts view_stmt result (spec.for_of (
+      view_boxed head.value.start,
+      view_option head.value.condition,
+      list_map view_expr head.value.steps.items,
+    )
         (spec.branch_typing frame.now true pairs.old.items (trees.view_stmt passed.now))) }
     ensures same { OnOk result (pairs.new.items ≡ pairs.old.items) }
 {
-    let body = branch(alloc, frame, true, pairs, passed)?;
-    let found = for_of(alloc, head, body)?;
-    Ok(found)
+    match branch(alloc, frame, true, pairs, passed) {
+        Ok(body) => for_of(alloc, head, body),
+        Err(halted) => {
+            let_go_of_head(head);
+            Err(halted)
+        }
+    }
 }
 
 /// A `for`, in the order of its text. Its locals end with it.
 #[cycle(statement)]
 #[tactic(auto, using(crate::proofs::SoFar::keeps))]
+#[inline(never)]
 fn for_statement<'a>(
     alloc: Global,
     frame: &Frame<'a>,
     pairs: &mut Vec<Pair<'a>>,
     passed: &Written,
     first: &ForStart,
-    test: &Option<written::Expression>,
+    test: &Option<Box<written::Expression>>,
     steps: &[Argument],
-) -> Result<Statement, Stop>
+) -> Result<Statement, Halt>
     requires parameters { frame.now.parameters ≤ length pairs.old.items }
-    ensures exact { Gives (λ x. (pairs.new.items, view_stmt x)) result
-        (spec.for_typing frame.now pairs.old.items (trees.view_start first.now) (trees.view_option test.now) (trees.view_items steps.now) (trees.view_stmt passed.now)) }
+    ensures exact { GivesOrHalts (λ x. (pairs.new.items, view_stmt x)) result
+        (spec.for_typing frame.now pairs.old.items (trees.view_start first.now)
+        (trees.view_option test.now) (trees.view_items steps.now) (trees.view_stmt passed.now)) }
     ensures kept { OnOk result (spec.Keeps pairs.old.items pairs.new.items) }
 {
     let outside = pairs.len();
-    let head = loop_head(alloc, frame, pairs, first, test, steps)?;
+    let head = head_or_halt(alloc, frame, pairs, first, test, steps)?;
     let found = for_body(alloc, frame, pairs, passed, head)?;
     pairs.truncate(outside);
     Ok(found)
@@ -275,51 +390,67 @@ fn statement<'a>(
     start: usize,
     pairs: &mut Vec<Pair<'a>>,
     written: &Written,
-) -> Result<Statement, Stop>
+) -> Result<Statement, Halt>
     requires block { start ≤ length pairs.old.items }
     requires parameters { frame.now.parameters ≤ length pairs.old.items }
-    ensures exact { Gives (λ x. (pairs.new.items, view_stmt x)) result
+    ensures exact { GivesOrHalts (λ x. (pairs.new.items, view_stmt x)) result
         (spec.stmt_typing frame.now in_loop start pairs.old.items (trees.view_stmt written.now)) }
     ensures kept { OnOk result (spec.Keeps pairs.old.items pairs.new.items) }
 {
     match written {
         Written::Block(inner) => block_statement(alloc, frame, in_loop, pairs, inner),
-        Written::Variables(variables) => locals_statement(alloc, frame, start, pairs, variables),
-        Written::Expression { value, .. } => expression_statement(alloc, frame, pairs, value),
-        Written::Break { word, .. } => jump(in_loop, word, Statement::Break),
-        Written::Continue { word, .. } => jump(in_loop, word, Statement::Continue),
-        Written::Return { word, value, .. } => returned(alloc, frame, pairs, word, value),
+        Written::Variables(variables) => locals_or_halt(alloc, frame, start, pairs, variables),
+        Written::Expression(simple) => expression_or_halt(alloc, frame, pairs, &simple.value),
+        Written::Break(found) => jump(alloc, in_loop, &found.word, Statement::Break),
+        Written::Continue(found) => jump(alloc, in_loop, &found.word, Statement::Continue),
+        Written::Return(found) => return_or_halt(alloc, frame, pairs, &found.word, &found.value),
         Written::If {
-            condition,
+            head,
             then,
             otherwise,
-            ..
-        } => {
-            let tested = first_branch(alloc, frame, in_loop, pairs, then, condition)?;
-            match otherwise {
-                None => Ok(either_of(tested, empty_block(alloc))),
+        } => match first_branch(alloc, frame, in_loop, pairs, then, &head.condition) {
+            Ok(tested) => match otherwise {
+                None => when_of(alloc, tested),
                 Some(other) => {
-                    let other = branch(alloc, frame, in_loop, pairs, &other.branch)?;
-                    Ok(either_of(tested, other))
+                    second_branch(alloc, frame, in_loop, pairs, &other.branch, tested)
                 }
-            }
+            },
+            Err(halted) => Err(halted),
+        },
+        Written::While { head, body } => {
+            while_statement(alloc, frame, pairs, body, &head.condition)
         }
-        Written::While {
-            condition,
+        Written::DoWhile { body, ending } => {
+            do_while_statement(alloc, frame, pairs, body, &ending.condition)
+        }
+        Written::For { head, body } => for_statement(
+            alloc,
+            frame,
+            pairs,
             body,
-            ..
-        } => while_statement(alloc, frame, pairs, body, condition),
-        Written::DoWhile {
-            body,
-            condition,
-            ..
-        } => do_while_statement(alloc, frame, pairs, body, condition),
-        Written::For {
-            start,
-            condition,
-            steps,
-            body,
-            ..
-        } => for_statement(alloc, frame, pairs, body, start, condition, steps),
+            &head.start,
+            &head.condition,
+            head.steps.as_slice(),
+        ),
+    }
+}
+
+/// Statements in a block of their own, as the body of a function.
+#[tactic(auto, using(crate::proofs::Stopping::stops_as_halted))]
+pub fn block<'a>(
+    alloc: Global,
+    frame: &Frame<'a>,
+    in_loop: bool,
+    pairs: &mut Vec<Pair<'a>>,
+    written: &[Written],
+) -> Result<Block, Stop>
+    requires parameters { frame.now.parameters ≤ length pairs.old.items }
+    ensures exact { Gives view_block result (spec.stmts_typing frame.now in_loop
+        (length pairs.old.items) pairs.old.items (trees.view_stmts written.now)) }
+    ensures same { OnOk result (pairs.new.items ≡ pairs.old.items) }
+{
+    match inner_block(alloc, frame, in_loop, pairs, written) {
+        Ok(found) => Ok(found),
+        Err(halted) => Err(stop_of(halted)),
     }
 }

@@ -2,26 +2,26 @@
 ghost use Rattle.std.specs.Prelude.{◌≡◌, ◌++◌, ◌∷◌, [], map as list_map, IfOk};
 ghost use Rattle.ang_tree.specs.View as trees;
 ghost use Rattle.ang_typed.specs.View.{view_expr, view_option, view_stmt, view_tree};
-ghost use Rattle.ang_operators.specs.Refusals.{Gives};
-ghost use Rattle.ang_operators.specs.View.{view_operand, view_operands};
+ghost use Rattle.ang_check_operators.specs.Refusals.{Gives};
+ghost use Rattle.ang_check_operators.specs.View.{view_operand, view_operands};
 ghost use Rattle.ang_check.specs.Statements as spec;
 
 use crate::frame::Frame;
+use ang_check_operators::{Operand, Stop, fault, fit, truth};
+use ang_check_typing::{Pair, Setting, typing, typing_of_all};
 use ang_kinds::ErrorKind;
 use ang_lex::Token;
-use ang_operators::{Operand, Stop, fault, fit, truth};
 use ang_tree as written;
 use ang_tree::Argument;
 use ang_typed::{Expression, Statement};
 use ang_types::{ArgType, Lineage};
-use ang_typing::{Pair, Setting, typing, typing_of_all};
 use std::alloc::{AllocError, Global};
 
 fn optional(
     alloc: Global,
     setting: &Setting<'_>,
     pairs: &[Pair<'_>],
-    value: &Option<written::Expression>,
+    value: &Option<Box<written::Expression>>,
 ) -> Result<Option<Box<Expression>>, Stop>
     ensures exact { Gives view_option result (spec.optional_typing setting.now pairs.now (trees.view_option value.now)) }
 {
@@ -35,11 +35,12 @@ fn optional(
 }
 
 /// An expression as a statement, or a lone `;`.
+#[inline(never)]
 pub fn expression_statement(
     alloc: Global,
     frame: &Frame<'_>,
     pairs: &[Pair<'_>],
-    value: &Option<written::Expression>,
+    value: &Option<Box<written::Expression>>,
 ) -> Result<Statement, Stop>
     ensures exact { Gives (λ x. (pairs.now, view_stmt x)) result
         (spec.with_same pairs.now (spec.expression_typing frame.now.setting pairs.now (trees.view_option value.now))) }
@@ -49,6 +50,7 @@ pub fn expression_statement(
 }
 
 /// A condition, which is a truth value; `NotBool` at its first token where it is none.
+#[inline(never)]
 pub fn condition(
     alloc: Global,
     setting: &Setting<'_>,
@@ -66,7 +68,7 @@ pub fn optional_condition(
     alloc: Global,
     setting: &Setting<'_>,
     pairs: &[Pair<'_>],
-    value: &Option<written::Expression>,
+    value: &Option<Box<written::Expression>>,
 ) -> Result<Option<Box<Expression>>, Stop>
     ensures exact { Gives view_option result (spec.optional_condition setting.now pairs.now (trees.view_option value.now)) }
 {
@@ -144,7 +146,7 @@ fn result_value(
     frame: &Frame<'_>,
     pairs: &[Pair<'_>],
     word: &Token,
-    value: &Option<written::Expression>,
+    value: &Option<Box<written::Expression>>,
 ) -> Result<Option<Box<Expression>>, Stop>
     ensures exact { Gives view_option result (spec.result_typing frame.now pairs.now word.now (trees.view_option value.now)) }
 {
@@ -161,12 +163,13 @@ fn result_value(
 /// `return`, with a value of the function's result type, or with nothing where it has none.
 ///
 /// `BadConversion` at the value's first token, or at the word where a value is wanted.
+#[inline(never)]
 pub fn returned(
     alloc: Global,
     frame: &Frame<'_>,
     pairs: &[Pair<'_>],
     word: &Token,
-    value: &Option<written::Expression>,
+    value: &Option<Box<written::Expression>>,
 ) -> Result<Statement, Stop>
     ensures exact { Gives (λ x. (pairs.now, view_stmt x)) result
         (spec.with_same pairs.now (spec.return_typing frame.now pairs.now word.now (trees.view_option value.now))) }

@@ -32,20 +32,20 @@ pub enum Statement {
     /// Nothing.
     Skip,
     /// Gives up the expression's value.
-    Evaluate(Expression),
+    Evaluate(Box<Expression>),
     /// A new innermost local with that value.
-    Declare(Expression),
+    Declare(Box<Expression>),
     /// Statements in turn, whose locals are given up at its end.
     Block(Vec<Statement>),
     /// The first where the test is true, and else the second; each is a block.
-    If(Expression, Box<Statement>, Box<Statement>),
+    If(Box<Expression>, Box<Statement>, Box<Statement>),
     /// A loop: a tick and the test, then the first, which is a block, and the second, which is the loop's
     /// step.
-    While(Expression, Box<Statement>, Box<Statement>),
+    While(Box<Expression>, Box<Statement>, Box<Statement>),
     /// A loop whose first pass has no test and no tick before it.
-    DoWhile(Expression, Box<Statement>),
+    DoWhile(Box<Expression>, Box<Statement>),
     /// Leaves the body with that value; 0 where it has no result.
-    Return(Expression),
+    Return(Box<Expression>),
     /// Leaves the innermost loop.
     Break,
     /// Goes on with the step of the innermost loop.

@@ -5,8 +5,8 @@ use Rattle.ang_kinds.specs.declared.types.Signature.{Signature}
 use Rattle.ang_lex.specs.declared.token.Token.{Token}
 use Rattle.ang_lex.specs.declared.error.LexError.{LexError}
 use Rattle.ang_lex.specs.Tokens.{tokens_of}
-use Rattle.ang_read.specs.Law.{all_of}
-use Rattle.ang_read.specs.Read.{Outcome, Parser}
+use Rattle.ang_parse_read.specs.Law.{all_of}
+use Rattle.ang_parse_read.specs.Read.{Outcome, Parser}
 use Rattle.ang_decl.specs.declared.error.DeclError.{DeclError}
 use Rattle.ang_decl.specs.declared.error.DeclError.TheVariants.{Syntax, Unsupported, Memory}
 use Rattle.ang_decl.specs.Meaning.{IsWritten, Declares, IsLeftOut, IsAnswer}

@@ -8,10 +8,10 @@ use Rattle.ang_tree.specs.declared.declaration.Reference.{Reference}
 use Rattle.ang_tree.specs.Kinds.{Is, IsComma, IfWritten, IfWrittenA, optional, type_kind, direction_kind}
 use Rattle.ang_tree.specs.Stmt.{each, Every}
 use Rattle.ang_tree.specs.Declarations.{spelled_reference, FitsReference}
-use Rattle.ang_read.specs.Read.{and_then, pure, ◌>>=◌, repeat}
-use Rattle.ang_read.specs.Tokens.{a_token, perhaps, is_name, is_left_paren, is_right_paren, is_const}
-use Rattle.ang_read.proofs.Tokens.{begins, look_is, look_at, a_token_is, perhaps_is, perhaps_not}
-use Rattle.ang_read.proofs.Loops.{repeat_stops, repeat_goes_on}
+use Rattle.ang_parse_read.specs.Read.{and_then, pure, ◌>>=◌, repeat}
+use Rattle.ang_parse_read.specs.Tokens.{a_token, perhaps, is_name, is_left_paren, is_right_paren, is_const}
+use Rattle.ang_parse_read.proofs.Tokens.{begins, look_is, look_at, a_token_is, perhaps_is, perhaps_not}
+use Rattle.ang_parse_read.proofs.Loops.{repeat_stops, repeat_goes_on}
 use Rattle.ang_decl.specs.declared.tree.HostType.{HostType}
 use Rattle.ang_decl.specs.declared.tree.HostHandle.{HostHandle}
 use Rattle.ang_decl.specs.declared.tree.HostParameter.{HostParameter}

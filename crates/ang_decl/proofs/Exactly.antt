@@ -2,8 +2,8 @@
 use Rattle.std.proofs.Common.{◌≡◌, ℕ, ◌+◌, Bool, true, false, List, [], ◌∷◌, length, Ok, Err, refl, ap, sym, subst, ◌∙◌, arith}
 use Rattle.std.specs.Prelude.{is_none, ◌&&◌}
 use Rattle.ang_lex.specs.declared.token.Token.{Token}
-use Rattle.ang_read.specs.Law.{finish, all_of}
-use Rattle.ang_read.specs.Read.{Outcome, Parser, and_then}
+use Rattle.ang_parse_read.specs.Law.{finish, all_of}
+use Rattle.ang_parse_read.specs.Read.{Outcome, Parser, and_then}
 use Rattle.ang_decl.specs.declared.tree.HostType.{HostType}
 use Rattle.ang_decl.specs.declared.tree.HostFunction.{HostFunction}
 use Rattle.ang_decl.specs.declared.tree.HostProperty.{HostProperty}

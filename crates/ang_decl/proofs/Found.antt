@@ -3,8 +3,8 @@ use Rattle.std.proofs.Common.{◌≡◌, ℕ, zero, suc, Bool, true, false, List
 use Rattle.std.specs.Prelude.{IfSome}
 use Rattle.ang_lex.specs.declared.token.Token.{Token}
 use Rattle.ang_lex.specs.declared.token.TokenKind.{TokenKind}
-use Rattle.ang_read.specs.Read.{Parser, Outcome, and_then, pure, refuse, Choice, given, chosen, look, Turn, turned, repeat}
-use Rattle.ang_read.specs.Tokens.{a_token, perhaps}
+use Rattle.ang_parse_read.specs.Read.{Parser, Outcome, and_then, pure, refuse, Choice, given, chosen, look, Turn, turned, repeat}
+use Rattle.ang_parse_read.specs.Tokens.{a_token, perhaps}
 
 -- what is read, and the tokens behind it, have the property
 abbrev pub Found : {A : Type 0} → (A → List Token → Type 0) → Outcome A → Type 0

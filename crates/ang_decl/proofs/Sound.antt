@@ -8,9 +8,9 @@ use Rattle.ang_tree.specs.declared.declaration.Reference.{Reference}
 use Rattle.ang_tree.specs.Kinds.{Is, IsComma, IfWritten, IfWrittenA, optional, type_kind, direction_kind}
 use Rattle.ang_tree.specs.Stmt.{each, Every, Parted, Filled}
 use Rattle.ang_tree.specs.Declarations.{spelled_reference, FitsReference}
-use Rattle.ang_read.specs.Read.{pure, repeat}
-use Rattle.ang_read.specs.Tokens.{a_token, perhaps, is_name, is_left_paren, is_right_paren, is_const}
-use Rattle.ang_read.proofs.Tokens.{name_is, left_paren_is, right_paren_is, const_is}
+use Rattle.ang_parse_read.specs.Read.{pure, repeat}
+use Rattle.ang_parse_read.specs.Tokens.{a_token, perhaps, is_name, is_left_paren, is_right_paren, is_const}
+use Rattle.ang_parse_read.proofs.Tokens.{name_is, left_paren_is, right_paren_is, const_is}
 use Rattle.ang_decl.specs.declared.tree.HostHandle.{HostHandle}
 use Rattle.ang_decl.specs.declared.tree.HostParameter.{HostParameter}
 use Rattle.ang_decl.specs.declared.tree.HostFunction.{HostFunction}

@@ -5,10 +5,10 @@ use Rattle.ang_lex.specs.declared.token.Token.{Token}
 use Rattle.ang_lex.specs.declared.error.LexError.{LexError}
 use Rattle.ang_lex.specs.declared.error.LexError.TheVariants as lexer
 use Rattle.ang_lex.specs.Tokens.{tokens_of}
-use Rattle.ang_read.specs.declared.error.ReadError.{ReadError}
-use Rattle.ang_read.specs.declared.error.ReadError.TheVariants as reader
-use Rattle.ang_read.specs.Law.{all_of}
-use Rattle.ang_read.specs.Read.{Outcome, Parser}
+use Rattle.ang_parse_read.specs.declared.error.ReadError.{ReadError}
+use Rattle.ang_parse_read.specs.declared.error.ReadError.TheVariants as reader
+use Rattle.ang_parse_read.specs.Law.{all_of}
+use Rattle.ang_parse_read.specs.Read.{Outcome, Parser}
 use Rattle.ang_decl.specs.declared.error.DeclError.{DeclError}
 use Rattle.ang_decl.specs.declared.error.DeclError.TheVariants.{Syntax, Unsupported, Memory}
 use Rattle.ang_decl.specs.declared.tree.HostFunction.{HostFunction}

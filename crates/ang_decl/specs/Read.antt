@@ -5,8 +5,8 @@ use Rattle.ang_lex.specs.declared.token.TokenKind.{TokenKind}
 use Rattle.ang_lex.specs.declared.token.TokenKind.TheVariants as k
 use Rattle.ang_tree.specs.declared.declaration.Reference.{Reference}
 use Rattle.ang_tree.specs.Kinds.{type_kind, direction_kind}
-use Rattle.ang_read.specs.Read.{Parser, ◌>>=◌, pure, Choice, look, Turn, ready, repeat}
-use Rattle.ang_read.specs.Tokens.{a_token, perhaps, is_const, is_name, is_left_paren, is_right_paren}
+use Rattle.ang_parse_read.specs.Read.{Parser, ◌>>=◌, pure, Choice, look, Turn, ready, repeat}
+use Rattle.ang_parse_read.specs.Tokens.{a_token, perhaps, is_const, is_name, is_left_paren, is_right_paren}
 use Rattle.ang_decl.specs.declared.tree.HostType.{HostType}
 use Rattle.ang_decl.specs.declared.tree.HostHandle.{HostHandle}
 use Rattle.ang_decl.specs.declared.tree.HostParameter.{HostParameter}

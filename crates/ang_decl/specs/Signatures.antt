@@ -13,7 +13,7 @@ use Rattle.ang_lex.specs.declared.token.Token.{Token}
 use Rattle.ang_lex.specs.declared.token.TokenKind.{TokenKind}
 use Rattle.ang_lex.specs.declared.token.TokenKind.TheVariants as k
 use Rattle.ang_tree.specs.Kinds.{primitive_kind}
-use Rattle.ang_read.specs.Tokens.{is_name}
+use Rattle.ang_parse_read.specs.Tokens.{is_name}
 use Rattle.ang_decl.specs.declared.tree.HostType.{HostType}
 use Rattle.ang_decl.specs.declared.tree.HostHandle.{HostHandle}
 use Rattle.ang_decl.specs.declared.tree.HostParameter.{HostParameter}

@@ -4,7 +4,7 @@ ghost use Rattle.ang_decl.specs.Parsed.{error_of_lex, error_of_read};
 ghost use Rattle.ang_decl.specs.declared.error.DeclError.TheVariants.{Memory};
 
 use ang_lex::LexError;
-use ang_read::ReadError;
+use ang_parse_read::ReadError;
 use std::alloc::{AllocError, AllocFailed};
 use thiserror::Error;
 

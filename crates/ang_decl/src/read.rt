@@ -4,10 +4,10 @@
 //! enough.
 ghost use Rattle.std.specs.Prelude.{◌≡◌, [], Ok};
 ghost use Rattle.ang_tree.specs.Kinds.{direction_kind};
-ghost use Rattle.ang_read.specs.Gives.{Gives};
-ghost use Rattle.ang_read.specs.Law.{all_of};
-ghost use Rattle.ang_read.specs.Read.{repeat};
-ghost use Rattle.ang_read.specs.Tokens.{perhaps, is_name};
+ghost use Rattle.ang_parse_read.specs.Gives.{Gives};
+ghost use Rattle.ang_parse_read.specs.Law.{all_of};
+ghost use Rattle.ang_parse_read.specs.Read.{repeat};
+ghost use Rattle.ang_parse_read.specs.Tokens.{perhaps, is_name};
 ghost use Rattle.ang_decl.specs.Grammar.{is_bare_void};
 ghost use Rattle.ang_decl.specs.Read as read;
 
@@ -16,11 +16,11 @@ use crate::tree::{
 };
 use ang_kinds::List;
 use ang_lex::{Token, TokenKind};
-use ang_read::{ReadError, a_left_paren, a_name, a_right_paren, perhaps_const};
+use ang_parse_read::{ReadError, a_left_paren, a_name, a_right_paren, perhaps_const};
 use ang_tree::Reference;
 use std::alloc::Global;
 
-#[tactic(auto, unfolding(ang_read::specs::Tokens::perhaps))]
+#[tactic(auto, unfolding(ang_parse_read::specs::Tokens::perhaps))]
 fn perhaps_plus(tokens: &[Token]) -> (Option<Token>, &[Token])
     ensures reads { perhaps read.is_plus tokens.now ≡ Ok (result.0, result.1.now) }
 {
@@ -30,7 +30,7 @@ fn perhaps_plus(tokens: &[Token]) -> (Option<Token>, &[Token])
     }
 }
 
-#[tactic(auto, unfolding(ang_read::specs::Tokens::perhaps))]
+#[tactic(auto, unfolding(ang_parse_read::specs::Tokens::perhaps))]
 fn perhaps_name(tokens: &[Token]) -> (Option<Token>, &[Token])
     ensures reads { perhaps is_name tokens.now ≡ Ok (result.0, result.1.now) }
 {
@@ -40,7 +40,7 @@ fn perhaps_name(tokens: &[Token]) -> (Option<Token>, &[Token])
     }
 }
 
-#[tactic(auto, unfolding(ang_read::specs::Tokens::perhaps))]
+#[tactic(auto, unfolding(ang_parse_read::specs::Tokens::perhaps))]
 fn perhaps_direction(tokens: &[Token]) -> (Option<Token>, &[Token])
     ensures reads { perhaps direction_kind tokens.now ≡ Ok (result.0, result.1.now) }
 {
@@ -75,7 +75,7 @@ fn handle(tokens: &[Token]) -> (Option<HostHandle>, &[Token])
 }
 
 /// Reads `[ "const" ] ( PRIMITIVE | "void" | NAME ) [ "@" [ "+" ] [ "const" ] ]`. No type is looked up.
-#[tactic(auto, unfolding(crate::specs::Read::a_type, ang_read::specs::Tokens::a_token))]
+#[tactic(auto, unfolding(crate::specs::Read::a_type, ang_parse_read::specs::Tokens::a_token))]
 fn host_type(tokens: &[Token]) -> Result<(HostType, &[Token]), ReadError<'_>>
     ensures reads { Gives (λ x. (x.0, x.1.now)) result (read.a_type tokens.now) }
 {
@@ -303,7 +303,7 @@ fn property(tokens: &[Token]) -> Result<(HostProperty, &[Token]), ReadError<'_>>
 }
 
 /// The declaration `type NAME params [ "const" ]` that all of the tokens are.
-#[tactic(auto, unfolding(ang_read::specs::Law::all_of))]
+#[tactic(auto, unfolding(ang_parse_read::specs::Law::all_of))]
 pub fn whole_function(alloc: Global, tokens: &[Token]) -> Result<HostFunction, ReadError<'_>>
     ensures reads { Gives (λ x. (x, [])) result (all_of read.a_function tokens.now) }
 {
@@ -315,7 +315,7 @@ pub fn whole_function(alloc: Global, tokens: &[Token]) -> Result<HostFunction, R
 }
 
 /// The declaration `type NAME` that all of the tokens are.
-#[tactic(auto, unfolding(ang_read::specs::Law::all_of))]
+#[tactic(auto, unfolding(ang_parse_read::specs::Law::all_of))]
 pub fn whole_property(tokens: &[Token]) -> Result<HostProperty, ReadError<'_>>
     ensures reads { Gives (λ x. (x, [])) result (all_of (λ n. read.a_property) tokens.now) }
 {
@@ -327,7 +327,7 @@ pub fn whole_property(tokens: &[Token]) -> Result<HostProperty, ReadError<'_>>
 }
 
 /// The type that all of the tokens are.
-#[tactic(auto, unfolding(ang_read::specs::Law::all_of))]
+#[tactic(auto, unfolding(ang_parse_read::specs::Law::all_of))]
 pub fn whole_type(tokens: &[Token]) -> Result<HostType, ReadError<'_>>
     ensures reads { Gives (λ x. (x, [])) result (all_of (λ n. read.a_type) tokens.now) }
 {

@@ -12,7 +12,7 @@ use Rattle.ang_registry.specs.Registration.{RegistrationList, entry_at, seen}
 use Rattle.ang_registry.specs.Roles.{roles_of}
 use Rattle.ang_meaning.specs.declared.slot.Slot.{Slot}
 use Rattle.ang_plain.specs.Plainness.{plain_part}
-use Rattle.ang_means.specs.Modules.{IsAskedIn}
+use Rattle.ang_engine_means.specs.Modules.{IsAskedIn}
 use Rattle.ang_engine.specs.declared.command.Command.{Command}
 use Rattle.ang_engine.specs.declared.module.Module.{Module}
 use Rattle.ang_engine.specs.declared.reply.Reply.{Reply}

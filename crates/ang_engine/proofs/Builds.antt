@@ -12,10 +12,10 @@ use Rattle.ang_meaning.specs.declared.slot.Slot.{Slot}
 use Rattle.ang_meaning.specs.declared.slot.Slot.TheVariants.{Bits}
 use Rattle.ang_meaning.specs.World.{Input, Room, with_inputs}
 use Rattle.ang_vm.specs.Worlds.{world_of as run_world}
-use Rattle.ang_build.specs.Build.{Errors, Compiled, build_of}
-use Rattle.ang_means.specs.Executed.{first_globals, initialization_of}
-use Rattle.ang_means.specs.Ends.{Ends, completed}
-use Rattle.ang_execute.specs.Loaded.{tree_of}
+use Rattle.ang_engine_build.specs.Build.{Errors, Compiled, build_of}
+use Rattle.ang_engine_means.specs.Executed.{first_globals, initialization_of}
+use Rattle.ang_engine_means.specs.Ends.{Ends, completed}
+use Rattle.ang_engine_modules.specs.Loaded.{tree_of}
 use Rattle.ang_engine.specs.declared.building.BuildRefused.{BuildRefused}
 use Rattle.ang_engine.specs.declared.building.BuildRefused.TheVariants as why
 use Rattle.ang_engine.specs.declared.module.Loaded.{Loaded}

@@ -11,16 +11,16 @@ use Rattle.ang_names.specs.declared.names.Names.{Names}
 use Rattle.ang_names.specs.declared.names.ScriptFunction.{ScriptFunction}
 use Rattle.ang_names.specs.declared.names.ScriptParameter.{ScriptParameter}
 use Rattle.ang_check.specs.Bodies.{parameter_of}
-use Rattle.ang_sound.specs.Checked.{HasNames}
+use Rattle.ang_check_sound.specs.Checked.{HasNames}
 use Rattle.ang_meaning.specs.declared.slot.Slot.{Slot}
 use Rattle.ang_meaning.specs.World.{Input, with_inputs}
 use Rattle.ang_vm.specs.Worlds.{world_of as run_world}
-use Rattle.ang_call.specs.Calls.{is_callable, arguments_of, arguments_for, argument_of, in_front}
-use Rattle.ang_call.specs.Named.{function_named_by}
-use Rattle.ang_means.specs.Modules.{TakesSoMany}
-use Rattle.ang_means.specs.Executed.{call_of}
-use Rattle.ang_means.specs.Ends.{end_of}
-use Rattle.ang_execute.specs.Loaded.{tree_of}
+use Rattle.ang_engine_call.specs.Calls.{is_callable, arguments_of, arguments_for, argument_of, in_front}
+use Rattle.ang_engine_call.specs.Named.{function_named_by}
+use Rattle.ang_engine_means.specs.Modules.{TakesSoMany}
+use Rattle.ang_engine_means.specs.Executed.{call_of}
+use Rattle.ang_engine_means.specs.Ends.{end_of}
+use Rattle.ang_engine_modules.specs.Loaded.{tree_of}
 use Rattle.ang_engine.specs.declared.calling.Called.{Called}
 use Rattle.ang_engine.specs.declared.calling.ChosenCall.{ChosenCall}
 use Rattle.ang_engine.specs.declared.module.Loaded.{Loaded}

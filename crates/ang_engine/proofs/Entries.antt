@@ -10,12 +10,12 @@ use Rattle.ang_registry.specs.Registration.{RegistrationList, entry_at, seen}
 use Rattle.ang_registry.specs.Roles.{roles_of, role_by}
 use Rattle.ang_registry.proofs.Roles.{role_at-entry}
 use Rattle.ang_meaning.specs.declared.host.HostType.{HostType as PassedType}
-use Rattle.ang_ask.specs.Plain.{is_plain}
+use Rattle.ang_vm_ask.specs.Plain.{is_plain}
 use Rattle.ang_lower.specs.Hosts.{use_of, role_in, is_member}
 use Rattle.ang_plain.specs.Plainness.{plain_part}
 use Rattle.ang_plain.proofs.PlainPart.{in_part}
-use Rattle.ang_sound.proofs.Views.{entitled}
-use Rattle.ang_means.specs.Modules.{DriversThere, AgreesWith}
+use Rattle.ang_check_sound.proofs.Views.{entitled}
+use Rattle.ang_engine_means.specs.Modules.{DriversThere, AgreesWith}
 use Rattle.ang_engine.specs.Sound.{HaveDrivers}
 
 -- an entry of the plain part of a view is registered, and plain

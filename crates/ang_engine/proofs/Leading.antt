@@ -6,7 +6,7 @@ use Rattle.ang_registry.specs.Registration.{RegistrationList}
 use Rattle.ang_meaning.specs.declared.slot.Slot.{Slot}
 use Rattle.ang_meaning.specs.World.{Input, Room}
 use Rattle.ang_meaning.specs.Told.{has_room, stopped_by}
-use Rattle.ang_means.specs.Ends.{IsTold}
+use Rattle.ang_engine_means.specs.Ends.{IsTold}
 use Rattle.ang_engine.specs.declared.command.Command.{Command}
 use Rattle.ang_engine.specs.declared.reply.Reply.{Reply}
 use Rattle.ang_engine.specs.declared.reply.Outcome.{Outcome}

@@ -8,13 +8,13 @@ use Rattle.ang_kinds.specs.declared.value.Value.{Value}
 use Rattle.ang_host.specs.declared.event.HostEvent.{HostEvent}
 use Rattle.ang_host.specs.Laws.{Meaning}
 use Rattle.ang_registry.specs.Registration.{RegistrationList, seen}
-use Rattle.ang_sound.specs.Checked.{HasNames}
+use Rattle.ang_check_sound.specs.Checked.{HasNames}
 use Rattle.ang_meaning.specs.declared.slot.Slot.{Slot}
 use Rattle.ang_meaning.specs.World.{Input}
-use Rattle.ang_build.proofs.Programs.{program-named}
+use Rattle.ang_engine_build.proofs.Programs.{program-named}
 use Rattle.ang_plain.specs.Plainness.{plain_part}
-use Rattle.ang_means.specs.Modules.{DriversThere}
-use Rattle.ang_execute.specs.Loaded.{tree_of}
+use Rattle.ang_engine_means.specs.Modules.{DriversThere}
+use Rattle.ang_engine_modules.specs.Loaded.{tree_of}
 use Rattle.ang_engine.specs.declared.calling.Called.{Called}
 use Rattle.ang_engine.specs.declared.module.Loaded.{Loaded}
 use Rattle.ang_engine.specs.declared.module.Module.{Module}

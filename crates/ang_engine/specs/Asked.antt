@@ -11,7 +11,7 @@ use Rattle.ang_host.specs.Events.{DriversFollow}
 use Rattle.ang_registry.specs.Registration.{RegistrationList}
 use Rattle.ang_registry.specs.Roles.{roles_of}
 use Rattle.ang_plain.specs.Plainness.{plain_part}
-use Rattle.ang_means.specs.Modules.{AgreesWith, IsAskedIn}
+use Rattle.ang_engine_means.specs.Modules.{AgreesWith, IsAskedIn}
 use Rattle.ang_engine.specs.World.{World}
 use Rattle.ang_engine.specs.Step.{IsEntitled}
 

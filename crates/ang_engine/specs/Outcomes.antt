@@ -10,11 +10,11 @@ use Rattle.ang_registry.specs.Registration.{RegistrationList}
 use Rattle.ang_meaning.specs.declared.slot.Slot.{Slot}
 use Rattle.ang_meaning.specs.World.{Input}
 use Rattle.ang_names.specs.declared.names.ScriptFunction.{ScriptFunction}
-use Rattle.ang_call.specs.Calls.{result_of}
-use Rattle.ang_means.specs.Executed.{call_of}
-use Rattle.ang_means.specs.Ends.{Ends}
-use Rattle.ang_build.specs.Build.{Built, Errors, Compiled}
-use Rattle.ang_execute.specs.Loaded.{tree_of}
+use Rattle.ang_engine_call.specs.Calls.{result_of}
+use Rattle.ang_engine_means.specs.Executed.{call_of}
+use Rattle.ang_engine_means.specs.Ends.{Ends}
+use Rattle.ang_engine_build.specs.Build.{Built, Errors, Compiled}
+use Rattle.ang_engine_modules.specs.Loaded.{tree_of}
 use Rattle.ang_engine.specs.declared.building.BuildRefused.{BuildRefused}
 use Rattle.ang_engine.specs.declared.building.BuildRefused.TheVariants as why
 use Rattle.ang_engine.specs.declared.calling.ChosenCall.{ChosenCall}

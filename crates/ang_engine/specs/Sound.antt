@@ -4,7 +4,7 @@ use Rattle.ang_host.specs.Laws.{Meaning}
 use Rattle.ang_host.specs.Members.{states_of, AreFresh}
 use Rattle.ang_registry.specs.declared.entry.Entry.{Entry}
 use Rattle.ang_registry.specs.Registration.{RegistrationList, entry_at, seen}
-use Rattle.ang_build.specs.Build.{Compiled, build_of}
+use Rattle.ang_engine_build.specs.Build.{Compiled, build_of}
 use Rattle.ang_engine.specs.declared.engine.Engine.{Engine}
 use Rattle.ang_engine.specs.declared.module.Loaded.{Loaded}
 use Rattle.ang_engine.specs.declared.module.Module.{Module}

@@ -12,11 +12,11 @@ use Rattle.ang_names.specs.declared.names.ScriptFunction.{ScriptFunction}
 use Rattle.ang_meaning.specs.declared.slot.Slot.{Slot}
 use Rattle.ang_meaning.specs.World.{Input, Room, World as RunWorld}
 use Rattle.ang_meaning.specs.Told.{has_room, stopped_by}
-use Rattle.ang_build.specs.Build.{Resolved, Built, Errors, Compiled, build_of}
-use Rattle.ang_call.specs.Named.{function_named_by}
-use Rattle.ang_call.specs.Calls.{is_callable, arguments_of, result_of}
-use Rattle.ang_means.specs.Executed.{first_globals, call_of, initialization_of}
-use Rattle.ang_means.specs.Ends.{Ended, end_of}
+use Rattle.ang_engine_build.specs.Build.{Resolved, Built, Errors, Compiled, build_of}
+use Rattle.ang_engine_call.specs.Named.{function_named_by}
+use Rattle.ang_engine_call.specs.Calls.{is_callable, arguments_of, result_of}
+use Rattle.ang_engine_means.specs.Executed.{first_globals, call_of, initialization_of}
+use Rattle.ang_engine_means.specs.Ends.{Ended, end_of}
 use Rattle.ang_engine.specs.declared.command.Command.{Command}
 use Rattle.ang_engine.specs.declared.command.Command.TheVariants.{NewModule, AddSection, Build, Call}
 use Rattle.ang_engine.specs.declared.reply.Reply.{Reply}

@@ -1,8 +1,8 @@
 -- What an engine keeps from one command to the next.
 use Rattle.std.specs.Prelude.{ℕ, ◌+◌, List, [], ◌∷◌, Option, Some, None, if◌then◌else◌, bytes_eq, slice_index_or, slice_set, option_map, map as list_map}
 use Rattle.ang_meaning.specs.declared.slot.Slot.{Slot}
-use Rattle.ang_build.specs.Build.{Resolved}
-use Rattle.ang_execute.specs.Loaded.{tree_of}
+use Rattle.ang_engine_build.specs.Build.{Resolved}
+use Rattle.ang_engine_modules.specs.Loaded.{tree_of}
 use Rattle.ang_engine.specs.declared.module.Loaded.{Loaded}
 use Rattle.ang_engine.specs.declared.module.Module.{Module}
 

@@ -2,10 +2,10 @@
 ghost use Rattle.std.specs.Prelude.{◌≡◌, ◌<◌, List, Some, length, IfOk};
 ghost use Rattle.ang_host.specs.Boxes.{members};
 ghost use Rattle.ang_plain.specs.Plainness.{plain_part};
-ghost use Rattle.ang_sound.specs.Checked.{HasNames};
+ghost use Rattle.ang_check_sound.specs.Checked.{HasNames};
 ghost use Rattle.ang_vm.specs.Worlds.{values_in};
-ghost use Rattle.ang_means.specs.Modules.{TakesSoMany, DriversThere};
-ghost use Rattle.ang_execute.specs.Loaded.{tree_of};
+ghost use Rattle.ang_engine_means.specs.Modules.{TakesSoMany, DriversThere};
+ghost use Rattle.ang_engine_modules.specs.Loaded.{tree_of};
 ghost use Rattle.ang_engine.specs.Asked.{HasRunOn};
 ghost use Rattle.ang_engine.specs.Outcomes.{IsChosen, IsCalled, HasCalled, reply_to_call, outcome_by};
 ghost use Rattle.ang_engine.specs.Step.{choice_of, of_function, call_chosen};
@@ -13,7 +13,7 @@ ghost use Rattle.ang_engine.specs.World.{ModuleState, resolved_in};
 
 use crate::module::Loaded;
 use crate::reply::{Outcome, Refusal};
-use ang_call::{arguments, find_function, is_callable, result_value};
+use ang_engine_call::{arguments, find_function, is_callable, result_value};
 use ang_host::{Driver, HostEvent};
 use ang_kinds::{Fault, Value};
 use ang_meaning::Slot;

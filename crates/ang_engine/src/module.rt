@@ -1,7 +1,7 @@
 //! The modules of an engine.
 ghost use Rattle.std.specs.Prelude.{◌≤◌, length};
 
-use ang_execute::Executable;
+use ang_engine_modules::Executable;
 use ang_kinds::{List, Mask};
 use ang_names::Names;
 

@@ -1,29 +1,53 @@
--- The code does what the bodies do.
-use Rattle.std.specs.Prelude.{◌≡◌, ℕ, ◌+◌, List, [], length, Some}
+-- Compiled modules do what their source means (docs/MEANING.md, "What a script means" and "Code").
+use Rattle.std.specs.Prelude.{◌≡◌, ◌≢◌, ℕ, List, [], length, Some, slice_get}
+use Rattle.ang_registry.specs.Registration.{RegistrationList}
+use Rattle.ang_typed.specs.Typed as t
 use Rattle.ang_meaning.specs.declared.slot.Slot.{Slot}
 use Rattle.ang_meaning.specs.declared.routine.Routine.{Routine}
 use Rattle.ang_meaning.specs.declared.routine.Passing.{Passing}
-use Rattle.ang_meaning.specs.World.{World, give_all}
+use Rattle.ang_meaning.specs.World.{World}
 use Rattle.ang_meaning.specs.Setting.{Setting}
-use Rattle.ang_meaning.specs.Results.{Reply, Yields, Raises}
-use Rattle.ang_core.specs.Meaning.{Bodies, called_with, initialized}
-use Rattle.ang_code.specs.Machine.{Texts, Over, Outcome, Finished, Faulted, steps, call_begins, initializer_begins}
-use Rattle.ang_gen.specs.Code.{body_code}
-use Rattle.ang_gen.specs.Heights.{BelowBody}
+use Rattle.ang_code.specs.declared.instruction.RoutineCode.{RoutineCode}
+use Rattle.ang_code.specs.Machine.{Texts, Over, Stuck, steps, call_begins, initializer_begins}
+use Rattle.ang_gen_body.specs.Behaves.{outcome_of}
+use Rattle.ang_source.specs.Meaning.{Codes, codes_of, code_or, called_with, initialized}
+use Rattle.ang_source.specs.Sound.{SoundProgram}
+use Rattle.ang_lower.specs.Hosts.{HasView}
+use Rattle.ang_lower.specs.Same.{routine, HasProgram}
+use Rattle.ang_gen.specs.Compiled.{IsCompiled}
 
--- the end that a reply is; nobody takes the `&out` values of a command's call, so they are given up
-abbrev pub outcome_of : Reply → Outcome
-outcome_of (Yields v outs t w) = Finished v t (give_all outs w)
-outcome_of (Raises x w) = Faulted x w
+-- ---- what runs
 
--- each body's text is its code, with room for all that it puts on the stack
-pub record IsCode (z : Setting) (bodies : Bodies) (code : Texts) : Type 0 where
-  pub text : (g : Routine) (ps : List Passing) → z.params g ≡ Some ps → code.text g ≡ body_code (length ps) (bodies g)
-  pub room : (g : Routine) (ps : List Passing) → z.params g ≡ Some ps → BelowBody (length ps + code.height g) (length ps) (bodies g)
+-- the texts of module m are these codes
+pub record HasCodes (m : ℕ) (codes : List RoutineCode) (code : Texts) : Type 0 where
+  pub text : (k : ℕ) (c : RoutineCode) → slice_get codes k ≡ Some c → code.text (routine m k) ≡ c.text.items
+  pub height : (k : ℕ) (c : RoutineCode) → slice_get codes k ≡ Some c → code.height (routine m k) ≡ c.height
 
--- For every function, budget, arguments and world, and for every initializer, some number of steps leads exactly to the end that the body's meaning has.
-pub record Behaves (z : Setting) (bodies : Bodies) (code : Texts) : Type 0 where
+-- Module m of a run: its tree is sound over what it sees of the host, which the setting has, its functions are the setting's, and its texts are codes of it.
+pub record IsModule (z : Setting) (m : ℕ) (V : RegistrationList) (p : t.Program) (code : Texts) : Type 0 where
+  pub sound : SoundProgram V p
+  pub view : HasView z V
+  pub functions : HasProgram z m p
+  pub codes : List RoutineCode
+  pub compiled : IsCompiled p codes
+  pub texts : HasCodes m codes code
+
+-- the source of each routine, where modules have these trees by their numbers
+abbrev pub sources_of : (ℕ → t.Program) → Codes
+sources_of program g = code_or (slice_get (codes_of (program g.home)) g.number)
+
+-- ---- what it does
+
+-- For every function, budget, arguments and world, and for every initializer, some number of steps leads exactly to the end that the source has.
+pub record BehavesAsSource (z : Setting) (sources : Codes) (code : Texts) : Type 0 where
   pub calls : (budget : ℕ) (g : Routine) (ps : List Passing) (vs : List Slot) (w : World) → z.params g ≡ Some ps → length ps ≡ length vs →
-      (n : ℕ) × (steps z code n (call_begins z code budget g vs w) ≡ Over (outcome_of (called_with z bodies budget g vs w)))
+      (n : ℕ) × (steps z code n (call_begins z code budget g vs w) ≡ Over (outcome_of (called_with z sources budget g vs w)))
   pub initializers : (ticks : ℕ) (g : Routine) (w : World) → z.params g ≡ Some [] →
-      (n : ℕ) × (steps z code n (initializer_begins z code ticks g w) ≡ Over (outcome_of (initialized z bodies ticks g w)))
+      (n : ℕ) × (steps z code n (initializer_begins z code ticks g w) ≡ Over (outcome_of (initialized z sources ticks g w)))
+
+-- no number of steps leads to where an instruction finds less than it takes
+pub record NeverStuck (z : Setting) (code : Texts) : Type 0 where
+  pub calls : (budget : ℕ) (g : Routine) (ps : List Passing) (vs : List Slot) (w : World) → z.params g ≡ Some ps → length ps ≡ length vs →
+      (n : ℕ) → steps z code n (call_begins z code budget g vs w) ≢ Over Stuck
+  pub initializers : (ticks : ℕ) (g : Routine) (w : World) → z.params g ≡ Some [] →
+      (n : ℕ) → steps z code n (initializer_begins z code ticks g w) ≢ Over Stuck

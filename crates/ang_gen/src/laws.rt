@@ -1,28 +1,47 @@
-//! What holds of generated code.
+//! What holds of compiled modules.
+ghost use Rattle.std.specs.Prelude.{◌≡◌, ℕ, List, None, Some, slice_get, slice_index_or};
+ghost use Rattle.std.specs.declared.alloc.Global.{Global};
+ghost use Rattle.std.specs.declared.vec.Vec.{Vec};
+ghost use Rattle.ang_registry.specs.Registration.{RegistrationList};
+ghost use Rattle.ang_typed.specs.Typed.{Program};
 ghost use Rattle.ang_meaning.specs.Setting.{Setting};
-ghost use Rattle.ang_core.specs.Meaning.{Bodies};
-ghost use Rattle.ang_core.specs.Sound.{AreSound};
+ghost use Rattle.ang_core.specs.Sound.{LinksFit};
 ghost use Rattle.ang_code.specs.Machine.{Texts};
-ghost use Rattle.ang_gen.specs.Behaves.{IsCode, Behaves};
-ghost use Rattle.ang_gen.specs.Told.{AreTold};
+ghost use Rattle.ang_code.specs.declared.instruction.RoutineCode.{RoutineCode};
+ghost use Rattle.ang_gen_body.specs.Programs.{texts_of};
+ghost use Rattle.ang_source.specs.Meaning.{Codes, codes_in, nothing};
+ghost use Rattle.ang_gen.specs.Behaves.{HasCodes, IsModule, sources_of, BehavesAsSource, NeverStuck};
 
-/// Where each body's text is its code and each body is sound, the machine ends as the bodies' meaning
-/// says: for every function, budget, arguments and inputs, and for every initializer.
-#[tactic(auto, using(crate::proofs::Bodies::behaves))]
+/// Where each module is sound over what it sees of the host and runs its own compiled code, and imports lead
+/// where they may, the machine ends as the source means: for every function, budget, arguments and inputs,
+/// and for every initializer. The modules are given by their numbers, or as a list.
 pub fn behaves()
-    ensures same { (z : Setting) (bodies : Bodies) (code : Texts)
-        → AreSound z bodies
-        → IsCode z bodies code
-        → Behaves z bodies code }
+    ensures same { (z : Setting) (view : ℕ → RegistrationList) (program : ℕ → Program) (code : Texts)
+        → ((m : ℕ) → IsModule z m (view m) (program m) code)
+        → LinksFit z
+        → BehavesAsSource z (sources_of program) code }
+    ensures listed { (z : Setting) (view : ℕ → RegistrationList) (programs : List Program) (code : Texts)
+        → ((m : ℕ) → IsModule z m (view m) (slice_index_or programs m nothing) code)
+        → LinksFit z
+        → BehavesAsSource z (codes_in programs) code }
 {}
 
-/// Where sound bodies have code, what their runs are told and what they list: the answers that a run takes
-/// are those of its events, in order, and nothing is refused to it but, at a fault's end, the last that it
-/// asks for.
-#[tactic(auto, using(crate::proofs::Telling::are_told))]
-pub fn told()
-    ensures told { (z : Setting) (bodies : Bodies) (code : Texts)
-        → AreSound z bodies
-        → IsCode z bodies code
-        → AreTold z bodies }
+/// The texts of several modules have each module's codes under its number.
+pub fn texts_there()
+    ensures there { (modules : List (Vec RoutineCode Global)) (m : ℕ) (codes : Vec RoutineCode Global)
+        → slice_get modules m ≡ Some codes
+        → HasCodes m codes.items (texts_of modules) }
+{}
+
+/// Where no import is bound, imports lead where they may.
+pub fn unbound_imports_fit()
+    ensures fit { (z : Setting) → ((m i : ℕ) → z.linked m i ≡ None) → LinksFit z }
+{}
+
+/// Code that behaves as its source is never stuck: no instruction of a run finds less on the stack than it
+/// takes, or no room for what it pushes.
+pub fn never_stuck()
+    ensures never { (z : Setting) (sources : Codes) (code : Texts)
+        → BehavesAsSource z sources code
+        → NeverStuck z code }
 {}

@@ -1,10 +1,35 @@
-//! From the core tree to the machine's instructions, which do what the tree does.
+//! From the resolved tree to the machine's instructions: the code of a module's bodies does what the module
+//! means (docs/MEANING.md, "What a script means" and "Code").
 //!
-//! `specs/` has the code of a body and what it means that code does what bodies do (docs/MEANING.md,
-//! "Code"); `laws` says that it does.
+//! `specs/` says what the code of a module is; `laws` says that it behaves as its source.
 #![tactic(auto)]
 
-pub mod laws;
-mod text;
+ghost use Rattle.std.specs.Prelude.{◌≡◌, IfOk, map as list_map};
+ghost use Rattle.ang_typed.specs.View.{view_typed};
+ghost use Rattle.ang_source.specs.Meaning.{passings_in};
+ghost use Rattle.ang_gen.specs.Compiled.{IsCompiled};
 
-pub use text::Text;
+use ang_code::RoutineCode;
+use ang_gen_body::generate_module;
+use ang_lower::lower;
+use ang_typed::Typed;
+use std::alloc::{AllocError, Global};
+
+pub mod laws;
+
+/// Compiles a module: the code of its functions and then of its initializers, each in the order of
+/// declaration. Wherever the module's tree is sound, each of them does what its source means
+/// ([`laws::behaves`]).
+///
+/// # Errors
+/// Want of memory. It is also answered where a local is not alive, a host property is passed for `&out`, or
+/// a number of a function or a global has more than 32 bits, which no checked module has; and where a place
+/// on the stack would be past the numbers that instructions have for places.
+pub fn compile(alloc: Global, program: &Typed) -> Result<Vec<RoutineCode>, AllocError>
+    ensures code { IfOk result (λ codes. IsCompiled (view_typed program.now) codes.items) }
+    ensures params { IfOk result (λ codes. list_map (λ c. c.params.items) codes.items ≡ passings_in (view_typed program.now)) }
+{
+    let bodies = lower(alloc, program)?;
+    let codes = generate_module(alloc, bodies.as_slice())?;
+    Ok(codes)
+}

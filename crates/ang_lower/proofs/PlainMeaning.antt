@@ -104,16 +104,16 @@ module _ (z : Setting) (m : ℕ) (k : Callees) (p : core.Passes) (q : Passes) (s
   mutual
     pub run_is : (s : Statement) (ls : List Slot) (t : ℕ) (w : World) → core.run z m k p s ls t w ≡ run z m k q (plain_stmt s) ls t w
     run_is Skip ls t w = refl
-    run_is (Evaluate e) ls t w = λ j. with_value (eval_is z m k e ls t w j) (λ v ls' t' w'. Went ls' t' (give v w'))
-    run_is (Declare e) ls t w = λ j. with_value (eval_is z m k e ls t w j) (λ v ls' t' w'. Went (v ∷ ls') t' w')
+    run_is (Evaluate e) ls t w = λ j. with_value (eval_is z m k e.value ls t w j) (λ v ls' t' w'. Went ls' t' (give v w'))
+    run_is (Declare e) ls t w = λ j. with_value (eval_is z m k e.value ls t w j) (λ v ls' t' w'. Went (v ∷ ls') t' w')
     run_is (Block' shape row) ls t w = λ j. leave (length ls) (run_row_is row ls t w j)
     run_is (If' e x a y b) ls t w =
-        λ j. with_value (eval_is z m k e ls t w j)
+        λ j. with_value (eval_is z m k e.value ls t w j)
         (λ v ls' t' w'. on_test v (Halted Null ls' (give v w')) (leave (length ls') (run_is b ls' t' w' j)) (leave (length ls') (run_is a ls' t' w' j)))
-    run_is (While' e x s y step) ls t w = λ j. ticked t (Halted Budget ls w) (λ t'. same e s step ls t' w j)
+    run_is (While' e x s y step) ls t w = λ j. ticked t (Halted Budget ls w) (λ t'. same e.value s step ls t' w j)
     run_is (DoWhile' e x s) ls t w =
-        λ j. turned (length ls) (run_is s ls t w j) (λ ls' t' w'. Went ls' t' w') (λ ls' t' w'. same e s Skip ls' t' w' j)
-    run_is (Return e) ls t w = λ j. with_value (eval_is z m k e ls t w j) (λ v ls' t' w'. Returned v ls' t' w')
+        λ j. turned (length ls) (run_is s ls t w j) (λ ls' t' w'. Went ls' t' w') (λ ls' t' w'. same e.value s Skip ls' t' w' j)
+    run_is (Return e) ls t w = λ j. with_value (eval_is z m k e.value ls t w j) (λ v ls' t' w'. Returned v ls' t' w')
     run_is Break ls t w = refl
     run_is Continue ls t w = refl
 

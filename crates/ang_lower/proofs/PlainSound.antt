@@ -102,13 +102,13 @@ module _ (z : Setting) (m : ℕ) where
   mutual
     pub statement_is : (loop : Bool) (n : ℕ) (s : Statement) → IsSoundStmt z m loop n (plain_stmt s) → SoundStatement z m loop n s
     statement_is loop n Skip h = tt
-    statement_is loop n (Evaluate e) h = sound_is n e h
-    statement_is loop n (Declare e) h = sound_is n e h
+    statement_is loop n (Evaluate e) h = sound_is n e.value h
+    statement_is loop n (Declare e) h = sound_is n e.value h
     statement_is loop n (Block' shape row) h = row_is loop n row h
-    statement_is loop n (If' e x a y b) h = (sound_is n e h.0, statement_is loop n a h.1, statement_is loop n b h.2)
-    statement_is loop n (While' e x s y step) h = (sound_is n e h.0, statement_is true n s h.1, statement_is false n step h.2)
-    statement_is loop n (DoWhile' e x s) h = (sound_is n e h.0, statement_is true n s h.1)
-    statement_is loop n (Return e) h = sound_is n e h
+    statement_is loop n (If' e x a y b) h = (sound_is n e.value h.0, statement_is loop n a h.1, statement_is loop n b h.2)
+    statement_is loop n (While' e x s y step) h = (sound_is n e.value h.0, statement_is true n s h.1, statement_is false n step h.2)
+    statement_is loop n (DoWhile' e x s) h = (sound_is n e.value h.0, statement_is true n s h.1)
+    statement_is loop n (Return e) h = sound_is n e.value h
     statement_is loop n Break h = h
     statement_is loop n Continue h = h
 

@@ -35,8 +35,7 @@ is_call (t.call f ty args) = true
 is_call (t.host_call h ty args) = true
 is_call e = false
 
-abbrev pub is_loop : t.Stmt → Bool
-is_loop (t.while e ss) = true
-is_loop (t.do_while ss e) = true
-is_loop (t.for start e steps ss) = true
-is_loop s = false
+-- one statement of the core tree stands for it
+abbrev pub is_single : t.Stmt → Bool
+is_single (t.locals ls) = false
+is_single s = true

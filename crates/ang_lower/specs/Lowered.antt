@@ -5,6 +5,7 @@ use Rattle.ang_kinds.specs.declared.primitive.Primitive.{Primitive}
 use Rattle.ang_typed.specs.declared.expression.Variable.{Variable}
 use Rattle.ang_typed.specs.declared.expression.Variable.TheVariants as variable
 use Rattle.ang_typed.specs.Typed as t
+use Rattle.ang_typed.specs.View.{Repeated}
 use Rattle.ang_meaning.specs.declared.operation.Change.{Change}
 use Rattle.ang_meaning.specs.declared.operation.Operation.{Operation}
 use Rattle.ang_meaning.specs.declared.operation.Operation.TheVariants.{Work, Compare, Convert, Negate, Complement, Not, GlobalGet, GlobalSet, GlobalChange, Ask, Read, Write, Alter}
@@ -178,6 +179,13 @@ abbrev mutual
   pub lowered_all : ℕ → t.Stmts → List c.Stmt
   lowered_all n t.end = []
   lowered_all n (t.«then» s ss) = lowered_stmt n s ++ lowered_all (declared s + n) ss
+
+-- loops of a condition and a body
+abbrev pub lowered_while : ℕ → Repeated → c.Stmt
+lowered_while n l = lowered_loop n (Some l.0) [] (lowered_all n l.1)
+
+abbrev pub lowered_do_while : ℕ → Repeated → c.Stmt
+lowered_do_while n l = c.do_while (lowered n l.0) (lowered_block (lowered_all n l.1))
 
 -- ---- bodies
 

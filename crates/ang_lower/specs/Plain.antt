@@ -1,4 +1,6 @@
 -- A core tree of the program without where it lies in memory.
+use Rattle.std.specs.declared.boxed.Box.{Box}
+use Rattle.std.specs.declared.alloc.Global.{Global}
 use Rattle.ang_core.specs.declared.tree.Body.{Body}
 use Rattle.ang_core.specs.declared.tree.Expression.{Expression, Row_of-Expression, end_of-Expression, more_of-Expression}
 use Rattle.ang_core.specs.declared.tree.Expression.TheVariants.{Number, Null as Nothing, NoKey, Local, Assign', Change', Apply', Call', Choose'}
@@ -22,16 +24,19 @@ abbrev mutual
   plain_row end_of-Expression = c.none
   plain_row (more_of-Expression e rest) = c.more (plain_expr e) (plain_row rest)
 
+abbrev pub plain_tree : Box Expression Global → c.Expr
+plain_tree b = plain_expr b.value
+
 abbrev mutual
   pub plain_stmt : Statement → c.Stmt
   plain_stmt Skip = c.skip
-  plain_stmt (Evaluate e) = c.evaluate (plain_expr e)
-  plain_stmt (Declare e) = c.declare (plain_expr e)
+  plain_stmt (Evaluate e) = c.evaluate (plain_tree e)
+  plain_stmt (Declare e) = c.declare (plain_tree e)
   plain_stmt (Block' shape row) = c.block (plain_stmts row)
-  plain_stmt (If' e x a y b) = c.either (plain_expr e) (plain_stmt a) (plain_stmt b)
-  plain_stmt (While' e x s y step) = c.while (plain_expr e) (plain_stmt s) (plain_stmt step)
-  plain_stmt (DoWhile' e x s) = c.do_while (plain_expr e) (plain_stmt s)
-  plain_stmt (Return e) = c.return (plain_expr e)
+  plain_stmt (If' e x a y b) = c.either (plain_tree e) (plain_stmt a) (plain_stmt b)
+  plain_stmt (While' e x s y step) = c.while (plain_tree e) (plain_stmt s) (plain_stmt step)
+  plain_stmt (DoWhile' e x s) = c.do_while (plain_tree e) (plain_stmt s)
+  plain_stmt (Return e) = c.return (plain_tree e)
   plain_stmt Break = c.break
   plain_stmt Continue = c.continue
 

@@ -61,7 +61,7 @@ fn initializer_body(alloc: Global, number: usize, value: &Expression) -> Result<
     let whole = store(alloc, 0, &Variable::Global(number), value)?;
     Ok(Body {
         params: Vec::new(alloc),
-        statement: Statement::Evaluate(whole),
+        statement: Statement::Evaluate(Box::new(alloc, whole)?),
     })
 }
 

@@ -1,7 +1,7 @@
 //! Core trees made of their parts.
 ghost use Rattle.std.specs.Prelude.{◌≡◌, ◌++◌, ◌∷◌, [], map as list_map, IfOk, OnOk};
 ghost use Rattle.ang_lower.specs.Tree as tree;
-ghost use Rattle.ang_lower.specs.Plain.{plain_expr, plain_stmt};
+ghost use Rattle.ang_lower.specs.Plain.{plain_expr, plain_stmt, plain_tree};
 ghost use Rattle.ang_lower.specs.Lowered as spec;
 
 use ang_core::{Expression, Statement};
@@ -94,16 +94,35 @@ pub fn block(statements: Vec<Statement>) -> Statement
 #[derive(Drop)]
 pub struct Tested {
     /// What decides: a truth value.
-    pub test: Expression,
+    pub test: Box<Expression>,
     /// What runs where the test is true.
     pub then: Statement,
 }
 
-/// A choice between two statements.
-pub fn either(alloc: Global, tested: Tested, otherwise: Statement) -> Result<Statement, AllocError>
-    ensures exact { IfOk result (λ s. plain_stmt s ≡ tree.either (plain_expr tested.test) (plain_stmt tested.«then») (plain_stmt otherwise)) }
+/// A test and the statement where it is true, in a box.
+#[inline(never)]
+pub fn make_tested(
+    alloc: Global,
+    test: Box<Expression>,
+    then: Statement,
+) -> Result<Box<Tested>, AllocError>
+    ensures test { IfOk result (λ x. x.value.test ≡ test) }
+    ensures inside { IfOk result (λ x. x.value.«then» ≡ «then») }
 {
-    let Tested { test, then } = tested;
+    Ok(Box::new(alloc, Tested { test, then })?)
+}
+
+/// A choice between two statements.
+#[inline(never)]
+pub fn either(
+    alloc: Global,
+    tested: Box<Tested>,
+    otherwise: Statement,
+) -> Result<Statement, AllocError>
+    ensures exact { IfOk result (λ s. plain_stmt s ≡ tree.either (plain_tree tested.value.test)
+        (plain_stmt tested.value.«then») (plain_stmt otherwise)) }
+{
+    let Tested { test, then } = Box::into_inner(tested);
     let then = Box::new(alloc, then)?;
     let otherwise = Box::new(alloc, otherwise)?;
     Ok(Statement::If(test, then, otherwise))
@@ -113,32 +132,53 @@ pub fn either(alloc: Global, tested: Tested, otherwise: Statement) -> Result<Sta
 #[derive(Drop)]
 pub struct LoopHead {
     /// What decides before each pass of the body whether there is one: a truth value.
-    pub test: Expression,
+    pub test: Box<Expression>,
     /// What runs behind each pass of the body, before the next test.
     pub step: Statement,
 }
 
 /// A loop.
-pub fn loop_of(alloc: Global, head: LoopHead, body: Statement) -> Result<Statement, AllocError>
-    ensures exact { IfOk result (λ s. plain_stmt s ≡ tree.while (plain_expr head.test) (plain_stmt body) (plain_stmt head.step)) }
+#[inline(never)]
+pub fn loop_of(alloc: Global, head: Box<LoopHead>, body: Statement) -> Result<Statement, AllocError>
+    ensures exact { IfOk result (λ s. plain_stmt s ≡ tree.while (plain_tree head.value.test)
+        (plain_stmt body) (plain_stmt head.value.step)) }
 {
-    let LoopHead { test, step } = head;
+    let LoopHead { test, step } = Box::into_inner(head);
     let body = Box::new(alloc, body)?;
     let step = Box::new(alloc, step)?;
     Ok(Statement::While(test, body, step))
 }
 
 /// A loop whose body runs before the first test.
+#[inline(never)]
 pub fn late_loop_of(
     alloc: Global,
-    test: Expression,
+    test: Box<Expression>,
     body: Statement,
 ) -> Result<Statement, AllocError>
-    ensures exact { IfOk result (λ s. plain_stmt s ≡ tree.do_while (plain_expr test) (plain_stmt body)) }
+    ensures exact { IfOk result (λ s. plain_stmt s ≡ tree.do_while (plain_tree test)
+        (plain_stmt body)) }
 {
     let body = Box::new(alloc, body)?;
     Ok(Statement::DoWhile(test, body))
 }
+
+/// Lets a test go, apart from where a statement is lowered, so that what that takes of the stack is
+/// not there while the statements inside are lowered.
+#[inline(never)]
+pub fn let_go_of_test(_test: Box<Expression>) {}
+
+/// Lets a test and a statement go in the same way.
+#[inline(never)]
+pub fn let_go_of_tested(_tested: Box<Tested>) {}
+
+/// Lets a loop's test and its step go in the same way.
+#[inline(never)]
+pub fn let_go_of_head(_head: Box<LoopHead>) {}
+
+/// Lets statements go in the same way.
+#[inline(never)]
+pub fn let_go_of_list(_list: Vec<Statement>) {}
 
 /// One more statement at the end.
 pub fn add(found: &mut Vec<Statement>, statement: Statement) -> Result<(), AllocError>
@@ -146,4 +186,15 @@ pub fn add(found: &mut Vec<Statement>, statement: Statement) -> Result<(), Alloc
 {
     found.push(statement)?;
     Ok(())
+}
+
+/// Statements in a block of their own, with one more at their end.
+#[inline(never)]
+pub fn block_with(first: Vec<Statement>, last: Statement) -> Result<Statement, AllocError>
+    ensures exact { IfOk result (λ s. plain_stmt s
+        ≡ spec.lowered_block (list_map plain_stmt first.items ++ (plain_stmt last ∷ []))) }
+{
+    let mut found = first;
+    add(&mut found, last)?;
+    Ok(block(found))
 }

@@ -1,7 +1,7 @@
 //! The core trees of expressions.
 ghost use Rattle.std.specs.Prelude.{◌≡◌, IfOk, true, map as list_map};
 ghost use Rattle.ang_typed.specs.View.{view_expr, view_arg, view_args, view_option};
-ghost use Rattle.ang_lower.specs.Plain.{plain_expr};
+ghost use Rattle.ang_lower.specs.Plain.{plain_expr, plain_tree};
 ghost use Rattle.ang_lower.specs.Kinds.{is_unary, is_binary, is_choice, is_change, is_call};
 ghost use Rattle.ang_lower.specs.Lowered as spec;
 
@@ -254,17 +254,32 @@ fn lower_argument(
     }
 }
 
+/// The core tree of an expression, in a box.
+#[inline(never)]
+pub fn lower_boxed(
+    alloc: Global,
+    alive: usize,
+    e: &typed::Expression,
+) -> Result<Box<Expression>, AllocError>
+    ensures exact { IfOk result (λ x. plain_tree x ≡ spec.lowered alive (view_expr e.now)) }
+{
+    let found = lower_expression(alloc, alive, e)?;
+    Ok(Box::new(alloc, found)?)
+}
+
 /// The core tree of what may be written, and this number where it is not.
+#[inline(never)]
 pub fn lower_or(
     alloc: Global,
     alive: usize,
     number: u64,
     e: &Option<Box<typed::Expression>>,
-) -> Result<Expression, AllocError>
-    ensures exact { IfOk result (λ x. plain_expr x ≡ spec.lowered_or alive number (view_option e.now)) }
+) -> Result<Box<Expression>, AllocError>
+    ensures exact { IfOk result (λ x. plain_tree x
+        ≡ spec.lowered_or alive number (view_option e.now)) }
 {
     match e {
-        Some(e) => lower_expression(alloc, alive, e),
-        None => Ok(Expression::Number(number)),
+        Some(e) => lower_boxed(alloc, alive, e),
+        None => Ok(Box::new(alloc, Expression::Number(number))?),
     }
 }

@@ -31,7 +31,7 @@ pub fn conversion(alloc: Global, to: Prim, operand: Expression) -> Result<Expres
     ensures exact { IfOk result (λ x. plain_expr x ≡ spec.conversion to (plain_expr operand)) }
 {
     match number_in(&operand) {
-        Some(x) => Ok(Expression::Number(ang_numbers::convert(to, x))),
+        Some(x) => Ok(Expression::Number(ang_vm_numbers::convert(to, x))),
         None => unary(alloc, Operation::Convert(to), operand),
     }
 }
@@ -41,7 +41,7 @@ pub fn negation(alloc: Global, ty: Prim, operand: Expression) -> Result<Expressi
     ensures exact { IfOk result (λ x. plain_expr x ≡ spec.negation ty (plain_expr operand)) }
 {
     match number_in(&operand) {
-        Some(x) => Ok(Expression::Number(ang_numbers::negate(ty, x))),
+        Some(x) => Ok(Expression::Number(ang_vm_numbers::negate(ty, x))),
         None => unary(alloc, Operation::Negate(ty), operand),
     }
 }
@@ -51,7 +51,7 @@ pub fn complement(alloc: Global, ty: Prim, operand: Expression) -> Result<Expres
     ensures exact { IfOk result (λ x. plain_expr x ≡ spec.complement ty (plain_expr operand)) }
 {
     match number_in(&operand) {
-        Some(x) => Ok(Expression::Number(ang_numbers::complement(ty, x))),
+        Some(x) => Ok(Expression::Number(ang_vm_numbers::complement(ty, x))),
         None => unary(alloc, Operation::Complement(ty), operand),
     }
 }
@@ -61,7 +61,7 @@ pub fn denial(alloc: Global, operand: Expression) -> Result<Expression, AllocErr
     ensures exact { IfOk result (λ x. plain_expr x ≡ spec.denial (plain_expr operand)) }
 {
     match number_in(&operand) {
-        Some(x) => Ok(Expression::Number(ang_numbers::deny(x))),
+        Some(x) => Ok(Expression::Number(ang_vm_numbers::deny(x))),
         None => unary(alloc, Operation::Not, operand),
     }
 }

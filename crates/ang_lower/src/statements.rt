@@ -1,17 +1,20 @@
 //! The core trees of statements.
 ghost use Rattle.std.specs.Prelude.{◌≡◌, ◌+◌, ◌++◌, ◌∷◌, [], suc, length, IfOk, OnOk, true, map as list_map};
-ghost use Rattle.ang_typed.specs.View.{view_block, view_expr, view_local, view_option, view_stmt, view_stmts};
+ghost use Rattle.ang_typed.specs.View.{view_block, view_choice, view_expr, view_for, view_local, view_loop, view_option, view_stmt, view_stmts};
 ghost use Rattle.ang_source.specs.Sound.{declared, declared_by};
 ghost use Rattle.ang_lower.specs.Tree as tree;
-ghost use Rattle.ang_lower.specs.Plain.{plain_expr, plain_stmt};
-ghost use Rattle.ang_lower.specs.Kinds.{is_loop};
+ghost use Rattle.ang_lower.specs.Plain.{plain_stmt, plain_tree};
+ghost use Rattle.ang_lower.specs.Kinds.{is_single};
 ghost use Rattle.ang_lower.specs.Lowered as spec;
 
-use crate::build::{LoopHead, Tested, add, block, either, late_loop_of, loop_of};
-use crate::expressions::{lower_expression, lower_or};
+use crate::build::{
+    LoopHead, Tested, add, block, block_with, either, late_loop_of, let_go_of_head, let_go_of_list,
+    let_go_of_test, let_go_of_tested, loop_of, make_tested,
+};
+use crate::expressions::{lower_boxed, lower_or};
 use ang_core::Statement;
 use ang_typed as typed;
-use ang_typed::{Block, Expression, Local};
+use ang_typed::{Block, Choice, Expression, For, Local, Loop};
 use std::alloc::{AllocError, Global};
 
 /// One more local, or want of memory where no memory could have so many.
@@ -25,6 +28,7 @@ fn one_more(alive: usize) -> Result<usize, AllocError>
 }
 
 /// Each local as a statement of its own, behind those that there are. The result is how many are then alive.
+#[inline(never)]
 fn add_locals(
     alloc: Global,
     alive: usize,
@@ -45,12 +49,13 @@ fn add_locals(
 }
 
 /// An expression whose value nobody takes, or nothing.
+#[inline(never)]
 fn simple(alloc: Global, alive: usize, e: &Option<Box<Expression>>) -> Result<Statement, AllocError>
     ensures exact { IfOk result (λ s. plain_stmt s ≡ spec.lowered_simple alive (view_option e.now)) }
 {
     match e {
         Some(e) => {
-            let e = lower_expression(alloc, alive, e)?;
+            let e = lower_boxed(alloc, alive, e)?;
             Ok(Statement::Evaluate(e))
         }
         None => Ok(Statement::Skip),
@@ -63,7 +68,7 @@ fn each(alloc: Global, alive: usize, items: &[Expression]) -> Result<Vec<Stateme
 {
     let mut found = Vec::new(alloc);
     for item in items {
-        let e = lower_expression(alloc, alive, item)?;
+        let e = lower_boxed(alloc, alive, item)?;
         add(&mut found, Statement::Evaluate(e))?;
     }
     Ok(found)
@@ -81,28 +86,78 @@ fn steps(alloc: Global, alive: usize, items: &[Expression]) -> Result<Statement,
 }
 
 /// The test and the steps of a loop.
+#[inline(never)]
 fn loop_head(
     alloc: Global,
     alive: usize,
     condition: &Option<Box<Expression>>,
     items: &[Expression],
-) -> Result<LoopHead, AllocError>
-    ensures test { IfOk result (λ h. plain_expr h.test ≡ spec.lowered_or alive 1 (view_option condition.now)) }
-    ensures step { IfOk result (λ h. plain_stmt h.step ≡ spec.lowered_steps alive (list_map view_expr items.now)) }
+) -> Result<Box<LoopHead>, AllocError>
+    ensures test { IfOk result (λ h. plain_tree h.value.test
+        ≡ spec.lowered_or alive 1 (view_option condition.now)) }
+    ensures step { IfOk result (λ h. plain_stmt h.value.step
+        ≡ spec.lowered_steps alive (list_map view_expr items.now)) }
 {
     let test = lower_or(alloc, alive, 1, condition)?;
     let step = steps(alloc, alive, items)?;
-    Ok(LoopHead { test, step })
+    Ok(Box::new(alloc, LoopHead { test, step })?)
+}
+
+/// The test of a loop that has no steps.
+#[inline(never)]
+fn head_of(alloc: Global, alive: usize, test: &Expression) -> Result<Box<LoopHead>, AllocError>
+    ensures test { IfOk result (λ h. plain_tree h.value.test
+        ≡ spec.lowered alive (view_expr test.now)) }
+    ensures step { IfOk result (λ h. plain_stmt h.value.step ≡ tree.skip) }
+{
+    let test = lower_boxed(alloc, alive, test)?;
+    let step = Statement::Skip;
+    Ok(Box::new(alloc, LoopHead { test, step })?)
+}
+
+/// A `return` with its value.
+#[inline(never)]
+fn returned(
+    alloc: Global,
+    alive: usize,
+    e: &Option<Box<Expression>>,
+) -> Result<Statement, AllocError>
+    ensures exact { IfOk result (λ s. plain_stmt s
+        ≡ tree.return (spec.lowered_or alive 0 (view_option e.now))) }
+{
+    let value = lower_or(alloc, alive, 0, e)?;
+    Ok(Statement::Return(value))
+}
+
+/// One statement that leaves as many locals as there were.
+#[inline(never)]
+fn add_one(
+    found: &mut Vec<Statement>,
+    statement: Statement,
+    alive: usize,
+) -> Result<usize, AllocError>
+    ensures exact { OnOk result (list_map plain_stmt found.new.items
+        ≡ list_map plain_stmt found.old.items ++ (plain_stmt statement ∷ [])) }
+    ensures count { IfOk result (λ n. n ≡ alive) }
+{
+    add(found, statement)?;
+    Ok(alive)
 }
 
 /// Statements in a block of their own.
 #[cycle(statement)]
+#[inline(never)]
 pub fn lower_block(alloc: Global, alive: usize, written: &Block) -> Result<Statement, AllocError>
     ensures exact { IfOk result (λ s. plain_stmt s ≡ spec.lowered_block (spec.lowered_all alive (view_block written.now))) }
 {
     let mut found = Vec::new(alloc);
-    add_all(alloc, alive, written.statements.as_slice(), &mut found)?;
-    Ok(block(found))
+    match add_all(alloc, alive, written.statements.as_slice(), &mut found) {
+        Ok(_) => Ok(block(found)),
+        Err(error) => {
+            let_go_of_list(found);
+            Err(error)
+        }
+    }
 }
 
 /// Statements in turn, behind those that there are. The result is how many locals are then alive.
@@ -126,67 +181,144 @@ fn add_all(
 
 /// A test, and the block where it is true.
 #[cycle(statement)]
+#[inline(never)]
 fn lower_tested(
     alloc: Global,
     alive: usize,
     then: &Block,
     condition: &Expression,
-) -> Result<Tested, AllocError>
-    ensures test { IfOk result (λ x. plain_expr x.test ≡ spec.lowered alive (view_expr condition.now)) }
-    ensures inside { IfOk result (λ x. plain_stmt x.«then» ≡ spec.lowered_block (spec.lowered_all alive (view_block «then».now))) }
+) -> Result<Box<Tested>, AllocError>
+    ensures test { IfOk result (λ x. plain_tree x.value.test
+        ≡ spec.lowered alive (view_expr condition.now)) }
+    ensures inside { IfOk result (λ x. plain_stmt x.value.«then»
+        ≡ spec.lowered_block (spec.lowered_all alive (view_block «then».now))) }
 {
-    let test = lower_expression(alloc, alive, condition)?;
-    let then = lower_block(alloc, alive, then)?;
-    Ok(Tested { test, then })
+    let test = lower_boxed(alloc, alive, condition)?;
+    match lower_block(alloc, alive, then) {
+        Ok(then) => make_tested(alloc, test, then),
+        Err(error) => {
+            let_go_of_test(test);
+            Err(error)
+        }
+    }
+}
+
+/// A choice between two blocks.
+#[cycle(statement)]
+#[inline(never)]
+fn lower_if(alloc: Global, alive: usize, written: &Choice) -> Result<Statement, AllocError>
+    ensures exact { IfOk result (λ s. plain_stmt s ∷ []
+        ≡ spec.lowered_stmt alive (view_choice written.now)) }
+{
+    let tested = lower_tested(alloc, alive, &written.then, &written.condition)?;
+    match lower_block(alloc, alive, &written.otherwise) {
+        Ok(otherwise) => either(alloc, tested, otherwise),
+        Err(error) => {
+            let_go_of_tested(tested);
+            Err(error)
+        }
+    }
 }
 
 /// A loop with this test and step.
 #[cycle(statement)]
+#[inline(never)]
 fn lower_loop(
     alloc: Global,
     alive: usize,
     body: &Block,
-    head: LoopHead,
+    head: Box<LoopHead>,
 ) -> Result<Statement, AllocError>
-    ensures exact { IfOk result (λ s. plain_stmt s ≡ tree.while (plain_expr head.test)
-        (spec.lowered_block (spec.lowered_all alive (view_block body.now))) (plain_stmt head.step)) }
+    ensures exact { IfOk result (λ s. plain_stmt s ≡ tree.while (plain_tree head.value.test)
+        (spec.lowered_block (spec.lowered_all alive (view_block body.now)))
+        (plain_stmt head.value.step)) }
 {
-    let body = lower_block(alloc, alive, body)?;
-    loop_of(alloc, head, body)
+    match lower_block(alloc, alive, body) {
+        Ok(body) => loop_of(alloc, head, body),
+        Err(error) => {
+            let_go_of_head(head);
+            Err(error)
+        }
+    }
+}
+
+/// A `while`.
+#[cycle(statement)]
+#[inline(never)]
+fn lower_while(alloc: Global, alive: usize, written: &Loop) -> Result<Statement, AllocError>
+    ensures exact { IfOk result (λ s. plain_stmt s
+        ≡ spec.lowered_while alive (view_loop written.now)) }
+{
+    let head = head_of(alloc, alive, &written.condition)?;
+    lower_loop(alloc, alive, &written.body, head)
 }
 
 /// A loop whose body runs before the first test.
 #[cycle(statement)]
-fn lower_late_loop(
-    alloc: Global,
-    alive: usize,
-    body: &Block,
-    condition: &Expression,
-) -> Result<Statement, AllocError>
-    ensures exact { IfOk result (λ s. plain_stmt s ≡ tree.do_while (spec.lowered alive (view_expr condition.now))
-        (spec.lowered_block (spec.lowered_all alive (view_block body.now)))) }
+#[inline(never)]
+fn lower_late_loop(alloc: Global, alive: usize, written: &Loop) -> Result<Statement, AllocError>
+    ensures exact { IfOk result (λ s. plain_stmt s
+        ≡ spec.lowered_do_while alive (view_loop written.now)) }
 {
-    let test = lower_expression(alloc, alive, condition)?;
-    let body = lower_block(alloc, alive, body)?;
-    late_loop_of(alloc, test, body)
+    let test = lower_boxed(alloc, alive, &written.condition)?;
+    match lower_block(alloc, alive, &written.body) {
+        Ok(body) => late_loop_of(alloc, test, body),
+        Err(error) => {
+            let_go_of_test(test);
+            Err(error)
+        }
+    }
 }
 
-/// One statement that leaves as many locals as there were.
-fn add_one(
-    found: &mut Vec<Statement>,
-    statement: Statement,
-    alive: usize,
-) -> Result<usize, AllocError>
-    ensures exact { OnOk result (list_map plain_stmt found.new.items ≡ list_map plain_stmt found.old.items ++ (plain_stmt statement ∷ [])) }
-    ensures count { IfOk result (λ n. n ≡ alive) }
+/// A `for`, with what it starts from in a block around it.
+#[cycle(statement)]
+#[inline(never)]
+fn lower_for(alloc: Global, alive: usize, written: &For) -> Result<Statement, AllocError>
+    ensures exact { IfOk result (λ s. plain_stmt s ∷ []
+        ≡ spec.lowered_stmt alive (view_for written.now)) }
 {
-    add(found, statement)?;
-    Ok(alive)
+    let mut inner = Vec::new(alloc);
+    let inside = add_all(alloc, alive, written.start.as_slice(), &mut inner)?;
+    let head = loop_head(alloc, inside, &written.condition, written.steps.as_slice())?;
+    match lower_loop(alloc, inside, &written.body, head) {
+        Ok(whole) => block_with(inner, whole),
+        Err(error) => {
+            let_go_of_list(inner);
+            Err(error)
+        }
+    }
+}
+
+/// The one statement that stands for one that is no declaration.
+#[cycle(statement)]
+#[inline(never)]
+fn lower_statement(
+    alloc: Global,
+    alive: usize,
+    written: &typed::Statement,
+) -> Result<Statement, AllocError>
+    requires kind { is_single (view_stmt written.now) ≡ true }
+    ensures exact { IfOk result (λ s. plain_stmt s ∷ []
+        ≡ spec.lowered_stmt alive (view_stmt written.now)) }
+{
+    match written {
+        typed::Statement::Block(inner) => lower_block(alloc, alive, inner),
+        typed::Statement::Expression(e) => simple(alloc, alive, e),
+        typed::Statement::Break => Ok(Statement::Break),
+        typed::Statement::Continue => Ok(Statement::Continue),
+        typed::Statement::Return(e) => returned(alloc, alive, e),
+        typed::Statement::If(choice) => lower_if(alloc, alive, choice),
+        typed::Statement::While(inner) => lower_while(alloc, alive, inner),
+        typed::Statement::DoWhile(inner) => lower_late_loop(alloc, alive, inner),
+        typed::Statement::For(inner) => lower_for(alloc, alive, inner),
+        typed::Statement::Locals(_) => unreachable!(),
+    }
 }
 
 /// The statements that stand for one, behind those that there are. The result is how many locals are then
 /// alive.
 #[cycle(statement)]
+#[inline(never)]
 fn add_statement(
     alloc: Global,
     alive: usize,
@@ -198,75 +330,10 @@ fn add_statement(
     ensures count { IfOk result (λ n. n ≡ declared (view_stmt written.now) + alive) }
 {
     match written {
-        typed::Statement::Block(inner) => {
-            let inner = lower_block(alloc, alive, inner)?;
-            add_one(found, inner, alive)
-        }
         typed::Statement::Locals(locals) => add_locals(alloc, alive, locals.as_slice(), found),
-        typed::Statement::Expression(e) => {
-            let simple = simple(alloc, alive, e)?;
-            add_one(found, simple, alive)
+        _ => {
+            let one = lower_statement(alloc, alive, written)?;
+            add_one(found, one, alive)
         }
-        typed::Statement::Break => add_one(found, Statement::Break, alive),
-        typed::Statement::Continue => add_one(found, Statement::Continue, alive),
-        typed::Statement::Return(e) => {
-            let value = lower_or(alloc, alive, 0, e)?;
-            add_one(found, Statement::Return(value), alive)
-        }
-        typed::Statement::If {
-            condition,
-            then,
-            otherwise,
-        } => {
-            let tested = lower_tested(alloc, alive, then, condition)?;
-            let otherwise = lower_block(alloc, alive, otherwise)?;
-            let whole = either(alloc, tested, otherwise)?;
-            add_one(found, whole, alive)
-        }
-        typed::Statement::While { .. }
-        | typed::Statement::DoWhile { .. }
-        | typed::Statement::For { .. } => {
-            let whole = lower_loop_statement(alloc, alive, written)?;
-            add_one(found, whole, alive)
-        }
-    }
-}
-
-/// A loop as it is written, with what it starts from in a block around it.
-#[cycle(statement)]
-fn lower_loop_statement(
-    alloc: Global,
-    alive: usize,
-    written: &typed::Statement,
-) -> Result<Statement, AllocError>
-    requires kind { is_loop (view_stmt written.now) ≡ true }
-    ensures exact { IfOk result (λ s. plain_stmt s ∷ [] ≡ spec.lowered_stmt alive (view_stmt written.now)) }
-{
-    match written {
-        typed::Statement::While { condition, body } => {
-            let test = lower_expression(alloc, alive, condition)?;
-            let head = LoopHead {
-                test,
-                step: Statement::Skip,
-            };
-            lower_loop(alloc, alive, body, head)
-        }
-        typed::Statement::DoWhile { body, condition } => {
-            lower_late_loop(alloc, alive, body, condition)
-        }
-        typed::Statement::For {
-            start,
-            condition,
-            steps,
-            body,
-        } => {
-            let mut inner = Vec::new(alloc);
-            let inside = add_all(alloc, alive, start.as_slice(), &mut inner)?;
-            let head = loop_head(alloc, inside, condition, steps.as_slice())?;
-            let whole = lower_loop(alloc, inside, body, head)?;
-            add(&mut inner, whole)?;
-            Ok(block(inner))
-        }
-        _ => unreachable!(),
     }
 }

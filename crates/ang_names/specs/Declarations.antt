@@ -11,7 +11,7 @@ use Rattle.ang_names.specs.declared.origin.Origin.{Origin}
 use Rattle.ang_names.specs.declared.listed.Declared.{Declared}
 use Rattle.ang_names.specs.declared.listed.Part.{Part}
 use Rattle.ang_names.specs.declared.listed.Part.TheVariants as part
-use Rattle.ang_written.specs.Sources.{Source}
+use Rattle.ang_names_written.specs.Sources.{Source}
 
 abbrev pub stands_at : ℕ → ℕ → ℕ → Origin
 stands_at script declaration variable = record { script = script; declaration = declaration; variable = variable }

@@ -10,8 +10,8 @@ use Rattle.ang_tree.specs.declared.type_name.TypeName.{TypeName}
 use Rattle.ang_names.specs.declared.listed.Declared.{Declared}
 use Rattle.ang_names.specs.declared.listed.Part.{Part}
 use Rattle.ang_names.specs.declared.listed.Part.TheVariants as part
-use Rattle.ang_written.specs.Sources.{error_at, first_of}
-use Rattle.ang_written.specs.Types.{Meaning, type_of, value_type_of, parameter_type_of}
+use Rattle.ang_names_written.specs.Sources.{error_at, first_of}
+use Rattle.ang_names_written.specs.Types.{Meaning, type_of, value_type_of, parameter_type_of}
 
 abbrev pub most_parameters : ℕ
 most_parameters = 32

@@ -8,9 +8,9 @@ use Rattle.ang_registry.specs.Registration.{RegistrationList}
 use Rattle.ang_names.specs.declared.listed.Declared.{Declared}
 use Rattle.ang_names.specs.declared.phase.Phase.{Phase}
 use Rattle.ang_names.specs.declared.phase.Phase.TheVariants as phase
-use Rattle.ang_written.specs.Sources.{Source}
+use Rattle.ang_names_written.specs.Sources.{Source}
 use Rattle.ang_names.specs.Declarations.{declarations_of}
-use Rattle.ang_written.specs.NotYet.{not_yet}
+use Rattle.ang_names_written.specs.NotYet.{not_yet}
 use Rattle.ang_names.specs.Taken.{name_refusal}
 use Rattle.ang_names.specs.Meant.{type_refusal}
 

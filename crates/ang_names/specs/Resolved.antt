@@ -14,8 +14,8 @@ use Rattle.ang_names.specs.declared.names.Names.{Names}
 use Rattle.ang_names.specs.declared.names.ScriptFunction.{ScriptFunction}
 use Rattle.ang_names.specs.declared.names.ScriptGlobal.{ScriptGlobal}
 use Rattle.ang_names.specs.declared.names.ScriptParameter.{ScriptParameter}
-use Rattle.ang_written.specs.Sources.{text_of, name_of}
-use Rattle.ang_written.specs.Types.{Meaning, type_of, value_type_of, parameter_type_of, pass_of, is_read_only}
+use Rattle.ang_names_written.specs.Sources.{text_of, name_of}
+use Rattle.ang_names_written.specs.Types.{Meaning, type_of, value_type_of, parameter_type_of, pass_of, is_read_only}
 
 -- the type that is meant; `Void` where there is none, which is not met where no phase refuses
 abbrev pub settled : Meaning → ArgType

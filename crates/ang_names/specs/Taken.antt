@@ -14,8 +14,8 @@ use Rattle.ang_tree.specs.declared.declaration.Parameter.{Parameter}
 use Rattle.ang_names.specs.declared.listed.Declared.{Declared}
 use Rattle.ang_names.specs.declared.listed.Part.{Part}
 use Rattle.ang_names.specs.declared.listed.Part.TheVariants as part
-use Rattle.ang_written.specs.Sources.{text_of, error_at}
-use Rattle.ang_written.specs.Spellings.{same_parameters, same_as_host}
+use Rattle.ang_names_written.specs.Sources.{text_of, error_at}
+use Rattle.ang_names_written.specs.Spellings.{same_parameters, same_as_host}
 
 -- the name that is declared
 abbrev pub declared_name : Declared → List ℕ

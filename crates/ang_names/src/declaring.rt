@@ -1,6 +1,6 @@
 //! What a build declares, or why it declares nothing.
 ghost use Rattle.std.specs.Prelude.{◌≡◌, [], IfOk, IfErr, OnOk, map as list_map};
-ghost use Rattle.ang_written.specs.Sources.{source_of};
+ghost use Rattle.ang_names_written.specs.Sources.{source_of};
 ghost use Rattle.ang_names.specs.Declarations.{declarations_of as all_declarations};
 ghost use Rattle.ang_names.specs.Phases as spec;
 ghost use Rattle.ang_names.specs.Phases.{IsRefused};
@@ -11,9 +11,9 @@ use crate::names::Names;
 use crate::phase::phase_errors;
 use crate::resolved::names_of;
 use ang_kinds::{List, Unbuilt};
+use ang_names_written::not_yet_errors;
 use ang_registry::View;
 use ang_tree::Script;
-use ang_written::not_yet_errors;
 use std::alloc::Global;
 
 /// The names that the scripts declare, over what their module sees of the host.

@@ -3,7 +3,7 @@
 //! `declare` goes over all declarations in phases, in the order of sections and text (docs/LANGUAGE.md,
 //! "Names of a build"); the first phase that refuses some gives the errors. Else it gives the functions and globals,
 //! with what their types mean. Beside it stand the look-ups in those that the checker of bodies makes; look-ups in the
-//! view, and what is asked of a text alone, come from `ang_written`.
+//! view, and what is asked of a text alone, come from `ang_names_written`.
 #![tactic(auto)]
 
 mod declaring;
@@ -17,7 +17,7 @@ mod resolved;
 mod taken;
 
 pub use ang_kinds::Unbuilt;
-pub use ang_written::{
+pub use ang_names_written::{
     HostFunction, HostGlobal, error_at, is_read_only, text_at, type_of, value_type_of,
     view_functions_named, view_global_named,
 };

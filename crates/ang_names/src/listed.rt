@@ -2,13 +2,13 @@
 ghost use Rattle.std.specs.Prelude.{◌≡◌, ◌++◌, IfOk, OnOk, map as list_map};
 ghost use Rattle.ang_tree.specs.Declarations.{globals};
 ghost use Rattle.ang_tree.specs.View.{view_decl, view_params, view_script, view_vars};
-ghost use Rattle.ang_written.specs.Sources.{source_of};
+ghost use Rattle.ang_names_written.specs.Sources.{source_of};
 ghost use Rattle.ang_names.specs.Declarations as spec;
 
 use crate::Origin;
 use ang_lex::Token;
+use ang_names_written::{Text, WrittenParameters};
 use ang_tree::{Declaration, Function, Script, TypeName, Variables};
-use ang_written::{Text, WrittenParameters};
 use std::alloc::{AllocError, Global};
 
 /// A declaration of a script. Each name of a declaration of globals is one of its own.

@@ -5,10 +5,10 @@ ghost use Rattle.ang_names.specs.Meant as spec;
 use crate::listed::{Declared, Part};
 use ang_kinds::{Error, ErrorKind};
 use ang_lex::Token;
+use ang_names_written::{error_at, parameter_type_of, type_of, value_type_of};
 use ang_registry::View;
 use ang_tree::{Parameter, TypeName};
 use ang_types::ArgType;
-use ang_written::{error_at, parameter_type_of, type_of, value_type_of};
 use std::alloc::{AllocError, Global};
 
 /// The parameters of one function.

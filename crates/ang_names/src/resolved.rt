@@ -6,12 +6,12 @@ ghost use Rattle.ang_names.specs.Resolved as spec;
 use crate::listed::{Declared, Part};
 use crate::names::{Names, ScriptFunction, ScriptGlobal, ScriptParameter};
 use ang_kinds::{ErrorKind, List};
+use ang_names_written::{
+    copy_at, is_read_only, name_at, parameter_type_of, pass_of, type_of, value_type_of,
+};
 use ang_registry::View;
 use ang_tree::{Parameter, TypeName};
 use ang_types::ArgType;
-use ang_written::{
-    copy_at, is_read_only, name_at, parameter_type_of, pass_of, type_of, value_type_of,
-};
 use std::alloc::{AllocError, Global};
 
 /// The type that is meant. Where there is none, a phase refused the declaration.

@@ -6,8 +6,8 @@ ghost use Rattle.ang_names.specs.Taken as spec;
 
 use crate::listed::{Declared, Part};
 use ang_kinds::{EntityNo, Error, ErrorKind, Param};
+use ang_names_written::{error_at, have_same_types, have_same_types_as_host, text_at};
 use ang_registry::{Entry, EntryKind, View};
-use ang_written::{error_at, have_same_types, have_same_types_as_host, text_at};
 use std::alloc::{AllocError, Global};
 
 /// The functions of one module.

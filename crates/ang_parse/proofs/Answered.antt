@@ -5,10 +5,10 @@ use Rattle.ang_kinds.specs.declared.place.Place.{Place}
 use Rattle.ang_lex.specs.declared.token.Token.{Token}
 use Rattle.ang_tree.specs.Depth.{too_deep}
 use Rattle.ang_tree.specs.Declarations.{Decl, SpellsScript}
-use Rattle.ang_read.specs.From.{From}
-use Rattle.ang_read.specs.Read.{Outcome, at, deep}
-use Rattle.ang_read.specs.Law.{all_of}
-use Rattle.ang_read.proofs.Whole.{all_complete, all_found, all_refused, never_deep}
+use Rattle.ang_parse_read.specs.From.{From}
+use Rattle.ang_parse_read.specs.Read.{Outcome, at, deep}
+use Rattle.ang_parse_read.specs.Law.{all_of}
+use Rattle.ang_parse_read.proofs.Whole.{all_complete, all_found, all_refused, never_deep}
 use Rattle.ang_parse.specs.declared.error.ParseError.{ParseError}
 use Rattle.ang_parse.specs.declared.error.ParseError.TheVariants as e
 use Rattle.ang_parse.specs.Faults.{place_at, name_at}

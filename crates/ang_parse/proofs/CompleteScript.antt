@@ -7,9 +7,9 @@ use Rattle.ang_lex.specs.declared.token.TokenKind.TheVariants as k
 use Rattle.ang_tree.specs.Stmt.{each, Every}
 use Rattle.ang_tree.specs.Declarations as tree
 use Rattle.ang_tree.specs.Declarations.{Decl, spelled_decl, FitsDecl}
-use Rattle.ang_read.specs.Read.{Parser, and_then, pure, repeat}
-use Rattle.ang_read.proofs.Tokens.{look_is}
-use Rattle.ang_read.proofs.Loops.{repeat_stops, repeat_goes_on}
+use Rattle.ang_parse_read.specs.Read.{Parser, and_then, pure, repeat}
+use Rattle.ang_parse_read.proofs.Tokens.{look_is}
+use Rattle.ang_parse_read.proofs.Loops.{repeat_stops, repeat_goes_on}
 use Rattle.ang_parse_expr.proofs.Grip.{passed}
 use Rattle.ang_parse_stmt.specs.Ahead.{ahead}
 use Rattle.ang_parse_function.specs.ReadFunction.{function_or_globals}

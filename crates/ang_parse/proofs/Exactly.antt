@@ -3,11 +3,11 @@ use Rattle.std.proofs.Common.{◌≡◌, ℕ, ◌<◌, List, [], length, None, O
 use Rattle.ang_lex.specs.declared.token.Token.{Token}
 use Rattle.ang_tree.specs.Depth.{too_deep}
 use Rattle.ang_tree.specs.Declarations.{Decl, SpellsScript}
-use Rattle.ang_read.proofs.Whole.{Exact, one_reading}
+use Rattle.ang_parse_read.proofs.Whole.{Exact, one_reading}
 use Rattle.ang_parse.specs.ReadScript as r
 use Rattle.ang_parse.proofs.SoundScript.{AreDecls, script_reads}
 use Rattle.ang_parse.proofs.CompleteScript.{script_complete}
-use Rattle.ang_parse.proofs.TameScript.{script_tame}
+use Rattle.ang_parse.proofs.PrefixScript.{script_prefix}
 
 abbrev pub IsShallow : List Token → Type 0
 IsShallow ts = too_deep ts ≡ None
@@ -20,7 +20,7 @@ scripts_exact = record {
   reads = λ n ts. script_reads n ts;
   whole = λ ts ds such h. record { fits = h.fits; text = h.text; shallow = such };
   again = read_again;
-  tame = λ b z m n le. script_tame b z m n le;
+  on_prefix = λ b z m n le. script_prefix b z m n le;
 }
 
 pub one_script : (x y : List Decl) (ts : List Token) → SpellsScript x ts → SpellsScript y ts → x ≡ y

@@ -2,6 +2,6 @@ pub mod Columns
 pub mod Rests
 pub mod SoundScript
 pub mod CompleteScript
-pub mod TameScript
+pub mod PrefixScript
 pub mod Exactly
 pub mod Answered

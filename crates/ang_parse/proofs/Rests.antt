@@ -4,7 +4,7 @@ use Rattle.std.specs.Prelude.{All}
 use Rattle.std.specs.List.{AllByRecursion}
 use Rattle.std.proofs.lemmas.List.Elements.{All-from_recursion, recursion_from_All}
 use Rattle.ang_lex.specs.declared.token.Token.{Token}
-use Rattle.ang_read.specs.From.{From}
+use Rattle.ang_parse_read.specs.From.{From}
 
 all_behind : (P : Token → Type 0) (front rest : List Token) → AllByRecursion P (front ++ rest) → AllByRecursion P rest
 all_behind P [] rest h = h

@@ -5,9 +5,9 @@ use Rattle.ang_lex.specs.declared.token.TokenKind.TheVariants as k
 use Rattle.ang_tree.specs.Stmt.{each, Every, spelled_body}
 use Rattle.ang_tree.specs.Declarations as tree
 use Rattle.ang_tree.specs.Declarations.{Decl, spelled_decl, FitsDecl, spelled_params}
-use Rattle.ang_read.specs.Read.{pure}
-use Rattle.ang_read.proofs.Outcomes.{Reads, and_reads, further, ChoiceReads, look_reads, Turns, repeat_reads_to, From-self, From-one}
-use Rattle.ang_read.proofs.Tokens.{Always}
+use Rattle.ang_parse_read.specs.Read.{pure}
+use Rattle.ang_parse_read.proofs.Outcomes.{Reads, and_reads, further, ChoiceReads, look_reads, Turns, repeat_reads_to, From-self, From-one}
+use Rattle.ang_parse_read.proofs.Tokens.{Always}
 use Rattle.ang_parse_stmt.proofs.Ahead.{ahead_reads}
 use Rattle.ang_parse_expr.proofs.SoundType.{type-length}
 use Rattle.ang_parse_variables.proofs.Lengths.{vars-length}

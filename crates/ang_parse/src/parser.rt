@@ -5,8 +5,8 @@ ghost use Rattle.ang_lex.specs.Tokens.{IsWithin};
 ghost use Rattle.ang_tree.specs.Depth as depth;
 ghost use Rattle.ang_tree.specs.Declarations.{Decl, SpellsScript};
 ghost use Rattle.ang_tree.specs.View.{view_decl, view_script};
-ghost use Rattle.ang_read.specs.Gives.{Gives};
-ghost use Rattle.ang_read.specs.Law.{all_of};
+ghost use Rattle.ang_parse_read.specs.Gives.{Gives};
+ghost use Rattle.ang_parse_read.specs.Law.{all_of};
 ghost use Rattle.ang_parse.specs.Faults.{AreTokensOf, HasColumns, place_at};
 ghost use Rattle.ang_parse.specs.Answers.{script_of, IfSyntax, IsSyntaxError};
 ghost use Rattle.ang_parse.specs.ReadScript as read;
@@ -16,12 +16,12 @@ use crate::error::ParseError;
 use crate::fault::syntax_error;
 use crate::script::script;
 use ang_lex::Token;
-use ang_read::ReadError;
+use ang_parse_read::ReadError;
 use ang_tree::{Declaration, Script};
 use std::alloc::Global;
 
 /// The declarations that the tokens spell, all of them.
-#[tactic(auto, unfolding(ang_read::specs::Law::all_of))]
+#[tactic(auto, unfolding(ang_parse_read::specs::Law::all_of))]
 fn all(alloc: Global, tokens: &[Token]) -> Result<Vec<Declaration>, ReadError<'_>>
     ensures reads { Gives (λ x. (map view_decl x.items, [])) result (all_of read.script tokens.now) }
 {

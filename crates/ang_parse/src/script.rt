@@ -3,14 +3,14 @@
 //! `limit` bounds the nested calls and the turns of each loop. One more than the number of tokens is
 //! always enough.
 ghost use Rattle.std.specs.Prelude.{◌≡◌, [], ◌∷◌, ◌++◌, map, IfOk};
-ghost use Rattle.ang_read.specs.Gives.{Gives};
+ghost use Rattle.ang_parse_read.specs.Gives.{Gives};
 ghost use Rattle.ang_tree.specs.View.{view_decl};
 ghost use Rattle.ang_parse.specs.ReadScript as read;
 
 use ang_lex::{Token, TokenKind};
 use ang_parse_class::{class, final_class, interface};
 use ang_parse_function::{function_or_globals, import};
-use ang_read::ReadError;
+use ang_parse_read::ReadError;
 use ang_tree::Declaration;
 use std::alloc::{AllocError, Global};
 

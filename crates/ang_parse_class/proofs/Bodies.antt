@@ -4,10 +4,10 @@ use Rattle.ang_lex.specs.declared.token.Token.{Token}
 use Rattle.ang_lex.specs.declared.token.TokenKind.TheVariants as k
 use Rattle.ang_tree.specs.Kinds.{Is}
 use Rattle.ang_tree.specs.Stmt.{Stmt, Stmts, body, end, then, added_stmt, spelled_stmt, spelled_stmts, FitsStmt, FitsStmts}
-use Rattle.ang_read.specs.Read.{pure}
-use Rattle.ang_read.specs.Tokens.{a_token, is_right_brace}
-use Rattle.ang_read.proofs.Outcomes.{Reads, and_reads, further, Turns, repeat_reads_to, From-self}
-use Rattle.ang_read.proofs.Tokens.{Token_read, a_token_reads, right_brace_is}
+use Rattle.ang_parse_read.specs.Read.{pure}
+use Rattle.ang_parse_read.specs.Tokens.{a_token, is_right_brace}
+use Rattle.ang_parse_read.proofs.Outcomes.{Reads, and_reads, further, Turns, repeat_reads_to, From-self}
+use Rattle.ang_parse_read.proofs.Tokens.{Token_read, a_token_reads, right_brace_is}
 use Rattle.ang_parse_stmt.specs.ReadStmt as r
 use Rattle.ang_parse_stmt.proofs.Ahead.{ahead_reads}
 use Rattle.ang_parse_stmt.proofs.Lengths.{stmt-length}

@@ -7,10 +7,10 @@ use Rattle.ang_tree.specs.declared.declaration.BaseName.{BaseName}
 use Rattle.ang_tree.specs.Kinds.{Is}
 use Rattle.ang_tree.specs.Stmt.{each, Every}
 use Rattle.ang_tree.specs.Declarations as tree
-use Rattle.ang_read.specs.Read.{and_then, pure, repeat}
-use Rattle.ang_read.specs.Tokens.{is_right_brace}
-use Rattle.ang_read.proofs.Tokens.{begins, look_is, look_at, a_token_is}
-use Rattle.ang_read.proofs.Loops.{repeat_stops, repeat_goes_on}
+use Rattle.ang_parse_read.specs.Read.{and_then, pure, repeat}
+use Rattle.ang_parse_read.specs.Tokens.{is_right_brace}
+use Rattle.ang_parse_read.proofs.Tokens.{begins, look_is, look_at, a_token_is}
+use Rattle.ang_parse_read.proofs.Loops.{repeat_stops, repeat_goes_on}
 use Rattle.ang_parse_expr.proofs.Stops.{is_comma}
 use Rattle.ang_parse_stmt.proofs.Ahead.{ahead_is, ahead_not}
 use Rattle.ang_parse_class.specs.ReadClass as r

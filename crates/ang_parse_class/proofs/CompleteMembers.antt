@@ -11,10 +11,10 @@ use Rattle.ang_tree.specs.TypeNames.{spelled_handle, spelled_type, FitsHandle, F
 use Rattle.ang_tree.specs.Tree.{Args, arguments, spelled_args, listed, FitsArgs}
 use Rattle.ang_tree.specs.Stmt.{each, Every, Stmts, Body, body, end, then, spelled_stmt, spelled_body, spelled_stmts, FitsBody, FitsStmts}
 use Rattle.ang_tree.specs.Declarations as tree
-use Rattle.ang_read.specs.Read.{and_then, pure, repeat}
-use Rattle.ang_read.specs.Tokens.{a_token, perhaps, is_name, is_left_paren, is_left_brace, is_right_brace, is_semicolon, is_const}
-use Rattle.ang_read.proofs.Tokens.{begins, look_is, look_at, a_token_is, perhaps_is, perhaps_not}
-use Rattle.ang_read.proofs.Loops.{repeat_stops, repeat_goes_on}
+use Rattle.ang_parse_read.specs.Read.{and_then, pure, repeat}
+use Rattle.ang_parse_read.specs.Tokens.{a_token, perhaps, is_name, is_left_paren, is_left_brace, is_right_brace, is_semicolon, is_const}
+use Rattle.ang_parse_read.proofs.Tokens.{begins, look_is, look_at, a_token_is, perhaps_is, perhaps_not}
+use Rattle.ang_parse_read.proofs.Loops.{repeat_stops, repeat_goes_on}
 use Rattle.ang_parse_expr.specs.ReadType.{a_type, type_of}
 use Rattle.ang_parse_expr.specs.ReadExpr.{expr, args}
 use Rattle.ang_parse_expr.proofs.SoundType.{optional-length, type-length}

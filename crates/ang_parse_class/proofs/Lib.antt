@@ -4,4 +4,4 @@ pub mod SoundMembers
 pub mod SoundClass
 pub mod CompleteMembers
 pub mod CompleteClass
-pub mod TameClass
+pub mod PrefixClass

@@ -7,10 +7,10 @@ use Rattle.ang_tree.specs.declared.declaration.BaseName.{BaseName}
 use Rattle.ang_tree.specs.Kinds.{Is, IfWritten, optional}
 use Rattle.ang_tree.specs.Stmt.{each, Every, Filled}
 use Rattle.ang_tree.specs.Declarations as tree
-use Rattle.ang_read.specs.Read.{pure, repeat}
-use Rattle.ang_read.specs.Tokens.{a_token, is_name, is_left_brace, is_right_brace}
-use Rattle.ang_read.proofs.Outcomes.{Reads, and_reads, further, ChoiceReads, look_reads, Turns, repeat_reads_to, From-self, From-one, From-length}
-use Rattle.ang_read.proofs.Tokens.{Always, Token_read, a_token_reads, name_is, left_brace_is, right_brace_is}
+use Rattle.ang_parse_read.specs.Read.{pure, repeat}
+use Rattle.ang_parse_read.specs.Tokens.{a_token, is_name, is_left_brace, is_right_brace}
+use Rattle.ang_parse_read.proofs.Outcomes.{Reads, and_reads, further, ChoiceReads, look_reads, Turns, repeat_reads_to, From-self, From-one, From-length}
+use Rattle.ang_parse_read.proofs.Tokens.{Always, Token_read, a_token_reads, name_is, left_brace_is, right_brace_is}
 use Rattle.ang_parse_stmt.proofs.Ahead.{ahead_reads}
 use Rattle.ang_parse_variables.proofs.SoundVars.{each-one_more, Every-one_more, Filled-one_more}
 use Rattle.ang_parse_class.specs.ReadClass as r

@@ -11,10 +11,10 @@ use Rattle.ang_tree.specs.TypeNames.{spelled_type, FitsType}
 use Rattle.ang_tree.specs.Tree.{spelled_args}
 use Rattle.ang_tree.specs.Stmt.{each, Every, Parted, Filled, spelled_body, spelled_stmts, FitsBody, FitsStmts}
 use Rattle.ang_tree.specs.Declarations as tree
-use Rattle.ang_read.specs.Read.{pure, given, repeat}
-use Rattle.ang_read.specs.Tokens.{a_token, perhaps, is_name, is_left_paren, is_left_brace, is_right_brace, is_semicolon, is_const}
-use Rattle.ang_read.proofs.Outcomes.{Reads, and_reads, along, further, ChoiceReads, look_reads, given_reads, Turns, repeat_reads_to, From-self, From-one, From-length}
-use Rattle.ang_read.proofs.Tokens.{Always, Token_read, a_token_reads, Perhaps_read, written, absent, perhaps_reads, name_is, left_paren_is, left_brace_is, right_brace_is, semicolon_is, const_is}
+use Rattle.ang_parse_read.specs.Read.{pure, given, repeat}
+use Rattle.ang_parse_read.specs.Tokens.{a_token, perhaps, is_name, is_left_paren, is_left_brace, is_right_brace, is_semicolon, is_const}
+use Rattle.ang_parse_read.proofs.Outcomes.{Reads, and_reads, along, further, ChoiceReads, look_reads, given_reads, Turns, repeat_reads_to, From-self, From-one, From-length}
+use Rattle.ang_parse_read.proofs.Tokens.{Always, Token_read, a_token_reads, Perhaps_read, written, absent, perhaps_reads, name_is, left_paren_is, left_brace_is, right_brace_is, semicolon_is, const_is}
 use Rattle.ang_parse_expr.specs.ReadType.{a_type, type_named}
 use Rattle.ang_parse_expr.specs.ReadExpr.{expr, args}
 use Rattle.ang_parse_expr.proofs.SoundType.{Type_read, a_type_reads, type_named_reads}

@@ -10,8 +10,8 @@ use Rattle.ang_tree.specs.Kinds.{access_kind, attribute_kind}
 use Rattle.ang_tree.specs.Tree.{Args}
 use Rattle.ang_tree.specs.Stmt.{Body, Stmts}
 use Rattle.ang_tree.specs.Declarations as tree
-use Rattle.ang_read.specs.Read.{Parser, ◌>>=◌, pure, Choice, given, look, Turn, ready, repeat}
-use Rattle.ang_read.specs.Tokens.{a_token, perhaps, is_name, is_left_paren, is_left_brace, is_right_brace, is_semicolon, is_const}
+use Rattle.ang_parse_read.specs.Read.{Parser, ◌>>=◌, pure, Choice, given, look, Turn, ready, repeat}
+use Rattle.ang_parse_read.specs.Tokens.{a_token, perhaps, is_name, is_left_paren, is_left_brace, is_right_brace, is_semicolon, is_const}
 use Rattle.ang_parse_expr.specs.ReadType.{a_type, type_named}
 use Rattle.ang_parse_expr.specs.ReadExpr.{expr, args}
 use Rattle.ang_parse_stmt.specs.Ahead.{ahead}

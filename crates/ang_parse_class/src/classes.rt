@@ -3,8 +3,8 @@
 //! `limit` bounds the nested calls of expressions and the turns of each loop, `depth` the nested calls
 //! of statements. One more than the number of tokens is always enough for both.
 ghost use Rattle.std.specs.Prelude.{◌≡◌, [], map, Some};
-ghost use Rattle.ang_read.specs.Gives.{Gives};
-ghost use Rattle.ang_read.specs.Read.{repeat};
+ghost use Rattle.ang_parse_read.specs.Gives.{Gives};
+ghost use Rattle.ang_parse_read.specs.Read.{repeat};
 ghost use Rattle.ang_tree.specs.View.{view_member, view_decl};
 ghost use Rattle.ang_parse_class.specs.ReadClass as read;
 
@@ -12,7 +12,7 @@ use crate::build::with_member;
 use crate::headings::heading;
 use crate::members::member;
 use ang_lex::{Token, TokenKind};
-use ang_read::{ReadError, a_right_brace};
+use ang_parse_read::{ReadError, a_right_brace};
 use ang_tree::{Class, Declaration, Member};
 use std::alloc::Global;
 
@@ -99,7 +99,7 @@ pub fn class(
 /// # Errors
 ///
 /// As those of [`class`].
-#[tactic(auto, unfolding(crate::specs::ReadClass::final_class, ang_read::specs::Tokens::a_token))]
+#[tactic(auto, unfolding(crate::specs::ReadClass::final_class, ang_parse_read::specs::Tokens::a_token))]
 pub fn final_class<'a>(
     alloc: Global,
     final_word: Token,

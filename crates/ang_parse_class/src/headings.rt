@@ -2,15 +2,15 @@
 //!
 //! `limit` bounds the turns of each loop. One more than the number of tokens is always enough.
 ghost use Rattle.std.specs.Prelude.{◌≡◌};
-ghost use Rattle.ang_read.specs.Gives.{Gives};
-ghost use Rattle.ang_read.specs.Read.{repeat};
+ghost use Rattle.ang_parse_read.specs.Gives.{Gives};
+ghost use Rattle.ang_parse_read.specs.Read.{repeat};
 ghost use Rattle.ang_parse_class.specs.Parts.{view_heading};
 ghost use Rattle.ang_parse_class.specs.ReadClass as read;
 
 use crate::build::with_base;
 use crate::parts::Heading;
 use ang_lex::{Token, TokenKind};
-use ang_read::{ReadError, a_left_brace, a_name};
+use ang_parse_read::{ReadError, a_left_brace, a_name};
 use ang_tree::BaseName;
 use std::alloc::Global;
 

@@ -2,8 +2,8 @@
 //!
 //! `limit` bounds the turns of each loop. One more than the number of tokens is always enough.
 ghost use Rattle.std.specs.Prelude.{◌≡◌, [], map};
-ghost use Rattle.ang_read.specs.Gives.{Gives};
-ghost use Rattle.ang_read.specs.Read.{repeat};
+ghost use Rattle.ang_parse_read.specs.Gives.{Gives};
+ghost use Rattle.ang_parse_read.specs.Read.{repeat};
 ghost use Rattle.ang_tree.specs.View.{view_method, view_decl};
 ghost use Rattle.ang_parse_class.specs.ReadClass as read;
 
@@ -12,7 +12,7 @@ use crate::headings::heading;
 use ang_lex::{Token, TokenKind};
 use ang_parse_expr::type_name;
 use ang_parse_params::a_parameters;
-use ang_read::{ReadError, a_name, a_right_brace, a_semicolon, perhaps_const};
+use ang_parse_read::{ReadError, a_name, a_right_brace, a_semicolon, perhaps_const};
 use ang_tree::{Declaration, Interface, InterfaceMethod};
 use std::alloc::Global;
 

@@ -3,8 +3,8 @@
 //! `limit` bounds the nested calls of expressions and the turns of each loop, `depth` the nested calls
 //! of statements. One more than the number of tokens is always enough for both.
 ghost use Rattle.std.specs.Prelude.{◌≡◌, [], option_map};
-ghost use Rattle.ang_read.specs.Gives.{Gives};
-ghost use Rattle.ang_read.specs.Read.{repeat};
+ghost use Rattle.ang_parse_read.specs.Gives.{Gives};
+ghost use Rattle.ang_parse_read.specs.Read.{repeat};
 ghost use Rattle.ang_tree.specs.View.{view_member, view_super};
 ghost use Rattle.ang_parse_class.specs.Parts.{view_method_end, view_constructor_end};
 ghost use Rattle.ang_parse_class.specs.ReadClass as read;
@@ -15,10 +15,10 @@ use crate::parts::{ConstructorEnd, MemberStart, MethodEnd};
 use ang_lex::{Token, TokenKind};
 use ang_parse_expr::{arguments, type_name, type_named};
 use ang_parse_params::parameters;
-use ang_parse_stmt::{block, statements};
-use ang_read::{
+use ang_parse_read::{
     ReadError, a_left_brace, a_left_paren, a_name, a_right_brace, a_semicolon, perhaps_const,
 };
+use ang_parse_stmt::{block, statements};
 use ang_tree::{FieldName, Member, SuperCall, TypeName};
 use std::alloc::Global;
 

@@ -7,9 +7,9 @@ use Rattle.ang_tree.specs.declared.type_name.TypeName.{TypeName}
 use Rattle.ang_tree.specs.Kinds.{Is, step_kind, precedence}
 use Rattle.ang_tree.specs.TypeNames.{spelled_type}
 use Rattle.ang_tree.specs.Tree.{Tree, Args, Trees, literal, name, call, scoped_call, cast, convert, group, postfix, member, method_call, prefix, binary, conditional, assignment, arguments, none, more, added, spelled, listed, level, Fits, FitsArgs, AllFit, OthersFit}
-use Rattle.ang_read.specs.Read.{Parser, and_then, repeat}
-use Rattle.ang_read.specs.Tokens.{is_const}
-use Rattle.ang_read.proofs.Loops.{repeat_stops, repeat_goes_on}
+use Rattle.ang_parse_read.specs.Read.{Parser, and_then, repeat}
+use Rattle.ang_parse_read.specs.Tokens.{is_const}
+use Rattle.ang_parse_read.proofs.Loops.{repeat_stops, repeat_goes_on}
 use Rattle.ang_parse_expr.specs.ReadExpr as r
 use Rattle.ang_parse_expr.proofs.Sound.{precedence-top}
 use Rattle.ang_parse_expr.proofs.CompleteType.{is_at, EndsType, type_read}

@@ -7,9 +7,9 @@ use Rattle.ang_tree.specs.declared.type_name.TypeName.{TypeName}
 use Rattle.ang_tree.specs.declared.type_name.Handle.{Handle}
 use Rattle.ang_tree.specs.Kinds.{Is, IsA, IfWritten, optional, type_kind}
 use Rattle.ang_tree.specs.TypeNames.{spelled_handle, spelled_type, FitsHandle, FitsType}
-use Rattle.ang_read.specs.Read.{and_then, pure}
-use Rattle.ang_read.specs.Tokens.{perhaps, is_const}
-use Rattle.ang_read.proofs.Tokens.{look_is, a_token_is, perhaps_is, perhaps_not, begins}
+use Rattle.ang_parse_read.specs.Read.{and_then, pure}
+use Rattle.ang_parse_read.specs.Tokens.{perhaps, is_const}
+use Rattle.ang_parse_read.proofs.Tokens.{look_is, a_token_is, perhaps_is, perhaps_not, begins}
 use Rattle.ang_parse_expr.specs.ReadType as r
 
 abbrev pub is_at : TokenKind → Bool

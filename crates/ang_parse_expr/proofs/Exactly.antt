@@ -2,11 +2,11 @@
 use Rattle.std.proofs.Common.{◌≡◌, ℕ, ◌+◌, ◌<◌, ◌≤◌, List, [], ◌∷◌, length, Some, None, Ok, ap, ◌∙◌, arith}
 use Rattle.ang_lex.specs.declared.token.Token.{Token}
 use Rattle.ang_tree.specs.Tree.{Tree, Args, Trees, literal, name, call, scoped_call, cast, convert, group, postfix, member, method_call, prefix, binary, conditional, assignment, arguments, none, more, spelled, spelled_args, listed, Fits, FitsArgs, AllFit, OthersFit, Spells}
-use Rattle.ang_read.proofs.Whole.{Exact, one_reading}
+use Rattle.ang_parse_read.proofs.Whole.{Exact, one_reading}
 use Rattle.ang_parse_expr.specs.ReadExpr as r
 use Rattle.ang_parse_expr.proofs.SoundType.{optional-length, type-length}
 use Rattle.ang_parse_expr.proofs.Sound.{IsExpr, expr_reads}
-use Rattle.ang_parse_expr.proofs.TameExpr.{expr_tame}
+use Rattle.ang_parse_expr.proofs.PrefixExpr.{expr_prefix}
 use Rattle.ang_parse_expr.proofs.Complete.{size, size_args, size_all, expr_complete}
 
 mutual
@@ -46,7 +46,7 @@ expressions_exact = record {
   reads = λ n ts. expr_reads n 0 ts (omega arith);
   whole = λ ts x such h. record { fits = h.fits; text = h.text };
   again = read_again;
-  tame = λ a z m n le. expr_tame a z m n 0 le;
+  on_prefix = λ a z m n le. expr_prefix a z m n 0 le;
 }
 
 pub one_tree : (x y : Tree) (ts : List Token) → Spells x ts → Spells y ts → x ≡ y

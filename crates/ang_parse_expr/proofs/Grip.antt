@@ -6,8 +6,8 @@ use Rattle.ang_lex.specs.declared.token.TokenKind.{TokenKind}
 use Rattle.ang_lex.specs.declared.token.TokenKind.TheVariants as k
 use Rattle.ang_tree.specs.Kinds.{IsA, literal_kind, primitive_kind, prefix_kind, assignment_kind, precedence}
 use Rattle.ang_tree.specs.Tree.{Tree, literal, name, call, scoped_call, cast, convert, group, postfix, member, method_call, prefix, binary, conditional, assignment, spelled, spelled_args, level, Fits}
-use Rattle.ang_read.specs.Read.{Parser, Choice, look}
-use Rattle.ang_read.proofs.Tokens.{look_at}
+use Rattle.ang_parse_read.specs.Read.{Parser, Choice, look}
+use Rattle.ang_parse_read.proofs.Tokens.{look_at}
 use Rattle.ang_parse_expr.specs.ReadExpr as r
 use Rattle.ang_parse_expr.proofs.Sound.{precedence-top}
 

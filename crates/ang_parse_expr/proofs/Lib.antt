@@ -1,7 +1,7 @@
 pub mod Views
 pub mod SoundType
 pub mod Sound
-pub mod TameExpr
+pub mod PrefixExpr
 pub mod CompleteType
 pub mod Grip
 pub mod Stops

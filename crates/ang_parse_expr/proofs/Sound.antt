@@ -7,10 +7,10 @@ use Rattle.ang_lex.specs.declared.token.TokenKind.TheVariants as k
 use Rattle.ang_tree.specs.Kinds.{Is, IsA, IsComma, optional, literal_kind, primitive_kind, prefix_kind, step_kind, assignment_kind, precedence}
 use Rattle.ang_tree.specs.TypeNames.{spelled_type}
 use Rattle.ang_tree.specs.Tree.{Tree, Args, Trees, literal, name, call, scoped_call, cast, convert, group, postfix, member, method_call, prefix, binary, conditional, assignment, arguments, none, more, added, spelled, spelled_args, listed, level, Fits, FitsArgs, AllFit, OthersFit}
-use Rattle.ang_read.specs.Read.{Parser, pure, ◌>>=◌, refuse, given, repeat}
-use Rattle.ang_read.specs.Tokens.{a_token, is_name, is_left_paren, is_right_paren, is_less, is_greater, is_colon}
-use Rattle.ang_read.proofs.Outcomes.{Reads, and_reads, along, behind, further, ChoiceReads, look_reads, look_or_pass_reads, given_reads, Passes, Turns, repeat_reads, From-self, From-one, From-length}
-use Rattle.ang_read.proofs.Tokens.{Always, Token_read, a_token_reads, name_is, left_paren_is, right_paren_is, less_is, greater_is, colon_is}
+use Rattle.ang_parse_read.specs.Read.{Parser, pure, ◌>>=◌, refuse, given, repeat}
+use Rattle.ang_parse_read.specs.Tokens.{a_token, is_name, is_left_paren, is_right_paren, is_less, is_greater, is_colon}
+use Rattle.ang_parse_read.proofs.Outcomes.{Reads, and_reads, along, behind, further, ChoiceReads, look_reads, look_or_pass_reads, given_reads, Passes, Turns, repeat_reads, From-self, From-one, From-length}
+use Rattle.ang_parse_read.proofs.Tokens.{Always, Token_read, a_token_reads, name_is, left_paren_is, right_paren_is, less_is, greater_is, colon_is}
 use Rattle.ang_parse_expr.specs.ReadType.{a_type}
 use Rattle.ang_parse_expr.specs.ReadExpr as r
 use Rattle.ang_parse_expr.proofs.SoundType.{optional-length, type-length, Type_read, a_type_reads}

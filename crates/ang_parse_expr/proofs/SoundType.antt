@@ -6,10 +6,10 @@ use Rattle.ang_tree.specs.declared.type_name.TypeName.{TypeName}
 use Rattle.ang_tree.specs.declared.type_name.Handle.{Handle}
 use Rattle.ang_tree.specs.Kinds.{IsA, IfWritten, optional, type_kind}
 use Rattle.ang_tree.specs.TypeNames.{spelled_handle, spelled_type, FitsHandle, FitsType}
-use Rattle.ang_read.specs.Read.{pure}
-use Rattle.ang_read.specs.Tokens.{a_token, perhaps, is_const}
-use Rattle.ang_read.proofs.Outcomes.{Reads, and_reads, further, look_reads, ChoiceReads, From-self, From-one}
-use Rattle.ang_read.proofs.Tokens.{Always, Token_read, Perhaps_read, written, absent, a_token_reads, perhaps_reads, const_is}
+use Rattle.ang_parse_read.specs.Read.{pure}
+use Rattle.ang_parse_read.specs.Tokens.{a_token, perhaps, is_const}
+use Rattle.ang_parse_read.proofs.Outcomes.{Reads, and_reads, further, look_reads, ChoiceReads, From-self, From-one}
+use Rattle.ang_parse_read.proofs.Tokens.{Always, Token_read, Perhaps_read, written, absent, a_token_reads, perhaps_reads, const_is}
 use Rattle.ang_parse_expr.specs.ReadType as r
 
 pub optional-length : (o : Option Token) (s : List Token) → length s ≤ length (optional o s)

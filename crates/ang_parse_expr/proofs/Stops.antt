@@ -6,9 +6,9 @@ use Rattle.ang_lex.specs.declared.token.TokenKind.TheVariants as k
 use Rattle.ang_tree.specs.declared.type_name.TypeName.{TypeName}
 use Rattle.ang_tree.specs.Kinds.{Is, IsA, literal_kind, primitive_kind, prefix_kind, step_kind, assignment_kind, precedence}
 use Rattle.ang_tree.specs.Tree.{Tree, Args, Trees, literal, name, call, scoped_call, cast, convert, group, postfix, member, method_call, prefix, binary, conditional, assignment, arguments, none, added}
-use Rattle.ang_read.specs.Read.{Parser, and_then, pure, ◌>>=◌, refuse, given, chosen, look, Turn}
-use Rattle.ang_read.specs.Tokens.{is_name, is_left_paren, is_right_paren, is_less, is_greater, is_colon}
-use Rattle.ang_read.proofs.Tokens.{look_is, look_at, a_token_is, begins}
+use Rattle.ang_parse_read.specs.Read.{Parser, and_then, pure, ◌>>=◌, refuse, given, chosen, look, Turn}
+use Rattle.ang_parse_read.specs.Tokens.{is_name, is_left_paren, is_right_paren, is_less, is_greater, is_colon}
+use Rattle.ang_parse_read.proofs.Tokens.{look_is, look_at, a_token_is, begins}
 use Rattle.ang_parse_expr.specs.ReadType.{a_type}
 use Rattle.ang_parse_expr.specs.ReadExpr as r
 use Rattle.ang_parse_expr.proofs.Grip.{grip, grip_of, opens, opens_by, not_bound, bound}

@@ -5,8 +5,8 @@ use Rattle.ang_lex.specs.declared.token.TokenKind.{TokenKind}
 use Rattle.ang_lex.specs.declared.token.TokenKind.TheVariants as k
 use Rattle.ang_tree.specs.Kinds.{literal_kind, prefix_kind, step_kind, assignment_kind, precedence}
 use Rattle.ang_tree.specs.Tree.{Tree, Args, Trees, literal, name, call, scoped_call, cast, convert, group, postfix, member, method_call, prefix, binary, conditional, assignment, arguments, none, more, added}
-use Rattle.ang_read.specs.Read.{Parser, ◌>>=◌, pure, out_of_depth, Choice, given, look, next, Turn, ready, repeat}
-use Rattle.ang_read.specs.Tokens.{a_token, is_name, is_left_paren, is_right_paren, is_less, is_greater, is_colon}
+use Rattle.ang_parse_read.specs.Read.{Parser, ◌>>=◌, pure, out_of_depth, Choice, given, look, next, Turn, ready, repeat}
+use Rattle.ang_parse_read.specs.Tokens.{a_token, is_name, is_left_paren, is_right_paren, is_less, is_greater, is_colon}
 use Rattle.ang_parse_expr.specs.ReadType.{a_type}
 
 -- An operator that binds so tightly is taken where one of the rule `least` or a tighter one is wanted.

@@ -6,8 +6,8 @@ use Rattle.ang_lex.specs.declared.token.TokenKind.TheVariants as k
 use Rattle.ang_tree.specs.declared.type_name.TypeName.{TypeName}
 use Rattle.ang_tree.specs.declared.type_name.Handle.{Handle}
 use Rattle.ang_tree.specs.Kinds.{type_kind}
-use Rattle.ang_read.specs.Read.{Parser, ◌>>=◌, pure, Choice, look}
-use Rattle.ang_read.specs.Tokens.{a_token, perhaps, is_const}
+use Rattle.ang_parse_read.specs.Read.{Parser, ◌>>=◌, pure, Choice, look}
+use Rattle.ang_parse_read.specs.Tokens.{a_token, perhaps, is_const}
 
 abbrev pub handle_of : Token → Option Token → Handle
 handle_of sign constant = record { at = sign; constant = constant }

@@ -3,8 +3,8 @@
 //! `depth` bounds the nested calls and the turns of each loop. One more than the number of tokens is
 //! always enough.
 ghost use Rattle.std.specs.Prelude.{◌≡◌, ℕ};
-ghost use Rattle.ang_read.specs.Gives.{Gives};
-ghost use Rattle.ang_read.specs.Read.{repeat};
+ghost use Rattle.ang_parse_read.specs.Gives.{Gives};
+ghost use Rattle.ang_parse_read.specs.Read.{repeat};
 ghost use Rattle.ang_tree.specs.View.{view_expr, view_args, view_items};
 ghost use Rattle.ang_parse_expr.specs.ReadExpr as read;
 
@@ -12,7 +12,7 @@ use crate::build::{assignment, binary, conditional, with_argument};
 use crate::kinds::{binds, is_assignment, is_literal, is_prefix, is_step, precedence};
 use crate::types::type_name;
 use ang_lex::{Token, TokenKind};
-use ang_read::{ReadError, a_colon, a_greater, a_left_paren, a_less, a_name, a_right_paren};
+use ang_parse_read::{ReadError, a_colon, a_greater, a_left_paren, a_less, a_name, a_right_paren};
 use ang_tree::{Argument, Arguments, Expression};
 use std::alloc::Global;
 

@@ -1,11 +1,11 @@
 //! Reading types.
 ghost use Rattle.std.specs.Prelude.{◌≡◌, Ok};
-ghost use Rattle.ang_read.specs.Gives.{Gives, NeedsNoMemory};
+ghost use Rattle.ang_parse_read.specs.Gives.{Gives, NeedsNoMemory};
 ghost use Rattle.ang_parse_expr.specs.ReadType as read;
 
 use crate::kinds::is_type_name;
 use ang_lex::{Token, TokenKind};
-use ang_read::{ReadError, perhaps_const};
+use ang_parse_read::{ReadError, perhaps_const};
 use ang_tree::{Handle, TypeName};
 
 /// Reads `[ "@" [ "const" ] ]`.
@@ -45,7 +45,7 @@ pub fn type_named(constant: Option<Token>, name: Token, tokens: &[Token]) -> (Ty
 ///
 /// `Syntax` where no type's name stands in front or behind a `const` there: with the tokens from that place
 /// on. No other error comes.
-#[tactic(auto, unfolding(crate::specs::ReadType::a_type, ang_read::specs::Tokens::a_token))]
+#[tactic(auto, unfolding(crate::specs::ReadType::a_type, ang_parse_read::specs::Tokens::a_token))]
 pub fn type_name(tokens: &[Token]) -> Result<(TypeName, &[Token]), ReadError<'_>>
     ensures reads { Gives (λ x. (x.0, x.1.now)) result (read.a_type tokens.now) }
     ensures no_memory { NeedsNoMemory result }

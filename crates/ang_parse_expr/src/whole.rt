@@ -1,19 +1,19 @@
 //! Parsing all of a list of tokens as one expression.
 ghost use Rattle.std.specs.Prelude.{◌≡◌, List, [], IfOk, IfErr, Ok};
 ghost use Rattle.ang_lex.specs.declared.token.Token.{Token};
-ghost use Rattle.ang_read.specs.Gives.{Gives};
-ghost use Rattle.ang_read.specs.Law.{Faulty, all_of};
+ghost use Rattle.ang_parse_read.specs.Gives.{Gives};
+ghost use Rattle.ang_parse_read.specs.Law.{Faulty, all_of};
 ghost use Rattle.ang_tree.specs.Tree.{Tree, Spells};
 ghost use Rattle.ang_tree.specs.View.{view_expr};
 ghost use Rattle.ang_parse_expr.specs.ReadExpr as read;
 
 use crate::expr::expression;
 use ang_lex::Token;
-use ang_read::ReadError;
+use ang_parse_read::ReadError;
 use ang_tree::Expression;
 use std::alloc::Global;
 
-#[tactic(auto, unfolding(ang_read::specs::Law::all_of))]
+#[tactic(auto, unfolding(ang_parse_read::specs::Law::all_of))]
 fn all(alloc: Global, tokens: &[Token]) -> Result<Expression, ReadError<'_>>
     ensures reads { Gives (λ x. (view_expr x, [])) result (all_of (λ n. read.expr n 0) tokens.now) }
 {

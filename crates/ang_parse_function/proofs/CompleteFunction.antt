@@ -11,12 +11,12 @@ use Rattle.ang_tree.specs.Tree.{Args, Trees, arguments, listed, FitsArgs}
 use Rattle.ang_tree.specs.Stmt.{each, Every, Init, absent, value, constructor, Var, Vars, Body, Stmts, body, spelled_init, spelled_var, spelled_vars, spelled_stmts, FitsInit, FitsVar, FitsVars, FitsBody}
 use Rattle.ang_tree.specs.Declarations.{Params, spelled_params, FitsParams, Decl, spelled_decl, FitsDecl}
 use Rattle.ang_tree.specs.Declarations as decl
-use Rattle.ang_read.specs.Read.{at, deep, Outcome, and_then, pure, ◌>>=◌}
-use Rattle.ang_read.specs.Tokens.{a_token, is_name, is_left_paren, is_left_brace, is_semicolon, is_from, is_text, is_const}
-use Rattle.ang_read.specs.Law.{finish}
-use Rattle.ang_read.specs.Group.{merged, both_at, both}
-use Rattle.ang_read.proofs.Outcomes.{Reads}
-use Rattle.ang_read.proofs.Tokens.{begins, look_is, look_at, a_token_is}
+use Rattle.ang_parse_read.specs.Read.{at, deep, Outcome, and_then, pure, ◌>>=◌}
+use Rattle.ang_parse_read.specs.Tokens.{a_token, is_name, is_left_paren, is_left_brace, is_semicolon, is_from, is_text, is_const}
+use Rattle.ang_parse_read.specs.Law.{finish}
+use Rattle.ang_parse_read.specs.Group.{merged, both_at, both}
+use Rattle.ang_parse_read.proofs.Outcomes.{Reads}
+use Rattle.ang_parse_read.proofs.Tokens.{begins, look_is, look_at, a_token_is}
 use Rattle.ang_parse_expr.proofs.SoundType.{type-length}
 use Rattle.ang_parse_expr.proofs.Grip.{First}
 use Rattle.ang_parse_expr.proofs.CompleteType.{is_at, EndsType, type_read}

@@ -9,10 +9,10 @@ use Rattle.ang_lex.specs.declared.token.Token.{Token}
 use Rattle.ang_lex.specs.declared.token.TokenKind.TheVariants as k
 use Rattle.ang_tree.specs.Kinds.{Is}
 use Rattle.ang_tree.specs.Declarations.{Params}
-use Rattle.ang_read.specs.From.{From}
-use Rattle.ang_read.specs.Read.{at}
-use Rattle.ang_read.specs.Group.{merged}
-use Rattle.ang_read.proofs.Outcomes.{Reads}
+use Rattle.ang_parse_read.specs.From.{From}
+use Rattle.ang_parse_read.specs.Read.{at}
+use Rattle.ang_parse_read.specs.Group.{merged}
+use Rattle.ang_parse_read.proofs.Outcomes.{Reads}
 use Rattle.ang_parse_expr.proofs.Sound.{IsArgs}
 use Rattle.ang_parse_params.proofs.SoundParams.{IsParams}
 use Rattle.ang_parse_function.specs.ReadFunction as r

@@ -12,8 +12,8 @@ use Rattle.ang_tree.specs.TypeNames.{spelled_handle, spelled_type, FitsHandle, F
 use Rattle.ang_tree.specs.Tree.{Tree, Args, Trees, literal, name, call, scoped_call, cast, convert, group, postfix, member, method_call, prefix, binary, conditional, assignment, arguments, none, more, spelled, spelled_args, listed, Fits, FitsArgs, AllFit, OthersFit}
 use Rattle.ang_tree.specs.Stmt.{each, Every}
 use Rattle.ang_tree.specs.Declarations.{Params, spelled_reference, spelled_param, FitsReference, FitsParam, FitsItems, FitsParams}
-use Rattle.ang_read.specs.Group.{fronted, deeper, cut, split}
-use Rattle.ang_read.proofs.TameGroup.{parts}
+use Rattle.ang_parse_read.specs.Group.{fronted, deeper, cut, split}
+use Rattle.ang_parse_read.proofs.PrefixGroup.{parts}
 
 -- ---- what holds no parenthesis, or closes those that it opens
 

@@ -2,4 +2,4 @@ pub mod Groups
 pub mod SoundFunction
 pub mod Faults
 pub mod CompleteFunction
-pub mod TameFunction
+pub mod PrefixFunction

@@ -11,14 +11,14 @@ use Rattle.ang_tree.specs.Tree.{Args}
 use Rattle.ang_tree.specs.Stmt.{constructor, Vars, Body, spelled_body}
 use Rattle.ang_tree.specs.Declarations.{Params, spelled_params, Decl, spelled_decl, FitsDecl}
 use Rattle.ang_tree.specs.Declarations as decl
-use Rattle.ang_read.specs.From.{From}
-use Rattle.ang_read.specs.Read.{at, deep, Outcome, pure, repeat}
-use Rattle.ang_read.specs.Tokens.{a_token, is_name, is_semicolon, is_from, is_text}
-use Rattle.ang_read.specs.Law.{finish}
-use Rattle.ang_read.specs.Group.{split, merged, both}
-use Rattle.ang_read.proofs.Outcomes.{Reads, and_reads, along, further, behind, ChoiceReads, look_reads, From-self, From-one}
-use Rattle.ang_read.proofs.Tokens.{Token_read, a_token_reads, name_is, semicolon_is, from_is, text_is}
-use Rattle.ang_read.proofs.TameGroup.{parts}
+use Rattle.ang_parse_read.specs.From.{From}
+use Rattle.ang_parse_read.specs.Read.{at, deep, Outcome, pure, repeat}
+use Rattle.ang_parse_read.specs.Tokens.{a_token, is_name, is_semicolon, is_from, is_text}
+use Rattle.ang_parse_read.specs.Law.{finish}
+use Rattle.ang_parse_read.specs.Group.{split, merged, both}
+use Rattle.ang_parse_read.proofs.Outcomes.{Reads, and_reads, along, further, behind, ChoiceReads, look_reads, From-self, From-one}
+use Rattle.ang_parse_read.proofs.Tokens.{Token_read, a_token_reads, name_is, semicolon_is, from_is, text_is}
+use Rattle.ang_parse_read.proofs.PrefixGroup.{parts}
 use Rattle.ang_parse_expr.specs.ReadType.{a_type}
 use Rattle.ang_parse_expr.specs.ReadExpr.{expr, args}
 use Rattle.ang_parse_expr.proofs.SoundType.{Type_read, a_type_reads, type-length}

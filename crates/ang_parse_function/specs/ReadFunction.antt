@@ -9,10 +9,10 @@ use Rattle.ang_tree.specs.Tree.{Args}
 use Rattle.ang_tree.specs.Stmt.{constructor}
 use Rattle.ang_tree.specs.Declarations.{Params, Decl}
 use Rattle.ang_tree.specs.Declarations as decl
-use Rattle.ang_read.specs.Read.{Parser, ◌>>=◌, pure, refuse, Choice, look}
-use Rattle.ang_read.specs.Tokens.{a_token, is_name, is_semicolon, is_from, is_text}
-use Rattle.ang_read.specs.Law.{finish}
-use Rattle.ang_read.specs.Group.{both}
+use Rattle.ang_parse_read.specs.Read.{Parser, ◌>>=◌, pure, refuse, Choice, look}
+use Rattle.ang_parse_read.specs.Tokens.{a_token, is_name, is_semicolon, is_from, is_text}
+use Rattle.ang_parse_read.specs.Law.{finish}
+use Rattle.ang_parse_read.specs.Group.{both}
 use Rattle.ang_parse_expr.specs.ReadType.{a_type}
 use Rattle.ang_parse_expr.specs.ReadExpr.{expr, args}
 use Rattle.ang_parse_variables.specs.ReadVars.{variable_of, variables_behind, variables_named}

@@ -3,7 +3,7 @@
 //! `limit` bounds the nested calls of expressions and the turns of each loop, `depth` the nested calls
 //! of statements. One more than the number of tokens is always enough for both.
 ghost use Rattle.std.specs.Prelude.{◌≡◌, option_map};
-ghost use Rattle.ang_read.specs.Gives.{Gives};
+ghost use Rattle.ang_parse_read.specs.Gives.{Gives};
 ghost use Rattle.ang_tree.specs.View.{view_args, view_decl};
 ghost use Rattle.ang_parse_function.specs.Parts.{view_group};
 ghost use Rattle.ang_parse_function.specs.ReadFunction as read;
@@ -11,9 +11,9 @@ ghost use Rattle.ang_parse_function.specs.ReadFunction as read;
 use crate::group::{Group, grouped};
 use ang_lex::{Token, TokenKind};
 use ang_parse_expr::type_name;
+use ang_parse_read::{ReadError, a_name};
 use ang_parse_stmt::block;
 use ang_parse_variables::{variables_behind, variables_named};
-use ang_read::{ReadError, a_name};
 use ang_tree::{Arguments, Declaration, Function, Initializer, TypeName, Variable};
 use std::alloc::Global;
 

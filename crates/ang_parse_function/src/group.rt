@@ -1,10 +1,10 @@
 //! The group of parentheses behind a name, which may be parameters or arguments or both.
 ghost use Rattle.std.specs.Prelude.{◌≡◌, ◌+◌, ◌^◌, ◌<◌, ◌≤◌, length, take, drop, [], Ok, Err};
 ghost use Rattle.ang_lex.specs.declared.token.TokenKind.TheVariants.{LeftParen};
-ghost use Rattle.ang_read.specs.Gives.{Gives};
-ghost use Rattle.ang_read.specs.From.{From};
-ghost use Rattle.ang_read.specs.Group as groups;
-ghost use Rattle.ang_read.specs.Read.{at};
+ghost use Rattle.ang_parse_read.specs.Gives.{Gives};
+ghost use Rattle.ang_parse_read.specs.From.{From};
+ghost use Rattle.ang_parse_read.specs.Group as groups;
+ghost use Rattle.ang_parse_read.specs.Read.{at};
 ghost use Rattle.ang_tree.specs.View.{view_params, view_args};
 ghost use Rattle.ang_parse_function.specs.Parts.{view_group};
 ghost use Rattle.ang_parse_function.specs.ReadFunction as read;
@@ -12,7 +12,7 @@ ghost use Rattle.ang_parse_function.specs.ReadFunction as read;
 use ang_lex::{Token, TokenKind};
 use ang_parse_expr::arguments;
 use ang_parse_params::parameters;
-use ang_read::ReadError;
+use ang_parse_read::ReadError;
 use ang_tree::{Arguments, Parameters};
 use std::alloc::Global;
 
@@ -169,7 +169,7 @@ fn without_parameters<'a>(
 }
 
 /// Reads the group behind the left parenthesis `open`, in both ways.
-#[tactic(auto, unfolding(crate::specs::ReadFunction::group, ang_read::specs::Group::both))]
+#[tactic(auto, unfolding(crate::specs::ReadFunction::group, ang_parse_read::specs::Group::both))]
 pub(crate) fn grouped<'a>(
     alloc: Global,
     open: Token,

@@ -1,14 +1,14 @@
 //! Reading imports: `"import" type NAME params "from" TEXT ";"`.
 //!
 //! `limit` bounds the turns of each loop. One more than the number of tokens is always enough.
-ghost use Rattle.ang_read.specs.Gives.{Gives, NeedsNoMemory};
+ghost use Rattle.ang_parse_read.specs.Gives.{Gives, NeedsNoMemory};
 ghost use Rattle.ang_tree.specs.View.{view_decl};
 ghost use Rattle.ang_parse_function.specs.ReadFunction as read;
 
 use ang_lex::Token;
 use ang_parse_expr::type_name;
 use ang_parse_params::a_parameters;
-use ang_read::{ReadError, a_from, a_name, a_semicolon, a_text};
+use ang_parse_read::{ReadError, a_from, a_name, a_semicolon, a_text};
 use ang_tree::{Declaration, Import};
 use std::alloc::Global;
 

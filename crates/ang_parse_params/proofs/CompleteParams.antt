@@ -11,10 +11,10 @@ use Rattle.ang_tree.specs.Kinds.{Is, IsA, IsComma, IfWritten, IfWrittenA, option
 use Rattle.ang_tree.specs.TypeNames.{spelled_handle, spelled_type, FitsHandle, FitsType}
 use Rattle.ang_tree.specs.Stmt.{each, Every}
 use Rattle.ang_tree.specs.Declarations.{Params, spelled_reference, spelled_param, spelled_params, FitsReference, FitsParam, IsBareVoid, FitsParams}
-use Rattle.ang_read.specs.Read.{and_then, pure, ◌>>=◌, repeat}
-use Rattle.ang_read.specs.Tokens.{a_token, perhaps, is_name, is_left_paren, is_right_paren, is_const}
-use Rattle.ang_read.proofs.Tokens.{begins, look_is, look_at, a_token_is, perhaps_is, perhaps_not}
-use Rattle.ang_read.proofs.Loops.{repeat_stops, repeat_goes_on}
+use Rattle.ang_parse_read.specs.Read.{and_then, pure, ◌>>=◌, repeat}
+use Rattle.ang_parse_read.specs.Tokens.{a_token, perhaps, is_name, is_left_paren, is_right_paren, is_const}
+use Rattle.ang_parse_read.proofs.Tokens.{begins, look_is, look_at, a_token_is, perhaps_is, perhaps_not}
+use Rattle.ang_parse_read.proofs.Loops.{repeat_stops, repeat_goes_on}
 use Rattle.ang_parse_expr.specs.ReadType.{type_of}
 use Rattle.ang_parse_expr.proofs.Stops.{is_comma}
 use Rattle.ang_parse_expr.proofs.CompleteType.{is_at, EndsType, type_named_read, type_read}

@@ -2,12 +2,12 @@
 use Rattle.std.proofs.Common.{◌≡◌, ℕ, ◌<◌, List, [], length, Ok, ap, ◌∙◌, arith}
 use Rattle.ang_lex.specs.declared.token.Token.{Token}
 use Rattle.ang_tree.specs.Declarations.{Params}
-use Rattle.ang_read.proofs.Whole.{Exact, one_reading}
+use Rattle.ang_parse_read.proofs.Whole.{Exact, one_reading}
 use Rattle.ang_parse_params.specs.Params.{SpellsParams}
 use Rattle.ang_parse_params.specs.ReadParams as r
 use Rattle.ang_parse_params.proofs.SoundParams.{IsParams, a_params_reads}
 use Rattle.ang_parse_params.proofs.CompleteParams.{a_params_complete}
-use Rattle.ang_parse_params.proofs.TameParams.{a_params_tame}
+use Rattle.ang_parse_params.proofs.PrefixParams.{a_params_prefix}
 
 read_again : (x : Params) (ts : List Token) (n : ℕ) → SpellsParams x ts → length ts < n → r.a_params n ts ≡ Ok (x, [])
 read_again x ts n h le = ap (r.a_params n) h.text ∙ a_params_complete x n [] h.fits (omega (arith, ap length h.text))
@@ -17,7 +17,7 @@ params_exact = record {
   reads = λ n ts. a_params_reads n n (omega arith) ts;
   whole = λ ts x such h. record { fits = h.fits; text = h.text };
   again = read_again;
-  tame = λ b z m n le. a_params_tame b z m n le;
+  on_prefix = λ b z m n le. a_params_prefix b z m n le;
 }
 
 pub one_tree : (x y : Params) (ts : List Token) → SpellsParams x ts → SpellsParams y ts → x ≡ y

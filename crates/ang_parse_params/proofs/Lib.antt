@@ -1,5 +1,5 @@
 pub mod Lists
 pub mod SoundParams
 pub mod CompleteParams
-pub mod TameParams
+pub mod PrefixParams
 pub mod Exactly

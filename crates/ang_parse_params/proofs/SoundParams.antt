@@ -11,10 +11,10 @@ use Rattle.ang_tree.specs.Kinds.{Is, IsComma, IfWritten, IfWrittenA, optional, d
 use Rattle.ang_tree.specs.TypeNames.{spelled_handle, spelled_type, FitsType}
 use Rattle.ang_tree.specs.Stmt.{each, Every, Parted, Filled}
 use Rattle.ang_tree.specs.Declarations.{Params, spelled_reference, spelled_param, spelled_params, FitsReference, FitsParam, IsBareVoid, FitsParams}
-use Rattle.ang_read.specs.Read.{pure, repeat}
-use Rattle.ang_read.specs.Tokens.{a_token, perhaps, is_name, is_left_paren, is_right_paren}
-use Rattle.ang_read.proofs.Outcomes.{Reads, and_reads, further, ChoiceReads, look_reads, Passes, look_or_pass_reads, Turns, repeat_reads_to, From-self, From-one, From-length}
-use Rattle.ang_read.proofs.Tokens.{Always, Token_read, a_token_reads, Perhaps_read, written, absent, perhaps_reads, begins, name_is, left_paren_is, right_paren_is}
+use Rattle.ang_parse_read.specs.Read.{pure, repeat}
+use Rattle.ang_parse_read.specs.Tokens.{a_token, perhaps, is_name, is_left_paren, is_right_paren}
+use Rattle.ang_parse_read.proofs.Outcomes.{Reads, and_reads, further, ChoiceReads, look_reads, Passes, look_or_pass_reads, Turns, repeat_reads_to, From-self, From-one, From-length}
+use Rattle.ang_parse_read.proofs.Tokens.{Always, Token_read, a_token_reads, Perhaps_read, written, absent, perhaps_reads, begins, name_is, left_paren_is, right_paren_is}
 use Rattle.ang_parse_expr.specs.ReadType.{a_type, type_named}
 use Rattle.ang_parse_expr.proofs.SoundType.{Type_read, a_type_reads, type_named_reads, optional-length, type-length}
 use Rattle.ang_parse_params.specs.ReadParams as r

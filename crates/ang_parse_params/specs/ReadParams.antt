@@ -9,8 +9,8 @@ use Rattle.ang_tree.specs.declared.declaration.Parameter.{Parameter}
 use Rattle.ang_tree.specs.declared.declaration.Reference.{Reference}
 use Rattle.ang_tree.specs.Kinds.{direction_kind}
 use Rattle.ang_tree.specs.Declarations.{Params}
-use Rattle.ang_read.specs.Read.{Parser, ◌>>=◌, pure, Choice, look, Turn, ready, repeat}
-use Rattle.ang_read.specs.Tokens.{a_token, perhaps, is_name, is_left_paren, is_right_paren}
+use Rattle.ang_parse_read.specs.Read.{Parser, ◌>>=◌, pure, Choice, look, Turn, ready, repeat}
+use Rattle.ang_parse_read.specs.Tokens.{a_token, perhaps, is_name, is_left_paren, is_right_paren}
 use Rattle.ang_parse_expr.specs.ReadType.{a_type, type_named}
 
 -- ---- a parameter

@@ -2,21 +2,21 @@
 //!
 //! `limit` bounds the turns of the loop. One more than the number of tokens is always enough.
 ghost use Rattle.std.specs.Prelude.{◌≡◌, ◌++◌, [], ◌∷◌, IfOk, Ok};
-ghost use Rattle.ang_read.specs.Gives.{Gives, NeedsNoMemory};
-ghost use Rattle.ang_read.specs.Read.{repeat};
-ghost use Rattle.ang_read.specs.Tokens.{is_name, perhaps};
+ghost use Rattle.ang_parse_read.specs.Gives.{Gives, NeedsNoMemory};
+ghost use Rattle.ang_parse_read.specs.Read.{repeat};
+ghost use Rattle.ang_parse_read.specs.Tokens.{is_name, perhaps};
 ghost use Rattle.ang_tree.specs.Kinds.{direction_kind};
 ghost use Rattle.ang_tree.specs.View.{view_params};
 ghost use Rattle.ang_parse_params.specs.ReadParams as read;
 
 use ang_lex::{Token, TokenKind};
 use ang_parse_expr::{type_name, type_named};
-use ang_read::{ReadError, a_left_paren, a_right_paren};
+use ang_parse_read::{ReadError, a_left_paren, a_right_paren};
 use ang_tree::{Parameter, Parameters, Reference, TypeName};
 use std::alloc::{AllocError, Global};
 
 /// Reads `in`, `out` or `inout`, if one stands there.
-#[tactic(auto, unfolding(ang_read::specs::Tokens::perhaps))]
+#[tactic(auto, unfolding(ang_parse_read::specs::Tokens::perhaps))]
 fn direction(tokens: &[Token]) -> (Option<Token>, &[Token])
     ensures reads { perhaps direction_kind tokens.now ≡ Ok (result.0, result.1.now) }
 {
@@ -30,7 +30,7 @@ fn direction(tokens: &[Token]) -> (Option<Token>, &[Token])
 }
 
 /// Reads a name, if one stands there.
-#[tactic(auto, unfolding(ang_read::specs::Tokens::perhaps))]
+#[tactic(auto, unfolding(ang_parse_read::specs::Tokens::perhaps))]
 fn perhaps_name(tokens: &[Token]) -> (Option<Token>, &[Token])
     ensures reads { perhaps is_name tokens.now ≡ Ok (result.0, result.1.now) }
 {

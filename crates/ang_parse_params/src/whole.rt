@@ -1,8 +1,8 @@
 //! Parsing all of a list of tokens as parameters.
 ghost use Rattle.std.specs.Prelude.{◌≡◌, List, [], IfOk, IfErr, Ok};
 ghost use Rattle.ang_lex.specs.declared.token.Token.{Token};
-ghost use Rattle.ang_read.specs.Gives.{Gives};
-ghost use Rattle.ang_read.specs.Law.{Faulty, all_of};
+ghost use Rattle.ang_parse_read.specs.Gives.{Gives};
+ghost use Rattle.ang_parse_read.specs.Law.{Faulty, all_of};
 ghost use Rattle.ang_tree.specs.Declarations.{Params};
 ghost use Rattle.ang_tree.specs.View.{view_params};
 ghost use Rattle.ang_parse_params.specs.Params.{SpellsParams};
@@ -10,11 +10,11 @@ ghost use Rattle.ang_parse_params.specs.ReadParams as read;
 
 use crate::params::a_parameters;
 use ang_lex::Token;
-use ang_read::ReadError;
+use ang_parse_read::ReadError;
 use ang_tree::Parameters;
 use std::alloc::Global;
 
-#[tactic(auto, unfolding(ang_read::specs::Law::all_of))]
+#[tactic(auto, unfolding(ang_parse_read::specs::Law::all_of))]
 fn all(alloc: Global, tokens: &[Token]) -> Result<Parameters, ReadError<'_>>
     ensures reads { Gives (λ x. (view_params x, [])) result (all_of read.a_params tokens.now) }
 {

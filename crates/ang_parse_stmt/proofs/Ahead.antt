@@ -2,10 +2,10 @@
 use Rattle.std.proofs.Common.{◌≡◌, ℕ, ◌≤◌, Bool, true, false, List, [], ◌∷◌, ◌++◌, length, refl, ap}
 use Rattle.ang_lex.specs.declared.token.Token.{Token}
 use Rattle.ang_lex.specs.declared.token.TokenKind.{TokenKind}
-use Rattle.ang_read.specs.Read.{Outcome, Parser}
-use Rattle.ang_read.proofs.Outcomes.{Reads}
-use Rattle.ang_read.proofs.Tokens.{begins}
-use Rattle.ang_read.proofs.Tame.{Tame, Agree, Past, Kept, Filled}
+use Rattle.ang_parse_read.specs.Read.{Outcome, Parser}
+use Rattle.ang_parse_read.proofs.Outcomes.{Reads}
+use Rattle.ang_parse_read.proofs.Tokens.{begins}
+use Rattle.ang_parse_read.proofs.DependsOnPrefix.{DependsOnPrefix, Agree, Past, Kept, Filled}
 use Rattle.ang_parse_stmt.specs.Ahead.{one_of, ahead}
 
 -- ---- what is read
@@ -44,17 +44,17 @@ module _ (r z : List Token) where
   one_of_kept true o o' w w' h g = h
   one_of_kept false o o' w w' h g = g
 
-  ahead_common : {A : Type 0} (test : TokenKind → Bool) (p p' q q' : Parser A) → Tame r z p p' → Tame r z q q' → (c : List Token) → Filled c → Agree r z (ahead test p q (c ++ r)) (ahead test p' q' (c ++ z))
+  ahead_common : {A : Type 0} (test : TokenKind → Bool) (p p' q q' : Parser A) → DependsOnPrefix r z p p' → DependsOnPrefix r z q q' → (c : List Token) → Filled c → Agree r z (ahead test p q (c ++ r)) (ahead test p' q' (c ++ z))
   ahead_common test p p' q q' h g [] filled = absurd filled
   ahead_common test p p' q q' h g (t ∷ c) filled = one_of_agrees (test t.kind) (p (t ∷ c ++ r)) (p' (t ∷ c ++ z)) (q (t ∷ c ++ r)) (q' (t ∷ c ++ z)) (h.common (t ∷ c) tt) (g.common (t ∷ c) tt)
 
-  ahead_past : {A : Type 0} (test : TokenKind → Bool) (p p' q q' : Parser A) → Tame r z p p' → Tame r z q q' → (s : List Token) → length s ≤ length r → Past r z (ahead test p q s)
+  ahead_past : {A : Type 0} (test : TokenKind → Bool) (p p' q q' : Parser A) → DependsOnPrefix r z p p' → DependsOnPrefix r z q q' → (s : List Token) → length s ≤ length r → Past r z (ahead test p q s)
   ahead_past test p p' q q' h g [] le = g.past [] le
   ahead_past test p p' q q' h g (t ∷ u) le = one_of_past (test t.kind) (p (t ∷ u)) (q (t ∷ u)) (h.past (t ∷ u) le) (g.past (t ∷ u) le)
 
-  ahead_kept : {A : Type 0} (test : TokenKind → Bool) (p p' q q' : Parser A) → Tame r z p p' → Tame r z q q' → (s : List Token) → Kept (ahead test p q s) (ahead test p' q' s)
+  ahead_kept : {A : Type 0} (test : TokenKind → Bool) (p p' q q' : Parser A) → DependsOnPrefix r z p p' → DependsOnPrefix r z q q' → (s : List Token) → Kept (ahead test p q s) (ahead test p' q' s)
   ahead_kept test p p' q q' h g [] = g.same []
   ahead_kept test p p' q q' h g (t ∷ u) = one_of_kept (test t.kind) (p (t ∷ u)) (p' (t ∷ u)) (q (t ∷ u)) (q' (t ∷ u)) (h.same (t ∷ u)) (g.same (t ∷ u))
 
-  pub tame_ahead : {A : Type 0} (test : TokenKind → Bool) (p p' q q' : Parser A) → Tame r z p p' → Tame r z q q' → Tame r z (ahead test p q) (ahead test p' q')
-  tame_ahead test p p' q q' h g = record { common = ahead_common test p p' q q' h g; past = ahead_past test p p' q q' h g; same = ahead_kept test p p' q q' h g }
+  pub prefix_ahead : {A : Type 0} (test : TokenKind → Bool) (p p' q q' : Parser A) → DependsOnPrefix r z p p' → DependsOnPrefix r z q q' → DependsOnPrefix r z (ahead test p q) (ahead test p' q')
+  prefix_ahead test p p' q q' h g = record { common = ahead_common test p p' q q' h g; past = ahead_past test p p' q q' h g; same = ahead_kept test p p' q q' h g }

@@ -7,10 +7,10 @@ use Rattle.ang_tree.specs.Kinds.{Is, IsA, IfWritten, optional, type_kind}
 use Rattle.ang_tree.specs.Tree.{Tree, Trees, none, more, spelled, listed, Fits, AllFit}
 use Rattle.ang_tree.specs.View.{Branch}
 use Rattle.ang_tree.specs.Stmt.{Vars, Start, with_variables, with_expression, Stmt, Body, Stmts, block, variables, expression, break, continue, return, when, either, while, do_while, for, body, end, then, added_stmt, spelled_option, spelled_start, spelled_stmt, spelled_stmts, open_if, FitsOption, FitsStart, FitsStmt, FitsBody, FitsStmts}
-use Rattle.ang_read.specs.Read.{Parser, and_then, pure, repeat}
-use Rattle.ang_read.specs.Tokens.{is_left_paren, is_right_paren, is_right_brace, is_semicolon, is_while}
-use Rattle.ang_read.proofs.Tokens.{begins, look_is, look_at, a_token_is}
-use Rattle.ang_read.proofs.Loops.{repeat_stops, repeat_goes_on}
+use Rattle.ang_parse_read.specs.Read.{Parser, and_then, pure, repeat}
+use Rattle.ang_parse_read.specs.Tokens.{is_left_paren, is_right_paren, is_right_brace, is_semicolon, is_while}
+use Rattle.ang_parse_read.proofs.Tokens.{begins, look_is, look_at, a_token_is}
+use Rattle.ang_parse_read.proofs.Loops.{repeat_stops, repeat_goes_on}
 use Rattle.ang_parse_expr.specs.ReadExpr.{expr, expressions}
 use Rattle.ang_parse_expr.proofs.Sound.{spelled-length, listed-length}
 use Rattle.ang_parse_expr.proofs.Grip.{starter_kind, First, starts, passed}

@@ -2,6 +2,6 @@ pub mod Ahead
 pub mod Lengths
 pub mod SoundStmt
 pub mod CompleteStmt
-pub mod TameStmt
+pub mod PrefixStmt
 pub mod Exactly
 pub mod Views

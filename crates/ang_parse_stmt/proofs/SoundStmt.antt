@@ -7,10 +7,10 @@ use Rattle.ang_tree.specs.Kinds.{Is}
 use Rattle.ang_tree.specs.Tree.{Trees, spelled, listed, Fits, AllFit}
 use Rattle.ang_tree.specs.View.{Branch}
 use Rattle.ang_tree.specs.Stmt.{Start, with_variables, with_expression, Stmt, Body, Stmts, block, break, continue, return, body, end, then, added_stmt, spelled_option, spelled_start, spelled_stmt, spelled_body, spelled_stmts, open_if, FitsOption, FitsStart, FitsStmt, FitsBody, FitsStmts}
-use Rattle.ang_read.specs.Read.{Parser, pure}
-use Rattle.ang_read.specs.Tokens.{a_token, is_left_paren, is_right_paren, is_right_brace, is_semicolon, is_while}
-use Rattle.ang_read.proofs.Outcomes.{Reads, and_reads, along, behind, further, ChoiceReads, look_reads, look_or_pass_reads, Passes, Turns, repeat_reads_to, From-self, From-one}
-use Rattle.ang_read.proofs.Tokens.{Always, begins, Token_read, a_token_reads, left_paren_is, right_paren_is, right_brace_is, semicolon_is, while_is}
+use Rattle.ang_parse_read.specs.Read.{Parser, pure}
+use Rattle.ang_parse_read.specs.Tokens.{a_token, is_left_paren, is_right_paren, is_right_brace, is_semicolon, is_while}
+use Rattle.ang_parse_read.proofs.Outcomes.{Reads, and_reads, along, behind, further, ChoiceReads, look_reads, look_or_pass_reads, Passes, Turns, repeat_reads_to, From-self, From-one}
+use Rattle.ang_parse_read.proofs.Tokens.{Always, begins, Token_read, a_token_reads, left_paren_is, right_paren_is, right_brace_is, semicolon_is, while_is}
 use Rattle.ang_parse_expr.specs.ReadExpr.{expr, expressions}
 use Rattle.ang_parse_expr.proofs.Sound.{IsExpr, AreListed, expressions_at_reads}
 use Rattle.ang_parse_variables.specs.ReadVars.{ended, start}

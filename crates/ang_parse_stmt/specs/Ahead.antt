@@ -1,7 +1,7 @@
 -- Looking at the next token without taking it.
 use Rattle.std.specs.Prelude.{Bool, true, false, [], ◌∷◌}
 use Rattle.ang_lex.specs.declared.token.TokenKind.{TokenKind}
-use Rattle.ang_read.specs.Read.{Outcome, Parser}
+use Rattle.ang_parse_read.specs.Read.{Outcome, Parser}
 
 abbrev pub one_of : {A : Type 0} → Bool → Outcome A → Outcome A → Outcome A
 one_of true o w = o

@@ -6,8 +6,8 @@ use Rattle.ang_lex.specs.declared.token.TokenKind.TheVariants as k
 use Rattle.ang_tree.specs.Tree.{Tree, Trees, none}
 use Rattle.ang_tree.specs.Stmt.{Start, with_variables, with_expression, Stmt, Body, Stmts, block, variables, expression, break, continue, return, while, do_while, for, body, end, added_stmt}
 use Rattle.ang_tree.specs.View.{Branch, conditional_of}
-use Rattle.ang_read.specs.Read.{Parser, ◌>>=◌, pure, out_of_depth, Choice, look, Turn, ready, repeat}
-use Rattle.ang_read.specs.Tokens.{a_token, is_left_paren, is_right_paren, is_right_brace, is_semicolon, is_while}
+use Rattle.ang_parse_read.specs.Read.{Parser, ◌>>=◌, pure, out_of_depth, Choice, look, Turn, ready, repeat}
+use Rattle.ang_parse_read.specs.Tokens.{a_token, is_left_paren, is_right_paren, is_right_brace, is_semicolon, is_while}
 use Rattle.ang_parse_expr.specs.ReadExpr.{expr, expressions}
 use Rattle.ang_parse_stmt.specs.Ahead.{ahead}
 use Rattle.ang_parse_variables.specs.ReadVars.{ended, start}

@@ -1,16 +1,15 @@
 //! Statements made of their parts.
 ghost use Rattle.std.specs.Prelude.{◌≡◌, option_map, IfOk};
 ghost use Rattle.ang_tree.specs.Stmt as tree;
-ghost use Rattle.ang_tree.specs.View.{view_stmt, view_stmts, view_else, view_start};
-ghost use Rattle.ang_parse_stmt.specs.Parts.{view_ending, view_head, view_guarded};
+ghost use Rattle.ang_tree.specs.View.{view_body, view_stmt, view_stmts, view_else, view_start, guarded_of, while_of, do_while_of, for_of};
 ghost use Rattle.ang_parse_stmt.specs.ReadStmt as read;
 
-use crate::parts::{Ending, Guarded, Head};
 use ang_lex::Token;
-use ang_tree::{Else, ForStart, Statement};
-use std::alloc::AllocError;
+use ang_tree::{Block, Else, Ending, ForStart, Guard, Head, Simple, Statement};
+use std::alloc::{AllocError, Global};
 
 /// The list with one more statement at its end.
+#[inline(never)]
 pub(crate) fn with_statement(
     first: Vec<Statement>,
     next: Statement,
@@ -23,97 +22,81 @@ pub(crate) fn with_statement(
 }
 
 /// Variables, or an expression, as a statement.
-pub(crate) fn simple(start: ForStart) -> Statement
-    ensures exact { view_stmt result ≡ read.simple_of (view_start start) }
+pub(crate) fn simple(alloc: Global, start: ForStart) -> Result<Statement, AllocError>
+    ensures exact { IfOk result (λ s. view_stmt s ≡ read.simple_of (view_start start)) }
 {
     match start {
-        ForStart::Variables(variables) => Statement::Variables(variables),
-        ForStart::Expression { value, semicolon } => Statement::Expression { value, semicolon },
+        ForStart::Variables(variables) => {
+            let found = Box::new(alloc, variables)?;
+            Ok(Statement::Variables(found))
+        }
+        ForStart::Expression { value, semicolon } => {
+            let found = Box::new(alloc, Simple { value, semicolon })?;
+            Ok(Statement::Expression(found))
+        }
     }
 }
 
 /// The other branch of an `if`.
-pub(crate) fn other_branch(word: Token, branch: Box<Statement>) -> Else
+fn else_of(word: Token, branch: Box<Statement>) -> Else
     ensures exact { view_else result ≡ (word, view_stmt branch.value) }
 {
     Else { word, branch }
 }
 
-/// An `if`.
-pub(crate) fn conditional(word: Token, guarded: Guarded, otherwise: Option<Else>) -> Statement
-    ensures exact { view_stmt result ≡ read.branched word (view_guarded guarded) (option_map view_else otherwise) }
+/// The other branch of an `if`, in a box.
+#[inline(never)]
+pub(crate) fn other_branch(
+    alloc: Global,
+    word: &Token,
+    branch: Box<Statement>,
+) -> Result<Box<Else>, AllocError>
+    ensures exact { IfOk result (λ e. view_else e.value ≡ (word.now, view_stmt branch.value)) }
 {
-    let Guarded {
-        condition,
-        statement: then,
-    } = guarded;
+    let found = Box::new(alloc, else_of(*word, branch))?;
+    Ok(found)
+}
+
+/// An `if`.
+pub(crate) fn conditional(
+    head: Box<Guard>,
+    then: Box<Statement>,
+    otherwise: Option<Box<Else>>,
+) -> Statement
+    ensures exact { view_stmt result ≡ guarded_of head.value (view_stmt «then».value) (option_map (λ e. view_else e.value) otherwise) }
+{
     Statement::If {
-        word,
-        open: condition.open,
-        condition: condition.value,
-        close: condition.close,
+        head,
         then,
         otherwise,
     }
 }
 
 /// A `while`.
-pub(crate) fn while_loop(word: Token, guarded: Guarded) -> Statement
-    ensures exact { view_stmt result ≡ read.while_of word (view_guarded guarded) }
+pub(crate) fn while_loop(head: Box<Guard>, body: Box<Statement>) -> Statement
+    ensures exact { view_stmt result ≡ while_of head.value (view_stmt body.value) }
 {
-    let Guarded {
-        condition,
-        statement: body,
-    } = guarded;
-    Statement::While {
-        word,
-        open: condition.open,
-        condition: condition.value,
-        close: condition.close,
-        body,
-    }
+    Statement::While { head, body }
 }
 
 /// A `do`.
-pub(crate) fn do_loop(word: Token, body: Box<Statement>, ending: Ending) -> Statement
-    ensures exact { view_stmt result ≡ read.do_while_of word (view_stmt body.value) (view_ending ending) }
+pub(crate) fn do_loop(body: Box<Statement>, ending: Box<Ending>) -> Statement
+    ensures exact { view_stmt result ≡ do_while_of (view_stmt body.value) ending.value }
 {
-    let Ending {
-        word: while_word,
-        condition,
-        semicolon,
-    } = ending;
-    Statement::DoWhile {
-        word,
-        body,
-        while_word,
-        open: condition.open,
-        condition: condition.value,
-        close: condition.close,
-        semicolon,
-    }
+    Statement::DoWhile { body, ending }
 }
 
 /// A `for`.
-pub(crate) fn for_loop(word: Token, head: Head, body: Box<Statement>) -> Statement
-    ensures exact { view_stmt result ≡ read.for_of word (view_head head) (view_stmt body.value) }
+pub(crate) fn for_loop(head: Box<Head>, body: Box<Statement>) -> Statement
+    ensures exact { view_stmt result ≡ for_of head.value (view_stmt body.value) }
 {
-    let Head {
-        open,
-        start,
-        condition,
-        semicolon,
-        steps,
-        close,
-    } = head;
-    Statement::For {
-        word,
-        open,
-        start,
-        condition,
-        semicolon,
-        steps,
-        close,
-        body,
-    }
+    Statement::For { head, body }
+}
+
+/// A block.
+pub(crate) fn whole_block(alloc: Global, found: Block) -> Result<Statement, AllocError>
+    ensures exact { IfOk result (λ s. view_stmt s ≡ tree.block (view_body found)) }
+{
+    let found = Box::new(alloc, found)?;
+    Ok(Statement::Block(found))
 }

@@ -3,59 +3,86 @@
 //!
 //! `limit` bounds the nested calls of expressions and the turns of each loop, `depth` the nested calls
 //! of statements.
-ghost use Rattle.std.specs.Prelude.{◌≡◌, option_map};
-ghost use Rattle.ang_read.specs.Gives.{Gives, NeedsNoMemory};
-ghost use Rattle.ang_read.specs.Read.{repeat};
+//!
+//! Statements nest as deep as a script is long, and the stack has to do for all of them. So what has no
+//! statement inside is read by functions that are never inlined, and a part that waits for a statement
+//! inside is in a box, which is let go by a call and not by a `?`: see `parts`.
+ghost use Rattle.std.specs.Prelude.{◌≡◌, option_map, IfOk};
+ghost use Rattle.ang_parse_read.specs.Gives.{Gives};
+ghost use Rattle.ang_parse_read.specs.Read.{repeat};
 ghost use Rattle.ang_tree.specs.View.{view_stmt, view_stmts, view_body, view_else, view_items};
 ghost use Rattle.ang_parse_stmt.specs.Parts.{view_condition, view_ending, view_head, view_guarded};
 ghost use Rattle.ang_parse_stmt.specs.ReadStmt as read;
 
 use crate::build;
-use crate::parts::{Condition, Ending, Guarded, Head};
+use crate::parts::{Guarded, let_go_of_guard, let_go_of_guarded, let_go_of_head};
 use ang_lex::{Token, TokenKind};
 use ang_parse_expr::{expression, expressions};
+use ang_parse_read::{ReadError, a_left_paren, a_right_brace, a_right_paren, a_semicolon, a_while};
 use ang_parse_variables::{ended, start};
-use ang_read::{ReadError, a_left_paren, a_right_brace, a_right_paren, a_semicolon, a_while};
-use ang_tree::{Argument, Block, Else, Statement};
+use ang_tree::{Argument, Block, Else, Ending, Guard, Head, Jump, Returned, Statement};
 use std::alloc::Global;
 
-/// Reads `"(" assign ")"`.
+/// Reads `"(" assign ")"` behind the word, `if` or `while`, which the guard keeps.
 #[tactic(auto, unfolding(crate::specs::ReadStmt::condition))]
-fn condition(
+#[inline(never)]
+fn guard<'a>(
     alloc: Global,
-    tokens: &[Token],
+    word: &Token,
+    tokens: &'a [Token],
     limit: usize,
-) -> Result<(Condition, &[Token]), ReadError<'_>>
-    ensures reads { Gives (λ x. (view_condition x.0, x.1.now)) result (read.condition limit tokens.now) }
+) -> Result<(Box<Guard>, &'a [Token]), ReadError<'a>>
+    ensures reads { Gives (λ x. (view_condition x.0.value, x.1.now)) result (read.condition limit tokens.now) }
+    ensures same { IfOk result (λ x. x.0.value.word ≡ word.now) }
 {
     let (open, rest) = a_left_paren(tokens)?;
-    let (value, rest) = expression(alloc, rest, limit, 0)?;
+    let (condition, rest) = expression(alloc, rest, limit, 0)?;
     let (close, rest) = a_right_paren(rest)?;
-    Ok((Condition { open, value, close }, rest))
+    let found = Box::new(
+        alloc,
+        Guard {
+            word: *word,
+            open,
+            condition,
+            close,
+        },
+    )?;
+    Ok((found, rest))
 }
 
-/// Reads the end of a `do`.
-#[tactic(auto, unfolding(crate::specs::ReadStmt::ending))]
-fn ending(
+/// Reads `"while" "(" assign ")" ";"`, the end of a `do`. The word `do` is read already, and the ending
+/// keeps it.
+#[tactic(auto, unfolding(crate::specs::ReadStmt::ending, crate::specs::ReadStmt::condition))]
+#[inline(never)]
+fn ending<'a>(
     alloc: Global,
-    tokens: &[Token],
+    word: &Token,
+    tokens: &'a [Token],
     limit: usize,
-) -> Result<(Ending, &[Token]), ReadError<'_>>
-    ensures reads { Gives (λ x. (view_ending x.0, x.1.now)) result (read.ending limit tokens.now) }
+) -> Result<(Box<Ending>, &'a [Token]), ReadError<'a>>
+    ensures reads { Gives (λ x. (view_ending x.0.value, x.1.now)) result (read.ending limit tokens.now) }
+    ensures same { IfOk result (λ x. x.0.value.word ≡ word.now) }
 {
-    let (word, rest) = a_while(tokens)?;
-    let (condition, rest) = condition(alloc, rest, limit)?;
+    let (while_word, rest) = a_while(tokens)?;
+    let (open, rest) = a_left_paren(rest)?;
+    let (condition, rest) = expression(alloc, rest, limit, 0)?;
+    let (close, rest) = a_right_paren(rest)?;
     let (semicolon, rest) = a_semicolon(rest)?;
-    Ok((
+    let found = Box::new(
+        alloc,
         Ending {
-            word,
+            word: *word,
+            while_word,
+            open,
             condition,
+            close,
             semicolon,
         },
-        rest,
-    ))
+    )?;
+    Ok((found, rest))
 }
 
+/// Reads the steps of a `for`, at least one, and the right parenthesis.
 #[tactic(auto, unfolding(crate::specs::ReadStmt::some_steps))]
 fn some_steps(
     alloc: Global,
@@ -69,7 +96,7 @@ fn some_steps(
     Ok(((steps, close), rest))
 }
 
-/// Reads the steps of a `for` and the right parenthesis.
+/// Reads the steps of a `for`, of which there may be none, and the right parenthesis.
 #[tactic(auto, unfolding(crate::specs::ReadStmt::steps))]
 fn steps(
     alloc: Global,
@@ -86,17 +113,26 @@ fn steps(
     }
 }
 
-/// Reads the head of a `for`.
+/// Reads the head of a `for`, behind the word, which the head keeps.
 #[tactic(auto, unfolding(crate::specs::ReadStmt::head))]
-fn head(alloc: Global, tokens: &[Token], limit: usize) -> Result<(Head, &[Token]), ReadError<'_>>
-    ensures reads { Gives (λ x. (view_head x.0, x.1.now)) result (read.head limit tokens.now) }
+#[inline(never)]
+fn head<'a>(
+    alloc: Global,
+    word: &Token,
+    tokens: &'a [Token],
+    limit: usize,
+) -> Result<(Box<Head>, &'a [Token]), ReadError<'a>>
+    ensures reads { Gives (λ x. (view_head x.0.value, x.1.now)) result (read.head limit tokens.now) }
+    ensures same { IfOk result (λ x. x.0.value.word ≡ word.now) }
 {
     let (open, rest) = a_left_paren(tokens)?;
     let (start, rest) = start(alloc, rest, limit)?;
     let ((condition, semicolon), rest) = ended(alloc, rest, limit)?;
     let ((steps, close), rest) = steps(alloc, rest, limit)?;
-    Ok((
+    let found = Box::new(
+        alloc,
         Head {
+            word: *word,
             open,
             start,
             condition,
@@ -104,11 +140,13 @@ fn head(alloc: Global, tokens: &[Token], limit: usize) -> Result<(Head, &[Token]
             steps,
             close,
         },
-        rest,
-    ))
+    )?;
+    Ok((found, rest))
 }
 
+/// Reads variables, or an expression for what it does, with the semicolon.
 #[tactic(auto, unfolding(crate::specs::ReadStmt::simple))]
+#[inline(never)]
 fn simple(
     alloc: Global,
     tokens: &[Token],
@@ -117,48 +155,72 @@ fn simple(
     ensures reads { Gives (λ x. (view_stmt x.0, x.1.now)) result (read.simple limit tokens.now) }
 {
     let (start, rest) = start(alloc, tokens, limit)?;
-    Ok((build::simple(start), rest))
+    Ok((build::simple(alloc, start)?, rest))
 }
 
 /// Reads what stands behind the word `break`.
 #[tactic(auto, unfolding(crate::specs::ReadStmt::broken))]
-fn broken(word: Token, tokens: &[Token]) -> Result<(Statement, &[Token]), ReadError<'_>>
-    ensures reads { Gives (λ x. (view_stmt x.0, x.1.now)) result (read.broken word tokens.now) }
-    ensures no_memory { NeedsNoMemory result }
+#[inline(never)]
+fn broken<'a>(
+    alloc: Global,
+    word: &Token,
+    tokens: &'a [Token],
+) -> Result<(Statement, &'a [Token]), ReadError<'a>>
+    ensures reads { Gives (λ x. (view_stmt x.0, x.1.now)) result (read.broken word.now tokens.now) }
 {
     let (semicolon, rest) = a_semicolon(tokens)?;
-    Ok((Statement::Break { word, semicolon }, rest))
+    let found = Box::new(
+        alloc,
+        Jump {
+            word: *word,
+            semicolon,
+        },
+    )?;
+    Ok((Statement::Break(found), rest))
 }
 
 /// Reads what stands behind the word `continue`.
 #[tactic(auto, unfolding(crate::specs::ReadStmt::continued))]
-fn continued(word: Token, tokens: &[Token]) -> Result<(Statement, &[Token]), ReadError<'_>>
-    ensures reads { Gives (λ x. (view_stmt x.0, x.1.now)) result (read.continued word tokens.now) }
-    ensures no_memory { NeedsNoMemory result }
+#[inline(never)]
+fn continued<'a>(
+    alloc: Global,
+    word: &Token,
+    tokens: &'a [Token],
+) -> Result<(Statement, &'a [Token]), ReadError<'a>>
+    ensures reads { Gives (λ x. (view_stmt x.0, x.1.now)) result (read.continued word.now tokens.now) }
 {
     let (semicolon, rest) = a_semicolon(tokens)?;
-    Ok((Statement::Continue { word, semicolon }, rest))
+    let found = Box::new(
+        alloc,
+        Jump {
+            word: *word,
+            semicolon,
+        },
+    )?;
+    Ok((Statement::Continue(found), rest))
 }
 
 /// Reads what stands behind the word `return`.
 #[tactic(auto, unfolding(crate::specs::ReadStmt::returned))]
-fn returned(
+#[inline(never)]
+fn returned<'a>(
     alloc: Global,
-    word: Token,
-    tokens: &[Token],
+    word: &Token,
+    tokens: &'a [Token],
     limit: usize,
-) -> Result<(Statement, &[Token]), ReadError<'_>>
-    ensures reads { Gives (λ x. (view_stmt x.0, x.1.now)) result (read.returned limit word tokens.now) }
+) -> Result<(Statement, &'a [Token]), ReadError<'a>>
+    ensures reads { Gives (λ x. (view_stmt x.0, x.1.now)) result (read.returned limit word.now tokens.now) }
 {
     let ((value, semicolon), rest) = ended(alloc, tokens, limit)?;
-    Ok((
-        Statement::Return {
-            word,
+    let found = Box::new(
+        alloc,
+        Returned {
+            word: *word,
             value,
             semicolon,
         },
-        rest,
-    ))
+    )?;
+    Ok((Statement::Return(found), rest))
 }
 
 /// Reads one more statement, where no right brace stands.
@@ -231,7 +293,7 @@ pub(crate) fn block<'a>(
     ))
 }
 
-/// Reads a statement to be a part of another.
+/// Reads a statement to be a part of another, and puts it into its box.
 #[cycle(statement)]
 fn inner_statement(
     alloc: Global,
@@ -246,26 +308,27 @@ fn inner_statement(
     Ok((found, rest))
 }
 
-/// Reads `"(" assign ")" stmt`.
+/// Reads `"(" assign ")" stmt` behind the word, `if` or `while`, which the guard keeps.
 #[cycle(statement)]
 #[tactic(auto, unfolding(crate::specs::ReadStmt::guarded))]
-fn guarded(
+fn guarded<'a>(
     alloc: Global,
-    tokens: &[Token],
+    word: &Token,
+    tokens: &'a [Token],
     depth: usize,
     limit: usize,
-) -> Result<(Guarded, &[Token]), ReadError<'_>>
+) -> Result<(Guarded, &'a [Token]), ReadError<'a>>
     ensures reads { Gives (λ x. (view_guarded x.0, x.1.now)) result (read.guarded (read.stmt depth limit) limit tokens.now) }
+    ensures same { IfOk result (λ x. x.0.head.value.word ≡ word.now) }
 {
-    let (condition, rest) = condition(alloc, tokens, limit)?;
-    let (statement, rest) = inner_statement(alloc, rest, depth, limit)?;
-    Ok((
-        Guarded {
-            condition,
-            statement,
-        },
-        rest,
-    ))
+    let (head, rest) = guard(alloc, word, tokens, limit)?;
+    match inner_statement(alloc, rest, depth, limit) {
+        Ok((statement, rest)) => Ok((Guarded { head, statement }, rest)),
+        Err(error) => {
+            let_go_of_guard(head);
+            Err(error)
+        }
+    }
 }
 
 /// Reads `"else" stmt`, where the word stands.
@@ -276,13 +339,13 @@ fn otherwise(
     tokens: &[Token],
     depth: usize,
     limit: usize,
-) -> Result<(Option<Else>, &[Token]), ReadError<'_>>
-    ensures reads { Gives (λ x. (option_map view_else x.0, x.1.now)) result (read.otherwise (read.stmt depth limit) limit tokens.now) }
+) -> Result<(Option<Box<Else>>, &[Token]), ReadError<'_>>
+    ensures reads { Gives (λ x. (option_map (λ e. view_else e.value) x.0, x.1.now)) result (read.otherwise (read.stmt depth limit) limit tokens.now) }
 {
     match tokens {
         [word, rest @ ..] if matches!(word.kind, TokenKind::Else) => {
             let (branch, rest) = inner_statement(alloc, rest, depth, limit)?;
-            Ok((Some(build::other_branch(*word, branch)), rest))
+            Ok((Some(build::other_branch(alloc, word, branch)?), rest))
         }
         _ => Ok((None, tokens)),
     }
@@ -293,16 +356,24 @@ fn otherwise(
 #[tactic(auto, unfolding(crate::specs::ReadStmt::conditional))]
 fn conditional<'a>(
     alloc: Global,
-    word: Token,
+    word: &Token,
     tokens: &'a [Token],
     depth: usize,
     limit: usize,
 ) -> Result<(Statement, &'a [Token]), ReadError<'a>>
-    ensures reads { Gives (λ x. (view_stmt x.0, x.1.now)) result (read.conditional (read.stmt depth limit) limit word tokens.now) }
+    ensures reads { Gives (λ x. (view_stmt x.0, x.1.now)) result (read.conditional (read.stmt depth limit) limit word.now tokens.now) }
 {
-    let (guarded, rest) = guarded(alloc, tokens, depth, limit)?;
-    let (otherwise, rest) = otherwise(alloc, rest, depth, limit)?;
-    Ok((build::conditional(word, guarded, otherwise), rest))
+    let (guarded, rest) = guarded(alloc, word, tokens, depth, limit)?;
+    match otherwise(alloc, rest, depth, limit) {
+        Ok((otherwise, rest)) => Ok((
+            build::conditional(guarded.head, guarded.statement, otherwise),
+            rest,
+        )),
+        Err(error) => {
+            let_go_of_guarded(guarded);
+            Err(error)
+        }
+    }
 }
 
 /// Reads what stands behind the word `while`.
@@ -310,15 +381,15 @@ fn conditional<'a>(
 #[tactic(auto, unfolding(crate::specs::ReadStmt::while_loop))]
 fn while_loop<'a>(
     alloc: Global,
-    word: Token,
+    word: &Token,
     tokens: &'a [Token],
     depth: usize,
     limit: usize,
 ) -> Result<(Statement, &'a [Token]), ReadError<'a>>
-    ensures reads { Gives (λ x. (view_stmt x.0, x.1.now)) result (read.while_loop (read.stmt depth limit) limit word tokens.now) }
+    ensures reads { Gives (λ x. (view_stmt x.0, x.1.now)) result (read.while_loop (read.stmt depth limit) limit word.now tokens.now) }
 {
-    let (guarded, rest) = guarded(alloc, tokens, depth, limit)?;
-    Ok((build::while_loop(word, guarded), rest))
+    let (Guarded { head, statement }, rest) = guarded(alloc, word, tokens, depth, limit)?;
+    Ok((build::while_loop(head, statement), rest))
 }
 
 /// Reads what stands behind the word `do`.
@@ -326,16 +397,16 @@ fn while_loop<'a>(
 #[tactic(auto, unfolding(crate::specs::ReadStmt::do_loop))]
 fn do_loop<'a>(
     alloc: Global,
-    word: Token,
+    word: &Token,
     tokens: &'a [Token],
     depth: usize,
     limit: usize,
 ) -> Result<(Statement, &'a [Token]), ReadError<'a>>
-    ensures reads { Gives (λ x. (view_stmt x.0, x.1.now)) result (read.do_loop (read.stmt depth limit) limit word tokens.now) }
+    ensures reads { Gives (λ x. (view_stmt x.0, x.1.now)) result (read.do_loop (read.stmt depth limit) limit word.now tokens.now) }
 {
     let (body, rest) = inner_statement(alloc, tokens, depth, limit)?;
-    let (ending, rest) = ending(alloc, rest, limit)?;
-    Ok((build::do_loop(word, body, ending), rest))
+    let (ending, rest) = ending(alloc, word, rest, limit)?;
+    Ok((build::do_loop(body, ending), rest))
 }
 
 /// Reads what stands behind the word `for`.
@@ -343,56 +414,62 @@ fn do_loop<'a>(
 #[tactic(auto, unfolding(crate::specs::ReadStmt::for_loop))]
 fn for_loop<'a>(
     alloc: Global,
-    word: Token,
+    word: &Token,
     tokens: &'a [Token],
     depth: usize,
     limit: usize,
 ) -> Result<(Statement, &'a [Token]), ReadError<'a>>
-    ensures reads { Gives (λ x. (view_stmt x.0, x.1.now)) result (read.for_loop (read.stmt depth limit) limit word tokens.now) }
+    ensures reads { Gives (λ x. (view_stmt x.0, x.1.now)) result (read.for_loop (read.stmt depth limit) limit word.now tokens.now) }
 {
-    let (head, rest) = head(alloc, tokens, limit)?;
-    let (body, rest) = inner_statement(alloc, rest, depth, limit)?;
-    Ok((build::for_loop(word, head, body), rest))
+    let (head, rest) = head(alloc, word, tokens, limit)?;
+    match inner_statement(alloc, rest, depth, limit) {
+        Ok((body, rest)) => Ok((build::for_loop(head, body), rest)),
+        Err(error) => {
+            let_go_of_head(head);
+            Err(error)
+        }
+    }
 }
 
+/// Reads a block, behind its left brace.
 #[cycle(statement)]
 #[tactic(auto, unfolding(crate::specs::ReadStmt::braced))]
 fn braced<'a>(
     alloc: Global,
-    open: Token,
+    open: &Token,
     tokens: &'a [Token],
     depth: usize,
     limit: usize,
 ) -> Result<(Statement, &'a [Token]), ReadError<'a>>
-    ensures reads { Gives (λ x. (view_stmt x.0, x.1.now)) result (read.braced (read.stmt depth limit) limit «open» tokens.now) }
+    ensures reads { Gives (λ x. (view_stmt x.0, x.1.now)) result (read.braced (read.stmt depth limit) limit open.now tokens.now) }
 {
-    let (whole, rest) = block(alloc, open, tokens, depth, limit)?;
-    Ok((Statement::Block(whole), rest))
+    let (whole, rest) = block(alloc, *open, tokens, depth, limit)?;
+    Ok((build::whole_block(alloc, whole)?, rest))
 }
 
 /// Reads a statement, by its first token.
 #[cycle(statement)]
 #[tactic(auto, unfolding(crate::specs::ReadStmt::statement))]
-fn chosen(
+fn chosen<'a>(
     alloc: Global,
-    tokens: &[Token],
+    tokens: &'a [Token],
     depth: usize,
     limit: usize,
-) -> Result<(Statement, &[Token]), ReadError<'_>>
+) -> Result<(Statement, &'a [Token]), ReadError<'a>>
     ensures reads { Gives (λ x. (view_stmt x.0, x.1.now)) result (read.statement (read.stmt depth limit) limit tokens.now) }
 {
     let [token, rest @ ..] = tokens else {
         return simple(alloc, tokens, limit);
     };
     match token.kind {
-        TokenKind::LeftBrace => braced(alloc, *token, rest, depth, limit),
-        TokenKind::If => conditional(alloc, *token, rest, depth, limit),
-        TokenKind::While => while_loop(alloc, *token, rest, depth, limit),
-        TokenKind::Do => do_loop(alloc, *token, rest, depth, limit),
-        TokenKind::For => for_loop(alloc, *token, rest, depth, limit),
-        TokenKind::Break => broken(*token, rest),
-        TokenKind::Continue => continued(*token, rest),
-        TokenKind::Return => returned(alloc, *token, rest, limit),
+        TokenKind::LeftBrace => braced(alloc, token, rest, depth, limit),
+        TokenKind::If => conditional(alloc, token, rest, depth, limit),
+        TokenKind::While => while_loop(alloc, token, rest, depth, limit),
+        TokenKind::Do => do_loop(alloc, token, rest, depth, limit),
+        TokenKind::For => for_loop(alloc, token, rest, depth, limit),
+        TokenKind::Break => broken(alloc, token, rest),
+        TokenKind::Continue => continued(alloc, token, rest),
+        TokenKind::Return => returned(alloc, token, rest, limit),
         _ => simple(alloc, tokens, limit),
     }
 }

@@ -1,38 +1,28 @@
-//! Parts of statements, between what is read and the statement that it makes.
+//! Parts of statements, between what is read and the statement that it makes, and how they are let go.
+//!
+//! A `?` behind an owned part has the part's drop written out where it stands, and the function's frame has
+//! room for it while the statements inside are read. As a call that is never inlined, the drop takes of the
+//! stack only while it runs.
 
-use ang_lex::Token;
-use ang_tree::{Argument, Expression, ForStart, Statement};
+use ang_tree::{Guard, Head, Statement};
 
-/// `"(" assign ")"`
-#[derive(Drop)]
-pub(crate) struct Condition {
-    pub(crate) open: Token,
-    pub(crate) value: Expression,
-    pub(crate) close: Token,
-}
-
-/// The end of a `do`: `"while" "(" assign ")" ";"`.
-#[derive(Drop)]
-pub(crate) struct Ending {
-    pub(crate) word: Token,
-    pub(crate) condition: Condition,
-    pub(crate) semicolon: Token,
-}
-
-/// The head of a `for`: `"(" ( vars | [ assign ] ";" ) [ assign ] ";" [ assign { "," assign } ] ")"`.
-#[derive(Drop)]
-pub(crate) struct Head {
-    pub(crate) open: Token,
-    pub(crate) start: ForStart,
-    pub(crate) condition: Option<Expression>,
-    pub(crate) semicolon: Token,
-    pub(crate) steps: Vec<Argument>,
-    pub(crate) close: Token,
-}
-
-/// `"(" assign ")" stmt`
+/// A word, `"(" assign ")"`, and a statement.
 #[derive(Drop)]
 pub(crate) struct Guarded {
-    pub(crate) condition: Condition,
+    /// The word and the condition.
+    pub(crate) head: Box<Guard>,
+    /// The statement behind them.
     pub(crate) statement: Box<Statement>,
 }
+
+/// Lets a word and a condition go.
+#[inline(never)]
+pub(crate) fn let_go_of_guard(_guard: Box<Guard>) {}
+
+/// Lets a word, a condition and a statement go.
+#[inline(never)]
+pub(crate) fn let_go_of_guarded(_guarded: Guarded) {}
+
+/// Lets the head of a `for` go.
+#[inline(never)]
+pub(crate) fn let_go_of_head(_head: Box<Head>) {}

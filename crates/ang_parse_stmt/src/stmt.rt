@@ -6,13 +6,13 @@
 //! The readers of a statement's parts call one another, and are proved together. Those that other crates
 //! call stand in front of them, so that they are proved apart.
 ghost use Rattle.std.specs.Prelude.{◌≡◌};
-ghost use Rattle.ang_read.specs.Gives.{Gives};
+ghost use Rattle.ang_parse_read.specs.Gives.{Gives};
 ghost use Rattle.ang_tree.specs.View.{view_stmt, view_stmts, view_body};
 ghost use Rattle.ang_parse_stmt.specs.ReadStmt as read;
 
 use crate::nested;
 use ang_lex::Token;
-use ang_read::ReadError;
+use ang_parse_read::ReadError;
 use ang_tree::{Block, Statement};
 use std::alloc::Global;
 

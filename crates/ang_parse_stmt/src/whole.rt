@@ -1,15 +1,15 @@
 //! Parsing all of a list of tokens as one statement.
 ghost use Rattle.std.specs.Prelude.{◌≡◌, List, [], IfOk, IfErr, Ok};
 ghost use Rattle.ang_lex.specs.declared.token.Token.{Token};
-ghost use Rattle.ang_read.specs.Gives.{Gives};
-ghost use Rattle.ang_read.specs.Law.{Faulty, all_of, finish};
+ghost use Rattle.ang_parse_read.specs.Gives.{Gives};
+ghost use Rattle.ang_parse_read.specs.Law.{Faulty, all_of, finish};
 ghost use Rattle.ang_tree.specs.Stmt.{Stmt, SpellsStmt};
 ghost use Rattle.ang_tree.specs.View.{view_stmt};
 ghost use Rattle.ang_parse_stmt.specs.ReadStmt as read;
 
 use crate::stmt::statement;
 use ang_lex::Token;
-use ang_read::ReadError;
+use ang_parse_read::ReadError;
 use ang_tree::Statement;
 use std::alloc::Global;
 
@@ -23,7 +23,7 @@ fn finished(found: Statement, rest: &[Token]) -> Result<Statement, ReadError<'_>
     Ok(found)
 }
 
-#[tactic(auto, unfolding(ang_read::specs::Law::all_of))]
+#[tactic(auto, unfolding(ang_parse_read::specs::Law::all_of))]
 fn all(alloc: Global, tokens: &[Token]) -> Result<Statement, ReadError<'_>>
     ensures reads { Gives (λ x. (view_stmt x, [])) result (all_of (λ n. read.stmt n n) tokens.now) }
 {

@@ -9,10 +9,10 @@ use Rattle.ang_tree.specs.Kinds.{Is, IsA, IsComma, IfWritten, optional, literal_
 use Rattle.ang_tree.specs.TypeNames.{spelled_handle, spelled_type, FitsHandle, FitsType}
 use Rattle.ang_tree.specs.Tree.{Tree, Args, literal, name, call, scoped_call, cast, convert, group, postfix, member, method_call, prefix, binary, conditional, assignment, arguments, spelled, spelled_args, listed, Fits}
 use Rattle.ang_tree.specs.Stmt.{each, Every, Init, absent, value, constructor, Var, Start, with_variables, with_expression, spelled_init, spelled_var, spelled_option, spelled_start, FitsInit, FitsVar, FitsVars, FitsOption, FitsStart}
-use Rattle.ang_read.specs.Read.{Parser, and_then, pure, ◌>>=◌, repeat}
-use Rattle.ang_read.specs.Tokens.{a_token, perhaps, is_name, is_semicolon, is_const, is_left_paren}
-use Rattle.ang_read.proofs.Tokens.{begins, look_is, look_at, a_token_is, perhaps_is, perhaps_not}
-use Rattle.ang_read.proofs.Loops.{repeat_stops, repeat_goes_on}
+use Rattle.ang_parse_read.specs.Read.{Parser, and_then, pure, ◌>>=◌, repeat}
+use Rattle.ang_parse_read.specs.Tokens.{a_token, perhaps, is_name, is_semicolon, is_const, is_left_paren}
+use Rattle.ang_parse_read.proofs.Tokens.{begins, look_is, look_at, a_token_is, perhaps_is, perhaps_not}
+use Rattle.ang_parse_read.proofs.Loops.{repeat_stops, repeat_goes_on}
 use Rattle.ang_parse_expr.specs.ReadType.{handle_of, type_of}
 use Rattle.ang_parse_expr.specs.ReadExpr.{expr, args}
 use Rattle.ang_parse_expr.proofs.SoundType.{type-length}

@@ -2,4 +2,4 @@ pub mod Choices
 pub mod Lengths
 pub mod SoundVars
 pub mod CompleteVars
-pub mod TameVars
+pub mod PrefixVars

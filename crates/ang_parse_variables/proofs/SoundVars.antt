@@ -9,10 +9,10 @@ use Rattle.ang_tree.specs.Kinds.{Is, IsA, IsComma, IfWritten, optional, type_kin
 use Rattle.ang_tree.specs.TypeNames.{spelled_type, FitsType}
 use Rattle.ang_tree.specs.Tree.{Tree, spelled}
 use Rattle.ang_tree.specs.Stmt.{each, Every, Parted, Filled, Init, absent, value, constructor, Var, Vars, Start, with_variables, with_expression, spelled_init, spelled_var, spelled_vars, spelled_option, spelled_start, FitsInit, FitsVar, FitsVars, FitsOption, FitsStart}
-use Rattle.ang_read.specs.Read.{pure, repeat}
-use Rattle.ang_read.specs.Tokens.{a_token, perhaps, is_name, is_semicolon, is_const}
-use Rattle.ang_read.proofs.Outcomes.{Reads, and_reads, along, further, chosen_reads, ChoiceReads, look_reads, Turns, repeat_reads_to, From-self, From-one, From-length}
-use Rattle.ang_read.proofs.Tokens.{Always, Token_read, a_token_reads, Perhaps_read, written, absent as unwritten, perhaps_reads, name_is, semicolon_is, const_is}
+use Rattle.ang_parse_read.specs.Read.{pure, repeat}
+use Rattle.ang_parse_read.specs.Tokens.{a_token, perhaps, is_name, is_semicolon, is_const}
+use Rattle.ang_parse_read.proofs.Outcomes.{Reads, and_reads, along, further, chosen_reads, ChoiceReads, look_reads, Turns, repeat_reads_to, From-self, From-one, From-length}
+use Rattle.ang_parse_read.proofs.Tokens.{Always, Token_read, a_token_reads, Perhaps_read, written, absent as unwritten, perhaps_reads, name_is, semicolon_is, const_is}
 use Rattle.ang_parse_expr.specs.ReadType.{handle_of, type_of, type_named}
 use Rattle.ang_parse_expr.specs.ReadExpr.{expr, args}
 use Rattle.ang_parse_expr.proofs.SoundType.{Type_read, type_named_reads}

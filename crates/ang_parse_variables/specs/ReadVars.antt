@@ -7,8 +7,8 @@ use Rattle.ang_tree.specs.declared.type_name.TypeName.{TypeName}
 use Rattle.ang_tree.specs.Kinds.{type_kind}
 use Rattle.ang_tree.specs.Tree.{Tree}
 use Rattle.ang_tree.specs.Stmt.{Init, absent, value, constructor, Var, Vars, Start, with_variables, with_expression}
-use Rattle.ang_read.specs.Read.{Parser, ◌>>=◌, pure, Choice, look, Turn, ready, repeat}
-use Rattle.ang_read.specs.Tokens.{a_token, perhaps, is_name, is_semicolon, is_const}
+use Rattle.ang_parse_read.specs.Read.{Parser, ◌>>=◌, pure, Choice, look, Turn, ready, repeat}
+use Rattle.ang_parse_read.specs.Tokens.{a_token, perhaps, is_name, is_semicolon, is_const}
 use Rattle.ang_parse_expr.specs.ReadType.{handle_of, type_of, type_named}
 use Rattle.ang_parse_expr.specs.ReadExpr.{expr, args}
 

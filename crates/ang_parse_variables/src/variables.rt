@@ -3,14 +3,14 @@
 //! `limit` bounds the nested calls of expressions and the turns of each loop. One more than the number
 //! of tokens is always enough.
 ghost use Rattle.std.specs.Prelude.{◌≡◌, ◌++◌, [], ◌∷◌, map, IfOk};
-ghost use Rattle.ang_read.specs.Gives.{Gives};
-ghost use Rattle.ang_read.specs.Read.{repeat};
+ghost use Rattle.ang_parse_read.specs.Gives.{Gives};
+ghost use Rattle.ang_parse_read.specs.Read.{repeat};
 ghost use Rattle.ang_tree.specs.View.{view_init, view_var, view_vars, view_start, view_option};
 ghost use Rattle.ang_parse_variables.specs.ReadVars as read;
 
 use ang_lex::{Token, TokenKind};
 use ang_parse_expr::{arguments, expression, is_type_name, type_named};
-use ang_read::{ReadError, a_name, a_semicolon, perhaps_const};
+use ang_parse_read::{ReadError, a_name, a_semicolon, perhaps_const};
 use ang_tree::{Expression, ForStart, Handle, Initializer, TypeName, Variable, Variables};
 use std::alloc::{AllocError, Global};
 
@@ -206,11 +206,12 @@ fn some_ended(
     alloc: Global,
     tokens: &[Token],
     limit: usize,
-) -> Result<((Option<Expression>, Token), &[Token]), ReadError<'_>>
+) -> Result<((Option<Box<Expression>>, Token), &[Token]), ReadError<'_>>
     ensures reads { Gives (λ x. ((view_option x.0.0, x.0.1), x.1.now)) result (read.some_ended limit tokens.now) }
 {
     let (value, rest) = expression(alloc, tokens, limit, 0)?;
     let (semicolon, rest) = a_semicolon(rest)?;
+    let value = Box::new(alloc, value)?;
     Ok(((Some(value), semicolon), rest))
 }
 
@@ -228,7 +229,7 @@ pub fn ended(
     alloc: Global,
     tokens: &[Token],
     limit: usize,
-) -> Result<((Option<Expression>, Token), &[Token]), ReadError<'_>>
+) -> Result<((Option<Box<Expression>>, Token), &[Token]), ReadError<'_>>
     ensures reads { Gives (λ x. ((view_option x.0.0, x.0.1), x.1.now)) result (read.ended limit tokens.now) }
 {
     match tokens {
@@ -292,7 +293,7 @@ fn typed(
 }
 
 /// Reads variables, behind the word `const`.
-#[tactic(auto, unfolding(crate::specs::ReadVars::constant_typed, ang_read::specs::Tokens::a_token))]
+#[tactic(auto, unfolding(crate::specs::ReadVars::constant_typed, ang_parse_read::specs::Tokens::a_token))]
 fn constant_typed(
     alloc: Global,
     word: Token,

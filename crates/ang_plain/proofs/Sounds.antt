@@ -15,7 +15,7 @@ use Rattle.ang_typed.specs.declared.expression.Variable.{Variable}
 use Rattle.ang_typed.specs.declared.expression.Variable.TheVariants as variable
 use Rattle.ang_typed.specs.declared.program.Parameter.{Parameter}
 use Rattle.ang_typed.specs.Typed as t
-use Rattle.ang_ask.specs.Plain.{gives_plain}
+use Rattle.ang_vm_ask.specs.Plain.{gives_plain}
 use Rattle.ang_lower.specs.Hosts.{host_type_of, is_member, role_in}
 use Rattle.ang_source.specs.Sound.{IsNoObject, AreNoObjects, GivesNoObject, PassesNoObject, IsEntity, IsHostFunction, Module, module_of, declared, declared_by, IsVariable, IsTarget, Sound, SoundArguments, SoundArgument, SoundValues, SoundValue, SoundOption, SoundEach, SoundLocals, SoundStatement, SoundStatements, SoundFunctions, SoundGlobals, SoundProgram}
 use Rattle.ang_plain.specs.Plainness.{is_plain_entry, plain_part}

@@ -2,7 +2,7 @@
 use Rattle.std.specs.Prelude.{Bool, if◌then◌else◌, map, Option, Some, None}
 use Rattle.ang_registry.specs.declared.entry.Entry.{Entry}
 use Rattle.ang_registry.specs.Registration.{RegistrationList}
-use Rattle.ang_ask.specs.Plain.{is_plain}
+use Rattle.ang_vm_ask.specs.Plain.{is_plain}
 use Rattle.ang_lower.specs.Hosts.{use_of}
 
 -- a function over primitives, or a global property of a primitive type

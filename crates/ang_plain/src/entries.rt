@@ -2,7 +2,7 @@
 ghost use Rattle.std.specs.Prelude.{◌≡◌, map as list_map};
 ghost use Rattle.std.specs.List.{list_any};
 ghost use Rattle.ang_meaning.specs.Setting.{is_handle};
-ghost use Rattle.ang_ask.specs.Plain.{is_primitive};
+ghost use Rattle.ang_vm_ask.specs.Plain.{is_primitive};
 ghost use Rattle.ang_lower.specs.Hosts.{host_type_of};
 ghost use Rattle.ang_plain.specs.Plainness as spec;
 

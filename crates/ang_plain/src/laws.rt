@@ -4,7 +4,7 @@ ghost use Rattle.ang_registry.specs.declared.entry.Entry.{Entry};
 ghost use Rattle.ang_registry.specs.Registration.{RegistrationList, entry_at};
 ghost use Rattle.ang_typed.specs.Typed.{Program};
 ghost use Rattle.ang_source.specs.Sound.{SoundProgram};
-ghost use Rattle.ang_ask.specs.Plain.{is_plain};
+ghost use Rattle.ang_vm_ask.specs.Plain.{is_plain};
 ghost use Rattle.ang_lower.specs.Hosts.{use_of};
 ghost use Rattle.ang_plain.specs.Plainness.{plain_part};
 

@@ -9,8 +9,8 @@ use Rattle.ang_lex.specs.declared.error.LexError.{LexError}
 use Rattle.ang_lex.specs.Tokens.{tokens_of}
 use Rattle.ang_lex.specs.Spelling.{is_identifier}
 use Rattle.ang_tree.specs.Kinds.{primitive_kind}
-use Rattle.ang_read.specs.Law.{all_of}
-use Rattle.ang_read.specs.Read.{Outcome, Parser}
+use Rattle.ang_parse_read.specs.Law.{all_of}
+use Rattle.ang_parse_read.specs.Read.{Outcome, Parser}
 use Rattle.ang_decl.specs.declared.error.DeclError.{DeclError}
 use Rattle.ang_decl.specs.declared.error.DeclError.TheVariants.{Syntax, Unsupported}
 use Rattle.ang_decl.specs.declared.tree.HostParameter.{HostParameter}

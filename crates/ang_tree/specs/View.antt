@@ -11,6 +11,11 @@ use Rattle.ang_tree.specs.declared.statement.Block.{Block}
 use Rattle.ang_tree.specs.declared.statement.Else.{Else}
 use Rattle.ang_tree.specs.declared.statement.Statement.TheOpen.{Statement-F, Block-F, Else-F}
 use Rattle.ang_tree.specs.declared.statement.Statement.TheFolds.{fold-Statement, fold-Block, fold-Else}
+use Rattle.std.specs.declared.boxed.Box.{Box}
+use Rattle.std.specs.declared.alloc.Global.{Global}
+use Rattle.ang_tree.specs.declared.statement.Guard as guards
+use Rattle.ang_tree.specs.declared.statement.Ending as endings
+use Rattle.ang_tree.specs.declared.statement.Head as heads
 use Rattle.ang_tree.specs.declared.statement.ForStart.{ForStart}
 use Rattle.ang_tree.specs.declared.statement.ForStart.TheVariants as start
 use Rattle.ang_tree.specs.declared.statement.Variables.{Variables}
@@ -77,8 +82,8 @@ view_args = fold-Arguments Tree Item Args expression_step argument_step argument
 abbrev pub view_items : List Argument → Trees
 view_items es = trees (map view_item es)
 
-abbrev pub view_option : Option Expression → Option Tree
-view_option = option_map view_expr
+abbrev pub view_option : Option (Box Expression Global) → Option Tree
+view_option = option_map (λ e. view_expr e.value)
 
 -- ---- variables
 
@@ -111,17 +116,29 @@ abbrev pub conditional_of : Token → Token → Tree → Token → Stmt → Opti
 conditional_of word left c right s None = when word left c right s
 conditional_of word left c right s (Some b) = either word left c right s b.0 b.1
 
+abbrev pub guarded_of : guards.Guard → Stmt → Option Branch → Stmt
+guarded_of h s o = conditional_of h.word h.open (view_expr h.condition) h.close s o
+
+abbrev pub while_of : guards.Guard → Stmt → Stmt
+while_of h s = while h.word h.open (view_expr h.condition) h.close s
+
+abbrev pub do_while_of : Stmt → endings.Ending → Stmt
+do_while_of s e = do_while e.word s e.while_word e.open (view_expr e.condition) e.close e.semicolon
+
+abbrev pub for_of : heads.Head → Stmt → Stmt
+for_of h s = for h.word h.open (view_start h.start) (view_option h.condition) h.semicolon (view_items h.steps.items) h.close s
+
 abbrev pub statement_step : Statement-F Stmt Body Branch → Stmt
-statement_step (Statement-F.Block b) = block b
-statement_step (Statement-F.Variables vs) = variables (view_vars vs)
-statement_step (Statement-F.Expression e semicolon) = expression (view_option e) semicolon
-statement_step (Statement-F.Break word semicolon) = break word semicolon
-statement_step (Statement-F.Continue word semicolon) = continue word semicolon
-statement_step (Statement-F.Return word e semicolon) = return word (view_option e) semicolon
-statement_step (Statement-F.If word left c right s otherwise) = conditional_of word left (view_expr c) right s.value otherwise
-statement_step (Statement-F.While word left c right s) = while word left (view_expr c) right s.value
-statement_step (Statement-F.DoWhile word s again left c right semicolon) = do_while word s.value again left (view_expr c) right semicolon
-statement_step (Statement-F.For word left b c semicolon steps right s) = for word left (view_start b) (view_option c) semicolon (view_items steps.items) right s.value
+statement_step (Statement-F.Block b) = block b.value
+statement_step (Statement-F.Variables vs) = variables (view_vars vs.value)
+statement_step (Statement-F.Expression e) = expression (view_option e.value.value) e.value.semicolon
+statement_step (Statement-F.Break j) = break j.value.word j.value.semicolon
+statement_step (Statement-F.Continue j) = continue j.value.word j.value.semicolon
+statement_step (Statement-F.Return r) = return r.value.word (view_option r.value.value) r.value.semicolon
+statement_step (Statement-F.If h s otherwise) = guarded_of h.value s.value (option_map (λ b. b.value) otherwise)
+statement_step (Statement-F.While h s) = while_of h.value s.value
+statement_step (Statement-F.DoWhile s e) = do_while_of s.value e.value
+statement_step (Statement-F.For h s) = for_of h.value s.value
 
 abbrev pub block_step : Block-F Stmt Body Branch → Body
 block_step b = body b.open (stmts b.statements.items) b.close

@@ -15,5 +15,8 @@ pub use declaration::{
     Parameter, Parameters, Reference, Script, SuperCall,
 };
 pub use expression::{Argument, Arguments, Expression};
-pub use statement::{Block, Else, ForStart, Initializer, Statement, Variable, Variables};
+pub use statement::{
+    Block, Else, Ending, ForStart, Guard, Head, Initializer, Jump, Returned, Simple, Statement,
+    Variable, Variables,
+};
 pub use type_name::{Handle, TypeName};

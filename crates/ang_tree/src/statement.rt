@@ -4,109 +4,132 @@ use crate::expression::{Argument, Arguments, Expression};
 use crate::type_name::TypeName;
 use ang_lex::Token;
 
-/// A statement.
+/// A statement. Each variant is a few boxes, so that a list of statements, and each function that holds one,
+/// stays small.
 #[cycle(statement)]
 #[derive(Drop)]
 pub enum Statement {
     /// Statements in a block of their own: `"{" { stmt } "}"`
-    Block(Block),
+    Block(Box<Block>),
     /// Local variables, one or several of one type.
-    Variables(Variables),
+    Variables(Box<Variables>),
     /// An expression for what it does, or a `;` by itself: `[ assign ] ";"`
-    Expression {
-        /// The expression. A `;` by itself has none.
-        value: Option<Expression>,
-        /// The `;` at the end.
-        semicolon: Token,
-    },
+    Expression(Box<Simple>),
     /// Leaves the innermost loop: `"break" ";"`
-    Break {
-        /// The word `break`.
-        word: Token,
-        /// The `;` at the end.
-        semicolon: Token,
-    },
+    Break(Box<Jump>),
     /// Goes on with the next pass of the innermost loop: `"continue" ";"`
-    Continue {
-        /// The word `continue`.
-        word: Token,
-        /// The `;` at the end.
-        semicolon: Token,
-    },
+    Continue(Box<Jump>),
     /// Ends the function: `"return" [ assign ] ";"`
-    Return {
-        /// The word `return`.
-        word: Token,
-        /// What is returned, where a value is written.
-        value: Option<Expression>,
-        /// The `;` at the end.
-        semicolon: Token,
-    },
+    Return(Box<Returned>),
     /// One of two branches, by a condition: `"if" "(" assign ")" stmt [ "else" stmt ]`
     If {
-        /// The word `if`.
-        word: Token,
-        /// The `(` in front of the condition.
-        open: Token,
-        /// The truth value that decides.
-        condition: Expression,
-        /// The `)` behind the condition.
-        close: Token,
+        /// The word and the condition.
+        head: Box<Guard>,
         /// The statement that runs where the condition is true.
         then: Box<Statement>,
         /// The other branch, where an `else` is written. It goes with the nearest `if`.
-        otherwise: Option<Else>,
+        otherwise: Option<Box<Else>>,
     },
     /// A loop with its test in front: `"while" "(" assign ")" stmt`
     While {
-        /// The word `while`.
-        word: Token,
-        /// The `(` in front of the condition.
-        open: Token,
-        /// The truth value that is tested before each pass.
-        condition: Expression,
-        /// The `)` behind the condition.
-        close: Token,
+        /// The word and the condition.
+        head: Box<Guard>,
         /// The statement that is repeated.
         body: Box<Statement>,
     },
     /// A loop with its test behind: `"do" stmt "while" "(" assign ")" ";"`
     DoWhile {
-        /// The word `do`.
-        word: Token,
         /// The statement that is repeated.
         body: Box<Statement>,
-        /// The word `while` behind the body.
-        while_word: Token,
-        /// The `(` in front of the condition.
-        open: Token,
-        /// The truth value that is tested after each pass.
-        condition: Expression,
-        /// The `)` behind the condition.
-        close: Token,
-        /// The `;` at the end.
-        semicolon: Token,
+        /// The word in front of it, and all that stands behind.
+        ending: Box<Ending>,
     },
     /// A loop with a start and steps of its own:
     /// `"for" "(" ( vars | [ assign ] ";" ) [ assign ] ";" [ assign { "," assign } ] ")" stmt`
     For {
-        /// The word `for`.
-        word: Token,
-        /// The `(` in front of the start.
-        open: Token,
-        /// What runs once before the first test, with its `;`.
-        start: ForStart,
-        /// The truth value that is tested before each pass. One that is not written is true.
-        condition: Option<Expression>,
-        /// The `;` behind the condition.
-        semicolon: Token,
-        /// What is evaluated after each pass, in the order of the text.
-        steps: Vec<Argument>,
-        /// The `)` behind the steps.
-        close: Token,
+        /// The word and what stands in the parentheses.
+        head: Box<Head>,
         /// The statement that is repeated.
         body: Box<Statement>,
     },
+}
+
+/// An expression for what it does, or a `;` by itself: `[ assign ] ";"`
+#[derive(Drop)]
+pub struct Simple {
+    /// The expression. A `;` by itself has none.
+    pub value: Option<Box<Expression>>,
+    /// The `;` at the end.
+    pub semicolon: Token,
+}
+
+/// `break` or `continue`.
+#[derive(Clone, Copy, PartialEq, Eq, Debug)]
+pub struct Jump {
+    /// The word.
+    pub word: Token,
+    /// The `;` at the end.
+    pub semicolon: Token,
+}
+
+/// `"return" [ assign ] ";"`
+#[derive(Drop)]
+pub struct Returned {
+    /// The word `return`.
+    pub word: Token,
+    /// What is returned, where a value is written.
+    pub value: Option<Box<Expression>>,
+    /// The `;` at the end.
+    pub semicolon: Token,
+}
+
+/// `( "if" | "while" ) "(" assign ")"`
+#[derive(Drop)]
+pub struct Guard {
+    /// The word `if` or `while`.
+    pub word: Token,
+    /// The `(` in front of the condition.
+    pub open: Token,
+    /// The truth value that decides.
+    pub condition: Expression,
+    /// The `)` behind the condition.
+    pub close: Token,
+}
+
+/// What a `do` has beside its body: `"do"`, and `"while" "(" assign ")" ";"`.
+#[derive(Drop)]
+pub struct Ending {
+    /// The word `do`.
+    pub word: Token,
+    /// The word `while` behind the body.
+    pub while_word: Token,
+    /// The `(` in front of the condition.
+    pub open: Token,
+    /// The truth value that is tested after each pass.
+    pub condition: Expression,
+    /// The `)` behind the condition.
+    pub close: Token,
+    /// The `;` at the end.
+    pub semicolon: Token,
+}
+
+/// The head of a `for`.
+#[derive(Drop)]
+pub struct Head {
+    /// The word `for`.
+    pub word: Token,
+    /// The `(` in front of the start.
+    pub open: Token,
+    /// What runs once before the first test, with its `;`.
+    pub start: ForStart,
+    /// The truth value that is tested before each pass. One that is not written is true.
+    pub condition: Option<Box<Expression>>,
+    /// The `;` behind the condition.
+    pub semicolon: Token,
+    /// What is evaluated after each pass, in the order of the text.
+    pub steps: Vec<Argument>,
+    /// The `)` behind the steps.
+    pub close: Token,
 }
 
 /// `"{" { stmt } "}"`
@@ -139,7 +162,7 @@ pub enum ForStart {
     /// An expression for what it does, or nothing: `[ assign ] ";"`
     Expression {
         /// The expression, where one is written.
-        value: Option<Expression>,
+        value: Option<Box<Expression>>,
         /// The `;` behind it.
         semicolon: Token,
     },

@@ -8,8 +8,11 @@ use Rattle.ang_typed.specs.declared.expression.Argument.TheOpen.{Expression-F, A
 use Rattle.ang_typed.specs.declared.expression.Argument.TheFolds.{fold-Expression, fold-Argument}
 use Rattle.ang_typed.specs.declared.statement.Statement.{Statement}
 use Rattle.ang_typed.specs.declared.statement.Block.{Block}
-use Rattle.ang_typed.specs.declared.statement.Statement.TheOpen.{Statement-F, Block-F}
-use Rattle.ang_typed.specs.declared.statement.Statement.TheFolds.{fold-Statement, fold-Block}
+use Rattle.ang_typed.specs.declared.statement.Choice.{Choice}
+use Rattle.ang_typed.specs.declared.statement.For.{For}
+use Rattle.ang_typed.specs.declared.statement.Loop.{Loop}
+use Rattle.ang_typed.specs.declared.statement.Statement.TheOpen.{Statement-F, Block-F, Choice-F, For-F, Loop-F}
+use Rattle.ang_typed.specs.declared.statement.Statement.TheFolds.{fold-Statement, fold-Block, fold-Choice, fold-For, fold-Loop}
 use Rattle.ang_typed.specs.declared.statement.Local as locals
 use Rattle.ang_typed.specs.declared.program.Function as functions
 use Rattle.ang_typed.specs.declared.program.Global as globals
@@ -61,26 +64,48 @@ view_option = option_map view_tree
 abbrev pub view_local : locals.Local → t.Local
 view_local l = record { ty = l.ty; initializer = view_option l.initializer }
 
-abbrev pub statement_step : Statement-F t.Stmt t.Stmts → t.Stmt
+-- the condition of a `while` or of a `do`, and what it repeats
+abbrev pub Repeated : Type 0
+Repeated = t.Expr × t.Stmts
+
+abbrev pub statement_step : Statement-F t.Stmt t.Stmts t.Stmt t.Stmt Repeated → t.Stmt
 statement_step (Statement-F.Block b) = t.block b
 statement_step (Statement-F.Locals ls) = t.locals (map view_local ls.items)
 statement_step (Statement-F.Expression e) = t.expression (view_option e)
 statement_step Statement-F.Break = t.break
 statement_step Statement-F.Continue = t.continue
 statement_step (Statement-F.Return e) = t.return (view_option e)
-statement_step (Statement-F.If c ss otherwise) = t.either (view_tree c) ss otherwise
-statement_step (Statement-F.While c ss) = t.while (view_tree c) ss
-statement_step (Statement-F.DoWhile ss c) = t.do_while ss (view_tree c)
-statement_step (Statement-F.For start c steps ss) = t.for (t.stmts start.items) (view_option c) (map view_expr steps.items) ss
+statement_step (Statement-F.If c) = c.value
+statement_step (Statement-F.While l) = t.while l.value.0 l.value.1
+statement_step (Statement-F.DoWhile l) = t.do_while l.value.1 l.value.0
+statement_step (Statement-F.For f) = f.value
 
-abbrev pub block_step : Block-F t.Stmt t.Stmts → t.Stmts
+abbrev pub block_step : Block-F t.Stmt t.Stmts t.Stmt t.Stmt Repeated → t.Stmts
 block_step b = t.stmts b.statements.items
 
+abbrev pub choice_step : Choice-F t.Stmt t.Stmts t.Stmt t.Stmt Repeated → t.Stmt
+choice_step c = t.either (view_tree c.condition) c.then c.otherwise
+
+abbrev pub for_step : For-F t.Stmt t.Stmts t.Stmt t.Stmt Repeated → t.Stmt
+for_step f = t.for (t.stmts f.start.items) (view_option f.condition) (map view_expr f.steps.items) f.body
+
+abbrev pub loop_step : Loop-F t.Stmt t.Stmts t.Stmt t.Stmt Repeated → Repeated
+loop_step l = (view_tree l.condition, l.body)
+
 abbrev pub view_stmt : Statement → t.Stmt
-view_stmt = fold-Statement t.Stmt t.Stmts statement_step block_step
+view_stmt = fold-Statement t.Stmt t.Stmts t.Stmt t.Stmt Repeated statement_step block_step choice_step for_step loop_step
 
 abbrev pub view_block : Block → t.Stmts
-view_block = fold-Block t.Stmt t.Stmts statement_step block_step
+view_block = fold-Block t.Stmt t.Stmts t.Stmt t.Stmt Repeated statement_step block_step choice_step for_step loop_step
+
+abbrev pub view_choice : Choice → t.Stmt
+view_choice = fold-Choice t.Stmt t.Stmts t.Stmt t.Stmt Repeated statement_step block_step choice_step for_step loop_step
+
+abbrev pub view_for : For → t.Stmt
+view_for = fold-For t.Stmt t.Stmts t.Stmt t.Stmt Repeated statement_step block_step choice_step for_step loop_step
+
+abbrev pub view_loop : Loop → Repeated
+view_loop = fold-Loop t.Stmt t.Stmts t.Stmt t.Stmt Repeated statement_step block_step choice_step for_step loop_step
 
 abbrev pub view_stmts : List Statement → t.Stmts
 view_stmts ss = t.stmts (map view_stmt ss)

@@ -16,4 +16,4 @@ mod statement;
 
 pub use expression::{Argument, Comparison, Expression, HostEntity, Operator, StepKind, Variable};
 pub use program::{Function, Global, Parameter, Typed};
-pub use statement::{Block, Local, Statement};
+pub use statement::{Block, Choice, For, Local, Loop, Statement};

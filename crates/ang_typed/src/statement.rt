@@ -19,41 +19,51 @@ pub enum Statement {
     Continue,
     /// Ends the function. The value is of the function's result type; `void` functions have none.
     Return(Option<Box<Expression>>),
-    /// One of two blocks, by a condition. `otherwise` is an empty block where no `else` is written.
-    If {
-        /// The truth value that decides.
-        condition: Box<Expression>,
-        /// What runs where the condition is true.
-        then: Block,
-        /// What runs where the condition is false.
-        otherwise: Block,
-    },
+    /// One of two blocks, by a condition.
+    If(Box<Choice>),
     /// A loop that goes on as long as its condition is true. A tick is taken before each test.
-    While {
-        /// The truth value that is tested before each pass.
-        condition: Box<Expression>,
-        /// What runs in each pass.
-        body: Block,
-    },
+    While(Box<Loop>),
     /// As `While`, but the body runs before the first test. A tick is taken before each test, after the body.
-    DoWhile {
-        /// What runs in each pass.
-        body: Block,
-        /// The truth value that is tested after each pass.
-        condition: Box<Expression>,
-    },
+    DoWhile(Box<Loop>),
     /// A block of its own: `start`, one `Locals` or `Expression`, runs once in it; then as `While`, with the
     /// steps behind the body of each pass. A condition that is not written is true.
-    For {
-        /// What runs once before the first test: no statement, or one.
-        start: Vec<Statement>,
-        /// The truth value that is tested before each pass. Without one each test is passed.
-        condition: Option<Box<Expression>>,
-        /// What is evaluated after each pass, from left to right. Nobody takes the values.
-        steps: Vec<Expression>,
-        /// What runs in each pass.
-        body: Block,
-    },
+    For(Box<For>),
+}
+
+/// A condition and the two blocks of which it picks one.
+#[cycle(statement)]
+#[derive(Drop)]
+pub struct Choice {
+    /// The truth value that decides.
+    pub condition: Box<Expression>,
+    /// What runs where the condition is true.
+    pub then: Block,
+    /// What runs where the condition is false: an empty block where no `else` is written.
+    pub otherwise: Block,
+}
+
+/// A loop that has a condition alone, as `while` and `do` are written.
+#[cycle(statement)]
+#[derive(Drop)]
+pub struct Loop {
+    /// The truth value that is tested: of a `While` before each pass, of a `DoWhile` after it.
+    pub condition: Box<Expression>,
+    /// What runs in each pass.
+    pub body: Block,
+}
+
+/// A loop with a start and steps of its own, as `for` is written.
+#[cycle(statement)]
+#[derive(Drop)]
+pub struct For {
+    /// What runs once before the first test: no statement, or one.
+    pub start: Vec<Statement>,
+    /// The truth value that is tested before each pass. Without one each test is passed.
+    pub condition: Option<Box<Expression>>,
+    /// What is evaluated after each pass, from left to right. Nobody takes the values.
+    pub steps: Vec<Expression>,
+    /// What runs in each pass.
+    pub body: Block,
 }
 
 /// Statements in a block of their own: wherever it is left, the locals that were declared in it end, last

@@ -5,24 +5,24 @@ ghost use Rattle.ang_host.specs.Boxes.{members};
 ghost use Rattle.ang_meaning.specs.World.{with_inputs};
 ghost use Rattle.ang_meaning.specs.Perform.{perform};
 ghost use Rattle.ang_meaning.specs.Told.{Told};
-ghost use Rattle.ang_ask.specs.Plain.{entity_of};
+ghost use Rattle.ang_vm_ask.specs.Plain.{entity_of};
 ghost use Rattle.ang_code.specs.declared.instruction.Frame.{Frame};
-ghost use Rattle.ang_steps.specs.Arms.{done};
-ghost use Rattle.ang_steps.specs.Tables.{setting_of, texts_of};
-ghost use Rattle.ang_steps.specs.Turns.{Leads};
-ghost use Rattle.ang_frames.specs.Legs.{Fits, standing, left};
-ghost use Rattle.ang_frames.specs.Halts.{IsReady, IsAsking, operand_values, remaining};
+ghost use Rattle.ang_vm_steps.specs.Arms.{done};
+ghost use Rattle.ang_vm_steps.specs.Tables.{setting_of, texts_of};
+ghost use Rattle.ang_vm_steps.specs.Turns.{Leads};
+ghost use Rattle.ang_vm_frames.specs.Legs.{Fits, standing, left};
+ghost use Rattle.ang_vm_frames.specs.Halts.{IsReady, IsAsking, operand_values, remaining};
 ghost use Rattle.ang_vm.specs.Worlds.{values_in, world_of};
 ghost use Rattle.ang_vm.specs.Machines.{HasPlainEntities, DriversMove};
 
 use crate::outside::Outside;
-use ang_ask::{ask, entity_of};
-use ang_frames::{Asking, operands, resume};
 use ang_host::{Driver, Drivers};
 use ang_kinds::Fault;
 use ang_meaning::{HostUse, Operation, Slot};
-use ang_steps::place::{Ending, Standing};
-use ang_steps::table::Table;
+use ang_vm_ask::{ask, entity_of};
+use ang_vm_frames::{Asking, operands, resume};
+use ang_vm_steps::place::{Ending, Standing};
+use ang_vm_steps::table::Table;
 use std::alloc::Global;
 
 /// The name of a module, as events list it; empty where there is no such module.

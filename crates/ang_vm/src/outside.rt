@@ -4,7 +4,7 @@ ghost use Rattle.ang_vm.specs.Worlds.{values_in, world_of, names_object as is_ob
 
 use ang_host::HostEvent;
 use ang_meaning::Slot;
-use ang_steps::store::Store;
+use ang_vm_steps::store::Store;
 
 /// The values of all globals, by module and number.
 #[derive(Drop)]

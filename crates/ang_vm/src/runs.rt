@@ -4,9 +4,9 @@ ghost use Rattle.ang_kinds.specs.declared.fault.Fault.TheVariants.{Budget as Bud
 ghost use Rattle.ang_host.specs.Boxes.{members};
 ghost use Rattle.ang_meaning.specs.World.{with_inputs};
 ghost use Rattle.ang_code.specs.Machine.{Over, call_begins, initializer_begins};
-ghost use Rattle.ang_steps.specs.Tables.{setting_of, texts_of};
-ghost use Rattle.ang_steps.specs.Turns.{Reaches};
-ghost use Rattle.ang_frames.specs.Legs.{Fits, Ends, standing, outcome};
+ghost use Rattle.ang_vm_steps.specs.Tables.{setting_of, texts_of};
+ghost use Rattle.ang_vm_steps.specs.Turns.{Reaches};
+ghost use Rattle.ang_vm_frames.specs.Legs.{Fits, Ends, standing, outcome};
 ghost use Rattle.ang_vm.specs.Worlds.{values_in, world_of};
 ghost use Rattle.ang_vm.specs.Machines.{HasPlainEntities, DriversMove};
 ghost use Rattle.ang_vm.specs.Legs.{Went};
@@ -14,12 +14,12 @@ ghost use Rattle.ang_vm.specs.Legs.{Went};
 use crate::asking::ask_on;
 use crate::outside::Outside;
 use ang_code::Frame;
-use ang_frames::{Halt, run_from, start_call, start_initializer};
 use ang_host::{Driver, Drivers};
 use ang_kinds::Fault;
 use ang_meaning::{Routine, Slot};
-use ang_steps::place::{Ending, Standing};
-use ang_steps::table::Table;
+use ang_vm_frames::{Halt, run_from, start_call, start_initializer};
+use ang_vm_steps::place::{Ending, Standing};
+use ang_vm_steps::table::Table;
 use std::alloc::Global;
 
 /// 200: how many functions may stand one inside the other in a call, the called one being the first. One more

@@ -1,6 +1,6 @@
 -- The exit status (docs/FORMATS.md, "Exit status").
 use Rattle.std.specs.Prelude.{ℕ, Ok, Err}
-use Rattle.ang_session.specs.declared.ending.Status.TheVariants.{AllOk, SomeRefused, BadInput, Memory}
+use Rattle.asrun_session.specs.declared.ending.Status.TheVariants.{AllOk, SomeRefused, BadInput, Memory}
 use Rattle.asrun.specs.declared.ending.Ending.{Ending}
 use Rattle.asrun.specs.declared.ending.Ending.TheVariants.{Ran, Helped, BadCommandLine, CannotOpen, NoMemory}
 

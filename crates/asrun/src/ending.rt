@@ -2,7 +2,7 @@
 ghost use Rattle.std.specs.Prelude.{◌≡◌};
 ghost use Rattle.asrun.specs.Exit.{status_of};
 
-use ang_session::{IoFault, Status};
+use asrun_session::{IoFault, Status};
 
 /// How the program ended.
 #[derive(Clone, Copy)]

@@ -5,14 +5,12 @@
 mod command;
 mod ending;
 mod options;
-#[cfg(test)]
-mod tests;
 
 use crate::command::Options;
 use crate::ending::{Ending, code_of};
 use ang_drivers::{Cell, Console, Counter};
 use ang_host::Driver;
-pub use ang_session::{IoFault, SessionEnd, Status, session};
+pub use asrun_session::{IoFault, SessionEnd, Status, session};
 use std::alloc::AllocError;
 use std::fs::File;
 use std::process::ExitCode;
@@ -71,7 +69,14 @@ fn run_files(rt: &HostRuntime, options: &Options) -> Result<Ending, AllocError> 
 /// A growth of memory was refused before the session.
 fn run_words(rt: &HostRuntime) -> io::Result<Ending> {
     let alloc = rt.alloc();
-    let words: Vec<String> = env::args(rt)?.collect(alloc)?;
+    let words: Vec<String> = match env::args(rt) {
+        Ok(words) => words.collect(alloc)?,
+        Err(error) if error.kind() == io::ErrorKind::InvalidData => {
+            let _ = eprintln!(rt; "asrun: an argument is not text in UTF-8");
+            return Ok(Ending::BadCommandLine);
+        }
+        Err(error) => return Err(error),
+    };
     let words: Vec<&str> = words.iter().map(|word| word.as_str()).collect(alloc)?;
     match options::options(alloc, words.as_slice()) {
         Ok(options) => Ok(run_files(rt, &options)?),

@@ -11,7 +11,7 @@ use ang_engine::{Command, Engine, NewRefused, Outcome, Reply};
 use ang_host::{Answer, Driver, Drivers, HostEvent, HostReply};
 use ang_kinds::{EntityNo, List, Mask, Value};
 use ang_registry::{RegError, Registry};
-use ang_text::push_reply;
+use asrun_text::push_reply;
 use example_driver::Tickets;
 use std::alloc::{AllocError, Global};
 use std::io;

@@ -5,7 +5,7 @@
 
 use ang_drivers::{Cell, Console, Counter};
 use ang_host::Driver;
-use ang_session::{IoFault, SessionEnd, Status};
+use asrun_session::{IoFault, SessionEnd, Status};
 use std::fs::File;
 use std::process::ExitCode;
 use std::{env, fs, io};
@@ -36,7 +36,7 @@ fn run_example(rt: &HostRuntime, profile: &str, session: &str, stored: &str) -> 
     let mut profile = File::open(rt, profile)?;
     let mut text = File::open(rt, session)?;
     let mut printed: Vec<u8> = Vec::new(alloc);
-    let SessionEnd { outcome, drivers } = ang_session::session(
+    let SessionEnd { outcome, drivers } = asrun_session::session(
         alloc,
         &mut profile,
         &mut text,

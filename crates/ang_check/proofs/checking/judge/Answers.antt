@@ -1,4 +1,4 @@
-use Rattle.ang_written.specs.Sources.{source_of}
+use Rattle.ang_names_written.specs.Sources.{source_of}
 use Rattle.ang_check.specs.Bodies.{parts_of, judgements, body_errors, program_of}
 use Rattle.ang_check.proofs.Judging.{judges_turn, judges_all, errors_found, functions_found, globals_found}
 use Rattle.ang_check.proofs.checking.judge.Goals as goal

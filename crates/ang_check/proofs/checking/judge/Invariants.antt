@@ -1,6 +1,6 @@
 use Rattle.std.proofs.Common.{take, map as list_map}
 use Rattle.std.specs.List.{flat_map}
-use Rattle.ang_written.specs.Sources.{source_of}
+use Rattle.ang_names_written.specs.Sources.{source_of}
 use Rattle.ang_check.specs.Bodies.{parts_of}
 use Rattle.ang_check.specs.Judging.{Judges}
 use Rattle.ang_check.proofs.checking.judge.Given as goal

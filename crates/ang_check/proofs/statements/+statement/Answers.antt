@@ -1,7 +1,10 @@
-use Rattle.std.proofs.Common.{◌≡◌, ◌+◌, ℕ, Bool, refl, ap, sym, subst, ◌∙◌, List, Result, Ok, Err, OnOk, drop, map as list_map}
+use Rattle.std.proofs.Common.{◌≡◌, ◌+◌, ℕ, Bool, refl, ap, sym, subst, ◌∙◌, List, Result, Ok, Err, OnOk, drop, map as list_map, rules}
+use Rattle.std.specs.declared.boxed.Box.{Box}
+use Rattle.std.specs.declared.alloc.Global.{Global}
 use Rattle.ang_lex.specs.declared.token.Token.{Token}
 use Rattle.ang_tree.specs.Stmt as written
 use Rattle.ang_tree.specs.View as trees
+use Rattle.ang_tree.specs.declared.statement.Jump.{Jump}
 use Rattle.ang_tree.specs.declared.statement.Statement.{Statement, fold-roll-Statement}
 use Rattle.ang_tree.specs.declared.statement.Statement.TheVariants as from
 use Rattle.ang_tree.specs.declared.statement.Statement.TheOpen.{Statement-F}
@@ -11,10 +14,11 @@ use Rattle.ang_typed.specs.declared.statement.Block as blocks
 use Rattle.ang_typed.specs.declared.statement.Statement as statements
 use Rattle.ang_typed.specs.declared.statement.Statement.TheVariants as to
 use Rattle.ang_typed.specs.declared.statement.Statement.TheOpen as open_tree
-use Rattle.ang_operators.specs.declared.refusal.Stop.{Stop}
-use Rattle.ang_operators.specs.Refusals.{Judged, Gives}
-use Rattle.ang_typing.specs.declared.scope.Pair.{Pair}
+use Rattle.ang_check_operators.specs.Refusals.{Judged}
+use Rattle.ang_check_typing.specs.declared.scope.Pair.{Pair}
 use Rattle.ang_check.specs.declared.frame.Frame.{Frame}
+use Rattle.ang_check.specs.declared.halt.Halt.{Halt}
+use Rattle.ang_check.specs.Halts.{GivesOrHalts}
 use Rattle.ang_check.specs.Statements.{with_same, jump, stmt_typing, stmts_typing}
 use Rattle.ang_check.proofs.SoFar.{gives_same, keeps_same, keeps_on, stmts_behind, statements_turn, statements_end}
 use Rattle.ang_check.proofs.statements.+statement.Goals as goal
@@ -23,34 +27,36 @@ on_ok : {T E P : Type 0} (r : Result T E) → P → OnOk r P
 on_ok (Ok x) p = p
 on_ok (Err e) p = tt
 
-written_break : (word semicolon : Token) → trees.view_stmt (from.Break word semicolon) ≡ written.break word semicolon
-written_break word semicolon =
-    ap trees.view_stmt (sym (from.rolls-Break word semicolon))
-    ∙ fold-roll-Statement written.Stmt written.Body trees.Branch trees.statement_step trees.block_step trees.else_step (Statement-F.Break word semicolon)
+written_break : (x : Box Jump Global) → trees.view_stmt (from.Break x) ≡ written.break x.value.word x.value.semicolon
+written_break x =
+    ap trees.view_stmt (sym (from.rolls-Break x))
+    ∙ fold-roll-Statement written.Stmt written.Body trees.Branch trees.statement_step trees.block_step trees.else_step (Statement-F.Break x)
 
-written_continue : (word semicolon : Token) → trees.view_stmt (from.Continue word semicolon) ≡ written.continue word semicolon
-written_continue word semicolon =
-    ap trees.view_stmt (sym (from.rolls-Continue word semicolon))
-    ∙ fold-roll-Statement written.Stmt written.Body trees.Branch trees.statement_step trees.block_step trees.else_step (Statement-F.Continue word semicolon)
+written_continue : (x : Box Jump Global) → trees.view_stmt (from.Continue x) ≡ written.continue x.value.word x.value.semicolon
+written_continue x =
+    ap trees.view_stmt (sym (from.rolls-Continue x))
+    ∙ fold-roll-Statement written.Stmt written.Body trees.Branch trees.statement_step trees.block_step trees.else_step (Statement-F.Continue x)
 
 typed_break : typed.view_stmt to.Break ≡ tree.break
 typed_break =
     ap typed.view_stmt (sym to.rolls-Break)
-    ∙ statements.fold-roll-Statement tree.Stmt tree.Stmts typed.statement_step typed.block_step open_tree.Statement-F.Break
+    ∙ statements.fold-roll-Statement tree.Stmt tree.Stmts tree.Stmt tree.Stmt typed.Repeated
+    typed.statement_step typed.block_step typed.choice_step typed.for_step typed.loop_step open_tree.Statement-F.Break
 
 typed_continue : typed.view_stmt to.Continue ≡ tree.continue
 typed_continue =
     ap typed.view_stmt (sym to.rolls-Continue)
-    ∙ statements.fold-roll-Statement tree.Stmt tree.Stmts typed.statement_step typed.block_step open_tree.Statement-F.Continue
+    ∙ statements.fold-roll-Statement tree.Stmt tree.Stmts tree.Stmt tree.Stmt typed.Repeated
+    typed.statement_step typed.block_step typed.choice_step typed.for_step typed.loop_step open_tree.Statement-F.Continue
 
 -- `break` or `continue`, of which the statement is one
 jumped : (f : Frame) (loop : Bool) (start : ℕ) (ps : List Pair) (w : Statement) (word : Token) (x : statements.Statement) (s : written.Stmt) (y : tree.Stmt)
-    (r : Result statements.Statement Stop)
+    (r : Result statements.Statement Halt)
     → trees.view_stmt w ≡ s → typed.view_stmt x ≡ y → stmt_typing f loop start ps s ≡ with_same ps (jump loop word y)
-    → Gives typed.view_stmt r (jump loop word (typed.view_stmt x))
-    → Gives (λ z. (ps, typed.view_stmt z)) r (stmt_typing f loop start ps (trees.view_stmt w))
+    → GivesOrHalts typed.view_stmt r (jump loop word (typed.view_stmt x))
+    → GivesOrHalts (λ z. (ps, typed.view_stmt z)) r (stmt_typing f loop start ps (trees.view_stmt w))
 jumped f loop start ps w word x s y r e g h k =
-    subst (λ (j : Judged (List Pair × tree.Stmt)). Gives (λ z. (ps, typed.view_stmt z)) r j)
+    subst (λ (j : Judged (List Pair × tree.Stmt)). GivesOrHalts (λ z. (ps, typed.view_stmt z)) r j)
     (ap (λ (u : tree.Stmt). with_same ps (jump loop word u)) g ∙ sym h ∙ ap (λ (u : written.Stmt). stmt_typing f loop start ps u) (sym e))
     (gives_same ps r (jump loop word (typed.view_stmt x)) k)
 
@@ -71,22 +77,31 @@ statements-returns-clause-exact t c =
     let whole = statements_end c.args.frame.now c.args.in_loop c.args.start c.loop-item.pairs.items _
     (list_map typed.view_stmt c.loop-item.found.items) c.args.written.now c.loop-item.item-index c.loop-item.invariant.left c.loop-item-test.false in
     whole ∙ ap (λ (ss : tree.Stmts). Ok ss)
-    (sym (blocks.fold-roll-Block tree.Stmt tree.Stmts typed.statement_step typed.block_step (record { statements = c.loop-item.found })))
+    (sym (blocks.fold-roll-Block tree.Stmt tree.Stmts tree.Stmt tree.Stmt typed.Repeated
+    typed.statement_step typed.block_step typed.choice_step typed.for_step typed.loop_step (record { statements = c.loop-item.found })))
 
 pub statement-returns-in-Break : goal.statement-returns-in-Break
 statement-returns-in-Break t c =
     let ps = c.args.pairs.now.items in
+    let x = c.in-Break.found in
+    let same : c.deref-in-Break.result.now ≡ x.value = search rules in
+    let given : GivesOrHalts typed.view_stmt c.jump.result (jump c.args.in_loop x.value.word (typed.view_stmt to.Break)) =
+    subst (λ (y : Jump). GivesOrHalts typed.view_stmt c.jump.result (jump c.args.in_loop y.word (typed.view_stmt to.Break))) same c.jump.ensures.exact in
     record {
-      exact = jumped c.args.frame.now c.args.in_loop c.args.start ps c.args.written.now c.in-Break.word to.Break (written.break c.in-Break.word c.in-Break.semicolon) tree.break c.jump.result
-          (ap trees.view_stmt c.in-Break.is ∙ written_break c.in-Break.word c.in-Break.semicolon) typed_break refl c.jump.ensures.exact;
+      exact = jumped c.args.frame.now c.args.in_loop c.args.start ps c.args.written.now x.value.word to.Break (written.break x.value.word x.value.semicolon) tree.break c.jump.result
+          (ap trees.view_stmt c.in-Break.is ∙ written_break x) typed_break refl given;
       kept = on_ok c.jump.result (keeps_same ps ps refl);
     }
 
 pub statement-returns-in-Continue : goal.statement-returns-in-Continue
 statement-returns-in-Continue t c =
     let ps = c.args.pairs.now.items in
+    let x = c.in-Continue.found in
+    let same : c.deref-in-Continue.result.now ≡ x.value = search rules in
+    let given : GivesOrHalts typed.view_stmt c.jump-in-Continue.result (jump c.args.in_loop x.value.word (typed.view_stmt to.Continue)) =
+    subst (λ (y : Jump). GivesOrHalts typed.view_stmt c.jump-in-Continue.result (jump c.args.in_loop y.word (typed.view_stmt to.Continue))) same c.jump-in-Continue.ensures.exact in
     record {
-      exact = jumped c.args.frame.now c.args.in_loop c.args.start ps c.args.written.now c.in-Continue.word to.Continue (written.continue c.in-Continue.word c.in-Continue.semicolon) tree.continue c.jump-in-Continue.result
-          (ap trees.view_stmt c.in-Continue.is ∙ written_continue c.in-Continue.word c.in-Continue.semicolon) typed_continue refl c.jump-in-Continue.ensures.exact;
+      exact = jumped c.args.frame.now c.args.in_loop c.args.start ps c.args.written.now x.value.word to.Continue (written.continue x.value.word x.value.semicolon) tree.continue c.jump-in-Continue.result
+          (ap trees.view_stmt c.in-Continue.is ∙ written_continue x) typed_continue refl given;
       kept = on_ok c.jump-in-Continue.result (keeps_same ps ps refl);
     }

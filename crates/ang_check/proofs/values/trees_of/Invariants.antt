@@ -1,6 +1,6 @@
 use Rattle.std.proofs.Common.{◌≡◌, map as list_map}
 use Rattle.ang_typed.specs.View.{view_expr}
-use Rattle.ang_operators.specs.View.{view_operands}
+use Rattle.ang_check_operators.specs.View.{view_operands}
 use Rattle.ang_check.specs.Statements.{trees_of}
 use Rattle.ang_check.proofs.values.trees_of.Given as goal
 

@@ -1,5 +1,5 @@
 use Rattle.std.proofs.Common.{◌≡◌, ◌-◌}
-use Rattle.ang_read.specs.Read.{repeat}
+use Rattle.ang_parse_read.specs.Read.{repeat}
 use Rattle.ang_decl.specs.Read as read
 use Rattle.ang_decl.proofs.read.other_parameters.Given as goal
 

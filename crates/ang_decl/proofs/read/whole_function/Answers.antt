@@ -1,8 +1,8 @@
 use Rattle.std.proofs.Common.{◌≡◌, false, List, [], ◌∷◌, length, Err, refl, ap, sym, ◌∙◌}
 use Rattle.std.specs.Prelude.{◌==◌}
 use Rattle.ang_lex.specs.declared.token.Token.{Token}
-use Rattle.ang_read.specs.Read.{at, and_then}
-use Rattle.ang_read.specs.Law.{finish, all_of}
+use Rattle.ang_parse_read.specs.Read.{at, and_then}
+use Rattle.ang_parse_read.specs.Law.{finish, all_of}
 use Rattle.ang_decl.specs.declared.tree.HostFunction.{HostFunction}
 use Rattle.ang_decl.proofs.read.whole_function.Goals as goal
 

@@ -3,7 +3,7 @@ use Rattle.std.specs.Prelude.{Ok, Err, slice_set}
 use Rattle.ang_host.specs.Boxes.{members}
 use Rattle.ang_plain.specs.Plainness.{plain_part}
 use Rattle.ang_vm.specs.Worlds.{values_in}
-use Rattle.ang_means.specs.Modules.{DriversThere}
+use Rattle.ang_engine_means.specs.Modules.{DriversThere}
 use Rattle.ang_engine.specs.World.{state_of}
 use Rattle.ang_engine.proofs.Asking.{run-same}
 use Rattle.ang_engine.proofs.Builds.{compiled-same, loaded-same, build-refused, build-memory, build-completed, build-failed}

@@ -1,5 +1,5 @@
-use Rattle.ang_build.proofs.Programs.{program-sound}
-use Rattle.ang_build.specs.Build.{resolved_of}
+use Rattle.ang_engine_build.proofs.Programs.{program-sound}
+use Rattle.ang_engine_build.specs.Build.{resolved_of}
 use Rattle.ang_engine.proofs.building.compile.Goals as goal
 
 pub load-requires : goal.load-requires

@@ -1,5 +1,5 @@
 use Rattle.std.proofs.Common.{◌≡◌, ◌++◌, drop, map as list_map}
-use Rattle.ang_written.specs.Sources.{source_of}
+use Rattle.ang_names_written.specs.Sources.{source_of}
 use Rattle.ang_names.specs.Declarations.{declarations_from}
 use Rattle.ang_names.proofs.listed.declarations_of.Given as goal
 

@@ -1,6 +1,6 @@
 use Rattle.std.proofs.Common.{◌≡◌, ◌-◌, [], map}
 use Rattle.ang_tree.specs.View.{view_decl}
-use Rattle.ang_read.specs.Read.{repeat}
+use Rattle.ang_parse_read.specs.Read.{repeat}
 use Rattle.ang_parse.specs.ReadScript as read
 use Rattle.ang_parse.proofs.script.script.Given as goal
 

@@ -1,5 +1,5 @@
 use Rattle.std.proofs.lemmas.Result.{err_from_is_err_and}
-use Rattle.ang_read.proofs.Turns.{fails, ends_at, goes_on_at, runs_out}
+use Rattle.ang_parse_read.proofs.Turns.{fails, ends_at, goes_on_at, runs_out}
 use Rattle.ang_parse_class.proofs.headings.other_bases.Goals as goal
 
 pub returns-in_err-longer : goal.returns-in_err-longer

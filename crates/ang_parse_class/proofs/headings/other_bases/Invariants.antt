@@ -1,5 +1,5 @@
 use Rattle.std.proofs.Common.{◌≡◌, ◌-◌}
-use Rattle.ang_read.specs.Read.{repeat}
+use Rattle.ang_parse_read.specs.Read.{repeat}
 use Rattle.ang_parse_class.specs.ReadClass as read
 use Rattle.ang_parse_class.proofs.headings.other_bases.Given as goal
 

@@ -1,5 +1,5 @@
 use Rattle.std.proofs.Common.{◌≡◌, ◌-◌, [], map}
-use Rattle.ang_read.specs.Read.{repeat}
+use Rattle.ang_parse_read.specs.Read.{repeat}
 use Rattle.ang_tree.specs.View.{view_method}
 use Rattle.ang_parse_class.specs.ReadClass as read
 use Rattle.ang_parse_class.proofs.interfaces.methods.Given as goal

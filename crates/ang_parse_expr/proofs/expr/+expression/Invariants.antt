@@ -1,6 +1,6 @@
 use Rattle.std.proofs.Common.{◌≡◌, ◌+◌, ◌-◌, ◌*◌}
 use Rattle.ang_tree.specs.View.{view_expr, view_items}
-use Rattle.ang_read.specs.Read.{repeat}
+use Rattle.ang_parse_read.specs.Read.{repeat}
 use Rattle.ang_parse_expr.specs.ReadExpr as read
 use Rattle.ang_parse_expr.proofs.expr.+expression.Given as goal
 

@@ -1,6 +1,6 @@
 use Rattle.ang_tree.specs.Tree.{Tree, Spells}
 use Rattle.ang_tree.specs.View.{view_expr}
-use Rattle.ang_read.proofs.Whole.{given_all}
+use Rattle.ang_parse_read.proofs.Whole.{given_all}
 use Rattle.ang_parse_expr.specs.ReadExpr as read
 use Rattle.ang_parse_expr.proofs.Sound.{IsExpr}
 use Rattle.ang_parse_expr.proofs.Exactly.{expressions_exact}

@@ -1,5 +1,5 @@
 use Rattle.std.proofs.Common.{◌≡◌, ◌≤◌, ◌++◌, take, drop}
-use Rattle.ang_read.specs.Group.{split}
+use Rattle.ang_parse_read.specs.Group.{split}
 use Rattle.ang_parse_function.proofs.group.group_len.Given as goal
 
 abbrev pub invariant-loop-i : goal.invariant-loop-i

@@ -1,5 +1,5 @@
 use Rattle.std.proofs.Common.{◌≡◌, ◌-◌}
-use Rattle.ang_read.specs.Read.{repeat}
+use Rattle.ang_parse_read.specs.Read.{repeat}
 use Rattle.ang_parse_params.specs.ReadParams as read
 use Rattle.ang_parse_params.proofs.params.other_parameters.Given as goal
 

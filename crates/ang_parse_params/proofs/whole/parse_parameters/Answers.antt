@@ -1,6 +1,6 @@
 use Rattle.ang_tree.specs.Declarations.{Params}
 use Rattle.ang_tree.specs.View.{view_params}
-use Rattle.ang_read.proofs.Whole.{given_all}
+use Rattle.ang_parse_read.proofs.Whole.{given_all}
 use Rattle.ang_parse_params.specs.Params.{SpellsParams}
 use Rattle.ang_parse_params.specs.ReadParams as read
 use Rattle.ang_parse_params.proofs.SoundParams.{IsParams}

@@ -1,5 +1,5 @@
 use Rattle.std.proofs.Common.{◌≡◌, ◌+◌, ◌-◌, ◌*◌}
-use Rattle.ang_read.specs.Read.{repeat}
+use Rattle.ang_parse_read.specs.Read.{repeat}
 use Rattle.ang_tree.specs.View.{view_stmts}
 use Rattle.ang_tree.specs.Stmt.{end}
 use Rattle.ang_parse_stmt.specs.ReadStmt as read

@@ -1,6 +1,6 @@
 use Rattle.ang_tree.specs.Stmt.{Stmt, SpellsStmt}
 use Rattle.ang_tree.specs.View.{view_stmt}
-use Rattle.ang_read.proofs.Whole.{given_all}
+use Rattle.ang_parse_read.proofs.Whole.{given_all}
 use Rattle.ang_parse_stmt.specs.ReadStmt as read
 use Rattle.ang_parse_stmt.proofs.SoundStmt.{IsStmt}
 use Rattle.ang_parse_stmt.proofs.Exactly.{statements_exact}

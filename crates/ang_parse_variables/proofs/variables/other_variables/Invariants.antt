@@ -1,6 +1,6 @@
 use Rattle.std.proofs.Common.{◌≡◌, ◌-◌, map}
 use Rattle.ang_tree.specs.View.{view_var}
-use Rattle.ang_read.specs.Read.{repeat}
+use Rattle.ang_parse_read.specs.Read.{repeat}
 use Rattle.ang_parse_variables.specs.ReadVars as read
 use Rattle.ang_parse_variables.proofs.variables.other_variables.Given as goal
 

@@ -3,7 +3,7 @@ use Rattle.ang_host.specs.Boxes.{members}
 use Rattle.ang_meaning.specs.World.{with_inputs}
 use Rattle.ang_meaning.specs.Perform.{perform}
 use Rattle.ang_meaning.proofs.Telling.{told_same, told_then}
-use Rattle.ang_steps.specs.Tables.{setting_of}
+use Rattle.ang_vm_steps.specs.Tables.{setting_of}
 use Rattle.ang_vm.specs.Worlds.{values_in, world_of}
 use Rattle.ang_vm.proofs.Asked.{entity_asked, none_unfit, asked_plain, done_same}
 use Rattle.ang_vm.proofs.Moves.{moves_asked}

@@ -1,7 +1,7 @@
 use Rattle.std.proofs.Common.{◌++◌, ap, ◌∙◌}
 use Rattle.std.specs.Prelude.{reverse}
 use Rattle.ang_code.specs.Machine.{call_begins}
-use Rattle.ang_steps.specs.Tables.{setting_of, texts_of}
+use Rattle.ang_vm_steps.specs.Tables.{setting_of, texts_of}
 use Rattle.ang_vm.specs.Worlds.{values_in}
 use Rattle.ang_vm.proofs.Running.{run_told}
 use Rattle.ang_vm.proofs.machines.run.Goals as goal

@@ -1,6 +1,6 @@
 use Rattle.std.proofs.Common.{◌++◌, ap, ◌∙◌}
 use Rattle.ang_code.specs.Machine.{initializer_begins}
-use Rattle.ang_steps.specs.Tables.{setting_of, texts_of}
+use Rattle.ang_vm_steps.specs.Tables.{setting_of, texts_of}
 use Rattle.ang_vm.specs.Worlds.{values_in}
 use Rattle.ang_vm.proofs.Running.{initializer_told}
 use Rattle.ang_vm.proofs.machines.run_initializer.Goals as goal

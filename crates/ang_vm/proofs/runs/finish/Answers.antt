@@ -1,7 +1,7 @@
 use Rattle.std.proofs.Common.{refl, sym, ◌∙◌, subst}
 use Rattle.ang_host.specs.Boxes.{members}
-use Rattle.ang_steps.specs.Tables.{setting_of, texts_of}
-use Rattle.ang_steps.proofs.Paths.{reach_same, reach_then}
+use Rattle.ang_vm_steps.specs.Tables.{setting_of, texts_of}
+use Rattle.ang_vm_steps.proofs.Paths.{reach_same, reach_then}
 use Rattle.ang_vm.specs.Machines.{HasPlainEntities}
 use Rattle.ang_vm.proofs.Moves.{moves_none, moves_then}
 use Rattle.ang_vm.proofs.runs.finish.Goals as goal

@@ -2,10 +2,10 @@ use Rattle.std.proofs.Common.{◌≡◌, length}
 use Rattle.std.specs.Prelude.{reverse}
 use Rattle.ang_host.specs.Boxes.{members}
 use Rattle.ang_meaning.specs.World.{with_inputs}
-use Rattle.ang_steps.specs.Tables.{setting_of, texts_of}
-use Rattle.ang_steps.specs.Turns.{Reaches}
-use Rattle.ang_frames.specs.Legs.{Fits, standing}
-use Rattle.ang_frames.specs.Halts.{remaining}
+use Rattle.ang_vm_steps.specs.Tables.{setting_of, texts_of}
+use Rattle.ang_vm_steps.specs.Turns.{Reaches}
+use Rattle.ang_vm_frames.specs.Legs.{Fits, standing}
+use Rattle.ang_vm_frames.specs.Halts.{remaining}
 use Rattle.ang_vm.specs.Worlds.{values_in, world_of}
 use Rattle.ang_vm.specs.Machines.{DriversMove}
 use Rattle.ang_vm.proofs.runs.finish.Given as goal

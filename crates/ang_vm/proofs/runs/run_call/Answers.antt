@@ -3,9 +3,9 @@ use Rattle.std.specs.Prelude.{reverse}
 use Rattle.ang_host.specs.Boxes.{members}
 use Rattle.ang_meaning.specs.World.{with_inputs}
 use Rattle.ang_code.specs.Machine.{call_begins}
-use Rattle.ang_steps.specs.Tables.{setting_of, texts_of}
-use Rattle.ang_steps.proofs.Paths.{reach_same, reach_then}
-use Rattle.ang_frames.proofs.Running.{whole_ends}
+use Rattle.ang_vm_steps.specs.Tables.{setting_of, texts_of}
+use Rattle.ang_vm_steps.proofs.Paths.{reach_same, reach_then}
+use Rattle.ang_vm_frames.proofs.Running.{whole_ends}
 use Rattle.ang_vm.specs.Worlds.{values_in, world_of}
 use Rattle.ang_vm.proofs.Moves.{moves_none, moves_then}
 use Rattle.ang_vm.proofs.Running.{no_memory}

@@ -1,7 +1,0 @@
-pub mod Drivers
-pub mod Fits
-pub mod Handed
-pub mod Meanings
-pub mod Performed
-pub mod Performing
-pub mod Signed

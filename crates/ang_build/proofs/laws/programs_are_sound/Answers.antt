@@ -1,5 +1,0 @@
-use Rattle.ang_build.proofs.Programs.{program-sound}
-use Rattle.ang_build.proofs.laws.programs_are_sound.Goals as goal
-
-pub returns : goal.returns
-returns c = record { sound = program-sound }

@@ -1,5 +1,0 @@
-use Rattle.ang_build.proofs.Programs.{program-named}
-use Rattle.ang_build.proofs.laws.programs_have_their_names.Goals as goal
-
-pub returns : goal.returns
-returns c = record { named = program-named }

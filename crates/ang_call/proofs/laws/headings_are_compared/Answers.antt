@@ -1,5 +1,0 @@
-use Rattle.ang_call.proofs.SameHeading.{heading-Decides}
-use Rattle.ang_call.proofs.laws.headings_are_compared.Goals as goal
-
-pub returns : goal.returns
-returns c = record { same = λ f g. heading-Decides f g }

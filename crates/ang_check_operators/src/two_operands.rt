@@ -1,0 +1,190 @@
+//! Two operands with a binary operator between them.
+ghost use Rattle.std.specs.Prelude.{◌≡◌};
+ghost use Rattle.ang_check_operators.specs.Operations as spec;
+ghost use Rattle.ang_check_operators.specs.Refusals.{Gives};
+ghost use Rattle.ang_check_operators.specs.View.{view_operand};
+
+use crate::fitting::{fit, integer, truth};
+use crate::forms::{Form, Work, binary_form};
+use crate::operand::{Operand, plain_operand};
+use crate::refusal::{Stop, fault};
+use crate::trees::{and, compare, operate, or};
+use ang_kinds::{ErrorKind, Prim};
+use ang_lex::TokenKind;
+use ang_typed::{Comparison, Operator};
+use ang_types::{ArgType, Lineage, common};
+use std::alloc::Global;
+
+/// Both operands made values of the type in which the operator works.
+fn worked_in(
+    alloc: Global,
+    lineage: &Lineage,
+    ty: Prim,
+    operator: Operator,
+    left: Operand,
+    right: Operand,
+) -> Result<Operand, Stop>
+    ensures exact { Gives view_operand result (spec.worked_in lineage.now ty operator (view_operand left) (view_operand right)) }
+{
+    let place = left.place;
+    let left = fit(alloc, lineage, ArgType::Plain(ty), left)?;
+    let right = fit(alloc, lineage, ArgType::Plain(ty), right)?;
+    let tree = operate(alloc, operator, ty, left, right)?;
+    Ok(plain_operand(place, ArgType::Plain(ty), tree))
+}
+
+#[tactic(auto, unfolding(crate::specs::Operations::arithmetic))]
+fn arithmetic(
+    alloc: Global,
+    lineage: &Lineage,
+    operator: Operator,
+    left: Operand,
+    right: Operand,
+) -> Result<Operand, Stop>
+    ensures exact { Gives view_operand result (spec.arithmetic lineage.now operator (view_operand left) (view_operand right)) }
+{
+    let own = integer(&left)?;
+    let other = integer(&right)?;
+    worked_in(alloc, lineage, common(own, other), operator, left, right)
+}
+
+#[tactic(auto, unfolding(crate::specs::Operations::shift))]
+fn shift(
+    alloc: Global,
+    lineage: &Lineage,
+    operator: Operator,
+    left: Operand,
+    right: Operand,
+) -> Result<Operand, Stop>
+    ensures exact { Gives view_operand result (spec.shift lineage.now operator (view_operand left) (view_operand right)) }
+{
+    let own = integer(&left)?;
+    let _ = integer(&right)?;
+    worked_in(alloc, lineage, common(own, own), operator, left, right)
+}
+
+/// Both operands made values of the type in which they are compared.
+fn compared_in(
+    alloc: Global,
+    lineage: &Lineage,
+    ty: Prim,
+    comparison: Comparison,
+    left: Operand,
+    right: Operand,
+) -> Result<Operand, Stop>
+    ensures exact { Gives view_operand result (spec.compared_in lineage.now ty comparison (view_operand left) (view_operand right)) }
+{
+    let place = left.place;
+    let left = fit(alloc, lineage, ArgType::Plain(ty), left)?;
+    let right = fit(alloc, lineage, ArgType::Plain(ty), right)?;
+    let tree = compare(alloc, comparison, ty, left, right)?;
+    Ok(plain_operand(place, ArgType::Plain(Prim::Bool), tree))
+}
+
+#[tactic(auto, unfolding(crate::specs::Operations::order))]
+fn order(
+    alloc: Global,
+    lineage: &Lineage,
+    comparison: Comparison,
+    left: Operand,
+    right: Operand,
+) -> Result<Operand, Stop>
+    ensures exact { Gives view_operand result (spec.order lineage.now comparison (view_operand left) (view_operand right)) }
+{
+    let own = integer(&left)?;
+    let other = integer(&right)?;
+    compared_in(alloc, lineage, common(own, other), comparison, left, right)
+}
+
+#[tactic(auto, unfolding(crate::specs::Operations::equality))]
+fn equality(
+    alloc: Global,
+    lineage: &Lineage,
+    comparison: Comparison,
+    left: Operand,
+    right: Operand,
+) -> Result<Operand, Stop>
+    ensures exact { Gives view_operand result (spec.equality lineage.now comparison (view_operand left) (view_operand right)) }
+{
+    match left.ty {
+        ArgType::Plain(Prim::Bool) => {
+            compared_in(alloc, lineage, Prim::Bool, comparison, left, right)
+        }
+        _ => order(alloc, lineage, comparison, left, right),
+    }
+}
+
+#[tactic(auto, unfolding(crate::specs::Operations::conjunction))]
+fn conjunction(alloc: Global, left: Operand, right: Operand) -> Result<Operand, Stop>
+    ensures exact { Gives view_operand result (spec.conjunction (view_operand left) (view_operand right)) }
+{
+    let place = left.place;
+    let left = truth(left)?;
+    let right = truth(right)?;
+    let tree = and(alloc, left, right)?;
+    Ok(plain_operand(place, ArgType::Plain(Prim::Bool), tree))
+}
+
+#[tactic(auto, unfolding(crate::specs::Operations::disjunction))]
+fn disjunction(alloc: Global, left: Operand, right: Operand) -> Result<Operand, Stop>
+    ensures exact { Gives view_operand result (spec.disjunction (view_operand left) (view_operand right)) }
+{
+    let place = left.place;
+    let left = truth(left)?;
+    let right = truth(right)?;
+    let tree = or(alloc, left, right)?;
+    Ok(plain_operand(place, ArgType::Plain(Prim::Bool), tree))
+}
+
+#[tactic(auto, unfolding(crate::specs::Operations::exclusion))]
+fn exclusion(alloc: Global, left: Operand, right: Operand) -> Result<Operand, Stop>
+    ensures exact { Gives view_operand result (spec.exclusion (view_operand left) (view_operand right)) }
+{
+    let place = left.place;
+    let left = truth(left)?;
+    let right = truth(right)?;
+    let tree = compare(alloc, Comparison::NotEqual, Prim::Bool, left, right)?;
+    Ok(plain_operand(place, ArgType::Plain(Prim::Bool), tree))
+}
+
+fn formed(
+    alloc: Global,
+    lineage: &Lineage,
+    form: Option<Form>,
+    left: Operand,
+    right: Operand,
+) -> Result<Operand, Stop>
+    ensures exact { Gives view_operand result (spec.formed lineage.now form (view_operand left) (view_operand right)) }
+{
+    match form {
+        None => Err(fault(ErrorKind::NotYet, left.place)),
+        Some(Form::Works(Work::Arithmetic(operator))) => arithmetic(
+            alloc, lineage, operator, left, right,
+        ),
+        Some(Form::Works(Work::Shift(operator))) => shift(alloc, lineage, operator, left, right),
+        Some(Form::Order(comparison)) => order(alloc, lineage, comparison, left, right),
+        Some(Form::Equality(comparison)) => equality(alloc, lineage, comparison, left, right),
+        Some(Form::And) => conjunction(alloc, left, right),
+        Some(Form::Or) => disjunction(alloc, left, right),
+        Some(Form::Xor) => exclusion(alloc, left, right),
+    }
+}
+
+/// Two operands with a binary operator between them.
+///
+/// # Errors
+///
+/// `BadConversion` or, for `&&`, `||` and `xor`, `NotBool` at the first token of the first operand that can't
+/// stand there. `NotYet` at the first token of the left operand of `is` and `!is`. `Memory` where a growth was refused.
+#[tactic(auto, unfolding(crate::specs::Operations::binary_typing))]
+pub fn binary(
+    alloc: Global,
+    lineage: &Lineage,
+    left: Operand,
+    operator: TokenKind,
+    right: Operand,
+) -> Result<Operand, Stop>
+    ensures exact { Gives view_operand result (spec.binary_typing lineage.now (view_operand left) operator (view_operand right)) }
+{
+    formed(alloc, lineage, binary_form(operator), left, right)
+}

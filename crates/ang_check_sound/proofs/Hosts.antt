@@ -1,0 +1,195 @@
+-- What a look-up in a view finds is an entity of the view, and no object passes by it where it is named or called.
+use Rattle.std.specs.Prelude.{◌≡◌, ◌≢◌, ℕ, suc, ◌+◌, Bool, true, false, bytes_eq, List, [], ◌∷◌, length, option_to_list, Option, Some, None, IfSome}
+use Rattle.std.specs.List.{list_any}
+use Rattle.std.proofs.Common.{refl, ap, sym, subst, arith}
+use Rattle.ang_kinds.specs.declared.types.Param.{Param}
+use Rattle.ang_kinds.specs.declared.types.Pass.{Pass}
+use Rattle.ang_kinds.specs.declared.types.Pass.TheVariants.{RefOut}
+use Rattle.ang_registry.specs.declared.entry.Entry.{Entry}
+use Rattle.ang_registry.specs.declared.entry.EntryKind.{EntryKind}
+use Rattle.ang_registry.specs.declared.entry.EntryKind.TheVariants as entry
+use Rattle.ang_registry.specs.Registration.{RegistrationList, entry_at, is_function}
+use Rattle.ang_types.specs.declared.arg_type.ArgType.{ArgType}
+use Rattle.ang_typed.specs.declared.expression.HostEntity.{HostEntity}
+use Rattle.ang_names_written.specs.declared.host.HostFunction.{HostFunction}
+use Rattle.ang_names_written.specs.declared.host.HostGlobal.{HostGlobal}
+use Rattle.ang_names_written.specs.HostNames.{host_type, in_front, host_parameters, host_function, function_in, is_function_named, function_in_entry, functions_from, view_functions_named, is_global, is_global_named, global_with, global_in_entry, or_else, globals_from, view_global_named}
+use Rattle.ang_names_written.specs.NotYet.{is_object, is_object_function}
+use Rattle.ang_tree.specs.Stmt.{Every}
+use Rattle.ang_source.specs.Sound.{AreNoObjects, GivesNoObject, IsEntity, IsHostFunction}
+use Rattle.ang_registry.specs.Values.{AreValues, IsProperty, IsOfKind, EntryTakesValues, TakesValues}
+use Rattle.ang_check_sound.specs.PlainNames.{IsPlainType}
+use Rattle.ang_check_sound.proofs.Items.{every_joined, every_option, tested, first_true, two_false, third_false}
+use Rattle.ang_check_sound.proofs.Conversions.{plain_reference, plain_meant, primitive_plain, no_object}
+
+-- no parameter is `&out`
+abbrev pub Values : List (ArgType × Pass) → Type 0
+Values [] = Unit {0}
+Values (p ∷ ps) = (p.1 ≢ RefOut) × Values ps
+
+-- no parameter takes an object
+abbrev pub TakesPlain : List (ArgType × Pass) → Type 0
+TakesPlain [] = Unit {0}
+TakesPlain (p ∷ ps) = IsPlainType p.0 × TakesPlain ps
+
+-- what a tree calls
+abbrev pub entity_of : HostFunction → HostEntity
+entity_of f = record { entity = f.entity; driver = f.driver; f = f.f }
+
+-- what a tree reads and writes
+abbrev pub property_of : HostGlobal → HostEntity
+property_of g = record { entity = g.entity; driver = g.driver; f = g.f }
+
+-- a function that gives no object: where it takes none it is one of the view, with as many parameters
+pub record IsHost (V : RegistrationList) (f : HostFunction) : Type 0 where
+  pub function : TakesPlain f.params → IsHostFunction V (entity_of f) (length f.params)
+  pub values : Values f.params
+  pub result : IsPlainType f.result
+
+-- ---- parameters
+
+record Like (ps : List Param) (qs : List (ArgType × Pass)) : Type 0 where
+  count : length ps ≡ length qs
+  values : AreValues ps → Values qs
+  plain : TakesPlain qs → AreNoObjects ps
+
+front_like : (V : RegistrationList) (p : Param) (ps : List Param) (o : Option ArgType) (rest : Option (List (ArgType × Pass)))
+    → host_type V p.ty ≡ o → IfSome rest (Like ps) → IfSome (in_front o p.pass rest) (Like (p ∷ ps))
+front_like V p ps None rest e h = tt
+front_like V p ps (Some ty) None e h = tt
+front_like V p ps (Some ty) (Some qs) e h = record {
+  count = ap suc h.count;
+  values = λ v. (v.0, h.values v.1);
+  plain = λ v. (plain_reference V p.ty ty e v.0, h.plain v.1);
+}
+
+params_like : (V : RegistrationList) (ps : List Param) → IfSome (host_parameters V ps) (Like ps)
+params_like V [] = record { count = refl; values = λ v. tt; plain = λ v. tt }
+params_like V (p ∷ ps) = front_like V p ps (host_type V p.ty) (host_parameters V ps) refl (params_like V ps)
+
+-- ---- functions
+
+function_kind : (k : EntryKind) → is_function k ≡ true → k ≡ entry.Function
+function_kind entry.HostType e = cc
+function_kind entry.Factory e = cc
+function_kind entry.Method e = cc
+function_kind entry.Property e = cc
+function_kind entry.Function e = refl
+function_kind entry.Global e = cc
+
+function_host : (V : RegistrationList) (n : ℕ) (x : Entry) (o : Option ArgType) (qs : Option (List (ArgType × Pass)))
+    → entry_at V n ≡ Some x → x.kind ≡ entry.Function → host_type V x.signature.result ≡ o → is_object x.signature.result ≡ false
+    → AreValues x.signature.params → IfSome qs (Like x.signature.params) → IfSome (host_function n x o qs) (IsHost V)
+function_host V n x None qs at kind is gives values like = tt
+function_host V n x (Some ty) None at kind is gives values like = tt
+function_host V n x (Some ty) (Some qs) at kind is gives values like =
+    let none = no_object x.signature.result gives in
+    record {
+      function = λ takes. record {
+        entity = record {
+          entry = x;
+          in_view = at;
+          same_kind = kind;
+          driver = refl;
+          number = refl;
+          no_object = record {
+            params = like.plain takes;
+            result = subst (λ (k : EntryKind). GivesNoObject k x.signature.result) (sym kind) none;
+          };
+        };
+        params = like.count;
+      };
+      values = like.values values;
+      result = plain_meant V x.signature.result ty is none;
+    }
+
+entry_host : (V : RegistrationList) (name : List ℕ) (n : ℕ) (x : Option Entry) → x ≡ entry_at V n → EntryTakesValues x
+    → is_object_function name x ≡ false → IfSome (function_in_entry V name n x) (IsHost V)
+entry_host V name n None at values none = tt
+entry_host V name n (Some x) at values none =
+    tested (IsHost V) (is_function_named name x) (function_in V n x)
+    (λ e. function_host V n x (host_type V x.signature.result) (host_parameters V x.signature.params) (sym at)
+    (function_kind x.kind (first_true (is_function x.kind) (bytes_eq x.signature.name name) e)) refl
+    (third_false (is_function x.kind) (bytes_eq x.signature.name name) (is_object x.signature.result) e none)
+    values.params (params_like V x.signature.params))
+
+-- this list is the view from place n on
+abbrev IsRest : RegistrationList → ℕ → RegistrationList → Type 0
+IsRest V n xs = (i j : ℕ) → j ≡ n + i → entry_at xs i ≡ entry_at V j
+
+next_rest : (V : RegistrationList) (n : ℕ) (x : Option Entry) (xs : RegistrationList) → IsRest V n (x ∷ xs) → IsRest V (n + 1) xs
+next_rest V n x xs h i j e = h (suc i) j (omega arith)
+
+from_hosts : (V : RegistrationList) (name : List ℕ) (n : ℕ) (xs : RegistrationList) → IsRest V n xs → TakesValues xs
+    → list_any (is_object_function name) xs ≡ false → Every (IsHost V) (functions_from V name n xs)
+from_hosts V name n [] rest values none = tt
+from_hosts V name n (x ∷ xs) rest values none =
+    let both = two_false (is_object_function name x) (list_any (is_object_function name) xs) none in
+    every_joined (IsHost V) (option_to_list (function_in_entry V name n x)) (functions_from V name (n + 1) xs)
+    (every_option (IsHost V) (function_in_entry V name n x) (entry_host V name n x (rest 0 n (omega arith)) values.0 both.0))
+    (from_hosts V name (n + 1) xs (next_rest V n x xs rest) values.1 both.1)
+
+all_rest : (V : RegistrationList) → IsRest V 0 V
+all_rest V i j e = let same : i ≡ j = omega arith in ap (entry_at V) same
+
+-- where no function of the name gives an object
+pub hosts_named : (V : RegistrationList) (name : List ℕ) → TakesValues V → list_any (is_object_function name) V ≡ false
+    → Every (IsHost V) (view_functions_named V name)
+unfolding view_functions_named
+hosts_named V name values none = from_hosts V name 0 V (all_rest V) values none
+
+-- ---- global properties
+
+-- a global property of the view, of a primitive type
+pub record IsHostProperty (V : RegistrationList) (g : HostGlobal) : Type 0 where
+  pub entity : IsEntity V entry.Global (property_of g)
+  pub ty : IsPlainType g.ty
+
+global_kind : (k : EntryKind) → is_global k ≡ true → k ≡ entry.Global
+global_kind entry.HostType e = cc
+global_kind entry.Factory e = cc
+global_kind entry.Method e = cc
+global_kind entry.Property e = cc
+global_kind entry.Function e = cc
+global_kind entry.Global e = refl
+
+global_host : (V : RegistrationList) (n : ℕ) (x : Entry) (o : Option ArgType) → entry_at V n ≡ Some x → x.kind ≡ entry.Global
+    → host_type V x.signature.result ≡ o → IsProperty x.signature → IfSome (global_with n x o) (IsHostProperty V)
+global_host V n x None at kind is property = tt
+global_host V n x (Some ty) at kind is property = record {
+  entity = record {
+    entry = x;
+    in_view = at;
+    same_kind = kind;
+    driver = refl;
+    number = refl;
+    no_object = record {
+      params = subst AreNoObjects (sym property.takes_nothing) tt;
+      result = subst (λ (k : EntryKind). GivesNoObject k x.signature.result) (sym kind) property.primitive;
+    };
+  };
+  ty = plain_meant V x.signature.result ty is (primitive_plain x.signature.result property.primitive);
+}
+
+entry_global : (V : RegistrationList) (name : List ℕ) (n : ℕ) (x : Option Entry) → x ≡ entry_at V n → EntryTakesValues x
+    → is_global_named name x ≡ true → IfSome (global_in_entry V n x) (IsHostProperty V)
+entry_global V name n None at values e = tt
+entry_global V name n (Some x) at values e =
+    let kind = global_kind x.kind (first_true (is_global x.kind) (bytes_eq x.signature.name name) e) in
+    global_host V n x (host_type V x.signature.result) (sym at) kind refl (subst (λ (k : EntryKind). IsOfKind k x.signature) kind values.of_kind)
+
+either_global : (V : RegistrationList) (b : Bool) (here rest : Option HostGlobal) → (b ≡ true → IfSome here (IsHostProperty V))
+    → IfSome rest (IsHostProperty V) → IfSome (or_else b here rest) (IsHostProperty V)
+either_global V true here rest h k = h refl
+either_global V false here rest h k = k
+
+from_globals : (V : RegistrationList) (name : List ℕ) (n : ℕ) (xs : RegistrationList) → IsRest V n xs → TakesValues xs
+    → IfSome (globals_from V name n xs) (IsHostProperty V)
+from_globals V name n [] rest values = tt
+from_globals V name n (x ∷ xs) rest values =
+    either_global V (is_global_named name x) (global_in_entry V n x) (globals_from V name (n + 1) xs)
+    (λ e. entry_global V name n x (rest 0 n (omega arith)) values.0 e) (from_globals V name (n + 1) xs (next_rest V n x xs rest) values.1)
+
+pub global_host_named : (V : RegistrationList) (name : List ℕ) → TakesValues V → IfSome (view_global_named V name) (IsHostProperty V)
+unfolding view_global_named
+global_host_named V name values = from_globals V name 0 V (all_rest V) values

@@ -1,0 +1,321 @@
+-- The tree that an operator makes is sound where those of its operands are.
+use Rattle.std.specs.Prelude.{ℕ, zero, suc, List, Option, Some, None, Ok, IfOk}
+use Rattle.ang_kinds.specs.declared.place.Place.{Place}
+use Rattle.ang_kinds.specs.declared.primitive.Primitive.{Primitive}
+use Rattle.ang_kinds.specs.declared.primitive.Primitive.TheVariants as p
+use Rattle.ang_lex.specs.declared.token.Token.{Token}
+use Rattle.ang_lex.specs.declared.token.TokenKind.{TokenKind}
+use Rattle.ang_lex.specs.declared.token.TokenKind.TheVariants as k
+use Rattle.ang_types.specs.declared.arg_type.ArgType.{ArgType}
+use Rattle.ang_types.specs.declared.arg_type.ArgType.TheVariants as type
+use Rattle.ang_types.specs.Integers.{common_type}
+use Rattle.ang_types.specs.Ranks.{Lines, rank_of}
+use Rattle.ang_typed.specs.declared.expression.Operator.{Operator}
+use Rattle.ang_typed.specs.declared.expression.Comparison.{Comparison}
+use Rattle.ang_typed.specs.declared.expression.Comparison.TheVariants as cmp
+use Rattle.ang_typed.specs.declared.expression.StepKind.{StepKind}
+use Rattle.ang_typed.specs.declared.expression.StepKind.TheVariants as step
+use Rattle.ang_typed.specs.declared.expression.Variable.{Variable}
+use Rattle.ang_typed.specs.Typed as t
+use Rattle.ang_check_operators.specs.declared.operand.NamedVariable.{NamedVariable}
+use Rattle.ang_check_operators.specs.declared.forms.Form.{Form}
+use Rattle.ang_check_operators.specs.declared.forms.Form.TheVariants as form
+use Rattle.ang_check_operators.specs.declared.forms.Work.{Work}
+use Rattle.ang_check_operators.specs.declared.forms.Work.TheVariants as work
+use Rattle.ang_check_operators.specs.Refusals.{Judged, ◌>>=◌}
+use Rattle.ang_check_operators.specs.Forms.{binary_form, compound_work}
+use Rattle.ang_check_operators.specs.Operands.{Operand, operand, conversion, fit_by, fit, integer, truth_in, truth, target_by, target}
+use Rattle.ang_check_operators.specs.Operations.{literal_by, literal_typing, raised_type, worked_in, arithmetic, shift, compared_in, order, equality_by, equality, conjunction, disjunction, exclusion, formed, binary_typing, negated, complemented, raised_operand, opposite, stepped, prefix_by, prefix_typing, postfix_by, postfix_typing, converted_by, convert_typing, inside, group_typing, chosen_in, choice_of_integers, choice_by, choice, conditional_typing, assign_in, assigned, compound_in, compound_arithmetic, compound_shift, assignment_by, assignment_typing}
+use Rattle.ang_source.specs.Sound.{Module, IsVariable, Sound}
+use Rattle.ang_check_sound.specs.PlainNames.{IsPlainType}
+use Rattle.ang_check_sound.proofs.Judged.{holds, either_holds, any}
+
+-- In a module, where n locals are alive:
+module _ (M : Module) (n : ℕ) where
+  -- the variable whose name it is
+  abbrev pub IsNamed : Option NamedVariable → Type 0
+  IsNamed None = Unit {0}
+  IsNamed (Some x) = IsVariable M n x.variable
+
+  pub record SoundOperand (a : Operand) : Type 0 where
+    pub ty : IsPlainType a.ty
+    pub tree : Sound M n a.tree
+    pub named : IsNamed a.named
+
+  -- no variable's name
+  pub plain : (place : Place) (ty : ArgType) (e : t.Expr) → IsPlainType ty → Sound M n e → SoundOperand (operand place ty e)
+  plain place ty e k s = record { ty = k; tree = s; named = tt }
+
+  -- ---- parts of operations
+
+  convert_sound : (from to : ArgType) (e : t.Expr) → Sound M n e → Sound M n (conversion from to e)
+  convert_sound type.Void to e s = s
+  convert_sound type.Null to e s = s
+  convert_sound (type.Plain p) type.Void e s = s
+  convert_sound (type.Plain p) type.Null e s = s
+  convert_sound (type.Plain p) (type.Plain q) e s = s
+  convert_sound (type.Plain p) (type.Object m c) e s = s
+  convert_sound (type.Plain p) (type.Handle m c) e s = s
+  convert_sound (type.Object m c) to e s = s
+  convert_sound (type.Handle m c) to e s = s
+
+  fit_by_sound : (rank : Option ℕ) (ty : ArgType) (a : Operand) → SoundOperand a → IfOk (fit_by rank ty a) (Sound M n)
+  fit_by_sound None ty a s = tt
+  fit_by_sound (Some zero) ty a s = s.tree
+  fit_by_sound (Some (suc r)) ty a s = convert_sound a.ty ty a.tree s.tree
+
+  pub fit_sound : (lines : Lines) (ty : ArgType) (a : Operand) → SoundOperand a → IfOk (fit lines ty a) (Sound M n)
+  unfolding fit
+  fit_sound lines ty a s = fit_by_sound (rank_of lines a.ty ty) ty a s
+
+  truth_in_sound : (ty : ArgType) (a : Operand) → SoundOperand a → IfOk (truth_in a ty) (Sound M n)
+  truth_in_sound (type.Plain p.Bool) a s = s.tree
+  truth_in_sound _ a s = tt
+
+  pub truth_sound : (a : Operand) → SoundOperand a → IfOk (truth a) (Sound M n)
+  unfolding truth
+  truth_sound a s = truth_in_sound a.ty a s
+
+  target_by_sound : (place : Place) (x : Option NamedVariable) → IsNamed x → IfOk (target_by place x) (IsVariable M n)
+  target_by_sound place None s = tt
+  target_by_sound place (Some x) s = either_holds (IsVariable M n) x.read_only _ _ tt s
+
+  pub target_sound : (a : Operand) → SoundOperand a → IfOk (target a) (IsVariable M n)
+  unfolding target
+  target_sound a s = target_by_sound a.place a.named s.named
+
+  -- what comes of an integer's type
+  with_integer : {B : Type 0} (Q : B → Type 0) (a : Operand) (f : Primitive → Judged B) → ((q : Primitive) → IfOk (f q) Q) → IfOk (integer a >>= f) Q
+  with_integer Q a f g = holds (λ q. Unit {0}) Q (integer a) f (any (integer a)) (λ q h. g q)
+
+  -- two operands in one type, and what is made of them
+  fit_two : (lines : Lines) (r : ArgType) (a b : Operand) (f : t.Expr → t.Expr → Judged Operand) → SoundOperand a → SoundOperand b
+      → ((x y : t.Expr) → Sound M n x → Sound M n y → IfOk (f x y) SoundOperand)
+      → IfOk (fit lines r a >>= (λ x. fit lines r b >>= (λ y. f x y))) SoundOperand
+  fit_two lines r a b f sa sb g =
+      holds (Sound M n) SoundOperand (fit lines r a) (λ x. fit lines r b >>= (λ y. f x y)) (fit_sound lines r a sa)
+      (λ x sx. holds (Sound M n) SoundOperand (fit lines r b) (λ y. f x y) (fit_sound lines r b sb) (λ y sy. g x y sx sy))
+
+  truth_two : (a b : Operand) (f : t.Expr → t.Expr → Judged Operand) → SoundOperand a → SoundOperand b
+      → ((x y : t.Expr) → Sound M n x → Sound M n y → IfOk (f x y) SoundOperand)
+      → IfOk (truth a >>= (λ x. truth b >>= (λ y. f x y))) SoundOperand
+  truth_two a b f sa sb g =
+      holds (Sound M n) SoundOperand (truth a) (λ x. truth b >>= (λ y. f x y)) (truth_sound a sa)
+      (λ x sx. holds (Sound M n) SoundOperand (truth b) (λ y. f x y) (truth_sound b sb) (λ y sy. g x y sx sy))
+
+  -- ---- literals
+
+  literal_by_sound : (x : Token) (text : List ℕ) (kind : TokenKind) → IfOk (literal_by x text kind) SoundOperand
+  literal_by_sound x text k.Number = plain _ _ _ tt tt
+  literal_by_sound x text k.True = plain _ _ _ tt tt
+  literal_by_sound x text k.False = plain _ _ _ tt tt
+  literal_by_sound x text _ = tt
+
+  pub literal_sound : (x : Token) (text : List ℕ) → IfOk (literal_typing x text) SoundOperand
+  unfolding literal_typing
+  literal_sound x text = literal_by_sound x text x.kind
+
+  -- ---- two operands
+
+  worked_sound : (lines : Lines) (r : Primitive) (op : Operator) (a b : Operand) → SoundOperand a → SoundOperand b
+      → IfOk (worked_in lines r op a b) SoundOperand
+  worked_sound lines r op a b sa sb =
+      fit_two lines (type.Plain r) a b (λ x y. Ok (operand a.place (type.Plain r) (t.operate op r x y))) sa sb (λ x y sx sy. plain _ _ _ tt (sx, sy))
+
+  compared_sound : (lines : Lines) (r : Primitive) (c : Comparison) (a b : Operand) → SoundOperand a → SoundOperand b
+      → IfOk (compared_in lines r c a b) SoundOperand
+  compared_sound lines r c a b sa sb =
+      fit_two lines (type.Plain r) a b (λ x y. Ok (operand a.place (type.Plain p.Bool) (t.compare c r x y))) sa sb (λ x y sx sy. plain _ _ _ tt (sx, sy))
+
+  arithmetic_sound : (lines : Lines) (op : Operator) (a b : Operand) → SoundOperand a → SoundOperand b → IfOk (arithmetic lines op a b) SoundOperand
+  unfolding arithmetic
+  arithmetic_sound lines op a b sa sb =
+      with_integer SoundOperand a _ (λ q. with_integer SoundOperand b _ (λ r. worked_sound lines (common_type q r) op a b sa sb))
+
+  shift_sound : (lines : Lines) (op : Operator) (a b : Operand) → SoundOperand a → SoundOperand b → IfOk (shift lines op a b) SoundOperand
+  unfolding shift
+  shift_sound lines op a b sa sb =
+      with_integer SoundOperand a _ (λ q. with_integer SoundOperand b _ (λ r. worked_sound lines (raised_type q) op a b sa sb))
+
+  order_sound : (lines : Lines) (c : Comparison) (a b : Operand) → SoundOperand a → SoundOperand b → IfOk (order lines c a b) SoundOperand
+  unfolding order
+  order_sound lines c a b sa sb =
+      with_integer SoundOperand a _ (λ q. with_integer SoundOperand b _ (λ r. compared_sound lines (common_type q r) c a b sa sb))
+
+  equality_by_sound : (lines : Lines) (c : Comparison) (a b : Operand) (ty : ArgType) → SoundOperand a → SoundOperand b
+      → IfOk (equality_by lines c a b ty) SoundOperand
+  equality_by_sound lines c a b (type.Plain p.Bool) sa sb = compared_sound lines p.Bool c a b sa sb
+  equality_by_sound lines c a b _ sa sb = order_sound lines c a b sa sb
+
+  equality_sound : (lines : Lines) (c : Comparison) (a b : Operand) → SoundOperand a → SoundOperand b → IfOk (equality lines c a b) SoundOperand
+  unfolding equality
+  equality_sound lines c a b sa sb = equality_by_sound lines c a b a.ty sa sb
+
+  conjunction_sound : (a b : Operand) → SoundOperand a → SoundOperand b → IfOk (conjunction a b) SoundOperand
+  unfolding conjunction
+  conjunction_sound a b sa sb =
+      truth_two a b (λ x y. Ok (operand a.place (type.Plain p.Bool) (t.and x y))) sa sb (λ x y sx sy. plain _ _ _ tt (sx, sy))
+
+  disjunction_sound : (a b : Operand) → SoundOperand a → SoundOperand b → IfOk (disjunction a b) SoundOperand
+  unfolding disjunction
+  disjunction_sound a b sa sb =
+      truth_two a b (λ x y. Ok (operand a.place (type.Plain p.Bool) (t.or x y))) sa sb (λ x y sx sy. plain _ _ _ tt (sx, sy))
+
+  exclusion_sound : (a b : Operand) → SoundOperand a → SoundOperand b → IfOk (exclusion a b) SoundOperand
+  unfolding exclusion
+  exclusion_sound a b sa sb =
+      truth_two a b (λ x y. Ok (operand a.place (type.Plain p.Bool) (t.compare cmp.NotEqual p.Bool x y))) sa sb (λ x y sx sy. plain _ _ _ tt (sx, sy))
+
+  formed_sound : (lines : Lines) (f : Option Form) (a b : Operand) → SoundOperand a → SoundOperand b → IfOk (formed lines f a b) SoundOperand
+  formed_sound lines None a b sa sb = tt
+  formed_sound lines (Some (form.Works (work.Arithmetic op))) a b sa sb = arithmetic_sound lines op a b sa sb
+  formed_sound lines (Some (form.Works (work.Shift op))) a b sa sb = shift_sound lines op a b sa sb
+  formed_sound lines (Some (form.Order c)) a b sa sb = order_sound lines c a b sa sb
+  formed_sound lines (Some (form.Equality c)) a b sa sb = equality_sound lines c a b sa sb
+  formed_sound lines (Some form.And) a b sa sb = conjunction_sound a b sa sb
+  formed_sound lines (Some form.Or) a b sa sb = disjunction_sound a b sa sb
+  formed_sound lines (Some form.Xor) a b sa sb = exclusion_sound a b sa sb
+
+  pub binary_sound : (lines : Lines) (a : Operand) (op : TokenKind) (b : Operand) → SoundOperand a → SoundOperand b
+      → IfOk (binary_typing lines a op b) SoundOperand
+  unfolding binary_typing
+  binary_sound lines a op b sa sb = formed_sound lines (binary_form op) a b sa sb
+
+  -- ---- one operand
+
+  fit_one : (lines : Lines) (r : ArgType) (a : Operand) (f : t.Expr → Judged Operand) → SoundOperand a
+      → ((x : t.Expr) → Sound M n x → IfOk (f x) SoundOperand) → IfOk (fit lines r a >>= f) SoundOperand
+  fit_one lines r a f sa g = holds (Sound M n) SoundOperand (fit lines r a) f (fit_sound lines r a sa) g
+
+  negated_sound : (lines : Lines) (place : Place) (a : Operand) → SoundOperand a → IfOk (negated lines place a) SoundOperand
+  unfolding negated
+  negated_sound lines place a sa =
+      with_integer SoundOperand a _ (λ q. fit_one lines (type.Plain (raised_type q)) a _ sa (λ x sx. plain _ _ _ tt sx))
+
+  complemented_sound : (lines : Lines) (place : Place) (a : Operand) → SoundOperand a → IfOk (complemented lines place a) SoundOperand
+  unfolding complemented
+  complemented_sound lines place a sa =
+      with_integer SoundOperand a _ (λ q. fit_one lines (type.Plain (raised_type q)) a _ sa (λ x sx. plain _ _ _ tt sx))
+
+  raised_sound : (lines : Lines) (place : Place) (a : Operand) → SoundOperand a → IfOk (raised_operand lines place a) SoundOperand
+  unfolding raised_operand
+  raised_sound lines place a sa =
+      with_integer SoundOperand a _ (λ q. fit_one lines (type.Plain (raised_type q)) a _ sa (λ x sx. plain _ _ _ tt sx))
+
+  opposite_sound : (place : Place) (a : Operand) → SoundOperand a → IfOk (opposite place a) SoundOperand
+  unfolding opposite
+  opposite_sound place a sa = holds (Sound M n) SoundOperand (truth a) _ (truth_sound a sa) (λ x sx. plain _ _ _ tt sx)
+
+  stepped_sound : (kind : StepKind) (place : Place) (a : Operand) → SoundOperand a → IfOk (stepped kind place a) SoundOperand
+  unfolding stepped
+  stepped_sound kind place a sa =
+      holds (IsVariable M n) SoundOperand (target a) _ (target_sound a sa) (λ x sx. with_integer SoundOperand a _ (λ q. plain _ _ _ sa.ty sx))
+
+  prefix_by_sound : (lines : Lines) (op : Token) (kind : TokenKind) (a : Operand) → SoundOperand a → IfOk (prefix_by lines op kind a) SoundOperand
+  prefix_by_sound lines op k.Not a sa = opposite_sound op.place a sa
+  prefix_by_sound lines op k.Minus a sa = negated_sound lines op.place a sa
+  prefix_by_sound lines op k.Plus a sa = raised_sound lines op.place a sa
+  prefix_by_sound lines op k.Tilde a sa = complemented_sound lines op.place a sa
+  prefix_by_sound lines op k.Increment a sa = stepped_sound step.IncrementBefore op.place a sa
+  prefix_by_sound lines op k.Decrement a sa = stepped_sound step.DecrementBefore op.place a sa
+  prefix_by_sound lines op _ a sa = tt
+
+  pub prefix_sound : (lines : Lines) (op : Token) (a : Operand) → SoundOperand a → IfOk (prefix_typing lines op a) SoundOperand
+  unfolding prefix_typing
+  prefix_sound lines op a sa = prefix_by_sound lines op op.kind a sa
+
+  postfix_by_sound : (kind : TokenKind) (a : Operand) → SoundOperand a → IfOk (postfix_by kind a) SoundOperand
+  postfix_by_sound k.Increment a sa = stepped_sound step.IncrementAfter a.place a sa
+  postfix_by_sound k.Decrement a sa = stepped_sound step.DecrementAfter a.place a sa
+  postfix_by_sound _ a sa = tt
+
+  pub postfix_sound : (a : Operand) (kind : TokenKind) → SoundOperand a → IfOk (postfix_typing a kind) SoundOperand
+  unfolding postfix_typing
+  postfix_sound a kind sa = postfix_by_sound kind a sa
+
+  converted_by_sound : (lines : Lines) (word : Token) (kind : TokenKind) (a : Operand) → SoundOperand a
+      → IfOk (converted_by lines word kind a) SoundOperand
+  converted_by_sound lines word (k.Primitive q) a sa = fit_one lines (type.Plain q) a _ sa (λ x sx. plain _ _ _ tt sx)
+  converted_by_sound lines word _ a sa = tt
+
+  pub converted_sound : (lines : Lines) (word : Token) (a : Operand) → SoundOperand a → IfOk (convert_typing lines word a) SoundOperand
+  unfolding convert_typing
+  converted_sound lines word a sa = converted_by_sound lines word word.kind a sa
+
+  inside_named : (x : Option NamedVariable) → IsNamed x → IsNamed (inside x)
+  inside_named None s = tt
+  inside_named (Some x) s = s
+
+  pub group_sound : (place : Place) (a : Operand) → SoundOperand a → SoundOperand (group_typing place a)
+  group_sound place a sa = record { ty = sa.ty; tree = sa.tree; named = inside_named a.named sa.named }
+
+  -- ---- `?:`
+
+  chosen_sound : (lines : Lines) (r : Primitive) (place : Place) (c : t.Expr) (a b : Operand) → Sound M n c → SoundOperand a → SoundOperand b
+      → IfOk (chosen_in lines r place c a b) SoundOperand
+  chosen_sound lines r place c a b sc sa sb =
+      fit_two lines (type.Plain r) a b (λ x y. Ok (operand place (type.Plain r) (t.choose c x y))) sa sb (λ x y sx sy. plain _ _ _ tt (sc, sx, sy))
+
+  integers_sound : (lines : Lines) (place : Place) (c : t.Expr) (a b : Operand) → Sound M n c → SoundOperand a → SoundOperand b
+      → IfOk (choice_of_integers lines place c a b) SoundOperand
+  integers_sound lines place c a b sc sa sb =
+      with_integer SoundOperand a _ (λ q. with_integer SoundOperand b _ (λ r. chosen_sound lines (common_type q r) place c a b sc sa sb))
+
+  choice_by_sound : (lines : Lines) (place : Place) (c : t.Expr) (a b : Operand) (ty : ArgType) → Sound M n c → SoundOperand a → SoundOperand b
+      → IfOk (choice_by lines place c a b ty) SoundOperand
+  choice_by_sound lines place c a b (type.Plain p.Bool) sc sa sb = chosen_sound lines p.Bool place c a b sc sa sb
+  choice_by_sound lines place c a b (type.Object m r) sc sa sb = tt
+  choice_by_sound lines place c a b (type.Handle m r) sc sa sb = tt
+  choice_by_sound lines place c a b _ sc sa sb = integers_sound lines place c a b sc sa sb
+
+  choice_sound : (lines : Lines) (place : Place) (c : t.Expr) (a b : Operand) → Sound M n c → SoundOperand a → SoundOperand b
+      → IfOk (choice lines place c a b) SoundOperand
+  unfolding choice
+  choice_sound lines place c a b sc sa sb = choice_by_sound lines place c a b a.ty sc sa sb
+
+  pub conditional_sound : (lines : Lines) (c a b : Operand) → SoundOperand c → SoundOperand a → SoundOperand b
+      → IfOk (conditional_typing lines c a b) SoundOperand
+  unfolding conditional_typing
+  conditional_sound lines c a b sc sa sb =
+      holds (Sound M n) SoundOperand (truth c) _ (truth_sound c sc) (λ x sx. choice_sound lines c.place x a b sx sa sb)
+
+  -- ---- assignments
+
+  assign_in_sound : (lines : Lines) (x : Variable) (a b : Operand) (ty : ArgType) → IsVariable M n x → SoundOperand b
+      → IfOk (assign_in lines x a b ty) SoundOperand
+  assign_in_sound lines x a b (type.Plain q) sx sb = fit_one lines (type.Plain q) b _ sb (λ y sy. plain _ _ _ tt (sx, sy))
+  assign_in_sound lines x a b _ sx sb = tt
+
+  assigned_sound : (lines : Lines) (a b : Operand) → SoundOperand a → SoundOperand b → IfOk (assigned lines a b) SoundOperand
+  unfolding assigned
+  assigned_sound lines a b sa sb =
+      holds (IsVariable M n) SoundOperand (target a) _ (target_sound a sa) (λ x sx. assign_in_sound lines x a b a.ty sx sb)
+
+  compound_sound : (lines : Lines) (op : Operator) (x : Variable) (q r : Primitive) (a b : Operand) → IsVariable M n x → SoundOperand a → SoundOperand b
+      → IfOk (compound_in lines op x q r a b) SoundOperand
+  compound_sound lines op x q r a b sx sa sb = fit_one lines (type.Plain r) b _ sb (λ y sy. plain _ _ _ sa.ty (sx, sy))
+
+  compound_arithmetic_sound : (lines : Lines) (op : Operator) (a b : Operand) → SoundOperand a → SoundOperand b
+      → IfOk (compound_arithmetic lines op a b) SoundOperand
+  unfolding compound_arithmetic
+  compound_arithmetic_sound lines op a b sa sb =
+      holds (IsVariable M n) SoundOperand (target a) _ (target_sound a sa)
+      (λ x sx. with_integer SoundOperand a _ (λ q. with_integer SoundOperand b _ (λ r. compound_sound lines op x q (common_type q r) a b sx sa sb)))
+
+  compound_shift_sound : (lines : Lines) (op : Operator) (a b : Operand) → SoundOperand a → SoundOperand b
+      → IfOk (compound_shift lines op a b) SoundOperand
+  unfolding compound_shift
+  compound_shift_sound lines op a b sa sb =
+      holds (IsVariable M n) SoundOperand (target a) _ (target_sound a sa)
+      (λ x sx. with_integer SoundOperand a _ (λ q. with_integer SoundOperand b _ (λ r. compound_sound lines op x q (raised_type q) a b sx sa sb)))
+
+  assignment_by_sound : (lines : Lines) (w : Option Work) (a b : Operand) → SoundOperand a → SoundOperand b
+      → IfOk (assignment_by lines w a b) SoundOperand
+  assignment_by_sound lines None a b sa sb = assigned_sound lines a b sa sb
+  assignment_by_sound lines (Some (work.Arithmetic op)) a b sa sb = compound_arithmetic_sound lines op a b sa sb
+  assignment_by_sound lines (Some (work.Shift op)) a b sa sb = compound_shift_sound lines op a b sa sb
+
+  pub assignment_sound : (lines : Lines) (a : Operand) (op : TokenKind) (b : Operand) → SoundOperand a → SoundOperand b
+      → IfOk (assignment_typing lines a op b) SoundOperand
+  unfolding assignment_typing
+  assignment_sound lines a op b sa sb = assignment_by_sound lines (compound_work op) a b sa sb

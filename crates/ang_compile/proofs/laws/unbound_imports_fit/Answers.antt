@@ -1,5 +1,0 @@
-use Rattle.ang_compile.proofs.Composed.{unbound_fit}
-use Rattle.ang_compile.proofs.laws.unbound_imports_fit.Goals as goal
-
-pub returns : goal.returns
-returns c = record { fit = λ z none. unbound_fit z none }

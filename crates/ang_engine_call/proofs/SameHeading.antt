@@ -1,0 +1,122 @@
+-- The test of two headings says whether they are equal.
+use Rattle.std.proofs.Common.{◌≡◌, ℕ, Bool, ◌==◌, ◌&&◌, List, cond, eqb, Decides, refl, sym, ap, ◌∙◌, map}
+use Rattle.std.specs.Cmp.{booleans_Decides}
+use Rattle.std.specs.Cmp.Derive.Mapped.{pointwise-map}
+use Rattle.std.specs.Cmp.Lexicographic.{pointwise, pointwise_decides}
+use Rattle.std.proofs.Math.Bool.{beq}
+use Rattle.std.proofs.lemmas.Bool.Decides.{Decides-and, Decides-at, Decides-eqb, Decides-like}
+use Rattle.std.proofs.lemmas.Slice.Eq.{bytes_eq-Decides}
+use Rattle.std.specs.Prelude.{bytes_eq}
+use Rattle.ang_kinds.specs.declared.primitive.Primitive.{Primitive}
+use Rattle.ang_kinds.specs.declared.primitive.Primitive.TheVariants.{I8, I16, I32, I64, U8, U16, U32, U64, Bool as Truth}
+use Rattle.ang_kinds.specs.declared.types.Pass.{Pass}
+use Rattle.ang_kinds.specs.declared.types.Pass.TheVariants.{Value, RefIn, RefOut, RefInOut}
+use Rattle.ang_registry.specs.Overloads.{primitive_number, pass_number}
+use Rattle.ang_types.specs.declared.arg_type.ArgType.{ArgType}
+use Rattle.ang_types.specs.declared.arg_type.ArgType.TheVariants.{Void, Null, Plain, Object, Handle}
+use Rattle.ang_names.specs.declared.names.ScriptFunction.{ScriptFunction}
+use Rattle.ang_names.specs.declared.names.ScriptParameter.{ScriptParameter}
+use Rattle.ang_engine_call.specs.Headings.{Passed, Heading, passed_of, heading_of, same_type, same_parameter, same_heading}
+
+-- ---- types and passings by their numbers
+
+primitive_at : ℕ → Primitive
+primitive_at n =
+    cond (eqb n 0) I8 (cond (eqb n 1) I16 (cond (eqb n 2) I32 (cond (eqb n 3) I64 (cond (eqb n 4) U8 (cond (eqb n 5) U16 (cond (eqb n 6) U32 (cond (eqb n 7) U64 Truth)))))))
+
+primitive_back : (p : Primitive) → primitive_at (primitive_number p) ≡ p
+unfolding primitive_at
+primitive_back I8 = refl
+primitive_back I16 = refl
+primitive_back I32 = refl
+primitive_back I64 = refl
+primitive_back U8 = refl
+primitive_back U16 = refl
+primitive_back U32 = refl
+primitive_back U64 = refl
+primitive_back Truth = refl
+
+primitive-Decides : (p q : Primitive) → Decides (primitive_number p == primitive_number q) (p ≡ q)
+primitive-Decides p q =
+    Decides-like (primitive_number p == primitive_number q) (λ e. sym (primitive_back p) ∙ ap primitive_at e ∙ primitive_back q) (λ e. ap primitive_number e) (Decides-eqb (primitive_number p) (primitive_number q))
+
+pass_at : ℕ → Pass
+pass_at n = cond (eqb n 0) Value (cond (eqb n 1) RefIn (cond (eqb n 2) RefOut RefInOut))
+
+pass_back : (p : Pass) → pass_at (pass_number p) ≡ p
+unfolding pass_at
+pass_back Value = refl
+pass_back RefIn = refl
+pass_back RefOut = refl
+pass_back RefInOut = refl
+
+pass-Decides : (p q : Pass) → Decides (pass_number p == pass_number q) (p ≡ q)
+pass-Decides p q =
+    Decides-like (pass_number p == pass_number q) (λ e. sym (pass_back p) ∙ ap pass_at e ∙ pass_back q) (λ e. ap pass_number e) (Decides-eqb (pass_number p) (pass_number q))
+
+-- ---- types
+
+object-Decides : (m n : ℕ) (r s : Bool) → Decides (m == n && beq r s) (Object m r ≡ Object n s)
+object-Decides m n r s =
+    Decides-like (m == n && beq r s) (λ h. λ i. Object (h.0 i) (h.1 i)) (λ e. (cc, cc)) (Decides-and (m == n) (beq r s) (Decides-eqb m n) (booleans_Decides r s))
+
+handle-Decides : (m n : ℕ) (r s : Bool) → Decides (m == n && beq r s) (Handle m r ≡ Handle n s)
+handle-Decides m n r s =
+    Decides-like (m == n && beq r s) (λ h. λ i. Handle (h.0 i) (h.1 i)) (λ e. (cc, cc)) (Decides-and (m == n) (beq r s) (Decides-eqb m n) (booleans_Decides r s))
+
+type-Decides : (t u : ArgType) → Decides (same_type t u) (t ≡ u)
+type-Decides Void Void = (λ e. refl, λ e. refl)
+type-Decides Void Null = (λ e. cc, λ e. cc)
+type-Decides Void (Plain q) = (λ e. cc, λ e. cc)
+type-Decides Void (Object n s) = (λ e. cc, λ e. cc)
+type-Decides Void (Handle n s) = (λ e. cc, λ e. cc)
+type-Decides Null Void = (λ e. cc, λ e. cc)
+type-Decides Null Null = (λ e. refl, λ e. refl)
+type-Decides Null (Plain q) = (λ e. cc, λ e. cc)
+type-Decides Null (Object n s) = (λ e. cc, λ e. cc)
+type-Decides Null (Handle n s) = (λ e. cc, λ e. cc)
+type-Decides (Plain p) Void = (λ e. cc, λ e. cc)
+type-Decides (Plain p) Null = (λ e. cc, λ e. cc)
+type-Decides (Plain p) (Plain q) = Decides-like (primitive_number p == primitive_number q) (λ e. ap Plain e) (λ e. cc) (primitive-Decides p q)
+type-Decides (Plain p) (Object n s) = (λ e. cc, λ e. cc)
+type-Decides (Plain p) (Handle n s) = (λ e. cc, λ e. cc)
+type-Decides (Object m r) Void = (λ e. cc, λ e. cc)
+type-Decides (Object m r) Null = (λ e. cc, λ e. cc)
+type-Decides (Object m r) (Plain q) = (λ e. cc, λ e. cc)
+type-Decides (Object m r) (Object n s) = object-Decides m n r s
+type-Decides (Object m r) (Handle n s) = (λ e. cc, λ e. cc)
+type-Decides (Handle m r) Void = (λ e. cc, λ e. cc)
+type-Decides (Handle m r) Null = (λ e. cc, λ e. cc)
+type-Decides (Handle m r) (Plain q) = (λ e. cc, λ e. cc)
+type-Decides (Handle m r) (Object n s) = (λ e. cc, λ e. cc)
+type-Decides (Handle m r) (Handle n s) = handle-Decides m n r s
+
+-- ---- parameters and functions
+
+abbrev same_passed : Passed → Passed → Bool
+same_passed a b = same_type a.ty b.ty && pass_number a.pass == pass_number b.pass && beq a.read_only b.read_only
+
+passed-Decides : (a b : Passed) → Decides (same_passed a b) (a ≡ b)
+passed-Decides a b =
+    Decides-like (same_passed a b) (λ h. λ i. record { ty = h.0.0 i; pass = h.0.1 i; read_only = h.1 i })
+    (λ e. ((ap (λ (p : Passed). p.ty) e, ap (λ (p : Passed). p.pass) e), ap (λ (p : Passed). p.read_only) e))
+    (Decides-and (same_type a.ty b.ty && pass_number a.pass == pass_number b.pass) (beq a.read_only b.read_only)
+    (Decides-and (same_type a.ty b.ty) (pass_number a.pass == pass_number b.pass) (type-Decides a.ty b.ty) (pass-Decides a.pass b.pass))
+    (booleans_Decides a.read_only b.read_only))
+
+params-Decides : (ps qs : List ScriptParameter) → Decides (pointwise same_parameter ps qs) (map passed_of ps ≡ map passed_of qs)
+params-Decides ps qs =
+    Decides-at (pointwise same_parameter ps qs) (pointwise same_passed (map passed_of ps) (map passed_of qs)) (sym (pointwise-map passed_of same_passed ps qs))
+    (pointwise_decides passed-Decides (map passed_of ps) (map passed_of qs))
+
+pub heading-Decides : (f g : ScriptFunction) → Decides (same_heading f g) (heading_of f ≡ heading_of g)
+unfolding same_heading
+heading-Decides f g =
+    let name = bytes_eq-Decides f.name g.name in
+    let gives = type-Decides f.result g.result in
+    let constant = booleans_Decides f.const_result g.const_result in
+    Decides-like (same_heading f g) (λ h. λ i. record { name = h.0.0.0 i; result_type = h.0.0.1 i; const_result = h.0.1 i; params = h.1 i })
+    (λ e. (((ap (λ (x : Heading). x.name) e, ap (λ (x : Heading). x.result_type) e), ap (λ (x : Heading). x.const_result) e), ap (λ (x : Heading). x.params) e))
+    (Decides-and (bytes_eq f.name g.name && same_type f.result g.result && beq f.const_result g.const_result) (pointwise same_parameter f.params g.params)
+    (Decides-and (bytes_eq f.name g.name && same_type f.result g.result) (beq f.const_result g.const_result)
+    (Decides-and (bytes_eq f.name g.name) (same_type f.result g.result) name gives) constant) (params-Decides f.params g.params))

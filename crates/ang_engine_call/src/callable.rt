@@ -1,0 +1,59 @@
+//! Which functions can be called from outside.
+ghost use Rattle.std.specs.Prelude.{◌≡◌, is_some};
+ghost use Rattle.std.specs.List.{list_all};
+ghost use Rattle.ang_engine_call.specs.Calls as spec;
+
+use ang_kinds::{Pass, Prim};
+use ang_names::{ScriptFunction, ScriptParameter};
+use ang_types::ArgType;
+
+/// The driver of values that are no driver's. For a primitive type a driver's number plays no part.
+pub const NO_DRIVER: u32 = 0;
+
+/// The primitive type that it is, if it is one.
+pub fn primitive_of(ty: ArgType) -> Option<Prim>
+    ensures exact { result ≡ spec.primitive_of ty }
+{
+    match ty {
+        ArgType::Plain(primitive) => Some(primitive),
+        ArgType::Void => None,
+        ArgType::Null => None,
+        ArgType::Object { .. } => None,
+        ArgType::Handle { .. } => None,
+    }
+}
+
+fn is_void(ty: ArgType) -> bool
+    ensures exact { result ≡ spec.is_void ty }
+{
+    matches!(ty, ArgType::Void)
+}
+
+fn is_by_value(pass: Pass) -> bool
+    ensures exact { result ≡ spec.is_by_value pass }
+{
+    matches!(pass, Pass::Value)
+}
+
+/// Whether it is a primitive by value.
+fn is_plain_parameter(param: &ScriptParameter) -> bool
+    ensures exact { result ≡ spec.is_plain_parameter param.now }
+{
+    is_by_value(param.pass) && primitive_of(param.ty).is_some()
+}
+
+fn are_plain(params: &[ScriptParameter]) -> bool
+    ensures exact { result ≡ list_all spec.is_plain_parameter params.now }
+{
+    params.iter().all(|param| is_plain_parameter(param))
+}
+
+/// Whether the function can be called from outside: each of its parameters is a primitive by value, and its
+/// result is a primitive or `void`. It takes no memory.
+#[tactic(auto, unfolding(crate::specs::Calls::is_callable))]
+pub fn is_callable(function: &ScriptFunction) -> bool
+    ensures exact { result ≡ spec.is_callable function.now }
+{
+    are_plain(function.params.as_slice())
+        && (is_void(function.result) || primitive_of(function.result).is_some())
+}

@@ -1,0 +1,47 @@
+-- How many values a body has on the stack at once.
+use Rattle.std.specs.Prelude.{ℕ, suc, ◌+◌, ◌<◌, length}
+use Rattle.ang_core.specs.declared.tree.Expression.{Expression, Row_of-Expression, end_of-Expression, more_of-Expression}
+use Rattle.ang_core.specs.declared.tree.Expression.TheVariants.{Number, Null as Nothing, NoKey, Local, Assign', Change', Apply', Call', Choose'}
+use Rattle.ang_core.specs.declared.tree.Statement.{Statement, Row_of-Statement, end_of-Statement, more_of-Statement}
+use Rattle.ang_core.specs.declared.tree.Statement.TheVariants.{Skip, Evaluate, Declare, Block', If', While', DoWhile', Return, Break, Continue}
+use Rattle.ang_core.specs.Sound.{declared}
+
+-- Where d values stand below it in its frame, an expression never makes it more than h; a call's value stands above those of its `&out` parameters.
+abbrev mutual
+  pub Below : ℕ → ℕ → Expression → Type 0
+  Below h d (Number n) = d < h
+  Below h d Nothing = d < h
+  Below h d (NoKey k) = d < h
+  Below h d (Local i) = d < h
+  Below h d (Assign' i p e) = Below h d e
+  Below h d (Change' i by p e) = Below h d e
+  Below h d (Apply' o shape args) = (d < h) × BelowArgs h d args
+  Below h d (Call' f shape args outs) = (length outs.items + d < h) × BelowArgs h d args
+  Below h d (Choose' p a q b s c) = Below h d a × Below h d b × Below h d c
+
+  pub BelowArgs : {k : _} → ℕ → ℕ → Row_of-Expression k → Type 0
+  BelowArgs h d end_of-Expression = Unit {0}
+  BelowArgs h d (more_of-Expression e rest) = Below h d e × BelowArgs h (suc d) rest
+
+-- the same of a statement where n locals are alive
+abbrev mutual
+  pub BelowStatement : ℕ → ℕ → Statement → Type 0
+  BelowStatement h n Skip = Unit {0}
+  BelowStatement h n (Evaluate e) = Below h n e.value
+  BelowStatement h n (Declare e) = Below h n e.value
+  BelowStatement h n (Block' shape row) = BelowRow h n row
+  BelowStatement h n (If' e x a y b) = Below h n e.value × BelowStatement h n a × BelowStatement h n b
+  BelowStatement h n (While' e x s y step) = Below h n e.value × BelowStatement h n s × BelowStatement h n step
+  BelowStatement h n (DoWhile' e x s) = Below h n e.value × BelowStatement h n s
+  BelowStatement h n (Return e) = Below h n e.value
+  BelowStatement h n Break = Unit {0}
+  BelowStatement h n Continue = Unit {0}
+
+  pub BelowRow : {k : _} → ℕ → ℕ → Row_of-Statement k → Type 0
+  BelowRow h n end_of-Statement = Unit {0}
+  BelowRow h n (more_of-Statement s rest) = BelowStatement h n s × BelowRow h (declared s + n) rest
+
+-- a whole body with q parameters; at its end a value stands above its locals
+pub record BelowBody (h q : ℕ) (s : Statement) : Type 0 where
+  pub inside : BelowStatement h q s
+  pub at_end : declared s + q < h

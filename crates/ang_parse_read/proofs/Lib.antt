@@ -1,0 +1,7 @@
+pub mod Turns
+pub mod Outcomes
+pub mod DependsOnPrefix
+pub mod Tokens
+pub mod Loops
+pub mod Whole
+pub mod PrefixGroup

@@ -1,5 +1,0 @@
-use Rattle.ang_parse_stmt.proofs.Views.{else_made}
-use Rattle.ang_parse_stmt.proofs.build.other_branch.Goals as goal
-
-pub returns : goal.returns
-returns c = record { exact = else_made _ _ }

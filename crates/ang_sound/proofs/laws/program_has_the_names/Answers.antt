@@ -1,5 +1,0 @@
-use Rattle.ang_sound.proofs.Program.{has_names}
-use Rattle.ang_sound.proofs.laws.program_has_the_names.Goals as goal
-
-pub returns : goal.returns
-returns c = record { declared = has_names }

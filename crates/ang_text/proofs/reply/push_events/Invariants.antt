@@ -1,6 +1,0 @@
-use Rattle.std.proofs.Common.{◌≡◌, ◌++◌, take, flat_map}
-use Rattle.ang_text.specs.Text.{event_text}
-use Rattle.ang_text.proofs.reply.push_events.Given as goal
-
-abbrev pub invariant-loop-event : goal.invariant-loop-event
-invariant-loop-event l = l.out.items ≡ l.initial.out.items ++ flat_map (event_text) (take l.event-index l.events)

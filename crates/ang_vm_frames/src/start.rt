@@ -1,0 +1,88 @@
+//! How a run begins.
+ghost use Rattle.std.specs.Prelude.{◌≡◌, ℕ, List, [], reverse, IfOk};
+ghost use Rattle.ang_meaning.specs.World.{with_inputs};
+ghost use Rattle.ang_code.specs.Machine.{begins, call_begins, initializer_begins};
+ghost use Rattle.ang_vm_steps.specs.Tables.{setting_of, texts_of};
+ghost use Rattle.ang_vm_steps.specs.Turns.{Reaches};
+ghost use Rattle.ang_vm_frames.specs.Legs.{Fits, left};
+
+use crate::calls::begin;
+use crate::run::{fail, give_up};
+use ang_code::Frame;
+use ang_kinds::Fault;
+use ang_meaning::{Routine, Slot};
+use ang_vm_steps::place::{Ending, Standing};
+use ang_vm_steps::store::Store;
+use ang_vm_steps::table::Table;
+
+/// A body begins on a stack of its own, with no callers.
+fn start<S: Store>(
+    table: &Table,
+    stack: &mut Vec<Slot>,
+    frames: &mut Vec<Frame>,
+    store: &mut S,
+    entry: Routine,
+    ticks: u64,
+) -> Result<Standing, Ending>
+    ensures starts { (nesting : ℕ) → Reaches (setting_of table.now nesting) (texts_of table.now)
+        (λ is. begins (texts_of table.now) entry (reverse stack.old.items) [] ticks (with_inputs is (S.world store.old)))
+        (λ is. left result stack.new.items (reverse frames.new.items) (with_inputs is (S.world store.new))) }
+    ensures fits { IfOk result (λ s. Fits s stack.new.items frames.new.items) }
+    ensures quiet { (S.world store.new).events ≡ (S.world store.old).events }
+{
+    frames.clear();
+    let top = stack.len();
+    match begin(table, entry, stack, top, ticks) {
+        Ok(standing) => Ok(standing),
+        Err(stop) => Err(give_up(stack, store, top, stop)),
+    }
+}
+
+/// A command's call of a function begins, with a budget of ticks. The stack holds its arguments and nothing
+/// else, the last one on top; whatever frames there were go.
+///
+/// # Errors
+/// The end of a run that ends at once: without a tick, or without memory for the body's values.
+pub fn start_call<S: Store>(
+    table: &Table,
+    stack: &mut Vec<Slot>,
+    frames: &mut Vec<Frame>,
+    store: &mut S,
+    entry: Routine,
+    budget: u64,
+) -> Result<Standing, Ending>
+    ensures starts { (nesting : ℕ) → Reaches (setting_of table.now nesting) (texts_of table.now)
+        (λ is. call_begins (setting_of table.now nesting) (texts_of table.now) budget entry (reverse stack.old.items) (with_inputs is (S.world store.old)))
+        (λ is. left result stack.new.items (reverse frames.new.items) (with_inputs is (S.world store.new))) }
+    ensures fits { IfOk result (λ s. Fits s stack.new.items frames.new.items) }
+    ensures quiet { (S.world store.new).events ≡ (S.world store.old).events }
+{
+    if budget == 0 {
+        let held = stack.len();
+        return Err(fail(stack, store, held, Fault::Budget));
+    }
+    start(table, stack, frames, store, entry, budget - 1)
+}
+
+/// The body of a global's initializer begins, whose entry takes no tick. Whatever values and frames there were
+/// go.
+///
+/// # Errors
+/// The end of a run that ends at once: without memory for the body's values.
+pub fn start_initializer<S: Store>(
+    table: &Table,
+    stack: &mut Vec<Slot>,
+    frames: &mut Vec<Frame>,
+    store: &mut S,
+    entry: Routine,
+    ticks: u64,
+) -> Result<Standing, Ending>
+    ensures starts { (nesting : ℕ) → Reaches (setting_of table.now nesting) (texts_of table.now)
+        (λ is. initializer_begins (setting_of table.now nesting) (texts_of table.now) ticks entry (with_inputs is (S.world store.old)))
+        (λ is. left result stack.new.items (reverse frames.new.items) (with_inputs is (S.world store.new))) }
+    ensures fits { IfOk result (λ s. Fits s stack.new.items frames.new.items) }
+    ensures quiet { (S.world store.new).events ≡ (S.world store.old).events }
+{
+    stack.clear();
+    start(table, stack, frames, store, entry, ticks)
+}

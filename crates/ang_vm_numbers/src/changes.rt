@@ -1,0 +1,33 @@
+//! Variables changed by an operand.
+ghost use Rattle.std.specs.Prelude.{◌≡◌};
+ghost use Rattle.ang_meaning.specs.Numbers.{changed};
+ghost use Rattle.ang_vm_numbers.specs.Answers.{altered_of};
+
+use crate::conversions::convert;
+use crate::operators::work;
+use ang_kinds::Fault;
+use ang_meaning::Change;
+
+/// What a change stores into its variable, and what its expression gives.
+#[derive(Clone, Copy, PartialEq, Eq, Debug)]
+pub struct Altered {
+    /// The variable's new value.
+    pub stored: u64,
+    /// The expression's value.
+    pub given: u64,
+}
+
+/// A variable's value `x` changed by `y`, as in a compound assignment, `++` or `--`.
+///
+/// # Errors
+/// Those of the change's operation: `DivideByZero` and `DivideOverflow`.
+#[inline(always)]
+#[tactic(auto, unfolding(ang_meaning::specs::Numbers::changed))]
+pub fn change(by: Change, x: u64, y: u64) -> Result<Altered, Fault>
+    ensures exact { result ≡ altered_of (changed by x y) }
+{
+    let worked = work(by.work, by.at, convert(by.at, x), y)?;
+    let stored = convert(by.to, worked);
+    let given = if by.old { x } else { stored };
+    Ok(Altered { stored, given })
+}

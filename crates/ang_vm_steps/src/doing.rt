@@ -1,0 +1,171 @@
+//! `Do`: operations take their operands from the stack and put their value there.
+ghost use Rattle.std.specs.Prelude.{◌≡◌, ℕ, ◌+◌, ◌-◌, ◌<◌, ◌≤◌, ◌∷◌, List, length, IfOk};
+ghost use Rattle.ang_meaning.specs.declared.routine.Routine.{Routine};
+ghost use Rattle.ang_meaning.specs.declared.operation.Operation.TheVariants.{Work, Compare, Convert, Negate, Complement, Not};
+ghost use Rattle.ang_meaning.specs.World.{World};
+ghost use Rattle.ang_meaning.specs.Setting.{Setting};
+ghost use Rattle.ang_meaning.specs.Results.{drop_some};
+ghost use Rattle.ang_code.specs.declared.instruction.Frame.{Frame};
+ghost use Rattle.ang_code.specs.declared.instruction.Instruction.TheVariants.{Do};
+ghost use Rattle.ang_code.specs.Machine.{Texts, At, did};
+ghost use Rattle.ang_vm_steps.specs.Stacks.{values};
+ghost use Rattle.ang_vm_steps.specs.Arms.{Acts, done, went};
+
+use crate::operations::{
+    compare_slots, complement_slot, convert_slot, deny_slot, negate_slot, work_slots,
+};
+use crate::stack::{peek, push};
+use crate::stop::Stop;
+use ang_kinds::{Fault, Prim};
+use ang_meaning::{Arithmetic, Comparison, Slot};
+
+/// The answer of an operation that takes so many operands: its value takes their place, or they stay where
+/// it faults.
+#[inline(always)]
+pub(crate) fn put_answer(
+    stack: &mut [Slot],
+    top: usize,
+    count: usize,
+    answer: Result<Slot, Fault>,
+) -> Result<usize, Stop>
+    requires in_use { count ≤ top }
+    requires within { top ≤ length stack.old }
+    requires room { top - count < length stack.old }
+    ensures exact { (room : ℕ) (f : Routine) (pc : ℕ) (fr : List Frame) (t : ℕ) (w : World)
+        → did (done answer w) (values stack.old top) (λ v u. At f (pc + 1) room (v ∷ drop_some count (values stack.old top)) fr t u)
+        ≡ went result f pc room stack.new top fr t w }
+    ensures in_room { IfOk result (λ n. n ≤ top - count + 1) }
+{
+    match answer {
+        Ok(value) => {
+            push(stack, top - count, value);
+            Ok(top - count + 1)
+        }
+        Err(fault) => Err(Stop::Fails(fault)),
+    }
+}
+
+/// A binary operator on the two top values.
+#[inline(always)]
+pub(crate) fn do_work(
+    stack: &mut [Slot],
+    top: usize,
+    room: usize,
+    what: Arithmetic,
+    at: Prim,
+) -> Result<usize, Stop>
+    requires in_room { top ≤ room }
+    requires within { room ≤ length stack.old }
+    ensures acts { (z : Setting) (code : Texts) (w : World) → Acts z code (Do (Work what at)) room top stack.old w result stack.new w }
+    ensures in_room { IfOk result (λ n. n ≤ room) }
+{
+    if top < 2 {
+        return Err(Stop::Lost);
+    }
+    let second = peek(stack, top, 0);
+    let first = peek(stack, top, 1);
+    let answer = work_slots(what, at, first, second);
+    put_answer(stack, top, 2, answer)
+}
+
+/// A comparison of the two top values.
+#[inline(always)]
+pub(crate) fn do_compare(
+    stack: &mut [Slot],
+    top: usize,
+    room: usize,
+    what: Comparison,
+    signed: bool,
+) -> Result<usize, Stop>
+    requires in_room { top ≤ room }
+    requires within { room ≤ length stack.old }
+    ensures acts { (z : Setting) (code : Texts) (w : World) → Acts z code (Do (Compare what signed)) room top stack.old w result stack.new w }
+    ensures in_room { IfOk result (λ n. n ≤ room) }
+{
+    if top < 2 {
+        return Err(Stop::Lost);
+    }
+    let second = peek(stack, top, 0);
+    let first = peek(stack, top, 1);
+    let answer = compare_slots(what, signed, first, second);
+    put_answer(stack, top, 2, answer)
+}
+
+/// The conversion of the top value.
+#[inline(always)]
+pub(crate) fn do_convert(
+    stack: &mut [Slot],
+    top: usize,
+    room: usize,
+    to: Prim,
+) -> Result<usize, Stop>
+    requires in_room { top ≤ room }
+    requires within { room ≤ length stack.old }
+    ensures acts { (z : Setting) (code : Texts) (w : World) → Acts z code (Do (Convert to)) room top stack.old w result stack.new w }
+    ensures in_room { IfOk result (λ n. n ≤ room) }
+{
+    if top == 0 {
+        return Err(Stop::Lost);
+    }
+    let first = peek(stack, top, 0);
+    let answer = convert_slot(to, first);
+    put_answer(stack, top, 1, answer)
+}
+
+/// Unary `-` of the top value.
+#[inline(always)]
+pub(crate) fn do_negate(
+    stack: &mut [Slot],
+    top: usize,
+    room: usize,
+    at: Prim,
+) -> Result<usize, Stop>
+    requires in_room { top ≤ room }
+    requires within { room ≤ length stack.old }
+    ensures acts { (z : Setting) (code : Texts) (w : World) → Acts z code (Do (Negate at)) room top stack.old w result stack.new w }
+    ensures in_room { IfOk result (λ n. n ≤ room) }
+{
+    if top == 0 {
+        return Err(Stop::Lost);
+    }
+    let first = peek(stack, top, 0);
+    let answer = negate_slot(at, first);
+    put_answer(stack, top, 1, answer)
+}
+
+/// `~` of the top value.
+#[inline(always)]
+pub(crate) fn do_complement(
+    stack: &mut [Slot],
+    top: usize,
+    room: usize,
+    at: Prim,
+) -> Result<usize, Stop>
+    requires in_room { top ≤ room }
+    requires within { room ≤ length stack.old }
+    ensures acts { (z : Setting) (code : Texts) (w : World) → Acts z code (Do (Complement at)) room top stack.old w result stack.new w }
+    ensures in_room { IfOk result (λ n. n ≤ room) }
+{
+    if top == 0 {
+        return Err(Stop::Lost);
+    }
+    let first = peek(stack, top, 0);
+    let answer = complement_slot(at, first);
+    put_answer(stack, top, 1, answer)
+}
+
+/// `!` of the top value.
+#[inline(always)]
+pub(crate) fn do_not(stack: &mut [Slot], top: usize, room: usize) -> Result<usize, Stop>
+    requires in_room { top ≤ room }
+    requires within { room ≤ length stack.old }
+    ensures acts { (z : Setting) (code : Texts) (w : World) → Acts z code (Do Not) room top stack.old w result stack.new w }
+    ensures in_room { IfOk result (λ n. n ≤ room) }
+{
+    if top == 0 {
+        return Err(Stop::Lost);
+    }
+    let first = peek(stack, top, 0);
+    let answer = deny_slot(first);
+    put_answer(stack, top, 1, answer)
+}

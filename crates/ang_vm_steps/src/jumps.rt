@@ -1,0 +1,135 @@
+//! Ticks, and jumps within a body.
+ghost use Rattle.std.specs.Prelude.{◌≡◌, ◌+◌, ◌<◌, ◌≤◌, ◌^◌, List, length, IfSome, IfNone};
+ghost use Rattle.ang_meaning.specs.declared.slot.Slot.{Slot};
+ghost use Rattle.ang_meaning.specs.declared.routine.Routine.{Routine};
+ghost use Rattle.ang_meaning.specs.World.{World};
+ghost use Rattle.ang_code.specs.declared.instruction.Instruction.TheVariants.{SkipIfFalse, GoOn, Tick, Back};
+ghost use Rattle.ang_vm_steps.specs.declared.table.Table.{Table};
+ghost use Rattle.ang_vm_steps.specs.Arms.{next_of};
+ghost use Rattle.ang_vm_steps.specs.Turns.{Turned, IsNext};
+
+use crate::place::{Pause, Place};
+use crate::stack::peek;
+use crate::stop::Stop;
+use ang_kinds::Fault;
+use ang_meaning::Slot;
+
+/// The next instruction's place after one that leaves so many values in use, or why there is none.
+#[inline(always)]
+pub fn next(here: Place, went: Result<usize, Stop>) -> Result<Place, Pause>
+    requires inside { here.at + 1 < 2 ^ 64 }
+    ensures exact { result ≡ next_of here went }
+{
+    match went {
+        Ok(top) => Ok(Place {
+            at: here.at + 1,
+            top,
+            ticks: here.ticks,
+        }),
+        Err(Stop::Fails(fault)) => Err(Pause::Faults(here.top, fault)),
+        Err(Stop::Lost) => Err(Pause::Lost),
+    }
+}
+
+/// The place that so many instructions are passed to, in a text of `size` instructions: none behind the
+/// text's end.
+#[inline(always)]
+fn pass(here: Place, count: usize, size: usize) -> Option<usize>
+    requires inside { here.at < size }
+    ensures some { IfSome result (λ at. (at ≡ here.at + 1 + count) × (at ≤ size)) }
+    ensures none { IfNone result (size < here.at + 1 + count) }
+{
+    if count > size - here.at - 1 {
+        return None;
+    }
+    Some(here.at + 1 + count)
+}
+
+/// `GoOn`: so many instructions are passed.
+#[inline(always)]
+pub fn go_on(here: Place, room: usize, count: usize, size: usize) -> Result<Place, Pause>
+    requires inside { here.at < size }
+    requires in_room { here.top ≤ room }
+    ensures turned { (t : Table) (f : Routine) (stack : List Slot) (w : World)
+        → IsNext t f here (GoOn count) size → Turned t f room here stack w result stack w }
+{
+    match pass(here, count, size) {
+        Some(at) => Ok(Place { at, ..here }),
+        None => Err(Pause::Lost),
+    }
+}
+
+/// `SkipIfFalse`: the top value is taken, and so many instructions are passed where it is false.
+#[inline(always)]
+pub fn skip_if_false(
+    stack: &[Slot],
+    here: Place,
+    room: usize,
+    count: usize,
+    size: usize,
+) -> Result<Place, Pause>
+    requires inside { here.at < size }
+    requires in_room { here.top ≤ room }
+    requires within { room ≤ length stack.now }
+    ensures turned { (t : Table) (f : Routine) (w : World)
+        → IsNext t f here (SkipIfFalse count) size → Turned t f room here stack.now w result stack.now w }
+{
+    if here.top == 0 {
+        return Err(Pause::Lost);
+    }
+    let below = Place {
+        top: here.top - 1,
+        ..here
+    };
+    match peek(stack, here.top, 0) {
+        Slot::Bits(n) => {
+            if n != 0 {
+                return Ok(Place {
+                    at: here.at + 1,
+                    ..below
+                });
+            }
+            match pass(here, count, size) {
+                Some(at) => Ok(Place { at, ..below }),
+                None => Err(Pause::Lost),
+            }
+        }
+        Slot::Script(_) | Slot::Host(_, _) => Err(Pause::Faults(here.top, Fault::Null)),
+    }
+}
+
+/// `Tick`: a tick is taken.
+#[inline(always)]
+pub fn tick(here: Place, room: usize, size: usize) -> Result<Place, Pause>
+    requires inside { here.at < size }
+    requires in_room { here.top ≤ room }
+    ensures turned { (t : Table) (f : Routine) (stack : List Slot) (w : World)
+        → IsNext t f here Tick size → Turned t f room here stack w result stack w }
+{
+    if here.ticks == 0 {
+        return Err(Pause::Faults(here.top, Fault::Budget));
+    }
+    let ticks = here.ticks - 1;
+    Ok(Place {
+        at: here.at + 1,
+        top: here.top,
+        ticks,
+    })
+}
+
+/// `Back`: a tick is taken, and the body goes back by so many instructions.
+#[inline(always)]
+pub fn go_back(here: Place, room: usize, count: usize, size: usize) -> Result<Place, Pause>
+    requires in_room { here.top ≤ room }
+    ensures turned { (t : Table) (f : Routine) (stack : List Slot) (w : World)
+        → IsNext t f here (Back count) size → Turned t f room here stack w result stack w }
+{
+    if here.ticks == 0 {
+        return Err(Pause::Faults(here.top, Fault::Budget));
+    }
+    Ok(Place {
+        at: here.at.saturating_sub(count),
+        top: here.top,
+        ticks: here.ticks - 1,
+    })
+}

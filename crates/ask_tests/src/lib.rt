@@ -1,5 +1,0 @@
-//! Tests of `ang_ask` over a driver, by public calls.
-#![tactic(auto)]
-
-#[cfg(test)]
-mod asking;

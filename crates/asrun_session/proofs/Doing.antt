@@ -1,0 +1,191 @@
+-- Doing a session action by action.
+use Rattle.std.proofs.Common.{◌≡◌, ℕ, ◌+◌, Bool, true, false, cond, ◌&&◌, List, [], ◌∷◌, ◌++◌, length, take, map, Option, Some, None, refl, sym, ap, ◌∙◌, append_assoc, arith}
+use Rattle.std.specs.List.{list_all}
+use Rattle.std.specs.Io.KnownBytes.{Appends}
+use Rattle.std.proofs.lemmas.List.{append-nil, take-append-le}
+use Rattle.std.proofs.Math.Seq.{take-append_seam, take-append-add}
+use Rattle.std.specs.declared.alloc.Global.{Global}
+use Rattle.std.specs.declared.dyn_box.DynBox.{DynBox}
+use Rattle.ang_host.specs.Events.{DriversFollow}
+use Rattle.ang_host.specs.Laws.{Meaning}
+use Rattle.ang_host.proofs.Events.{AllFollow-none, AllFollow-join}
+use Rattle.ang_registry.specs.Registration.{RegistrationList}
+use Rattle.ang_registry.specs.Roles.{roles_of}
+use Rattle.ang_engine.specs.Step.{Runs}
+use Rattle.ang_engine.specs.World.{World}
+use Rattle.asrun_session.specs.Session.{Session, behind_action}
+use Rattle.asrun_session.specs.Deeds.{Deed, Ran, Set, Does, action_of, commands_in, replies_in, deed_events, events_in, deed_text, text_in, is_ok, bad_line_text, IsDone, IsCut, IsPrinted, IsHalfPrinted}
+use Rattle.asrun_session.specs.Writing.{HasFront}
+use Rattle.asrun_session.specs.declared.action.Action.{Action}
+use Rattle.asrun_session.specs.declared.ending.Status.TheVariants.{AllOk, SomeRefused, BadInput}
+use Rattle.asrun_session.proofs.Appending.{appends_both}
+
+-- deeds one after the other
+abbrev DoesAll : RegistrationList → World → List Deed → World → Type 0
+DoesAll R w [] after = w ≡ after
+DoesAll R w (d ∷ ds) after = (m : World) × Does R w d m × DoesAll R m ds after
+
+does_more : (R : RegistrationList) (w v after : World) (ds : List Deed) (d : Deed) → DoesAll R w ds v → Does R v d after → DoesAll R w (ds ++ d ∷ []) after
+does_more R w v after [] d h e = (after, rw h e, refl)
+does_more R w v after (x ∷ xs) d h e = (h.0, h.1, does_more R h.0 v after xs d h.2 e)
+
+runs_of : (R : RegistrationList) (w after : World) (ds : List Deed) → DoesAll R w ds after → Runs R w (commands_in ds) (replies_in ds) after
+runs_of R w after [] h = h
+runs_of R w after (Ran c r ∷ ds) h = (h.0, h.1, runs_of R h.0 after ds h.2)
+runs_of R w after (Set ticks ∷ ds) h = rw h.1 (runs_of R h.0 after ds h.2)
+
+text_more : (ds : List Deed) (d : Deed) → text_in (ds ++ d ∷ []) ≡ text_in ds ++ deed_text d
+text_more [] d = append-nil (deed_text d)
+text_more (x ∷ xs) d = ap (λ t. deed_text x ++ t) (text_more xs d) ∙ sym (append_assoc (deed_text x) (text_in xs) (deed_text d))
+
+events_more : (ds : List Deed) (d : Deed) → events_in (ds ++ d ∷ []) ≡ events_in ds ++ deed_events d
+events_more [] d = append-nil (deed_events d)
+events_more (x ∷ xs) d = ap (λ t. deed_events x ++ t) (events_more xs d) ∙ sym (append_assoc (deed_events x) (events_in xs) (deed_events d))
+
+actions_more : (ds : List Deed) (d : Deed) (left : List Action) → map action_of (ds ++ d ∷ []) ++ left ≡ map action_of ds ++ action_of d ∷ left
+actions_more [] d left = refl
+actions_more (x ∷ xs) d left = ap (λ t. action_of x ∷ t) (actions_more xs d left)
+
+and_true : (b : Bool) → (b && true) ≡ b
+and_true true = refl
+and_true false = refl
+
+and_assoc : (a b c : Bool) → (a && (b && c)) ≡ ((a && b) && c)
+and_assoc true b c = refl
+and_assoc false b c = refl
+
+all_more : (ds : List Deed) (d : Deed) → list_all is_ok (ds ++ d ∷ []) ≡ (list_all is_ok ds && is_ok d)
+all_more [] d = and_true (is_ok d)
+all_more (x ∷ xs) d = ap (λ b. is_ok x && b) (all_more xs d) ∙ and_assoc (is_ok x) (list_all is_ok xs) (is_ok d)
+
+-- What has been done of a session, and what is left of it. The drivers followed the events of what was done, and its text is printed.
+pub record HasDone {V : Type 0} {P : V → Type 0} (m : (v : V) → Meaning (P v)) (R : RegistrationList) (w : World) (xs : List (DynBox V Global P))
+    (whole left : Session) (old new : Option (List ℕ)) (ok : Bool) (after : World) (ys : List (DynBox V Global P)) : Type 0 where
+  pub deeds : List Deed
+  pub actions : whole.actions ≡ map action_of deeds ++ left.actions
+  pub bad_line : whole.bad_line ≡ left.bad_line
+  pub does : DoesAll R w deeds after
+  pub follow : DriversFollow m (roles_of R) xs (events_in deeds) ys
+  pub printed : Appends old new (text_in deeds)
+  pub all_ok : ok ≡ list_all is_ok deeds
+
+appends_nothing : (o : Option (List ℕ)) → Appends o o []
+appends_nothing None = tt
+appends_nothing (Some xs) = sym (append-nil xs)
+
+module _ {V : Type 0} {P : V → Type 0} (m : (v : V) → Meaning (P v)) (R : RegistrationList) where
+  follow_more : (xs ys zs : List (DynBox V Global P)) (ds : List Deed) (d : Deed)
+      → DriversFollow m (roles_of R) xs (events_in ds) ys → DriversFollow m (roles_of R) ys (deed_events d) zs
+      → DriversFollow m (roles_of R) xs (events_in (ds ++ d ∷ [])) zs
+  follow_more xs ys zs ds d p q =
+      rw (events_more ds d)
+      (AllFollow-join (λ b. (m b.vtable).state b.value) (λ b. b.vtable) (λ v. (m v).fits) (roles_of R) xs ys zs (events_in ds) (deed_events d) p q)
+
+  pub follow_nothing : (xs : List (DynBox V Global P)) → DriversFollow m (roles_of R) xs [] xs
+  follow_nothing xs = AllFollow-none (λ b. (m b.vtable).state b.value) (λ b. b.vtable) (λ v. (m v).fits) (roles_of R) xs
+
+  pub done_nothing : (w : World) (xs : List (DynBox V Global P)) (s : Session) (o : Option (List ℕ)) → HasDone m R w xs s s o o true w xs
+  done_nothing w xs s o =
+      record { deeds = []; actions = refl; bad_line = refl; does = refl; follow = follow_nothing xs; printed = appends_nothing o; all_ok = refl }
+
+  -- a session that was not begun
+  pub cut_nothing : (w : World) (xs : List (DynBox V Global P)) (s : Session) (o : Option (List ℕ)) → IsCut m R w xs s o o w xs
+  cut_nothing w xs s o =
+      record { deeds = []; left = s.actions; actions = refl; replies = refl; follow = follow_nothing xs; count = 0; printed = appends_nothing o }
+
+  -- one action more
+  pub done_more : (w v after : World) (xs ys zs : List (DynBox V Global P)) (whole left next : Session) (old mid new : Option (List ℕ)) (ok one : Bool) (a : Action)
+      → HasDone m R w xs whole left old mid ok v ys → left ≡ behind_action a next → IsPrinted m R v ys a mid new one after zs
+      → HasDone m R w xs whole next old new (ok && one) after zs
+  done_more w v after xs ys zs whole left next old mid new ok one a h e p = record {
+    deeds = h.deeds ++ p.deed ∷ [];
+    actions = h.actions ∙ ap (λ s. map action_of h.deeds ++ s.actions) e ∙ ap (λ x. map action_of h.deeds ++ x ∷ next.actions) (sym p.action) ∙ sym (actions_more h.deeds p.deed next.actions);
+    bad_line = h.bad_line ∙ ap (λ s. s.bad_line) e;
+    does = does_more R w v after h.deeds p.deed h.does p.does;
+    follow = follow_more xs ys zs h.deeds p.deed h.follow p.follow;
+    printed = rw (text_more h.deeds p.deed) (appends_both old mid new (text_in h.deeds) (deed_text p.deed) h.printed p.printed);
+    all_ok = rw (all_more h.deeds p.deed, h.all_ok, p.ended) refl;
+  }
+
+  -- an action was cut short
+  pub done_half : (w v after : World) (xs ys zs : List (DynBox V Global P)) (whole left next : Session) (old mid new : Option (List ℕ)) (ok : Bool) (a : Action)
+      → HasDone m R w xs whole left old mid ok v ys → left ≡ behind_action a next → IsHalfPrinted m R v ys a mid new after zs
+      → IsCut m R w xs whole old new after zs
+  done_half w v after xs ys zs whole left next old mid new ok a h e p = record {
+    deeds = h.deeds ++ p.deed ∷ [];
+    left = next.actions;
+    actions = h.actions ∙ ap (λ s. map action_of h.deeds ++ s.actions) e ∙ ap (λ x. map action_of h.deeds ++ x ∷ next.actions) (sym p.action) ∙ sym (actions_more h.deeds p.deed next.actions);
+    replies = runs_of R w after (h.deeds ++ p.deed ∷ []) (does_more R w v after h.deeds p.deed h.does p.does);
+    follow = follow_more xs ys zs h.deeds p.deed h.follow p.follow;
+    count = length (text_in h.deeds) + p.front.count;
+    printed = rw (
+      text_more h.deeds p.deed,
+      append_assoc,
+      take-append-add (text_in h.deeds) (deed_text p.deed ++ bad_line_text whole.bad_line) p.front.count,
+      take-append-le p.front.count (deed_text p.deed) (bad_line_text whole.bad_line) p.front.within,
+    )
+        (appends_both old mid new (text_in h.deeds) (take p.front.count (deed_text p.deed)) h.printed p.front.printed);
+  }
+
+  -- nothing more was done
+  pub done_cut : (w after : World) (xs ys : List (DynBox V Global P)) (whole left : Session) (old new : Option (List ℕ)) (ok : Bool)
+      → HasDone m R w xs whole left old new ok after ys → IsCut m R w xs whole old new after ys
+  done_cut w after xs ys whole left old new ok h = record {
+    deeds = h.deeds;
+    left = left.actions;
+    actions = h.actions;
+    replies = runs_of R w after h.deeds h.does;
+    follow = h.follow;
+    count = length (text_in h.deeds);
+    printed = rw (take-append_seam (text_in h.deeds) (bad_line_text whole.bad_line)) h.printed;
+  }
+
+  -- a line of another form ends it
+  pub done_bad : (w after : World) (xs ys : List (DynBox V Global P)) (whole left : Session) (old mid new : Option (List ℕ)) (ok : Bool) (n : ℕ)
+      → HasDone m R w xs whole left old mid ok after ys → left ≡ record { actions = []; bad_line = Some n } → Appends mid new (bad_line_text (Some n))
+      → IsDone m R w xs whole old new BadInput after ys
+  done_bad w after xs ys whole left old mid new ok n h e p =
+      let bad : whole.bad_line ≡ Some n = h.bad_line ∙ ap (λ s. s.bad_line) e in
+      record {
+        deeds = h.deeds;
+        actions = h.actions ∙ ap (λ s. map action_of h.deeds ++ s.actions) e ∙ append-nil (map action_of h.deeds);
+        replies = runs_of R w after h.deeds h.does;
+        follow = h.follow;
+        printed = rw bad (appends_both old mid new (text_in h.deeds) (bad_line_text (Some n)) h.printed p);
+        ending = rw bad refl;
+      }
+
+  -- the text that says so was cut short
+  pub done_bad_cut : (w after : World) (xs ys : List (DynBox V Global P)) (whole left : Session) (old mid new : Option (List ℕ)) (ok : Bool) (n : ℕ)
+      → HasDone m R w xs whole left old mid ok after ys → left ≡ record { actions = []; bad_line = Some n } → HasFront mid new (bad_line_text (Some n))
+      → IsCut m R w xs whole old new after ys
+  done_bad_cut w after xs ys whole left old mid new ok n h e p =
+      let bad : whole.bad_line ≡ Some n = h.bad_line ∙ ap (λ s. s.bad_line) e in
+      record {
+        deeds = h.deeds;
+        left = left.actions;
+        actions = h.actions;
+        replies = runs_of R w after h.deeds h.does;
+        follow = h.follow;
+        count = length (text_in h.deeds) + p.count;
+        printed = rw (bad, take-append-add (text_in h.deeds) (bad_line_text (Some n)) p.count)
+            (appends_both old mid new (text_in h.deeds) (take p.count (bad_line_text (Some n))) h.printed p.printed);
+      }
+
+  -- no line is left
+  pub done_all : (w after : World) (xs ys : List (DynBox V Global P)) (whole left : Session) (old new : Option (List ℕ)) (ok : Bool)
+      → HasDone m R w xs whole left old new ok after ys → left ≡ record { actions = []; bad_line = None }
+      → IsDone m R w xs whole old new (cond ok AllOk SomeRefused) after ys
+  done_all w after xs ys whole left old new ok h e =
+      let good : whole.bad_line ≡ None = h.bad_line ∙ ap (λ s. s.bad_line) e in
+      record {
+        deeds = h.deeds;
+        actions = h.actions ∙ ap (λ s. map action_of h.deeds ++ s.actions) e ∙ append-nil (map action_of h.deeds);
+        replies = runs_of R w after h.deeds h.does;
+        follow = h.follow;
+        printed = rw (good, append-nil (text_in h.deeds)) h.printed;
+        ending = rw (good, ← h.all_ok) refl;
+      }
+
+pub front_none : (o : Option (List ℕ)) (text : List ℕ) → HasFront o o text
+front_none o text = record { count = 0; within = omega arith; printed = appends_nothing o }

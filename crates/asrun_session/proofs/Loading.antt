@@ -1,0 +1,44 @@
+-- A profile's lines, one after the other.
+use Rattle.std.proofs.Common.{◌≡◌, ◌≢◌, ℕ, ◌+◌, List, [], ◌∷◌, Option, Some, None, true, false, Result, Ok, Err, ap, sym, ◌∙◌, subst}
+use Rattle.std.specs.Prelude.{OnOk, IfErr}
+use Rattle.ang_kinds.specs.declared.mask.EntityNo.{EntityNo}
+use Rattle.ang_registry.specs.declared.error.RegError.{RegError}
+use Rattle.ang_registry.specs.declared.error.RegError.TheVariants.{Memory as NoMemory}
+use Rattle.ang_registry.specs.Registration.{Registrations}
+use Rattle.asrun_session.specs.Lines.{shown_of}
+use Rattle.asrun_session.specs.Profile.{loaded, line_entered, Loads, registered, IsJudged}
+use Rattle.asrun_session.specs.declared.profile.ProfileFault.{ProfileFault}
+use Rattle.asrun_session.specs.declared.profile.ProfileFault.TheVariants.{Refused}
+use Rattle.asrun_session.specs.declared.profile.ProfileStop.{ProfileStop}
+use Rattle.asrun_session.specs.declared.profile.ProfileStop.TheVariants as stop
+
+-- a line was taken
+pub loads_more : (n : ℕ) (r s : Registrations) (line : List ℕ) (all lines : List (List ℕ)) (whole : Result Registrations ProfileFault)
+    → all ≡ line ∷ lines → line_entered n r (shown_of line) ≡ Ok s → loaded n r all ≡ whole → loaded (n + 1) s lines ≡ whole
+unfolding loaded
+loads_more n r s line all lines whole a e h = rw (a, e) at h
+
+-- a line ended the run
+pub loads_stopped : (U : Type 0) (n : ℕ) (r s : Registrations) (line : List ℕ) (all lines : List (List ℕ)) (whole : Result Registrations ProfileFault) (why : ProfileStop)
+    → all ≡ line ∷ lines → Loads {U = U} (Err why) s (line_entered n r (shown_of line)) → loaded n r all ≡ whole → Loads {U = U} (Err why) s whole
+unfolding loaded
+loads_stopped U n r s line all lines whole (stop.Fault f) a e h = sym (rw (a, e) at h)
+loads_stopped U n r s line all lines whole stop.Memory a e h = tt
+
+-- no line is left
+pub loads_all : (n : ℕ) (r : Registrations) (all : List (List ℕ)) (whole : Result Registrations ProfileFault)
+    → all ≡ [] → loaded n r all ≡ whole → whole ≡ Ok r
+unfolding loaded
+loads_all n r all whole a h = sym (rw a at h)
+
+-- what a registration answered, where it adds where nothing refuses it, and else answers the refusal
+pub loads_judged : {U : Type 0} (r : Result U ProfileStop) (n : ℕ) (answer : Result EntityNo RegError) (refusal : Option RegError) (after now : Registrations)
+    → IsJudged r n answer → OnOk answer (refusal ≡ None) → OnOk answer (now ≡ after) → IfErr answer (λ why. why ≢ NoMemory → refusal ≡ Some why)
+    → Loads r now (registered n refusal after)
+loads_judged (Ok u) n (Ok number) refusal after now j none added first = ap (λ o. registered n o after) none ∙ ap Ok (sym added)
+loads_judged (Ok u) n (Err why) refusal after now j none added first = let differ : false ≡ true = j in cc
+loads_judged (Err (stop.Fault fault)) n (Ok number) refusal after now (why, e, other, is) none added first = absurd (cc)
+loads_judged (Err (stop.Fault fault)) n (Err was) refusal after now (why, e, other, is) none added first =
+    let same : was ≡ why = cc in
+    ap (λ o. registered n o after) (first (subst (λ w. w ≢ NoMemory) (sym same) other)) ∙ ap Err (ap (λ w. Refused n w) same ∙ sym is)
+loads_judged (Err stop.Memory) n answer refusal after now j none added first = tt

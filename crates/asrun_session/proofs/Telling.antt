@@ -1,0 +1,77 @@
+-- What a run tells at its end.
+use Rattle.std.proofs.Common.{◌≡◌, ℕ, Bool, true, false, cond, List, Option, Some, None, IfSome, Result, Ok, Err, inl, inr, refl}
+use Rattle.std.specs.Result.{IfOk, IfErr, OnErr}
+use Rattle.std.specs.List.{list_all}
+use Rattle.std.specs.declared.alloc.Global.{Global}
+use Rattle.std.specs.declared.dyn_box.DynBox.{DynBox}
+use Rattle.ang_host.specs.Laws.{Meaning}
+use Rattle.ang_registry.specs.Registration.{RegistrationList}
+use Rattle.asrun_session.specs.Deeds.{Deed, is_ok, status_of}
+use Rattle.asrun_session.specs.Reading.{unread}
+use Rattle.asrun_session.specs.Whole.{Untouched, Ends, Stops, Tells, Starts, StartStops, start_of, outcome_of}
+use Rattle.asrun_session.specs.declared.ending.IoFault.TheVariants as io
+use Rattle.asrun_session.specs.declared.ending.Status.{Status}
+use Rattle.asrun_session.specs.declared.ending.Status.TheVariants.{AllOk, SomeRefused, BadInput, Memory}
+use Rattle.asrun_session.specs.declared.ending.Stop.{Stop}
+use Rattle.asrun_session.specs.declared.ending.Stop.TheVariants as stop
+
+no_status : (b : Bool) → Memory ≡ cond b AllOk SomeRefused → ⊥
+no_status true e = cc
+no_status false e = cc
+
+no_memory : (bad : Option ℕ) (deeds : List Deed) → Memory ≡ status_of bad deeds → ⊥
+no_memory None deeds e = no_status (list_all is_ok deeds) e
+no_memory (Some n) deeds e = cc
+
+module _ {V : Type 0} {P : V → Type 0} (m : (v : V) → Meaning (P v)) (xs ys : List (DynBox V Global P)) where
+  never : (R : RegistrationList) (s : List ℕ) (budget : ℕ) (old new : Option (List ℕ)) → Ends m xs ys old new (Ok R) s budget Memory → ⊥
+  never R s budget old new (inl h) = let e : Memory ≡ BadInput = h.3 in cc
+  never R s budget old new (inr (taken, inl h, alive)) = let e : Memory ≡ BadInput = h.2 in cc
+  never R s budget old new (inr (taken, inr h, alive)) = no_memory _ h.2.deeds h.2.ending
+
+  ends : (R : RegistrationList) (s : List ℕ) (budget : ℕ) (old new : Option (List ℕ)) (status : Status)
+      → Ends m xs ys old new (Ok R) s budget status → Tells m xs ys old new (Ok R) s budget (Ok status)
+  ends R s budget old new AllOk h = h
+  ends R s budget old new SomeRefused h = h
+  ends R s budget old new BadInput h = h
+  ends R s budget old new Memory h = absurd (never R s budget old new h)
+
+  -- over a profile that was taken
+  tells_taken : (R : RegistrationList) (s : List ℕ) (budget : ℕ) (old new : Option (List ℕ)) (ended : Result Status Stop)
+      → IfOk ended (λ status. Ends m xs ys old new (Ok R) s budget status) → OnErr ended (Stops m xs ys old new (Ok R) s budget)
+      → IfErr ended (λ e. e ≡ unread → Untouched m xs ys old new)
+      → Tells m xs ys old new (Ok R) s budget (outcome_of ended)
+  tells_taken R s budget old new (Ok status) h k u = ends R s budget old new status h
+  tells_taken R s budget old new (Err stop.Memory) h k u = k
+  tells_taken R s budget old new (Err (stop.Fault io.Write)) h k u = k
+  tells_taken R s budget old new (Err (stop.Fault io.Read)) h k u = u refl
+
+  -- over a profile that was not
+  untaken : (start : Result RegistrationList (List ℕ)) (s : List ℕ) (budget : ℕ) (old new : Option (List ℕ)) (why : Stop) → ys ≡ xs
+      → StartStops start old new → (why ≡ unread → new ≡ old) → Tells m xs ys old new start s budget (outcome_of (Err why))
+  untaken (Ok R) s budget old new (stop.Fault io.Read) back h u = (u refl, back)
+  untaken (Ok R) s budget old new (stop.Fault io.Write) back h u = inl (h, back)
+  untaken (Ok R) s budget old new stop.Memory back h u = inl (h, back)
+  untaken (Err text) s budget old new (stop.Fault io.Read) back h u = (u refl, back)
+  untaken (Err text) s budget old new (stop.Fault io.Write) back h u = (h, back)
+  untaken (Err text) s budget old new stop.Memory back h u = (h, back)
+
+  pub tells_untaken : (profile session : Option (List ℕ)) (budget : ℕ) (old new : Option (List ℕ)) (why : Stop) → ys ≡ xs
+      → IfSome profile (λ p. StartStops (start_of p) old new) → (why ≡ unread → new ≡ old)
+      → IfSome profile (λ p. IfSome session (λ s. Tells m xs ys old new (start_of p) s budget (outcome_of (Err why))))
+  tells_untaken None session budget old new why back h u = tt
+  tells_untaken (Some p) None budget old new why back h u = tt
+  tells_untaken (Some p) (Some s) budget old new why back h u = untaken (start_of p) s budget old new why back h u
+
+  -- the whole run, where the profile was taken
+  pub tells : (R : RegistrationList) (profile session : Option (List ℕ)) (budget : ℕ) (old mid new : Option (List ℕ)) (ended : Result Status Stop)
+      → IfSome profile (λ p. Starts (start_of p) R old mid true)
+      → IfOk ended (λ status. IfSome session (λ s. Ends m xs ys mid new (Ok R) s budget status))
+      → OnErr ended (IfSome session (λ s. Stops m xs ys mid new (Ok R) s budget))
+      → IfErr ended (λ e. e ≡ unread → Untouched m xs ys mid new)
+      → IfSome profile (λ p. IfSome session (λ s. Tells m xs ys old new (start_of p) s budget (outcome_of ended)))
+  tells R None session budget old mid new ended a h k u = tt
+  tells R (Some p) None budget old mid new ended a h k u = tt
+  tells R (Some p) (Some s) budget old mid new ended a h k u =
+      let taken : Tells m xs ys mid new (Ok R) s budget (outcome_of ended) = tells_taken R s budget mid new ended h k u in
+      rw (a.0, ← a.1) taken

@@ -1,0 +1,126 @@
+-- What a run over a profile and a session prints, and how it ends (docs/EMBEDDING.md, "The program").
+use Rattle.std.specs.Prelude.{◌≡◌, ℕ, ◌<◌, ◌≤◌, ◌⊎◌, nat_lt, List, [], ◌++◌, length, Option, Result, Ok, Err, codes, decimal, Bool, true, false, if◌then◌else◌}
+use Rattle.std.specs.Io.KnownBytes.{Appends}
+use Rattle.std.specs.declared.alloc.Global.{Global}
+use Rattle.std.specs.declared.dyn_box.DynBox.{DynBox}
+use Rattle.ang_host.specs.Laws.{Meaning}
+use Rattle.ang_registry.specs.declared.error.RegError.{RegError}
+use Rattle.ang_registry.specs.declared.error.RegError.TheVariants.{Limit, EmptyMask, BadDeclaration, UnknownType, WrongDriver, Duplicate, Memory as NoMemory}
+use Rattle.ang_registry.specs.Registration.{RegistrationList, Registrations}
+use Rattle.ang_engine.specs.World.{World, no_modules}
+use Rattle.asrun_session.specs.Deeds.{IsDone, IsCut}
+use Rattle.asrun_session.specs.Drivers.{AreTaken, AreBalanced, EngineRefusal, IsRefused, engine_text}
+use Rattle.asrun_session.specs.Lines.{lines_of}
+use Rattle.asrun_session.specs.Profile.{loaded}
+use Rattle.asrun_session.specs.Session.{session_from}
+use Rattle.asrun_session.specs.Writing.{HasFront}
+use Rattle.asrun_session.specs.declared.ending.IoFault.{IoFault}
+use Rattle.asrun_session.specs.declared.ending.IoFault.TheVariants as io
+use Rattle.asrun_session.specs.declared.ending.Status.{Status}
+use Rattle.asrun_session.specs.declared.ending.Status.TheVariants.{AllOk, SomeRefused, BadInput, Memory}
+use Rattle.asrun_session.specs.declared.ending.Stop.{Stop}
+use Rattle.asrun_session.specs.declared.ending.Stop.TheVariants as stop
+use Rattle.asrun_session.specs.declared.profile.ProfileFault.{ProfileFault}
+use Rattle.asrun_session.specs.declared.profile.ProfileFault.TheVariants.{BadLine, Refused}
+
+-- the most bytes of a profile and of a session
+abbrev pub most_profile : ℕ
+most_profile = 1048576
+
+abbrev pub most_session : ℕ
+most_session = 16777216
+
+unfoldable pub why_text : RegError → List ℕ
+why_text Limit = codes "Limit"
+why_text EmptyMask = codes "EmptyMask"
+why_text BadDeclaration = codes "BadDeclaration"
+why_text UnknownType = codes "UnknownType"
+why_text WrongDriver = codes "WrongDriver"
+why_text Duplicate = codes "Duplicate"
+why_text NoMemory = codes "Memory"
+
+-- `profile LINE BadLine` or `profile LINE REFUSAL`
+unfoldable pub profile_fault_text : ProfileFault → List ℕ
+profile_fault_text (BadLine n) = codes "profile " ++ decimal n ++ codes " BadLine\n"
+profile_fault_text (Refused n why) = codes "profile " ++ decimal n ++ codes " " ++ why_text why ++ codes "\n"
+
+abbrev pub long_profile_text : List ℕ
+long_profile_text = codes "profile 0 TooLong\n"
+
+abbrev pub long_session_text : List ℕ
+long_session_text = codes "line 0 TooLong\n"
+
+-- the text of a profile that isn't taken, or what it registers
+abbrev pub registered_by : Result Registrations ProfileFault → Result RegistrationList (List ℕ)
+registered_by (Ok r) = Ok r.entries
+registered_by (Err fault) = Err (profile_fault_text fault)
+
+-- a new registry has no entries, and bit 0 alone in its default mask
+abbrev pub fresh : Registrations
+fresh = record { default_mask = record { 0 = 1 }; entries = [] }
+
+abbrev pub start_of : List ℕ → Result RegistrationList (List ℕ)
+start_of profile =
+    if nat_lt most_profile (length profile) then Err long_profile_text else registered_by (loaded 1 fresh (lines_of profile))
+
+-- A run with the drivers xs that come back as ys, and with a writer that has the bytes old and then new. Here m is the meaning of what is behind each vtable.
+module _ {V : Type 0} {P : V → Type 0} (m : (v : V) → Meaning (P v)) (xs ys : List (DynBox V Global P)) (old new : Option (List ℕ)) where
+  -- Nothing was printed, and the drivers come back as they were.
+  abbrev pub Untouched : Type 0
+  Untouched = (new ≡ old) × (ys ≡ xs)
+
+  -- No engine over the list R takes the drivers, which come back as they were. The text that says why was printed.
+  abbrev pub EngineRefused : RegistrationList → Status → Type 0
+  EngineRefused R status = (why : EngineRefusal) × IsRefused m R xs why × Appends old new (engine_text why) × (status ≡ BadInput) × (ys ≡ xs)
+
+  -- The session was read and done.
+  abbrev pub RunsSession : RegistrationList → List ℕ → ℕ → Status → Type 0
+  RunsSession R session budget status =
+      ((most_session < length session) × Appends old new long_session_text × (status ≡ BadInput) × (ys ≡ xs))
+      ⊎ ((length session ≤ most_session) × (after : World) × IsDone m R no_modules xs (session_from 1 budget 0 (lines_of session)) old new status after ys)
+
+  -- A run that came to its end: what it printed is all. Where an engine took the drivers, none of their objects is alive.
+  abbrev pub Ends : Result RegistrationList (List ℕ) → List ℕ → ℕ → Status → Type 0
+  Ends (Err text) session budget status = Appends old new text × (status ≡ BadInput) × (ys ≡ xs)
+  Ends (Ok R) session budget status = EngineRefused R status ⊎ (AreTaken m R xs × RunsSession R session budget status × AreBalanced m ys)
+
+  -- The text that says why no engine takes the drivers was cut short.
+  abbrev pub EngineStops : RegistrationList → Type 0
+  EngineStops R = (why : EngineRefusal) × IsRefused m R xs why × HasFront old new (engine_text why) × (ys ≡ xs)
+
+  -- The session was not done to its end.
+  abbrev pub StopsSession : RegistrationList → List ℕ → ℕ → Type 0
+  StopsSession R session budget =
+      ((most_session < length session) × HasFront old new long_session_text × (ys ≡ xs))
+      ⊎ ((after : World) × IsCut m R no_modules xs (session_from 1 budget 0 (lines_of session)) old new after ys)
+
+  -- A run that was cut short: what it printed is a front. It may have been cut before there was an engine.
+  abbrev pub Stops : Result RegistrationList (List ℕ) → List ℕ → ℕ → Type 0
+  Stops (Err text) session budget = HasFront old new text × (ys ≡ xs)
+  Stops (Ok R) session budget =
+      Untouched ⊎ (EngineStops R ⊎ (AreTaken m R xs × StopsSession R session budget × AreBalanced m ys))
+
+  -- What a run over these texts prints and asks, by its outcome. A text that can't be read is found before anything is printed and anyone is asked.
+  abbrev pub Tells : Result RegistrationList (List ℕ) → List ℕ → ℕ → Result Status IoFault → Type 0
+  Tells start session budget (Ok AllOk) = Ends start session budget AllOk
+  Tells start session budget (Ok SomeRefused) = Ends start session budget SomeRefused
+  Tells start session budget (Ok BadInput) = Ends start session budget BadInput
+  Tells start session budget (Ok Memory) = Stops start session budget
+  Tells start session budget (Err io.Write) = Stops start session budget
+  Tells start session budget (Err io.Read) = Untouched
+
+-- a profile that was loaded printed nothing, and one that wasn't said why
+abbrev pub Starts : Result RegistrationList (List ℕ) → RegistrationList → Option (List ℕ) → Option (List ℕ) → Bool → Type 0
+Starts start R old new true = (start ≡ Ok R) × (new ≡ old)
+Starts start R old new false = (text : List ℕ) × (start ≡ Err text) × Appends old new text
+
+-- a front of what a profile prints that isn't taken, and else nothing
+abbrev pub StartStops : Result RegistrationList (List ℕ) → Option (List ℕ) → Option (List ℕ) → Type 0
+StartStops (Err text) old new = HasFront old new text
+StartStops (Ok R) old new = new ≡ old
+
+-- want of memory is a status, and a fault is none
+abbrev pub outcome_of : Result Status Stop → Result Status IoFault
+outcome_of (Ok status) = Ok status
+outcome_of (Err stop.Memory) = Ok Memory
+outcome_of (Err (stop.Fault why)) = Err why

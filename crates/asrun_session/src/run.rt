@@ -1,0 +1,157 @@
+//! Running what a session says.
+ghost use Rattle.std.specs.Prelude.{◌≡◌, ◌≢◌, ◌<◌, ◌≤◌, ◌^◌, [], length, Some, IfOk, IfErr, OnOk, OnErr};
+ghost use Rattle.std.specs.Io.KnownBytes.{Appends};
+ghost use Rattle.ang_engine.specs.Engines.{registrations, world_in, drivers_in};
+ghost use Rattle.ang_engine.specs.Sound.{IsSound};
+ghost use Rattle.asrun_session.specs.Deeds.{IsDone, IsCut, IsPrinted, IsHalfPrinted, bad_line_text, is_done};
+ghost use Rattle.asrun_session.specs.Drivers.{kinds_of};
+ghost use Rattle.asrun_session.specs.Lines.{lines_of};
+ghost use Rattle.asrun_session.specs.Reading.{unread};
+ghost use Rattle.asrun_session.specs.Session.{session_from, budget_after};
+ghost use Rattle.asrun_text.specs.Text.{reply_text};
+ghost use Rattle.asrun_session.specs.Writing.{HasFront};
+ghost use Rattle.asrun_session.specs.declared.action.Action.TheVariants as action;
+
+use crate::action::{Action, read_act};
+use crate::ending::{Status, Stop};
+use crate::lines::{first_line, is_skipped, shown};
+use crate::session_line::LineError;
+use crate::text::push_bad_line;
+use crate::writing::write_text;
+use ang_engine::{Command, Engine, Outcome, Reply};
+use ang_host::Driver;
+use asrun_text::push_reply;
+use std::alloc::Global;
+use std::io::Write;
+
+/// Prints a reply.
+fn print_reply<W: Write>(alloc: Global, writer: &mut W, reply: &Reply) -> Result<(), Stop>
+    ensures whole { OnOk result (Appends (W.contents writer.old) (W.contents writer.new) (reply_text reply.now)) }
+    ensures front { OnErr result (HasFront (W.contents writer.old) (W.contents writer.new) (reply_text reply.now)) }
+    ensures fault { IfErr result (λ e. e ≢ unread) }
+{
+    let mut text = Vec::new(alloc);
+    push_reply(&mut text, reply)?;
+    write_text(writer, &text)?;
+    Ok(())
+}
+
+/// Prints `line N BadLine`.
+fn print_bad_line<W: Write>(alloc: Global, writer: &mut W, number: u64) -> Result<(), Stop>
+    ensures whole { OnOk result (Appends (W.contents writer.old) (W.contents writer.new) (bad_line_text (Some number))) }
+    ensures front { OnErr result (HasFront (W.contents writer.old) (W.contents writer.new) (bad_line_text (Some number))) }
+    ensures fault { IfErr result (λ e. e ≢ unread) }
+{
+    let mut text = Vec::new(alloc);
+    push_bad_line(&mut text, number)?;
+    write_text(writer, &text)?;
+    Ok(())
+}
+
+fn is_done(outcome: Outcome) -> bool
+    ensures exact { result ≡ is_done outcome }
+{
+    match outcome {
+        Outcome::Done(_) => true,
+        Outcome::Failed(_) | Outcome::Refused(_) => false,
+    }
+}
+
+/// Runs a command and prints its reply. Says whether it ended in `ok`.
+fn run_command<W: Write>(
+    alloc: Global,
+    engine: &mut Engine,
+    writer: &mut W,
+    command: Command,
+) -> Result<bool, Stop>
+    requires sound { IsSound (λ v. (⟦<dyn Driver as Driver>⟧ v).meaning) engine.old }
+    ensures sound { IsSound (λ v. (⟦<dyn Driver as Driver>⟧ v).meaning) engine.new }
+    ensures registrations { registrations engine.new ≡ registrations engine.old }
+    ensures order { kinds_of (drivers_in engine.new) ≡ kinds_of (drivers_in engine.old) }
+    ensures done { IfOk result (λ ok. IsPrinted (λ v. (⟦<dyn Driver as Driver>⟧ v).meaning) (registrations engine.old) (world_in engine.old) (drivers_in engine.old) (action.Command command) (W.contents writer.old) (W.contents writer.new) ok (world_in engine.new) (drivers_in engine.new)) }
+    ensures cut { OnErr result (IsHalfPrinted (λ v. (⟦<dyn Driver as Driver>⟧ v).meaning) (registrations engine.old) (world_in engine.old) (drivers_in engine.old) (action.Command command) (W.contents writer.old) (W.contents writer.new) (world_in engine.new) (drivers_in engine.new)) }
+    ensures fault { IfErr result (λ e. e ≢ unread) }
+{
+    let reply = engine.apply(command);
+    print_reply(alloc, writer, &reply)?;
+    Ok(is_done(reply.outcome))
+}
+
+/// Does an action and prints its text. Says whether it ended in `ok`, and the budget behind it.
+fn perform<W: Write>(
+    alloc: Global,
+    engine: &mut Engine,
+    writer: &mut W,
+    action: Action,
+    budget: u64,
+) -> Result<(bool, u64), Stop>
+    requires sound { IsSound (λ v. (⟦<dyn Driver as Driver>⟧ v).meaning) engine.old }
+    ensures sound { IsSound (λ v. (⟦<dyn Driver as Driver>⟧ v).meaning) engine.new }
+    ensures registrations { registrations engine.new ≡ registrations engine.old }
+    ensures order { kinds_of (drivers_in engine.new) ≡ kinds_of (drivers_in engine.old) }
+    ensures budget { IfOk result (λ x. x.1 ≡ budget_after budget action) }
+    ensures done { IfOk result (λ x. IsPrinted (λ v. (⟦<dyn Driver as Driver>⟧ v).meaning) (registrations engine.old) (world_in engine.old) (drivers_in engine.old) action (W.contents writer.old) (W.contents writer.new) x.0 (world_in engine.new) (drivers_in engine.new)) }
+    ensures cut { OnErr result (IsHalfPrinted (λ v. (⟦<dyn Driver as Driver>⟧ v).meaning) (registrations engine.old) (world_in engine.old) (drivers_in engine.old) action (W.contents writer.old) (W.contents writer.new) (world_in engine.new) (drivers_in engine.new)) }
+    ensures fault { IfErr result (λ e. e ≢ unread) }
+{
+    match action {
+        Action::Command(command) => {
+            let ok = run_command(alloc, engine, writer, command)?;
+            Ok((ok, budget))
+        }
+        Action::Budget(ticks) => {
+            write_text(writer, b"ok\n")?;
+            Ok((true, ticks))
+        }
+    }
+}
+
+/// Runs what the session says, line by line, and prints the text of each reply before the next command.
+pub fn run_session<W: Write>(
+    alloc: Global,
+    engine: &mut Engine,
+    writer: &mut W,
+    text: &[u8],
+    budget: u64,
+) -> Result<Status, Stop>
+    requires sound { IsSound (λ v. (⟦<dyn Driver as Driver>⟧ v).meaning) engine.old }
+    requires few { length text.now < 2 ^ 32 }
+    ensures sound { IsSound (λ v. (⟦<dyn Driver as Driver>⟧ v).meaning) engine.new }
+    ensures registrations { registrations engine.new ≡ registrations engine.old }
+    ensures order { kinds_of (drivers_in engine.new) ≡ kinds_of (drivers_in engine.old) }
+    ensures done { IfOk result (λ status. IsDone (λ v. (⟦<dyn Driver as Driver>⟧ v).meaning) (registrations engine.old) (world_in engine.old) (drivers_in engine.old) (session_from 1 budget 0 (lines_of text.now)) (W.contents writer.old) (W.contents writer.new) status (world_in engine.new) (drivers_in engine.new)) }
+    ensures cut { OnErr result (IsCut (λ v. (⟦<dyn Driver as Driver>⟧ v).meaning) (registrations engine.old) (world_in engine.old) (drivers_in engine.old) (session_from 1 budget 0 (lines_of text.now)) (W.contents writer.old) (W.contents writer.new) (world_in engine.new) (drivers_in engine.new)) }
+    ensures fault { IfErr result (λ e. e ≢ unread) }
+{
+    let mut rest = text;
+    let mut number = 1;
+    let mut ticks = budget;
+    let mut all_ok = true;
+    while let Some((line, after)) = first_line(rest) {
+        let line = shown(line);
+        if is_skipped(line) {
+            number += 1;
+            rest = after;
+            continue;
+        }
+        match read_act(alloc, ticks, line, after) {
+            Ok(act) => {
+                let (ok, next) = perform(alloc, engine, writer, act.action, ticks)?;
+                all_ok &= ok;
+                ticks = next;
+                number += 1 + act.lines;
+                rest = act.rest;
+            }
+            Err(LineError::BadLine) => {
+                print_bad_line(alloc, writer, number)?;
+                return Ok(Status::BadInput);
+            }
+            Err(LineError::Memory) => return Err(Stop::Memory),
+        }
+    }
+    Ok(if all_ok {
+        Status::AllOk
+    } else {
+        Status::SomeRefused
+    })
+}

@@ -1,0 +1,54 @@
+//! The texts of lines that end the run.
+ghost use Rattle.std.specs.Prelude.{◌≡◌, ◌++◌, OnOk, Some};
+ghost use Rattle.asrun_session.specs.Deeds.{bad_line_text};
+ghost use Rattle.asrun_session.specs.Whole.{why_text, profile_fault_text};
+
+use crate::profile::ProfileFault;
+use ang_registry::RegError;
+use asrun_text::{push_number, push_text};
+use std::alloc::AllocError;
+
+/// `line N BadLine`, put behind what stands in `out`.
+#[tactic(auto, using(crate::proofs::Texts::texts))]
+pub fn push_bad_line(out: &mut Vec<u8>, number: u64) -> Result<(), AllocError>
+    ensures added { OnOk result (out.new.items ≡ out.old.items ++ bad_line_text (Some number)) }
+{
+    push_text(out, "line ")?;
+    push_number(out, number)?;
+    push_text(out, " BadLine\n")
+}
+
+#[tactic(auto, unfolding(crate::specs::Whole::why_text))]
+fn registration_error_name(why: RegError) -> &'static str
+    ensures exact { result.now ≡ why_text why }
+{
+    match why {
+        RegError::Limit => "Limit",
+        RegError::EmptyMask => "EmptyMask",
+        RegError::BadDeclaration => "BadDeclaration",
+        RegError::UnknownType => "UnknownType",
+        RegError::WrongDriver => "WrongDriver",
+        RegError::Duplicate => "Duplicate",
+        RegError::Memory => "Memory",
+    }
+}
+
+/// `profile LINE BadLine` or `profile LINE REFUSAL`, put behind what stands in `out`.
+#[tactic(auto, using(crate::proofs::Texts::texts), unfolding(crate::specs::Whole::profile_fault_text))]
+pub fn push_profile_fault(out: &mut Vec<u8>, fault: ProfileFault) -> Result<(), AllocError>
+    ensures added { OnOk result (out.new.items ≡ out.old.items ++ profile_fault_text fault) }
+{
+    push_text(out, "profile ")?;
+    match fault {
+        ProfileFault::BadLine(number) => {
+            push_number(out, number)?;
+            push_text(out, " BadLine\n")
+        }
+        ProfileFault::Refused(number, why) => {
+            push_number(out, number)?;
+            push_text(out, " ")?;
+            push_text(out, registration_error_name(why))?;
+            push_text(out, "\n")
+        }
+    }
+}

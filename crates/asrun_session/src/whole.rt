@@ -1,0 +1,288 @@
+//! A whole run: a profile, a session, and the text of the replies.
+ghost use Rattle.std.specs.Prelude.{◌≡◌, ◌≢◌, ◌<◌, ◌^◌, ◌⊎◌, length, Ok, IfOk, IfErr, IfSome, OnOk, OnErr};
+ghost use Rattle.std.specs.Io.KnownBytes.{Appends};
+ghost use Rattle.ang_host.specs.Boxes.{members};
+ghost use Rattle.ang_engine.specs.Engines.{registrations, world_in, drivers_in};
+ghost use Rattle.ang_engine.specs.Sound.{IsSound};
+ghost use Rattle.ang_engine.specs.World.{no_modules};
+ghost use Rattle.asrun_session.specs.Drivers.{kinds_of, AreListed, AreRefused, AreBalanced, NotListed, NoDriver, engine_text};
+ghost use Rattle.asrun_session.specs.Lines.{lines_of};
+ghost use Rattle.asrun_session.specs.Profile.{loaded};
+ghost use Rattle.asrun_session.specs.Reading.{unread, IsReadThrough};
+ghost use Rattle.asrun_session.specs.Whole.{profile_fault_text, registered_by, most_profile, most_session, start_of, Starts, Tells, RunsSession, StopsSession, StartStops, Ends, Stops, Untouched, outcome_of, fresh};
+ghost use Rattle.asrun_session.specs.Writing.{HasFront, unwritten};
+
+use crate::ending::{IoFault, Status, Stop};
+use crate::profile::{ProfileFault, ProfileStop, load};
+use crate::reading::{Text, read_text};
+use crate::run::run_session;
+use crate::text::push_profile_fault;
+use crate::writing::write_text;
+use ang_engine::{Engine, NewError, NewRefused};
+use ang_host::{Driver, Drivers, DriversError};
+use ang_registry::Registry;
+use std::alloc::Global;
+use std::io::{Read, Write};
+
+/// The most bytes of a profile.
+const MOST_PROFILE: usize = 1_048_576;
+
+/// The most bytes of a session.
+const MOST_SESSION: usize = 16_777_216;
+
+/// How a run ended.
+pub struct SessionEnd {
+    /// Its status, want of memory and a refused profile included; or the fault of a reader or the writer.
+    pub outcome: Result<Status, IoFault>,
+    /// The drivers, in their order: as they were handed in, or with no live key.
+    pub drivers: Vec<Box<dyn Driver>>,
+}
+
+/// Prints what ends a run at a line of its profile.
+fn print_profile_fault<W: Write>(
+    alloc: Global,
+    writer: &mut W,
+    fault: ProfileFault,
+) -> Result<(), Stop>
+    ensures whole { OnOk result (Appends (W.contents writer.old) (W.contents writer.new) (profile_fault_text fault)) }
+    ensures front { OnErr result (HasFront (W.contents writer.old) (W.contents writer.new) (profile_fault_text fault)) }
+    ensures fault { IfErr result (λ e. e ≢ unread) }
+{
+    let mut text = Vec::new(alloc);
+    push_profile_fault(&mut text, fault)?;
+    write_text(writer, &text)?;
+    Ok(())
+}
+
+/// Registers what the profile says. False where the profile was not taken, which is printed then.
+fn load_text<W: Write>(
+    alloc: Global,
+    writer: &mut W,
+    registry: &mut Registry,
+    text: &[u8],
+) -> Result<bool, Stop>
+    requires few { length text.now < 2 ^ 32 }
+    ensures done { IfOk result (Starts (registered_by (loaded 1 registry.old (lines_of text.now))) registry.new.entries (W.contents writer.old) (W.contents writer.new)) }
+    ensures cut { OnErr result (StartStops (registered_by (loaded 1 registry.old (lines_of text.now))) (W.contents writer.old) (W.contents writer.new)) }
+    ensures refused { IfErr result (λ e. e ≡ unwritten → IfOk (registered_by (loaded 1 registry.old (lines_of text.now))) (λ _. ⊥)) }
+    ensures fault { IfErr result (λ e. e ≢ unread) }
+{
+    match load(registry, text) {
+        Ok(()) => Ok(true),
+        Err(ProfileStop::Memory) => Err(Stop::Memory),
+        Err(ProfileStop::Fault(fault)) => {
+            print_profile_fault(alloc, writer, fault)?;
+            Ok(false)
+        }
+    }
+}
+
+/// Reads the profile whole and registers what it says. False where it was not taken, which is printed then.
+fn load_profile<R: Read, W: Write>(
+    alloc: Global,
+    reader: &mut R,
+    writer: &mut W,
+    registry: &mut Registry,
+) -> Result<bool, Stop>
+    requires new { registry.old ≡ fresh }
+    ensures done { IfOk result (λ ok. IfSome (R.remaining reader.old) (λ text. Starts (start_of text) registry.new.entries (W.contents writer.old) (W.contents writer.new) ok)) }
+    ensures cut { OnErr result (IfSome (R.remaining reader.old) (λ text. StartStops (start_of text) (W.contents writer.old) (W.contents writer.new))) }
+    ensures through { IfOk result (λ _. IsReadThrough most_profile (R.remaining reader.old) (R.remaining reader.new)) }
+    ensures read { IfErr result (λ e. e ≡ unwritten → IsReadThrough most_profile (R.remaining reader.old) (R.remaining reader.new)) }
+    ensures refused { IfErr result (λ e. e ≡ unwritten → IfSome (R.remaining reader.old) (λ text. IfOk (start_of text) (λ _. ⊥))) }
+    ensures fault { IfErr result (λ e. e ≡ unread → W.contents writer.new ≡ W.contents writer.old) }
+{
+    match read_text(alloc, reader, MOST_PROFILE)? {
+        Text::Whole(text) => load_text(alloc, writer, registry, &text),
+        Text::TooLong => {
+            write_text(writer, b"profile 0 TooLong\n")?;
+            Ok(false)
+        }
+    }
+}
+
+/// Reads the session whole and runs its lines.
+fn run_text<R: Read, W: Write>(
+    alloc: Global,
+    reader: &mut R,
+    writer: &mut W,
+    engine: &mut Engine,
+    budget: u64,
+) -> Result<Status, Stop>
+    requires sound { IsSound (λ v. (⟦<dyn Driver as Driver>⟧ v).meaning) engine.old }
+    requires new { world_in engine.old ≡ no_modules }
+    ensures sound { IsSound (λ v. (⟦<dyn Driver as Driver>⟧ v).meaning) engine.new }
+    ensures order { kinds_of (drivers_in engine.new) ≡ kinds_of (drivers_in engine.old) }
+    ensures done { IfOk result (λ status. IfSome (R.remaining reader.old) (λ text. RunsSession (λ v. (⟦<dyn Driver as Driver>⟧ v).meaning) (drivers_in engine.old) (drivers_in engine.new) (W.contents writer.old) (W.contents writer.new) (registrations engine.old) text budget status)) }
+    ensures cut { OnErr result (IfSome (R.remaining reader.old) (λ text. StopsSession (λ v. (⟦<dyn Driver as Driver>⟧ v).meaning) (drivers_in engine.old) (drivers_in engine.new) (W.contents writer.old) (W.contents writer.new) (registrations engine.old) text budget)) }
+    ensures read { IfErr result (λ e. e ≡ unwritten → IsReadThrough most_session (R.remaining reader.old) (R.remaining reader.new)) }
+    ensures fault { IfErr result (λ e. e ≡ unread → Untouched (λ v. (⟦<dyn Driver as Driver>⟧ v).meaning) (drivers_in engine.old) (drivers_in engine.new) (W.contents writer.old) (W.contents writer.new)) }
+{
+    match read_text(alloc, reader, MOST_SESSION)? {
+        Text::Whole(text) => run_session(alloc, engine, writer, &text, budget),
+        Text::TooLong => {
+            write_text(writer, b"line 0 TooLong\n")?;
+            Ok(Status::BadInput)
+        }
+    }
+}
+
+/// Prints why the drivers were not taken as a list.
+fn print_drivers_error<W: Write>(writer: &mut W, why: DriversError) -> Result<Status, Stop>
+    ensures whole { OnOk result (Appends (W.contents writer.old) (W.contents writer.new) (engine_text (NotListed why))) }
+    ensures status { IfOk result (λ status. status ≡ Status.BadInput) }
+    ensures front { OnErr result (HasFront (W.contents writer.old) (W.contents writer.new) (engine_text (NotListed why))) }
+    ensures fault { IfErr result (λ e. e ≢ unread) }
+{
+    match why {
+        DriversError::TooMany => write_text(writer, b"engine TooMany\n")?,
+        DriversError::Busy => write_text(writer, b"engine Busy\n")?,
+    }
+    Ok(Status::BadInput)
+}
+
+/// Prints that an entry's driver is not there.
+fn print_no_driver<W: Write>(writer: &mut W) -> Result<Status, Stop>
+    ensures whole { OnOk result (Appends (W.contents writer.old) (W.contents writer.new) (engine_text NoDriver)) }
+    ensures status { IfOk result (λ status. status ≡ Status.BadInput) }
+    ensures front { OnErr result (HasFront (W.contents writer.old) (W.contents writer.new) (engine_text NoDriver)) }
+    ensures fault { IfErr result (λ e. e ≢ unread) }
+{
+    write_text(writer, b"engine NoDriver\n")?;
+    Ok(Status::BadInput)
+}
+
+/// Makes the engine, runs the session and discards the engine.
+fn run_engine<R: Read, W: Write>(
+    alloc: Global,
+    reader: &mut R,
+    writer: &mut W,
+    registry: Registry,
+    drivers: Drivers,
+    budget: u64,
+) -> (Result<Status, Stop>, Vec<Box<dyn Driver>>)
+    requires listed { AreListed (λ v. (⟦<dyn Driver as Driver>⟧ v).meaning) (members drivers) }
+    ensures done { IfOk result.0 (λ status. IfSome (R.remaining reader.old) (λ text. Ends (λ v. (⟦<dyn Driver as Driver>⟧ v).meaning) (members drivers) result.1.items (W.contents writer.old) (W.contents writer.new) (Ok registry.entries) text budget status)) }
+    ensures cut { OnErr result.0 (IfSome (R.remaining reader.old) (λ text. Stops (λ v. (⟦<dyn Driver as Driver>⟧ v).meaning) (members drivers) result.1.items (W.contents writer.old) (W.contents writer.new) (Ok registry.entries) text budget)) }
+    ensures read { IfErr result.0 (λ e. e ≡ unwritten → IsReadThrough most_session (R.remaining reader.old) (R.remaining reader.new) ⊎ AreRefused (λ v. (⟦<dyn Driver as Driver>⟧ v).meaning) registry.entries (members drivers)) }
+    ensures order { kinds_of result.1.items ≡ kinds_of (members drivers) }
+    ensures returned { (result.1.items ≡ members drivers)
+        ⊎ AreBalanced (λ v. (⟦<dyn Driver as Driver>⟧ v).meaning) result.1.items }
+    ensures fault { IfErr result.0 (λ e. e ≡ unread → Untouched (λ v. (⟦<dyn Driver as Driver>⟧ v).meaning) (members drivers) result.1.items (W.contents writer.old) (W.contents writer.new)) }
+{
+    match Engine::new(alloc, registry, drivers) {
+        Ok(mut engine) => {
+            let ended = run_text(alloc, reader, writer, &mut engine, budget);
+            (ended, engine.discard())
+        }
+        Err(
+            NewRefused {
+                why,
+                registry,
+                drivers,
+            },
+        ) => {
+            drop(registry);
+            let ended = match why {
+                NewError::NoDriver => print_no_driver(writer),
+                NewError::Memory => Err(Stop::Memory),
+            };
+            (ended, drivers.into_boxes())
+        }
+    }
+}
+
+/// Runs the session with these drivers, if they are taken.
+fn run_drivers<R: Read, W: Write>(
+    alloc: Global,
+    reader: &mut R,
+    writer: &mut W,
+    registry: Registry,
+    drivers: Vec<Box<dyn Driver>>,
+    budget: u64,
+) -> (Result<Status, Stop>, Vec<Box<dyn Driver>>)
+    requires few { length drivers.items < 2 ^ 60 }
+    ensures done { IfOk result.0 (λ status. IfSome (R.remaining reader.old) (λ text. Ends (λ v. (⟦<dyn Driver as Driver>⟧ v).meaning) drivers.items result.1.items (W.contents writer.old) (W.contents writer.new) (Ok registry.entries) text budget status)) }
+    ensures cut { OnErr result.0 (IfSome (R.remaining reader.old) (λ text. Stops (λ v. (⟦<dyn Driver as Driver>⟧ v).meaning) drivers.items result.1.items (W.contents writer.old) (W.contents writer.new) (Ok registry.entries) text budget)) }
+    ensures read { IfErr result.0 (λ e. e ≡ unwritten → IsReadThrough most_session (R.remaining reader.old) (R.remaining reader.new) ⊎ AreRefused (λ v. (⟦<dyn Driver as Driver>⟧ v).meaning) registry.entries drivers.items) }
+    ensures order { kinds_of result.1.items ≡ kinds_of drivers.items }
+    ensures returned { (result.1.items ≡ drivers.items)
+        ⊎ (AreListed (λ v. (⟦<dyn Driver as Driver>⟧ v).meaning) drivers.items × AreBalanced (λ v. (⟦<dyn Driver as Driver>⟧ v).meaning) result.1.items) }
+    ensures fault { IfErr result.0 (λ e. e ≡ unread → Untouched (λ v. (⟦<dyn Driver as Driver>⟧ v).meaning) drivers.items result.1.items (W.contents writer.old) (W.contents writer.new)) }
+{
+    match Drivers::new(drivers) {
+        Ok(drivers) => run_engine(alloc, reader, writer, registry, drivers, budget),
+        Err((why, drivers)) => {
+            drop(registry);
+            (print_drivers_error(writer, why), drivers)
+        }
+    }
+}
+
+fn outcome_of(ended: Result<Status, Stop>) -> Result<Status, IoFault>
+    ensures exact { result ≡ outcome_of ended }
+{
+    match ended {
+        Ok(status) => Ok(status),
+        Err(Stop::Memory) => Ok(Status::Memory),
+        Err(Stop::Fault(fault)) => Err(fault),
+    }
+}
+
+/// Runs a session over a profile with these drivers, and writes the text of each reply before the next
+/// command (docs/EMBEDDING.md, "The program").
+///
+/// It reads the profile whole (at most 1,048,576 bytes) and runs its lines, makes the engine, reads the
+/// session whole (at most 16,777,216 bytes) and runs its lines. A line of the profile that is not taken,
+/// drivers that no engine takes, and a line of the session of another form are written as one line, and end
+/// the run with `Status::BadInput`. The drivers come back in their order; on every exit the engine, where
+/// there was one, has been discarded.
+///
+/// `budget` is the number of ticks of each command until a `budget` line gives another. It is not judged
+/// here: a build or a call with one that is 0 or above 2,147,483,647 is refused.
+///
+/// Nothing here is an error by `Result`: `outcome` has a failure of `read` or `write` as an `IoFault`, and
+/// want of memory as `Status::Memory`.
+pub fn session<P: Read, S: Read, W: Write>(
+    alloc: Global,
+    profile: &mut P,
+    session: &mut S,
+    out: &mut W,
+    drivers: Vec<Box<dyn Driver>>,
+    budget: u64,
+) -> SessionEnd
+    requires few { length drivers.items < 2 ^ 60 }
+    ensures output { IfSome (P.remaining profile.old) (λ p. IfSome (S.remaining session.old) (λ s.
+        Tells (λ v. (⟦<dyn Driver as Driver>⟧ v).meaning) drivers.items result.drivers.items (W.contents out.old) (W.contents out.new)
+        (start_of p) s budget result.outcome)) }
+    // A write fault comes only behind a profile that was read, and behind a session that was, unless the profile or the drivers were refused.
+    ensures profile_read { IfErr result.outcome (λ e. e ≡ IoFault.Write → IsReadThrough most_profile (P.remaining profile.old) (P.remaining profile.new)) }
+    ensures session_read { IfErr result.outcome (λ e. e ≡ IoFault.Write → IsReadThrough most_session (S.remaining session.old) (S.remaining session.new)
+        ⊎ IfSome (P.remaining profile.old) (λ p. IfOk (start_of p) (λ R. AreRefused (λ v. (⟦<dyn Driver as Driver>⟧ v).meaning) R drivers.items))) }
+    ensures order { kinds_of result.drivers.items ≡ kinds_of drivers.items }
+    // They come back as they were, or, where an engine may have taken them, with nothing alive.
+    ensures returned { (result.drivers.items ≡ drivers.items)
+        ⊎ (AreListed (λ v. (⟦<dyn Driver as Driver>⟧ v).meaning) drivers.items × AreBalanced (λ v. (⟦<dyn Driver as Driver>⟧ v).meaning) result.drivers.items) }
+{
+    let mut registry = Registry::new(alloc);
+    match load_profile(alloc, profile, out, &mut registry) {
+        Ok(true) => {}
+        Ok(false) => {
+            return SessionEnd {
+                outcome: Ok(Status::BadInput),
+                drivers,
+            };
+        }
+        Err(stop) => {
+            return SessionEnd {
+                outcome: outcome_of(Err(stop)),
+                drivers,
+            };
+        }
+    }
+    let (ended, drivers) = run_drivers(alloc, session, out, registry, drivers, budget);
+    SessionEnd {
+        outcome: outcome_of(ended),
+        drivers,
+    }
+}

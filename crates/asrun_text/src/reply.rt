@@ -1,0 +1,414 @@
+//! The text of a reply, as the program writes it (docs/EMBEDDING.md, "The program").
+ghost use Rattle.std.specs.Prelude.{◌≡◌, ◌<◌, ◌++◌, OnOk, codes, decimal, flat_map};
+ghost use Rattle.std.specs.Fmt.{signed_decimal};
+ghost use Rattle.asrun_text.specs.Text.{value_text, values_text, fault_text, made_text, answer_text, host_reply_text, object_text, event_text, place_text, kind_text, name_text, error_text, mask_text, hex_digit, denial_text, refusal_text, outcome_text, reply_text, key_text};
+
+use ang_engine::{Outcome, Refusal, Reply};
+use ang_host::{Answer, HostEvent, HostReply, Made};
+use ang_kinds::{Denial, Error, ErrorKind, Fault, Mask, Place, Value};
+use itoa::Buffer;
+use std::alloc::AllocError;
+
+/// The bytes of a text, put behind what stands in `out`.
+///
+/// # Errors
+/// A growth of memory was refused. Nothing is promised of `out` then.
+pub fn push_text(out: &mut Vec<u8>, text: &str) -> Result<(), AllocError>
+    ensures added { OnOk result (out.new.items ≡ out.old.items ++ text.now) }
+{
+    out.extend_from_slice(text.as_bytes())
+}
+
+/// A number in decimal digits, put behind what stands in `out`.
+///
+/// # Errors
+/// A growth of memory was refused. Nothing is promised of `out` then.
+pub fn push_number(out: &mut Vec<u8>, n: u64) -> Result<(), AllocError>
+    ensures added { OnOk result (out.new.items ≡ out.old.items ++ decimal n) }
+{
+    let mut digits = Buffer::new();
+    push_text(out, digits.format(n))
+}
+
+fn push_signed(out: &mut Vec<u8>, n: i64) -> Result<(), AllocError>
+    ensures added { OnOk result (out.new.items ≡ out.old.items ++ signed_decimal n) }
+{
+    let mut buffer = Buffer::new();
+    push_text(out, buffer.format(n))
+}
+
+#[tactic(auto, using(crate::proofs::Texts::texts))]
+fn push_key(out: &mut Vec<u8>, key: u64) -> Result<(), AllocError>
+    ensures added { OnOk result (out.new.items ≡ out.old.items ++ key_text key) }
+{
+    push_text(out, "#")?;
+    push_number(out, key)
+}
+
+#[tactic(auto, using(crate::proofs::Texts::texts), unfolding(crate::specs::Text::value_text))]
+fn push_value(out: &mut Vec<u8>, value: Value) -> Result<(), AllocError>
+    ensures added { OnOk result (out.new.items ≡ out.old.items ++ value_text value) }
+{
+    match value {
+        Value::Int(n) => push_signed(out, n),
+        Value::Uint(n) => push_number(out, n),
+        Value::Bool(true) => push_text(out, "true"),
+        Value::Bool(false) => push_text(out, "false"),
+        Value::Key(None) => push_text(out, "null"),
+        Value::Key(Some(key)) => push_key(out, key),
+    }
+}
+
+#[tactic(auto, using(crate::proofs::Texts::texts), unfolding(crate::specs::Text::fault_text))]
+fn push_fault(out: &mut Vec<u8>, fault: Fault) -> Result<(), AllocError>
+    ensures added { OnOk result (out.new.items ≡ out.old.items ++ fault_text fault) }
+{
+    match fault {
+        Fault::Null => push_text(out, "Null"),
+        Fault::DivideByZero => push_text(out, "DivideByZero"),
+        Fault::DivideOverflow => push_text(out, "DivideOverflow"),
+        Fault::Unbound => push_text(out, "Unbound"),
+        Fault::Budget => push_text(out, "Budget"),
+        Fault::Depth => push_text(out, "Depth"),
+        Fault::Host(n) => {
+            push_text(out, "Host ")?;
+            push_number(out, u64::from(n))
+        }
+        Fault::BadAnswer => push_text(out, "BadAnswer"),
+        Fault::NoObject => push_text(out, "NoObject"),
+        Fault::Memory => push_text(out, "Memory"),
+        Fault::Tally => push_text(out, "Tally"),
+    }
+}
+
+#[tactic(auto, using(crate::proofs::Texts::texts))]
+fn push_place(out: &mut Vec<u8>, place: Place) -> Result<(), AllocError>
+    ensures added { OnOk result (out.new.items ≡ out.old.items ++ place_text place) }
+{
+    push_number(out, u64::from(place.sect))?;
+    push_text(out, ":")?;
+    push_number(out, u64::from(place.line))?;
+    push_text(out, ":")?;
+    push_number(out, u64::from(place.column))
+}
+
+#[tactic(auto, unfolding(crate::specs::Text::kind_text))]
+fn kind_name(kind: ErrorKind) -> &'static str
+    ensures exact { result.now ≡ kind_text kind }
+{
+    match kind {
+        ErrorKind::TooLong => "TooLong",
+        ErrorKind::BadByte => "BadByte",
+        ErrorKind::BadNumber => "BadNumber",
+        ErrorKind::OpenComment => "OpenComment",
+        ErrorKind::TooDeep => "TooDeep",
+        ErrorKind::Syntax => "Syntax",
+        ErrorKind::Duplicate => "Duplicate",
+        ErrorKind::Limit => "Limit",
+        ErrorKind::UnknownType => "UnknownType",
+        ErrorKind::BadType => "BadType",
+        ErrorKind::ByValue => "ByValue",
+        ErrorKind::BadBase => "BadBase",
+        ErrorKind::BadImport => "BadImport",
+        ErrorKind::BadOverride => "BadOverride",
+        ErrorKind::MissingMethod => "MissingMethod",
+        ErrorKind::Cyclic => "Cyclic",
+        ErrorKind::UnknownName => "UnknownName",
+        ErrorKind::NoMatch => "NoMatch",
+        ErrorKind::Ambiguous => "Ambiguous",
+        ErrorKind::Const => "Const",
+        ErrorKind::Private => "Private",
+        ErrorKind::Protected => "Protected",
+        ErrorKind::NotBool => "NotBool",
+        ErrorKind::BadConversion => "BadConversion",
+        ErrorKind::BadOut => "BadOut",
+        ErrorKind::NoAssign => "NoAssign",
+        ErrorKind::Jump => "Jump",
+        ErrorKind::NoDefault => "NoDefault",
+        ErrorKind::NoReturn => "NoReturn",
+        ErrorKind::NotYet => "NotYet",
+    }
+}
+
+fn push_bytes(out: &mut Vec<u8>, bytes: &[u8]) -> Result<(), AllocError>
+    ensures added { OnOk result (out.new.items ≡ out.old.items ++ bytes.now) }
+{
+    out.extend_from_slice(bytes)
+}
+
+#[tactic(auto, using(crate::proofs::Texts::texts))]
+fn push_more_values(out: &mut Vec<u8>, values: &[Value]) -> Result<(), AllocError>
+    ensures added { OnOk result (out.new.items ≡ out.old.items ++ flat_map (λ w. codes "," ++ value_text w) values.now) }
+{
+    for value in values {
+        push_text(out, ",")?;
+        push_value(out, *value)?;
+    }
+    Ok(())
+}
+
+#[tactic(auto, using(crate::proofs::Texts::texts), unfolding(crate::specs::Text::values_text))]
+fn push_values(out: &mut Vec<u8>, values: &[Value]) -> Result<(), AllocError>
+    ensures added { OnOk result (out.new.items ≡ out.old.items ++ values_text values.now) }
+{
+    match values {
+        [] => Ok(()),
+        [first, more @ ..] => {
+            push_value(out, *first)?;
+            push_more_values(out, more)
+        }
+    }
+}
+
+#[tactic(auto, using(crate::proofs::Texts::texts), unfolding(crate::specs::Text::made_text))]
+fn push_made(out: &mut Vec<u8>, made: Made) -> Result<(), AllocError>
+    ensures added { OnOk result (out.new.items ≡ out.old.items ++ made_text made) }
+{
+    match made {
+        Made::Key(key) => {
+            push_text(out, "made ")?;
+            push_key(out, key)
+        }
+        Made::Nothing => push_text(out, "nothing"),
+        Made::Fault(n) => {
+            push_text(out, "fault ")?;
+            push_number(out, u64::from(n))
+        }
+        Made::Memory => push_text(out, "memory"),
+        Made::Full => push_text(out, "full"),
+    }
+}
+
+#[tactic(auto, using(crate::proofs::Texts::texts), unfolding(crate::specs::Text::answer_text))]
+fn push_answer(out: &mut Vec<u8>, answer: Answer) -> Result<(), AllocError>
+    ensures added { OnOk result (out.new.items ≡ out.old.items ++ answer_text answer) }
+{
+    match answer {
+        Answer::Void => push_text(out, "void"),
+        Answer::Gave(value) => push_value(out, value),
+        Answer::Fault(n) => {
+            push_text(out, "fault ")?;
+            push_number(out, u64::from(n))
+        }
+        Answer::Memory => push_text(out, "memory"),
+        Answer::Full => push_text(out, "full"),
+    }
+}
+
+#[tactic(auto, using(crate::proofs::Texts::texts), unfolding(crate::specs::Text::host_reply_text))]
+fn push_host_reply(out: &mut Vec<u8>, reply: HostReply) -> Result<(), AllocError>
+    ensures added { OnOk result (out.new.items ≡ out.old.items ++ host_reply_text reply) }
+{
+    match reply {
+        HostReply::Making(made) => push_made(out, made),
+        HostReply::Asking(answer) => push_answer(out, answer),
+    }
+}
+
+#[tactic(auto, using(crate::proofs::Texts::texts), unfolding(crate::specs::Text::object_text))]
+fn push_object(out: &mut Vec<u8>, object: Option<u64>) -> Result<(), AllocError>
+    ensures added { OnOk result (out.new.items ≡ out.old.items ++ object_text object) }
+{
+    match object {
+        None => push_text(out, "-"),
+        Some(key) => push_key(out, key),
+    }
+}
+
+/// The line of an asking, from its entity on.
+#[tactic(auto, using(crate::proofs::Texts::texts))]
+fn push_asked(
+    out: &mut Vec<u8>,
+    entity: u32,
+    driver: u32,
+    object: Option<u64>,
+) -> Result<(), AllocError>
+    ensures added { OnOk result (out.new.items ≡ out.old.items ++ (decimal entity ++ codes " " ++ decimal driver ++ codes " " ++ object_text object)) }
+{
+    push_number(out, u64::from(entity))?;
+    push_text(out, " ")?;
+    push_number(out, u64::from(driver))?;
+    push_text(out, " ")?;
+    push_object(out, object)
+}
+
+#[tactic(auto, using(crate::proofs::Texts::texts), unfolding(crate::specs::Text::event_text))]
+fn push_event(out: &mut Vec<u8>, event: &HostEvent) -> Result<(), AllocError>
+    ensures added { OnOk result (out.new.items ≡ out.old.items ++ event_text event.now) }
+{
+    match event {
+        HostEvent::Called {
+            caller,
+            entity,
+            driver,
+            object,
+            args,
+            reply,
+        } => {
+            push_text(out, "host ")?;
+            push_bytes(out, caller.as_slice())?;
+            push_text(out, " ")?;
+            push_asked(out, entity.0, *driver, *object)?;
+            push_text(out, " (")?;
+            push_values(out, args.as_slice())?;
+            push_text(out, ") ")?;
+            push_host_reply(out, *reply)?;
+            push_text(out, "\n")
+        }
+        HostEvent::Ended { driver, key } => {
+            push_text(out, "end ")?;
+            push_number(out, u64::from(*driver))?;
+            push_text(out, " ")?;
+            push_key(out, *key)?;
+            push_text(out, "\n")
+        }
+    }
+}
+
+fn push_name(out: &mut Vec<u8>, name: &[u8]) -> Result<(), AllocError>
+    ensures added { OnOk result (out.new.items ≡ out.old.items ++ name_text name.now) }
+{
+    if name.is_empty() {
+        return push_text(out, "-");
+    }
+    push_bytes(out, name)
+}
+
+#[tactic(auto, using(crate::proofs::Texts::texts), unfolding(crate::specs::Text::error_text))]
+fn push_error(out: &mut Vec<u8>, error: &Error) -> Result<(), AllocError>
+    ensures added { OnOk result (out.new.items ≡ out.old.items ++ error_text error.now) }
+{
+    push_text(out, "error ")?;
+    push_text(out, kind_name(error.kind))?;
+    push_text(out, " ")?;
+    push_place(out, error.place)?;
+    push_text(out, " ")?;
+    push_name(out, error.name.as_slice())?;
+    push_text(out, "\n")
+}
+
+fn hex_digit(d: u8) -> u8
+    requires digit { d < 16 }
+    ensures exact { result ≡ hex_digit d }
+{
+    if d < 10 { b'0' + d } else { b'a' - 10 + d }
+}
+
+#[tactic(auto, using(crate::proofs::Texts::texts))]
+fn push_mask(out: &mut Vec<u8>, mask: Mask) -> Result<(), AllocError>
+    ensures added { OnOk result (out.new.items ≡ out.old.items ++ mask_text mask.0) }
+{
+    for byte in mask.0.to_be_bytes() {
+        out.push(hex_digit(byte / 16))?;
+        out.push(hex_digit(byte % 16))?;
+    }
+    Ok(())
+}
+
+#[tactic(auto, using(crate::proofs::Texts::texts), unfolding(crate::specs::Text::denial_text))]
+fn push_denial(out: &mut Vec<u8>, denial: Denial) -> Result<(), AllocError>
+    ensures added { OnOk result (out.new.items ≡ out.old.items ++ denial_text denial) }
+{
+    push_text(out, "denied ")?;
+    push_place(out, denial.place)?;
+    push_text(out, " ")?;
+    push_number(out, u64::from(denial.entity.0))?;
+    push_text(out, " ")?;
+    push_mask(out, denial.entity_mask)?;
+    push_text(out, " ")?;
+    push_mask(out, denial.module_mask)?;
+    push_text(out, "\n")
+}
+
+#[tactic(auto, using(crate::proofs::Texts::texts))]
+fn push_init_failed(out: &mut Vec<u8>, fault: Fault) -> Result<(), AllocError>
+    ensures added { OnOk result (out.new.items ≡ out.old.items ++ (codes "InitFailed " ++ fault_text fault)) }
+{
+    push_text(out, "InitFailed ")?;
+    push_fault(out, fault)
+}
+
+#[tactic(auto, using(crate::proofs::Texts::texts), unfolding(crate::specs::Text::refusal_text))]
+fn push_refusal(out: &mut Vec<u8>, refusal: Refusal) -> Result<(), AllocError>
+    ensures added { OnOk result (out.new.items ≡ out.old.items ++ refusal_text refusal) }
+{
+    match refusal {
+        Refusal::BadName => push_text(out, "BadName"),
+        Refusal::ModuleExists => push_text(out, "ModuleExists"),
+        Refusal::Limit => push_text(out, "Limit"),
+        Refusal::NoModule => push_text(out, "NoModule"),
+        Refusal::NotBuilt => push_text(out, "NotBuilt"),
+        Refusal::BadBudget => push_text(out, "BadBudget"),
+        Refusal::BuildMemory => push_text(out, "BuildMemory"),
+        Refusal::BuildErrors => push_text(out, "BuildErrors"),
+        Refusal::InitFailed(fault) => push_init_failed(out, fault),
+        Refusal::NoFunction => push_text(out, "NoFunction"),
+        Refusal::NotCallable => push_text(out, "NotCallable"),
+        Refusal::BadArguments => push_text(out, "BadArguments"),
+        Refusal::Memory => push_text(out, "Memory"),
+    }
+}
+
+#[tactic(auto, using(crate::proofs::Texts::texts), unfolding(crate::specs::Text::outcome_text))]
+fn push_outcome(out: &mut Vec<u8>, outcome: Outcome) -> Result<(), AllocError>
+    ensures added { OnOk result (out.new.items ≡ out.old.items ++ outcome_text outcome) }
+{
+    match outcome {
+        Outcome::Done(None) => push_text(out, "ok")?,
+        Outcome::Done(Some(value)) => {
+            push_text(out, "ok ")?;
+            push_value(out, value)?;
+        }
+        Outcome::Failed(fault) => {
+            push_text(out, "fault ")?;
+            push_fault(out, fault)?;
+        }
+        Outcome::Refused(refusal) => {
+            push_text(out, "refused ")?;
+            push_refusal(out, refusal)?;
+        }
+    }
+    push_text(out, "\n")
+}
+
+/// The text of a reply, put behind what stands in `out`: events, errors, denials and the outcome, a
+/// line for each.
+///
+/// # Errors
+/// A growth of memory was refused. Nothing is promised of `out` then.
+#[tactic(auto, using(crate::proofs::Texts::texts), unfolding(crate::specs::Text::reply_text))]
+pub fn push_reply(out: &mut Vec<u8>, reply: &Reply) -> Result<(), AllocError>
+    ensures added { OnOk result (out.new.items ≡ out.old.items ++ reply_text reply.now) }
+{
+    push_events(out, reply.events.as_slice())?;
+    push_errors(out, reply.errors.as_slice())?;
+    push_denials(out, reply.denials.as_slice())?;
+    push_outcome(out, reply.outcome)
+}
+
+fn push_events(out: &mut Vec<u8>, events: &[HostEvent]) -> Result<(), AllocError>
+    ensures added { OnOk result (out.new.items ≡ out.old.items ++ flat_map event_text events.now) }
+{
+    for event in events {
+        push_event(out, event)?;
+    }
+    Ok(())
+}
+
+fn push_errors(out: &mut Vec<u8>, errors: &[Error]) -> Result<(), AllocError>
+    ensures added { OnOk result (out.new.items ≡ out.old.items ++ flat_map error_text errors.now) }
+{
+    for error in errors {
+        push_error(out, error)?;
+    }
+    Ok(())
+}
+
+fn push_denials(out: &mut Vec<u8>, denials: &[Denial]) -> Result<(), AllocError>
+    ensures added { OnOk result (out.new.items ≡ out.old.items ++ flat_map denial_text denials.now) }
+{
+    for denial in denials {
+        push_denial(out, *denial)?;
+    }
+    Ok(())
+}

@@ -1,0 +1,228 @@
+//! Lexes and parses a section again and again, or builds it, and prints how many bytes of it a second went through:
+//! of a build, up to each of its stages.
+//!
+//! `bench_build FILE TURNS [BUILDS]` (bench/run.sh writes the files and runs it over each). Without words it builds a
+//! small section once.
+#![tactic(auto)]
+
+ghost use Rattle.std.specs.Prelude.{◌≡◌};
+ghost use Rattle.bench_build.specs.Speed.{speed};
+
+use ang_check::check;
+use ang_engine_build::{Program, build_sections};
+use ang_kinds::{List, Mask};
+use ang_lex::lex;
+use ang_names::declare;
+use ang_parse::parse;
+use ang_registry::{RegError, Registry, View};
+use std::alloc::{AllocError, Global};
+use std::env;
+use std::fs::File;
+use std::io::{self, Read};
+use std::process::ExitCode;
+use std::time::Instant;
+
+const SMALL: &str = "void first() { put(1); put(2 - 3); }\nvoid second() {}\n";
+
+/// How far a turn goes.
+#[derive(Clone, Copy, PartialEq, Eq)]
+enum Stage {
+    Parsed,
+    Declared,
+    Checked,
+    Built,
+}
+
+const PARSED: (Stage, &str) = (Stage::Parsed, "parsed");
+
+const STAGES: [(Stage, &str); 4] = [
+    PARSED,
+    (Stage::Declared, "declared"),
+    (Stage::Checked, "checked"),
+    (Stage::Built, "built"),
+];
+
+/// What the scripts see: `void put(int)`.
+fn view(alloc: Global) -> Result<View, RegError> {
+    let mut registry = Registry::new(alloc);
+    let _ = registry.function(0, 0, b"void put(int)")?;
+    Ok(registry.seen(alloc, Mask(1))?)
+}
+
+/// The program of one section, or nothing where it is refused.
+fn built(alloc: Global, view: &View, text: &[u8]) -> Option<Program> {
+    let section = Vec::from_slice(alloc, text).ok()?;
+    let sections = [List::from_vec(section)];
+    build_sections(alloc, view, &sections).ok()
+}
+
+/// How many tokens and declarations a section has, or nothing where it is refused.
+fn counts(alloc: Global, text: &[u8]) -> Option<(usize, usize)> {
+    let tokens = lex(alloc, text, 0).ok()?;
+    let script = parse(alloc, text, tokens.as_slice()).ok()?;
+    Some((tokens.len(), script.declarations.len()))
+}
+
+/// Goes through a section up to a stage. Nothing where it is refused.
+fn turn(alloc: Global, view: &View, text: &[u8], stage: Stage) -> Option<()> {
+    if stage == Stage::Built {
+        let _ = built(alloc, view, text)?;
+        return Some(());
+    }
+    let tokens = lex(alloc, text, 0).ok()?;
+    let scripts = [parse(alloc, text, tokens.as_slice()).ok()?];
+    if stage == Stage::Parsed {
+        return Some(());
+    }
+    let names = declare(alloc, view, &scripts).ok()?;
+    if stage == Stage::Checked {
+        let _ = check(alloc, view, &names, &scripts).ok()?;
+    }
+    Some(())
+}
+
+/// The bytes that `turns` over a text of `len` bytes went through each second, where they took `nanos`.
+fn bytes_a_second(len: usize, turns: u32, nanos: u128) -> u128
+    ensures exact { result ≡ speed len turns nanos }
+{
+    let bytes = len as u128 * turns as u128;
+    match nanos {
+        0 => bytes,
+        _ => bytes * 1_000_000_000 / nanos,
+    }
+}
+
+/// The nanoseconds of all turns up to a stage, or nothing where the section is refused.
+fn time_of(
+    rt: &HostRuntime,
+    view: &View,
+    text: &[u8],
+    turns: u32,
+    stage: Stage,
+) -> io::Result<Option<u128>> {
+    let start = Instant::now(rt)?;
+    for _ in 0..turns {
+        if turn(rt.alloc(), view, text, stage).is_none() {
+            return Ok(None);
+        }
+    }
+    Ok(Some(start.elapsed(rt)?.as_nanos()))
+}
+
+/// Takes the time of all turns up to a stage. Prints the figure.
+fn measure(
+    rt: &HostRuntime,
+    view: &View,
+    name: &str,
+    text: &[u8],
+    turns: u32,
+    stage: (Stage, &str),
+) -> io::Result<u8> {
+    let (stage, done) = stage;
+    let Some(nanos) = time_of(rt, view, text, turns, stage)? else {
+        return refuse(rt, name);
+    };
+    let speed = bytes_a_second(text.len(), turns, nanos);
+    println!(rt; "{name}: {speed} bytes a second {done}")?;
+    Ok(0)
+}
+
+fn refuse(rt: &HostRuntime, name: &str) -> io::Result<u8> {
+    eprintln!(rt; "bench_build: {name} is refused")?;
+    Ok(1)
+}
+
+/// Prints what a section builds to.
+fn print_built(rt: &HostRuntime, view: &View, name: &str, text: &[u8]) -> io::Result<u8> {
+    let Some(program) = built(rt.alloc(), view, text) else {
+        return refuse(rt, name);
+    };
+    let functions = program.names.functions.as_slice().len();
+    println!(rt; "{name}: {} bytes, {functions} functions", text.len())?;
+    Ok(0)
+}
+
+/// Lexes and parses a section. Prints what it has, and the figure.
+fn measure_parsing(
+    rt: &HostRuntime,
+    view: &View,
+    name: &str,
+    text: &[u8],
+    turns: u32,
+) -> io::Result<u8> {
+    let Some((tokens, declarations)) = counts(rt.alloc(), text) else {
+        return refuse(rt, name);
+    };
+    println!(rt;
+        "{name}: {} bytes, {tokens} tokens, {declarations} declarations, {turns} turns",
+        text.len()
+    )?;
+    measure(rt, view, name, text, turns, PARSED)
+}
+
+/// Builds a section up to each stage. Prints what it builds to, and the figures.
+fn measure_builds(
+    rt: &HostRuntime,
+    view: &View,
+    name: &str,
+    text: &[u8],
+    builds: u32,
+) -> io::Result<u8> {
+    let status = print_built(rt, view, name, text)?;
+    if status != 0 {
+        return Ok(status);
+    }
+    for stage in STAGES {
+        let status = measure(rt, view, name, text, builds, stage)?;
+        if status != 0 {
+            return Ok(status);
+        }
+    }
+    Ok(0)
+}
+
+/// Measures the section of a file.
+fn measure_file(
+    rt: &HostRuntime,
+    view: &View,
+    path: &str,
+    turns: &str,
+    builds: Option<&str>,
+) -> io::Result<u8> {
+    let Ok(turns) = turns.parse::<u32>() else {
+        return show_use(rt);
+    };
+    let Ok(builds) = builds.unwrap_or("0").parse::<u32>() else {
+        return show_use(rt);
+    };
+    let mut text = Vec::new(rt.alloc());
+    File::open(rt, path)?.read_to_end(&mut text)?;
+    let status = measure_parsing(rt, view, path, text.as_slice(), turns)?;
+    if status != 0 || builds == 0 {
+        return Ok(status);
+    }
+    measure_builds(rt, view, path, text.as_slice(), builds)
+}
+
+fn show_use(rt: &HostRuntime) -> io::Result<u8> {
+    eprintln!(rt; "bench_build FILE TURNS [BUILDS]")?;
+    Ok(2)
+}
+
+fn run(rt: &HostRuntime) -> io::Result<u8> {
+    let alloc = rt.alloc();
+    let Ok(view) = view(alloc) else {
+        return Ok(3);
+    };
+    let words: Vec<String> = env::args(rt)?.collect(alloc)?;
+    match words.as_slice() {
+        [_] => print_built(rt, &view, "small", SMALL.as_bytes()),
+        [_, path, turns] => measure_file(rt, &view, path, turns, None),
+        [_, path, turns, builds] => measure_file(rt, &view, path, turns, Some(builds.as_str())),
+        _ => show_use(rt),
+    }
+}
+
+fn main(rt: HostRuntime) -> ExitCode {
+    ExitCode::from(run(&rt).unwrap_or(2))
+}

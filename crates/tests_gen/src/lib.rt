@@ -1,0 +1,19 @@
+//! Tests of the way from resolved trees to code, by public calls: core trees, the generator, numbers, plain entries.
+#![tactic(auto)]
+
+#[cfg(test)]
+mod bodies;
+#[cfg(test)]
+mod entries;
+#[cfg(test)]
+mod forms;
+#[cfg(test)]
+mod modules;
+#[cfg(test)]
+mod numbers;
+#[cfg(test)]
+mod shown;
+#[cfg(test)]
+mod trees;
+#[cfg(test)]
+mod uses;

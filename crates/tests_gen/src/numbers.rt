@@ -1,0 +1,77 @@
+use ang_kinds::{Fault, Prim};
+use ang_meaning::{Arithmetic, Change, Comparison};
+use ang_vm_numbers::{change, compare, complement, convert, deny, negate, work};
+
+// The 64 bits of a negative number.
+const MINUS_1: u64 = u64::MAX;
+
+const MINUS_3: u64 = u64::MAX - 2;
+
+const MINUS_4: u64 = u64::MAX - 3;
+
+const MINUS_8: u64 = u64::MAX - 7;
+
+const MINUS_56: u64 = u64::MAX - 55;
+
+const LEAST_INT: u64 = u64::MAX - 0x7FFF_FFFF;
+
+const WORKS: [(Arithmetic, Prim, u64, u64, Result<u64, Fault>); 8] = [
+    (
+        Arithmetic::ShiftRight,
+        Prim::I32,
+        MINUS_8,
+        1,
+        Ok(2147483644),
+    ),
+    (Arithmetic::ShiftSigned, Prim::I32, MINUS_8, 1, Ok(MINUS_4)),
+    (Arithmetic::ShiftLeft, Prim::U8, 0x81, 9, Ok(2)),
+    (
+        Arithmetic::Divide,
+        Prim::I32,
+        LEAST_INT,
+        MINUS_1,
+        Err(Fault::DivideOverflow),
+    ),
+    (
+        Arithmetic::Divide,
+        Prim::I64,
+        LEAST_INT,
+        MINUS_1,
+        Ok(2147483648),
+    ),
+    (
+        Arithmetic::Divide,
+        Prim::I32,
+        10,
+        0,
+        Err(Fault::DivideByZero),
+    ),
+    (Arithmetic::Remainder, Prim::I32, MINUS_8, 5, Ok(MINUS_3)),
+    (Arithmetic::Add, Prim::I32, 0, MINUS_56, Ok(MINUS_56)),
+];
+
+#[test]
+fn operators(rt: HostRuntime) {
+    for (what, at, x, y, want) in WORKS {
+        assert!(rt; work(what, at, x, y) == want, "{what:?} of {x} and {y}");
+    }
+}
+
+const STEP: Change = Change {
+    work: Arithmetic::Add,
+    at: Prim::I32,
+    to: Prim::U8,
+    old: true,
+};
+
+#[test]
+fn values(rt: HostRuntime) {
+    let altered = change(STEP, 255, 1).map_or((1, 1), |a| (a.stored, a.given));
+    assert_eq!(rt; altered, (0, 255));
+    assert_eq!(rt; convert(Prim::I8, 200), MINUS_56);
+    assert_eq!(rt; negate(Prim::U8, 1), 255);
+    assert_eq!(rt; complement(Prim::I32, 3), MINUS_4);
+    assert_eq!(rt; compare(Comparison::Less, true, MINUS_8, 1), 1);
+    assert_eq!(rt; compare(Comparison::Less, false, MINUS_8, 1), 0);
+    assert_eq!(rt; deny(0), 1);
+}
