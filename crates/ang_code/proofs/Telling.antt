@@ -100,8 +100,8 @@ module _ (z : Setting) (code : Texts) (u : World) where
   act_from (Change by d) f pc room s fr t w p =
       top_from s _ (λ v r. within_from d r _ (changed_from (change_of by (local_at r d) v) (v ∷ r) w _ p (λ a b. p)))
   act_from (Do o) f pc room s fr t w p =
-      let vs = take_some (operands z o) s in
-      if_from (is_fit z o) _ (enough_from (operands z o) s _ (roomy_from room (drop_some (operands z o) s) _
+      let vs = take_some (operands z f.home o) s in
+      if_from (is_fit z f.home o) _ (enough_from (operands z f.home o) s _ (roomy_from room (drop_some (operands z f.home o) s) _
       (did_from w (perform z f.home o vs w) s _ p (perform_goes z f.home o vs w) (λ v w' q. q))))
   act_from Drop f pc room s fr t w p = top_from s _ (λ v r. goes_then u w (give v w) p (gives w _ (give_moves v w)))
   act_from (Leave n) f pc room s fr t w p = enough_from n s _ (goes_then u w (give_some n s w) p (gives w _ (give_some_moves n s w)))

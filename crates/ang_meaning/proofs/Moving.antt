@@ -1,6 +1,7 @@
 -- What each piece of a run is told, and what it lists.
-use Rattle.std.proofs.Common.{◌≡◌, ℕ, zero, suc, inl, inr, ⊎_elim, List, [], ◌∷◌, ◌++◌, Option, Some, None, refl, sym, ap, ◌∙◌, append_assoc, append-nil, length}
+use Rattle.std.proofs.Common.{◌≡◌, ℕ, zero, suc, inl, inr, ⊎_elim, List, [], ◌∷◌, ◌++◌, Option, Some, None, refl, sym, ap, ◌∙◌, append_assoc, append-nil}
 use Rattle.std.specs.Prelude.{Bool, true, false, cond, reverse}
+use Rattle.std.specs.FinMap as map
 use Rattle.ang_kinds.specs.declared.mask.EntityNo.{EntityNo}
 use Rattle.ang_kinds.specs.declared.value.Value.{Value}
 use Rattle.ang_kinds.specs.declared.fault.Fault.{Fault}
@@ -17,15 +18,15 @@ use Rattle.ang_meaning.specs.declared.host.HostType.{HostType}
 use Rattle.ang_meaning.specs.declared.host.HostType.TheVariants.{Nothing}
 use Rattle.ang_meaning.specs.declared.operation.Change.{Change}
 use Rattle.ang_meaning.specs.declared.operation.Operation.{Operation}
-use Rattle.ang_meaning.specs.declared.operation.Operation.TheVariants.{Work, Compare, Convert, Negate, Complement, Not, Same, GlobalGet, GlobalSet, GlobalChange, Ask, Read, Write, Alter}
+use Rattle.ang_meaning.specs.declared.operation.Operation.TheVariants.{Work, Compare, Convert, Negate, Complement, Not, Same, GlobalGet, GlobalSet, GlobalChange, Ask, Read, Write, Alter, Make, FieldGet, FieldSet, FieldChange, Cast}
 use Rattle.ang_meaning.specs.declared.routine.Passing.{Passing}
 use Rattle.ang_meaning.specs.declared.routine.Passing.TheVariants.{In, Out, Object}
 use Rattle.ang_meaning.specs.Numbers.{Worked, Is, Cannot, Changed, Into, Never, worked}
-use Rattle.ang_meaning.specs.World.{World, HostRecord, Input, Room, Said, Counted, Fresh, Tried, Yes, No, memory_told, memory_step, one_more, tally_told, tally_step, held, hold, Lowered, Gone, Kept, host_lowered, each_given, script_given, script_lowered, given, give, give_all}
+use Rattle.ang_meaning.specs.World.{World, ScriptRecord, HostCounts, Input, Room, Said, Counted, Fresh, Tried, Yes, No, memory_told, memory_step, one_more, tally_told, tally_step, held, hold, Lowered, Gone, Kept, host_lowered, each_given, script_given, script_lowered, given, give, give_all}
 use Rattle.ang_meaning.specs.Told.{has_room, stopped_by, answers_told, answers_listed, Moves, GoesOn, Stops}
-use Rattle.ang_meaning.specs.Setting.{Setting, use_at}
+use Rattle.ang_meaning.specs.Setting.{Setting, Class, class_in, use_at}
 use Rattle.ang_meaning.specs.Hosts.{Done, Fine, Fails, holding, accepted, is_void, slot_of, replied_by, is_reply_to, asked_from, asked_told, asked, value_of, values_of}
-use Rattle.ang_meaning.specs.Perform.{work_done, change_of, global_or, global_put, stored_global, changed_global, Receiver, Of, Missing, receiver_of, arguments_of, gives_up, called_of, read_of, write_of, in_place_of, altered_to, altered_of, perform}
+use Rattle.ang_meaning.specs.Perform.{work_done, change_of, global_or, global_put, stored_global, changed_global, Receiver, Of, Missing, receiver_of, arguments_of, gives_up, called_of, read_of, write_of, in_place_of, altered_to, altered_of, field_or, field_put, may_take, stored_field, changed_field, is_under, cast_to, number_for, made_at, made_from, made_told, perform}
 use Rattle.ang_meaning.specs.Results.{give_some, give_back, give_others}
 
 told_append : (a b : List Input) → answers_told (a ++ b) ≡ answers_told a ++ answers_told b
@@ -110,7 +111,7 @@ each_gives : (go : Slot → World → World) → ((v : Slot) (w : World) → Mov
 each_gives go h [] w = same w w refl refl
 each_gives go h (v ∷ vs) w = moves_then w (go v w) (each_given go vs (go v w)) [] [] (h v w) (each_gives go h vs (go v w))
 
-host_ends : (b : Bool) (d k : ℕ) (hs : List HostRecord) (w : World) → Moves w [] (record w { hosts = hs; events = cond b (w.events ++ Ended d k ∷ []) w.events })
+host_ends : (b : Bool) (d k : ℕ) (hs : HostCounts) (w : World) → Moves w [] (record w { hosts = hs; events = cond b (w.events ++ Ended d k ∷ []) w.events })
 host_ends true d k hs w = record { more = Ended d k ∷ []; inputs = refl; events = refl; answers = refl }
 host_ends false d k hs w = same w _ refl refl
 
@@ -131,7 +132,7 @@ given_moves (suc n) (Script (Some k)) w = script_gives (given n) (given_moves n)
 
 pub give_moves : (v : Slot) (w : World) → Moves w [] (give v w)
 unfolding give
-give_moves v w = given_moves (length w.objects) v w
+give_moves v w = given_moves (map.len w.objects) v w
 
 pub give_all_moves : (vs : List Slot) (w : World) → Moves w [] (give_all vs w)
 give_all_moves [] w = same w w refl refl
@@ -251,11 +252,11 @@ kind_goes false w o p = faulted Memory w w (nothing w)
 module _ (z : Setting) (m : ℕ) (e : EntityNo) where
   asked_said : (object : Option ℕ) (args : List Value) (result : HostType) (inputs : List Input) (w : World) → w.inputs ≡ inputs → DoneFrom w (asked_from z m e object args result inputs w)
   asked_said object args result (Said reply ∷ rest) w h =
-      let event = Called (z.name m) e (use_at z e).driver object args reply in
+      let event = Called (z.name m) e (use_at z m e).driver object args reply in
       let u : World = record w { inputs = rest; events = w.events ++ event ∷ [] } in
-      kind_goes (is_reply_to (use_at z e).role reply) w _
+      kind_goes (is_reply_to (use_at z m e).role reply) w _
       (done_then w u _ (record { used = Said reply ∷ []; moves = record { more = event ∷ []; inputs = h; events = refl; answers = refl }; room = refl })
-      (replied_goes (use_at z e).driver result reply u))
+      (replied_goes (use_at z m e).driver result reply u))
   asked_said object args result [] w h = faulted Memory w w (nothing w)
   asked_said object args result (Room b ∷ rest) w h = faulted Memory w w (nothing w)
   asked_said object args result (Counted b ∷ rest) w h = faulted Memory w w (nothing w)
@@ -271,27 +272,27 @@ module _ (z : Setting) (m : ℕ) (e : EntityNo) where
 
   called_goes : (r : Receiver) (args : List Slot) (w : World) → DoneFrom w (called_of z m e r args w)
   called_goes Missing args w = faulted Null w w (nothing w)
-  called_goes (Of object) args w = asked_goes object (values_of (use_at z e).driver (use_at z e).params args) (use_at z e).result w
+  called_goes (Of object) args w = asked_goes object (values_of (use_at z m e).driver (use_at z m e).params args) (use_at z m e).result w
 
   read_goes : (r : Receiver) (w : World) → DoneFrom w (read_of z m e r w)
   read_goes Missing w = faulted Null w w (nothing w)
-  read_goes (Of object) w = asked_goes object [] (use_at z e).result w
+  read_goes (Of object) w = asked_goes object [] (use_at z m e).result w
 
   write_goes : (r : Receiver) (v : Slot) (w : World) → DoneFrom w (write_of z m e r v w)
   write_goes Missing v w = faulted Null w w (nothing w)
-  write_goes (Of object) v w = asked_goes object (value_of (use_at z e).driver (use_at z e).result v ∷ []) Nothing w
+  write_goes (Of object) v w = asked_goes object (value_of (use_at z m e).driver (use_at z m e).result v ∷ []) Nothing w
 
   in_place_goes : (v : Slot) (w : World) (o : Done) → DoneFrom w o → DoneFrom w (in_place_of v o)
   in_place_goes v w (Fine x w') p = p
   in_place_goes v w (Fails f w') p = p
 
-  altered_to_goes : (r : Receiver) (c : Changed) (w : World) → DoneFrom w (altered_to z m e r c w)
-  altered_to_goes r (Never f) w = faulted f w w (nothing w)
-  altered_to_goes r (Into stored given) w = in_place_goes (Bits given) w (write_of z m e r (Bits stored) w) (write_goes r (Bits stored) w)
+  altered_to_goes : (r : Receiver) (x : Slot) (c : Changed) (w : World) → DoneFrom w (altered_to z m e r x c w)
+  altered_to_goes r x (Never f) w = faulted f w (give x w) (gives w (give x w) (give_moves x w))
+  altered_to_goes r x (Into stored given) w = in_place_goes (Bits given) w (write_of z m e r (Bits stored) w) (write_goes r (Bits stored) w)
 
   altered_goes : (r : Receiver) (c : Change) (v : Slot) (w : World) (o : Done) → DoneFrom w o → DoneFrom w (altered_of z m e r c v o)
   altered_goes r c v w (Fails f w') p = p
-  altered_goes r c v w (Fine x w') p = done_then w w' _ p (altered_to_goes r (change_of c x v) w')
+  altered_goes r c v w (Fine x w') p = done_then w w' _ p (altered_to_goes r x (change_of c x v) w')
 
 work_goes : (o : Worked) (w : World) → DoneFrom w (work_done o w)
 work_goes (Is n) w = nothing w
@@ -310,6 +311,45 @@ changed_goes m g (Never f) w = faulted f w w (nothing w)
 gives_up_goes : (vs : List Slot) (w : World) (o : Done) → DoneFrom w o → DoneFrom w (gives_up vs o)
 gives_up_goes vs w (Fine v w') p = goes_then w w' (give_all vs w') p (gives w' _ (give_all_moves vs w'))
 gives_up_goes vs w (Fails f w') p = p
+
+pub field_moves : (n i : ℕ) (v : Slot) (w : World) → Moves w [] (field_put n i v w)
+unfolding field_put
+field_moves n i v w = same w _ refl refl
+
+stored_field_goes : (n i : ℕ) (v : Slot) (w : World) (o : Tried) → TriedFrom Tally w o → DoneFrom w (stored_field n i v o)
+stored_field_goes n i v w (No w') p = p
+stored_field_goes n i v w (Yes w') p =
+    let put = field_put n i v w' in
+    let less = give (field_or n i v w') put in
+    goes_then w w' (give (Script (Some n)) less) p (gives w' _ (moves_then w' less _ [] []
+    (moves_then w' put _ [] [] (field_moves n i v w') (give_moves (field_or n i v w') put)) (give_moves (Script (Some n)) less)))
+
+may_store_goes : (b : Bool) (n i : ℕ) (v : Slot) (w : World) → DoneFrom w (cond b (stored_field n i v (hold v w)) (Fails Null w))
+may_store_goes true n i v w = stored_field_goes n i v w (hold v w) (hold_goes v w)
+may_store_goes false n i v w = faulted Null w w (nothing w)
+
+changed_field_goes : (n i : ℕ) (c : Changed) (w : World) → DoneFrom w (changed_field n i c w)
+changed_field_goes n i (Into stored given) w = gives w _ (field_moves n i (Bits stored) w)
+changed_field_goes n i (Never f) w = faulted f w w (nothing w)
+
+cast_goes : (b : Bool) (n : ℕ) (w : World) → DoneFrom w (cast_to b n w)
+cast_goes true n w = nothing w
+cast_goes false n w = gives w _ (give_moves (Script (Some n)) w)
+
+made_at_goes : (c : ℕ) (k : Class) (n q : ℕ) (rest : List Input) (w : World) → w.inputs ≡ Fresh q ∷ rest → DoneFrom w (made_at c k n rest w)
+made_at_goes c k n q rest w e =
+    record { used = Fresh q ∷ []; moves = record { more = []; inputs = e; events = sym (append-nil w.events); answers = refl }; room = refl }
+
+made_from_goes : (c : ℕ) (k : Class) (inputs : List Input) (w : World) → w.inputs ≡ inputs → DoneFrom w (made_from c k inputs w)
+made_from_goes c k [] w e = faulted Memory w w (nothing w)
+made_from_goes c k (Fresh n ∷ rest) w e = made_at_goes c k (number_for n w.objects) n rest w e
+made_from_goes c k (Said r ∷ rest) w e = faulted Memory w w (nothing w)
+made_from_goes c k (Room b ∷ rest) w e = faulted Memory w w (nothing w)
+made_from_goes c k (Counted b ∷ rest) w e = faulted Memory w w (nothing w)
+
+made_goes : (c : ℕ) (k : Class) (w : World) (o : Tried) → TriedFrom Memory w o → DoneFrom w (made_told c k o)
+made_goes c k w (No w') p = p
+made_goes c k w (Yes w') p = done_then w w' _ p (made_from_goes c k w'.inputs w' refl)
 
 misfit : (w : World) → Stops Null w w
 misfit w = faulted Null w w (nothing w)
@@ -364,17 +404,48 @@ perform_goes z m (GlobalSet g) (v ∷ (u ∷ us)) w = misfit w
 perform_goes z m (GlobalChange g c) [] w = misfit w
 perform_goes z m (GlobalChange g c) (v ∷ []) w = changed_goes m g (change_of c (global_or m g (Bits 0) w) v) w
 perform_goes z m (GlobalChange g c) (v ∷ (u ∷ us)) w = misfit w
-perform_goes z m (Ask e) vs w = gives_up_goes vs w _ (called_goes z m e (receiver_of (use_at z e) (reverse vs)) (arguments_of (use_at z e) (reverse vs)) w)
-perform_goes z m (Read e) vs w = gives_up_goes vs w _ (read_goes z m e (receiver_of (use_at z e) vs) w)
+perform_goes z m (Ask e) vs w = gives_up_goes vs w _ (called_goes z m e (receiver_of (use_at z m e) (reverse vs)) (arguments_of (use_at z m e) (reverse vs)) w)
+perform_goes z m (Read e) vs w = gives_up_goes vs w _ (read_goes z m e (receiver_of (use_at z m e) vs) w)
 perform_goes z m (Write e) [] w = misfit w
-perform_goes z m (Write e) (v ∷ []) w = in_place_goes z m e v w _ (write_goes z m e (receiver_of (use_at z e) []) v w)
-perform_goes z m (Write e) (o ∷ (v ∷ [])) w = gives_up_goes (o ∷ []) w _ (in_place_goes z m e v w _ (write_goes z m e (receiver_of (use_at z e) (o ∷ [])) v w))
+perform_goes z m (Write e) (v ∷ []) w = in_place_goes z m e v w _ (write_goes z m e (receiver_of (use_at z m e) []) v w)
+perform_goes z m (Write e) (o ∷ (v ∷ [])) w = gives_up_goes (o ∷ []) w _ (in_place_goes z m e v w _ (write_goes z m e (receiver_of (use_at z m e) (o ∷ [])) v w))
 perform_goes z m (Write e) (o ∷ (v ∷ (u ∷ us))) w = misfit w
 perform_goes z m (Alter e c) [] w = misfit w
 perform_goes z m (Alter e c) (v ∷ []) w =
-    let r = receiver_of (use_at z e) [] in
+    let r = receiver_of (use_at z m e) [] in
     altered_goes z m e r c v w (read_of z m e r w) (read_goes z m e r w)
 perform_goes z m (Alter e c) (o ∷ (v ∷ [])) w =
-    let r = receiver_of (use_at z e) (o ∷ []) in
+    let r = receiver_of (use_at z m e) (o ∷ []) in
     gives_up_goes (o ∷ []) w _ (altered_goes z m e r c v w (read_of z m e r w) (read_goes z m e r w))
 perform_goes z m (Alter e c) (o ∷ (v ∷ (u ∷ us))) w = misfit w
+perform_goes z m (Make c) [] w = made_goes c (class_in (z.class m c)) w (memory_step w) (memory_goes w)
+perform_goes z m (Make c) (v ∷ vs) w = misfit w
+perform_goes z m (FieldGet i) [] w = misfit w
+perform_goes z m (FieldGet i) (Bits x ∷ us) w = misfit w
+perform_goes z m (FieldGet i) (Script None ∷ us) w = misfit w
+perform_goes z m (FieldGet i) (Script (Some n) ∷ []) w =
+    let v = field_or n i (Bits 0) w in gives_up_goes (Script (Some n) ∷ []) w _ (holding_goes v w (hold v w) (hold_goes v w))
+perform_goes z m (FieldGet i) (Script (Some n) ∷ (u ∷ us)) w = misfit w
+perform_goes z m (FieldGet i) (Host d j ∷ us) w = misfit w
+perform_goes z m (FieldSet i) [] w = misfit w
+perform_goes z m (FieldSet i) (Bits x ∷ us) w = misfit w
+perform_goes z m (FieldSet i) (Script None ∷ us) w = misfit w
+perform_goes z m (FieldSet i) (Script (Some n) ∷ []) w = misfit w
+perform_goes z m (FieldSet i) (Script (Some n) ∷ (v ∷ [])) w = may_store_goes (may_take n v w) n i v w
+perform_goes z m (FieldSet i) (Script (Some n) ∷ (v ∷ (u ∷ us))) w = misfit w
+perform_goes z m (FieldSet i) (Host d j ∷ us) w = misfit w
+perform_goes z m (FieldChange i c) [] w = misfit w
+perform_goes z m (FieldChange i c) (Bits x ∷ us) w = misfit w
+perform_goes z m (FieldChange i c) (Script None ∷ us) w = misfit w
+perform_goes z m (FieldChange i c) (Script (Some n) ∷ []) w = misfit w
+perform_goes z m (FieldChange i c) (Script (Some n) ∷ (v ∷ [])) w =
+    gives_up_goes (Script (Some n) ∷ []) w _ (changed_field_goes n i (change_of c (field_or n i (Bits 0) w) v) w)
+perform_goes z m (FieldChange i c) (Script (Some n) ∷ (v ∷ (u ∷ us))) w = misfit w
+perform_goes z m (FieldChange i c) (Host d j ∷ us) w = misfit w
+perform_goes z m (Cast c) [] w = misfit w
+perform_goes z m (Cast c) (Bits x ∷ us) w = misfit w
+perform_goes z m (Cast c) (Script None ∷ []) w = nothing w
+perform_goes z m (Cast c) (Script None ∷ (u ∷ us)) w = misfit w
+perform_goes z m (Cast c) (Script (Some n) ∷ []) w = cast_goes (is_under z m c (map.get w.objects n)) n w
+perform_goes z m (Cast c) (Script (Some n) ∷ (u ∷ us)) w = misfit w
+perform_goes z m (Cast c) (Host d j ∷ us) w = misfit w

@@ -119,9 +119,9 @@ is_reply_to (PropertyRole f) (Asking answer) = true
 -- One asking: the event is listed, whatever the reply says. A reply of another kind is none to this asking, and is left as an input of another sort is.
 abbrev pub asked_from : Setting → ℕ → EntityNo → Option ℕ → List Value → HostType → List Input → World → Done
 asked_from z m e object args result (Said reply ∷ rest) w =
-    if is_reply_to (use_at z e).role reply
-    then (replied_by (use_at z e).driver result reply
-    (record w { inputs = rest; events = w.events ++ Called (z.name m) e (use_at z e).driver object args reply ∷ [] }))
+    if is_reply_to (use_at z m e).role reply
+    then (replied_by (use_at z m e).driver result reply
+    (record w { inputs = rest; events = w.events ++ Called (z.name m) e (use_at z m e).driver object args reply ∷ [] }))
     else (Fails Memory w)
 asked_from z m e object args result _ w = Fails Memory w
 

@@ -5,3 +5,5 @@ pub mod Hosts
 pub mod Perform
 pub mod Results
 pub mod Told
+pub mod Counting
+pub mod Alike

@@ -1,7 +1,8 @@
 -- What stays the same while a run goes on: the modules, the registered entities, the functions and where the imports lead.
+use Rattle.std.specs.FinMap as map
 use Rattle.std.specs.Prelude.{ℕ, Bool, true, false, ◌&&◌, not, List, [], ◌∷◌, Option, Some, None}
 use Rattle.ang_kinds.specs.declared.fault.Fault.{Fault}
-use Rattle.ang_kinds.specs.declared.fault.Fault.TheVariants.{Unbound}
+use Rattle.ang_kinds.specs.declared.fault.Fault.TheVariants.{Null, Unbound}
 use Rattle.ang_meaning.specs.declared.slot.Slot.{Slot}
 use Rattle.ang_meaning.specs.declared.slot.Slot.TheVariants.{Bits, Script, Host}
 use Rattle.ang_kinds.specs.declared.mask.EntityNo.{EntityNo}
@@ -10,14 +11,33 @@ use Rattle.ang_host.specs.declared.event.Role.{Role}
 use Rattle.ang_meaning.specs.declared.host.HostType.{HostType}
 use Rattle.ang_meaning.specs.declared.host.HostType.TheVariants.{Nothing, Plain, Handle}
 use Rattle.ang_meaning.specs.declared.operation.Operation.{Operation}
-use Rattle.ang_meaning.specs.declared.operation.Operation.TheVariants.{Work, Compare, Convert, Negate, Complement, Not, Same, GlobalGet, GlobalSet, GlobalChange, Ask, Read, Write, Alter}
+use Rattle.ang_meaning.specs.declared.operation.Operation.TheVariants.{Work, Compare, Convert, Negate, Complement, Not, Same, GlobalGet, GlobalSet, GlobalChange, Ask, Read, Write, Alter, Make, FieldGet, FieldSet, FieldChange, Cast}
 use Rattle.ang_meaning.specs.declared.host.HostUse.{HostUse}
-use Rattle.ang_meaning.specs.World.{World}
+use Rattle.ang_meaning.specs.World.{World, ScriptRecord}
 use Rattle.ang_meaning.specs.declared.routine.Routine.{Routine}
 use Rattle.ang_meaning.specs.declared.routine.Callee.{Callee}
-use Rattle.ang_meaning.specs.declared.routine.Callee.TheVariants.{Own, Import}
+use Rattle.ang_meaning.specs.declared.routine.Callee.TheVariants.{Own, Import, Virtual}
 use Rattle.ang_meaning.specs.declared.routine.Passing.{Passing}
 use Rattle.ang_meaning.specs.declared.routine.Passing.TheVariants.{In, Out, Object}
+
+-- what a field is
+pub data FieldKind : Type 0 where
+  NumberField : FieldKind
+  ScriptField : FieldKind
+  HostField : ℕ → FieldKind
+
+-- no value yet
+abbrev pub default_of : FieldKind → Slot
+default_of NumberField = Bits 0
+default_of ScriptField = Script None
+default_of (HostField d) = Host d None
+
+-- A class: its rank, the kinds of its fields, those of the base class first, and the numbers of the classes and interfaces that it stands under, its own
+-- among them.
+pub record Class : Type 0 where
+  pub rank : ℕ
+  pub kinds : List FieldKind
+  pub under : List ℕ
 
 -- By module: its name, each import's parameters as the module declares them, and where the import leads, if it is bound. An import takes no objects but
 -- handles, so its call never faults with `Null`. By number: the registered entities. By routine: a function's parameters, where there is such a function.
@@ -25,11 +45,19 @@ use Rattle.ang_meaning.specs.declared.routine.Passing.TheVariants.{In, Out, Obje
 -- does not count.
 pub record Setting : Type 0 where
   pub name : ℕ → List ℕ
-  pub host : ℕ → Option HostUse
+  pub host : ℕ → ℕ → Option HostUse
   pub params : Routine → Option (List Passing)
   pub imported : ℕ → ℕ → Option (List Passing)
   pub linked : ℕ → ℕ → Option Routine
   pub nesting : ℕ
+  pub class : ℕ → ℕ → Option Class
+  pub method : ℕ → ℕ → ℕ → Option Routine
+  pub slot : ℕ → ℕ → Option (List Passing)
+
+-- stands where there is no class; no sound code makes one
+abbrev pub class_in : Option Class → Class
+class_in None = record { rank = 0; kinds = []; under = [] }
+class_in (Some c) = c
 
 -- stands where there is no entity; no sound code asks it
 abbrev pub nobody : HostUse
@@ -39,8 +67,8 @@ abbrev pub host_in : Option HostUse → HostUse
 host_in None = nobody
 host_in (Some u) = u
 
-abbrev pub use_at : Setting → EntityNo → HostUse
-use_at z e = host_in (z.host e.0)
+abbrev pub use_at : Setting → ℕ → EntityNo → HostUse
+use_at z m e = host_in (z.host m e.0)
 
 -- the function that a call enters, or why it enters none
 pub data Found : Type 0 where
@@ -51,10 +79,33 @@ abbrev pub bound : Option Routine → Found
 bound (Some g) = Enters g
 bound None = Misses Unbound
 
+-- the method of an object's class in a slot
+abbrev pub method_of : Setting → ℕ → ℕ → Option ScriptRecord → Found
+method_of z m s None = Misses Null
+method_of z m s (Some o) = bound (z.method m o.class s)
+
+abbrev pub virtual_of : Setting → ℕ → ℕ → Slot → World → Found
+virtual_of z m s (Bits n) w = Misses Null
+virtual_of z m s (Script None) w = Misses Null
+virtual_of z m s (Script (Some n)) w = method_of z m s (map.get w.objects n)
+virtual_of z m s (Host d k) w = Misses Null
+
+abbrev pub slot_params : Option (List Passing) → List Passing
+slot_params None = []
+slot_params (Some ps) = ps
+
+-- the value of the first parameter, which is the last of the list
+abbrev pub receiver_in : List Passing → List Slot → Slot
+receiver_in [] vs = Bits 0
+receiver_in (p ∷ ps) [] = Bits 0
+receiver_in (p ∷ []) (v ∷ vs) = v
+receiver_in (p ∷ (q ∷ ps)) (v ∷ vs) = receiver_in (q ∷ ps) vs
+
 -- What a callee means in a module, where the values on top are its arguments, the last one first.
 unfoldable pub target : Setting → ℕ → Callee → List Slot → World → Found
 target z m (Own g) vs w = Enters (record { home = m; number = g })
 target z m (Import i) vs w = bound (z.linked m i)
+target z m (Virtual s) vs w = virtual_of z m s (receiver_in (slot_params (z.slot m s)) vs) w
 
 unfoldable pub is_null : Slot → Bool
 is_null (Bits n) = false
@@ -105,18 +156,23 @@ may_access None = false
 may_access (Some u) = is_property u.role
 
 -- Whether an operation asks an entity that there is, in the way of its role.
-unfoldable pub is_fit : Setting → Operation → Bool
-is_fit z (Work a p) = true
-is_fit z (Compare c signed) = true
-is_fit z (Convert p) = true
-is_fit z (Negate p) = true
-is_fit z (Complement p) = true
-is_fit z Not = true
-is_fit z Same = true
-is_fit z (GlobalGet g) = true
-is_fit z (GlobalSet g) = true
-is_fit z (GlobalChange g c) = true
-is_fit z (Ask e) = may_call (z.host e.0)
-is_fit z (Read e) = may_access (z.host e.0)
-is_fit z (Write e) = may_access (z.host e.0)
-is_fit z (Alter e c) = may_access (z.host e.0)
+unfoldable pub is_fit : Setting → ℕ → Operation → Bool
+is_fit z m (Work a p) = true
+is_fit z m (Compare c signed) = true
+is_fit z m (Convert p) = true
+is_fit z m (Negate p) = true
+is_fit z m (Complement p) = true
+is_fit z m Not = true
+is_fit z m Same = true
+is_fit z m (GlobalGet g) = true
+is_fit z m (GlobalSet g) = true
+is_fit z m (GlobalChange g c) = true
+is_fit z m (Ask e) = may_call (z.host m e.0)
+is_fit z m (Read e) = may_access (z.host m e.0)
+is_fit z m (Write e) = may_access (z.host m e.0)
+is_fit z m (Alter e c) = may_access (z.host m e.0)
+is_fit z m (Make c) = true
+is_fit z m (FieldGet i) = true
+is_fit z m (FieldSet i) = true
+is_fit z m (FieldChange i c) = true
+is_fit z m (Cast c) = true

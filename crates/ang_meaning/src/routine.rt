@@ -19,6 +19,8 @@ pub enum Callee {
     Own(u32),
     /// An imported function of the running module, by the import's number.
     Import(u32),
+    /// The method in that slot of the receiver's class.
+    Virtual(u32),
 }
 
 /// How a parameter takes its argument.
