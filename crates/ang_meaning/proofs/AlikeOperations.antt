@@ -25,7 +25,10 @@ use Rattle.ang_meaning.specs.declared.operation.Operation.{Operation}
 use Rattle.ang_meaning.specs.declared.operation.Operation.TheVariants.{Work, Compare, Convert, Negate, Complement, Not, Same, GlobalGet, GlobalSet, GlobalChange, Ask, Read, Write, Alter, Make, FieldGet, FieldSet, FieldChange, Cast}
 use Rattle.ang_meaning.specs.Numbers.{Worked, Is, Cannot, Changed, Into, Never, worked, truth, holds_of, converted, negated, complemented, denied}
 use Rattle.ang_meaning.specs.World.{World, ScriptRecord, ScriptObjects, Input, Room, Said, Counted, Fresh, Tried, Yes, No, memory_step, one_more, hold, give, give_all}
-use Rattle.ang_meaning.specs.Setting.{Setting, Class, FieldKind, NumberField, ScriptField, HostField, default_of, class_in, use_at, is_null}
+use Rattle.ang_meaning.specs.declared.class.Class.{Class}
+use Rattle.ang_meaning.specs.declared.class.FieldKind.{FieldKind}
+use Rattle.ang_meaning.specs.declared.class.FieldKind.TheVariants.{Plain as NumberField, Handle as HandleField}
+use Rattle.ang_meaning.specs.Setting.{Setting, default_of, class_in, use_at, is_null}
 use Rattle.ang_meaning.specs.Hosts.{Done, Fine, Fails, holding, accepted, is_void, if_within, slot_of, replied_by, is_reply_to, asked_from, asked_told, asked, value_of, values_of}
 use Rattle.ang_meaning.specs.Perform.{work_done, name_one, is_same, change_of, global_or, global_put, stored_global, changed_global, Receiver, Of, Missing, key_at, receiver_of, behind_first, arguments_of, gives_up, called_of, read_of, write_of, in_place_of, altered_to, altered_of, field_or, field_put, may_take, stored_field, changed_field, is_under, cast_to, new_object, number_for, made_at, made_from, made_told, perform}
 use Rattle.ang_meaning.specs.Counting.{IsCounted}
@@ -169,28 +172,28 @@ slot_fixed r d (Plain p) (Key k) = tt
 slot_fixed r d Handle (Int z) = tt
 slot_fixed r d Handle (Uint n) = tt
 slot_fixed r d Handle (Truth b) = tt
-slot_fixed r d Handle (Key k) = refl
+slot_fixed r d Handle (Key None) = refl
+slot_fixed r d Handle (Key (Some k)) = refl
 
 -- ---- a new object
 
 default_renamed : (r : Renaming) (k : FieldKind) → renamed r (default_of k) ≡ default_of k
 default_renamed r NumberField = refl
-default_renamed r ScriptField = refl
-default_renamed r (HostField d) = refl
+default_renamed r HandleField = refl
 
 pub defaults_renamed : (r : Renaming) (ks : List FieldKind) → renamed_all r (list_map default_of ks) ≡ list_map default_of ks
 defaults_renamed r [] = refl
 defaults_renamed r (k ∷ ks) = ap (λ x. x ∷ renamed_all r (list_map default_of ks)) (default_renamed r k) ∙ ap (λ l. default_of k ∷ l) (defaults_renamed r ks)
 
-new_tables : (r : Renaming) (os ps : ScriptObjects) (n c : ℕ) (k : Class) → Tables r os ps → Tables r (map.insert os n (new_object c k)) (map.insert ps (r.to n) (new_object c k))
-new_tables r os ps n c k t =
-    subst (λ l. Tables r (map.insert os n (new_object c k)) (map.insert ps (r.to n) (record (new_object c k) { fields = l }))) (defaults_renamed r k.kinds) (tables_insert r os ps n (new_object c k) t)
+new_tables : (r : Renaming) (os ps : ScriptObjects) (n : ℕ) (k : Class) → Tables r os ps → Tables r (map.insert os n (new_object k)) (map.insert ps (r.to n) (new_object k))
+new_tables r os ps n k t =
+    subst (λ l. Tables r (map.insert os n (new_object k)) (map.insert ps (r.to n) (record (new_object k) { fields = l }))) (defaults_renamed r k.fields) (tables_insert r os ps n (new_object k) t)
 
 module _ (apart : Type 0) (r : Renaming) where
   -- the two numbers may be any that are free
-  made_at_alike : (c : ℕ) (k : Class) (a b : ℕ) (is js : List Input) (s : List Slot) (v w : World) → map.get v.objects a ≡ None → map.get w.objects b ≡ None → Match apart is js → IsCounted s v → Alike apart r v w
-      → OneAlike apart r s (made_at c k a is v) (made_at c k b js w)
-  made_at_alike c k a b is js s v w g e m counted h =
+  made_at_alike : (k : Class) (a b : ℕ) (is js : List Input) (s : List Slot) (v w : World) → map.get v.objects a ≡ None → map.get w.objects b ≡ None → Match apart is js → IsCounted s v → Alike apart r v w
+      → OneAlike apart r s (made_at k a is v) (made_at k b js w)
+  made_at_alike k a b is js s v w g e m counted h =
       let q = swapped r (r.to a) b in
       let free : map.get w.objects (r.to a) ≡ None = h.objects.has a ∙ ap (renamed_record r) g in
       let x = swapped_alike apart r (r.to a) b s v w free e counted h in
@@ -201,7 +204,7 @@ module _ (apart : Type 0) (r : Renaming) where
         done = inl (
           ap (λ j. Script (Some j)) (sym at),
           record {
-            objects = subst (λ j. Tables q (map.insert v.objects a (new_object c k)) (map.insert w.objects j (new_object c k))) at (new_tables q v.objects w.objects a c k x.0.objects);
+            objects = subst (λ j. Tables q (map.insert v.objects a (new_object k)) (map.insert w.objects j (new_object k))) at (new_tables q v.objects w.objects a k x.0.objects);
             hosts = x.0.hosts;
             globals = x.0.globals;
             events = x.0.events;
@@ -214,41 +217,41 @@ module _ (apart : Type 0) (r : Renaming) where
   kept : (s : List Slot) (o p : Done) → DoneAlike apart r o p → OneAlike apart r s o p
   kept s o p h = record { by = r; same = refl; done = h }
 
-  made_from_alike : (c : ℕ) (k : Class) (s : List Slot) (is js : List Input) (v w : World) → v.inputs ≡ is → w.inputs ≡ js → Match apart is js → Alike apart r v w → IsCounted s v → OneAlike apart r s (made_from c k is v) (made_from c k js w)
-  made_from_alike c o s [] [] v w e f mt h counted = kept s _ _ (inl (refl, h))
-  made_from_alike c o s [] (j ∷ js) v w e f mt h counted = absurd mt
-  made_from_alike c o s (i ∷ is) [] v w e f mt h counted = absurd mt
-  made_from_alike c o s (Room a ∷ is) (Room b ∷ js) v w e f mt h counted = kept s _ _ (inl (refl, h))
-  made_from_alike c o s (Room a ∷ is) (Said u ∷ js) v w e f mt h counted = kept s _ _ (inl (refl, h))
-  made_from_alike c o s (Room a ∷ is) (Counted b ∷ js) v w e f mt h counted = kept s _ _ (inl (refl, h))
-  made_from_alike c o s (Room a ∷ is) (Fresh k ∷ js) v w e f mt h counted = kept s _ _ (inr (inl (mt, record { first = Room a; rest = is; inputs = e })))
-  made_from_alike c o s (Said q ∷ is) (Room b ∷ js) v w e f mt h counted = kept s _ _ (inl (refl, h))
-  made_from_alike c o s (Said q ∷ is) (Said u ∷ js) v w e f mt h counted = kept s _ _ (inl (refl, h))
-  made_from_alike c o s (Said q ∷ is) (Counted b ∷ js) v w e f mt h counted = kept s _ _ (inl (refl, h))
-  made_from_alike c o s (Said q ∷ is) (Fresh k ∷ js) v w e f mt h counted = kept s _ _ (inr (inl (mt, record { first = Said q; rest = is; inputs = e })))
-  made_from_alike c o s (Counted a ∷ is) (Room b ∷ js) v w e f mt h counted = kept s _ _ (inl (refl, h))
-  made_from_alike c o s (Counted a ∷ is) (Said u ∷ js) v w e f mt h counted = kept s _ _ (inl (refl, h))
-  made_from_alike c o s (Counted a ∷ is) (Counted b ∷ js) v w e f mt h counted = kept s _ _ (inl (refl, h))
-  made_from_alike c o s (Counted a ∷ is) (Fresh k ∷ js) v w e f mt h counted = kept s _ _ (inr (inl (mt, record { first = Counted a; rest = is; inputs = e })))
-  made_from_alike c o s (Fresh n ∷ is) (Room b ∷ js) v w e f mt h counted = kept s _ _ (inr (inr (mt, record { first = Room b; rest = js; inputs = f })))
-  made_from_alike c o s (Fresh n ∷ is) (Said u ∷ js) v w e f mt h counted = kept s _ _ (inr (inr (mt, record { first = Said u; rest = js; inputs = f })))
-  made_from_alike c o s (Fresh n ∷ is) (Counted b ∷ js) v w e f mt h counted = kept s _ _ (inr (inr (mt, record { first = Counted b; rest = js; inputs = f })))
-  made_from_alike c o s (Fresh n ∷ is) (Fresh k ∷ js) v w e f mt h counted = made_at_alike c o (number_for n v.objects) (number_for k w.objects) is js s v w (number_free n v.objects) (number_free k w.objects) mt counted h
+  made_from_alike : (k : Class) (s : List Slot) (is js : List Input) (v w : World) → v.inputs ≡ is → w.inputs ≡ js → Match apart is js → Alike apart r v w → IsCounted s v → OneAlike apart r s (made_from k is v) (made_from k js w)
+  made_from_alike o s [] [] v w e f mt h counted = kept s _ _ (inl (refl, h))
+  made_from_alike o s [] (j ∷ js) v w e f mt h counted = absurd mt
+  made_from_alike o s (i ∷ is) [] v w e f mt h counted = absurd mt
+  made_from_alike o s (Room a ∷ is) (Room b ∷ js) v w e f mt h counted = kept s _ _ (inl (refl, h))
+  made_from_alike o s (Room a ∷ is) (Said u ∷ js) v w e f mt h counted = kept s _ _ (inl (refl, h))
+  made_from_alike o s (Room a ∷ is) (Counted b ∷ js) v w e f mt h counted = kept s _ _ (inl (refl, h))
+  made_from_alike o s (Room a ∷ is) (Fresh k ∷ js) v w e f mt h counted = kept s _ _ (inr (inl (mt, record { first = Room a; rest = is; inputs = e })))
+  made_from_alike o s (Said q ∷ is) (Room b ∷ js) v w e f mt h counted = kept s _ _ (inl (refl, h))
+  made_from_alike o s (Said q ∷ is) (Said u ∷ js) v w e f mt h counted = kept s _ _ (inl (refl, h))
+  made_from_alike o s (Said q ∷ is) (Counted b ∷ js) v w e f mt h counted = kept s _ _ (inl (refl, h))
+  made_from_alike o s (Said q ∷ is) (Fresh k ∷ js) v w e f mt h counted = kept s _ _ (inr (inl (mt, record { first = Said q; rest = is; inputs = e })))
+  made_from_alike o s (Counted a ∷ is) (Room b ∷ js) v w e f mt h counted = kept s _ _ (inl (refl, h))
+  made_from_alike o s (Counted a ∷ is) (Said u ∷ js) v w e f mt h counted = kept s _ _ (inl (refl, h))
+  made_from_alike o s (Counted a ∷ is) (Counted b ∷ js) v w e f mt h counted = kept s _ _ (inl (refl, h))
+  made_from_alike o s (Counted a ∷ is) (Fresh k ∷ js) v w e f mt h counted = kept s _ _ (inr (inl (mt, record { first = Counted a; rest = is; inputs = e })))
+  made_from_alike o s (Fresh n ∷ is) (Room b ∷ js) v w e f mt h counted = kept s _ _ (inr (inr (mt, record { first = Room b; rest = js; inputs = f })))
+  made_from_alike o s (Fresh n ∷ is) (Said u ∷ js) v w e f mt h counted = kept s _ _ (inr (inr (mt, record { first = Said u; rest = js; inputs = f })))
+  made_from_alike o s (Fresh n ∷ is) (Counted b ∷ js) v w e f mt h counted = kept s _ _ (inr (inr (mt, record { first = Counted b; rest = js; inputs = f })))
+  made_from_alike o s (Fresh n ∷ is) (Fresh k ∷ js) v w e f mt h counted = made_at_alike o (number_for n v.objects) (number_for k w.objects) is js s v w (number_free n v.objects) (number_free k w.objects) mt counted h
 
-  made_told_alike : (c : ℕ) (k : Class) (s : List Slot) (o p : Tried) → TriedSame apart r o p → TriedCounted s s o → OneAlike apart r s (made_told c k o) (made_told c k p)
-  made_told_alike c k s (Yes v) (Yes w) h counted = made_from_alike c k s v.inputs w.inputs v w refl refl h.inputs h counted
-  made_told_alike c k s (Yes v) (No w) h counted = absurd h
-  made_told_alike c k s (No v) (Yes w) h counted = absurd h
-  made_told_alike c k s (No v) (No w) h counted = kept s _ _ (inl (refl, h))
+  made_told_alike : (k : Class) (s : List Slot) (o p : Tried) → TriedSame apart r o p → TriedCounted s s o → OneAlike apart r s (made_told k o) (made_told k p)
+  made_told_alike k s (Yes v) (Yes w) h counted = made_from_alike k s v.inputs w.inputs v w refl refl h.inputs h counted
+  made_told_alike k s (Yes v) (No w) h counted = absurd h
+  made_told_alike k s (No v) (Yes w) h counted = absurd h
+  made_told_alike k s (No v) (No w) h counted = kept s _ _ (inl (refl, h))
 
-  made_leaves : (c : ℕ) (k : Class) (o : Tried) → TriedLeaves apart o → DoneLeaves apart (made_told c k o)
-  made_leaves c k (Yes w) h = absurd h
-  made_leaves c k (No w) h = h
+  made_leaves : (k : Class) (o : Tried) → TriedLeaves apart o → DoneLeaves apart (made_told k o)
+  made_leaves k (Yes w) h = absurd h
+  made_leaves k (No w) h = h
 
-  made_alike : (c : ℕ) (k : Class) (s : List Slot) (v w : World) → IsCounted s v → Alike apart r v w → OneAlike apart r s (made_told c k (memory_step v)) (made_told c k (memory_step w))
-  made_alike c k s v w counted h =
-      three (λ t. made_told_alike c k s (memory_step v) (memory_step w) t (memory_counted s v counted)) (λ l. kept s _ _ (inr (inl (made_leaves c k (memory_step v) l))))
-      (λ l. kept s _ _ (inr (inr (made_leaves c k (memory_step w) l)))) (memory_alike apart r v w h)
+  made_alike : (k : Class) (s : List Slot) (v w : World) → IsCounted s v → Alike apart r v w → OneAlike apart r s (made_told k (memory_step v)) (made_told k (memory_step w))
+  made_alike k s v w counted h =
+      three (λ t. made_told_alike k s (memory_step v) (memory_step w) t (memory_counted s v counted)) (λ l. kept s _ _ (inr (inl (made_leaves k (memory_step v) l))))
+      (λ l. kept s _ _ (inr (inr (made_leaves k (memory_step w) l)))) (memory_alike apart r v w h)
 
   -- ---- askings
 
@@ -582,7 +585,7 @@ module _ (apart : Type 0) (r : Renaming) where
     perform_alike (Alter e c) (x ∷ []) = kept s _ _ (altered_alike z m e [] c x v w h)
     perform_alike (Alter e c) (o ∷ (x ∷ [])) = kept s _ _ (gives_alike (o ∷ []) _ _ (altered_alike z m e (o ∷ []) c x v w h))
     perform_alike (Alter e c) (o ∷ (x ∷ (u ∷ us))) = misfit
-    perform_alike (Make c) [] = made_alike c (class_in (z.class m c)) s v w counted h
+    perform_alike (Make c) [] = made_alike (class_in (z.class m c)) s v w counted h
     perform_alike (Make c) (x ∷ vs) = misfit
     perform_alike (FieldGet i) [] = misfit
     perform_alike (FieldGet i) (Bits x ∷ us) = misfit

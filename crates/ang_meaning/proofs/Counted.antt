@@ -7,12 +7,15 @@ use Rattle.ang_host.specs.State.{count_at}
 use Rattle.ang_meaning.specs.declared.slot.Slot.{Slot}
 use Rattle.ang_meaning.specs.declared.slot.Slot.TheVariants.{Bits, Script, Host}
 use Rattle.ang_meaning.specs.World.{World, ScriptRecord, ScriptObjects, Input, Room, Said, Counted, Fresh, with_inputs, if_told, Tried, Yes, No, memory_told, memory_step, tally_told, tally_step, one_more, held, hold, give, give_all}
-use Rattle.ang_meaning.specs.Setting.{Class, FieldKind, NumberField, ScriptField, HostField, default_of}
+use Rattle.ang_meaning.specs.declared.class.Class.{Class}
+use Rattle.ang_meaning.specs.declared.class.FieldKind.{FieldKind}
+use Rattle.ang_meaning.specs.declared.class.FieldKind.TheVariants.{Plain as NumberField, Handle as HandleField}
+use Rattle.ang_meaning.specs.Setting.{default_of}
 use Rattle.ang_meaning.specs.Perform.{globals_of, global_or, global_put, field_of, field_or, with_field, field_put, is_lower, may_take, new_object}
 use Rattle.ang_meaning.specs.Results.{local_at, local_set}
-use Rattle.ang_meaning.specs.Counting.{Thing, KeyOf, NumberOf, names, how_many, in_lists, in_fields, count_of_object, count_in, Counts, CanGive, IsBelow, AreBelow, AreOrdered, IsCounted, IsThere, IsKnown}
+use Rattle.ang_meaning.specs.Counting.{Thing, KeyOf, NumberOf, names, how_many, in_lists, in_fields, count_of_object, count_in, Counts, IsBelow, AreBelow, AreOrdered, IsCounted, HasObject, HasKey}
 use Rattle.ang_meaning.proofs.Tables.{get_inserted, sum-new, sum-changed, sum-bound}
-use Rattle.ang_meaning.proofs.Counting.{many_append, counts_as, more_counts, more_globals, give_counts, give_globals, bits_name_none, null_names_none, no_key_names_none, key_named, self_named}
+use Rattle.ang_meaning.proofs.Counting.{many_append, counts_as, more_counts, more_globals, give_counts, give_globals, bits_name_none, null_names_none, key_named, self_named}
 use Rattle.ang_meaning.proofs.Ranks.{AreRanked, all_still_below, more_ordered, give_ordered}
 
 -- ---- the same places, the same objects
@@ -20,20 +23,9 @@ use Rattle.ang_meaning.proofs.Ranks.{AreRanked, all_still_below, more_ordered, g
 pub counted_as : (us vs : List Slot) (w : World) → ((x : Thing) → how_many x us ≡ how_many x vs) → IsCounted us w → IsCounted vs w
 counted_as us vs w h p = record { counts = counts_as (λ x. in_lists x w.globals) us vs w h p.counts; ordered = p.ordered }
 
-count_same : (x : Thing) (u w : World) → w.objects ≡ u.objects → w.hosts ≡ u.hosts → count_in x w ≡ count_in x u
-count_same (KeyOf d k) u w o h = ap (λ hs. count_at (hs d) k) h
-count_same (NumberOf n) u w o h = ap (λ os. count_of_object (map.get os n)) o
-
--- whatever it was told and listed
-pub counted_same : (vs : List Slot) (u w : World) → w.objects ≡ u.objects → w.hosts ≡ u.hosts → w.globals ≡ u.globals → IsCounted vs u → IsCounted vs w
-counted_same vs u w o h g p = record {
-  counts = record { counts = λ x. omega (arith, p.counts.counts x, count_same x u w o h, ap (in_fields x) o, ap (in_lists x) g) };
-  ordered = subst AreOrdered (sym o) p.ordered;
-}
-
 -- ---- held and given up
 
-pub more_counted : (v : Slot) (s : List Slot) (w : World) → IsKnown v w → IsCounted s w → IsCounted (v ∷ s) (one_more v w)
+pub more_counted : (v : Slot) (s : List Slot) (w : World) → HasObject v w.objects → IsCounted s w → IsCounted (v ∷ s) (one_more v w)
 more_counted v s w k p = record {
   counts = subst (λ g. Counts (λ x. in_lists x g) (v ∷ s) (one_more v w)) (sym (more_globals v w)) (more_counts (λ x. in_lists x w.globals) v s w k p.counts);
   ordered = more_ordered v w p.ordered;
@@ -56,23 +48,20 @@ give_all_under v vs s w p =
 
 -- ---- what stands among the places is there
 
-pub known_of : (v : Slot) (w : World) → ((x : Thing) → names x v ≤ count_in x w) → IsThere v w
-known_of (Bits n) w h = tt
-known_of (Script None) w h = tt
-known_of (Script (Some n)) w h = omega (arith, h (NumberOf n), self_named n)
-known_of (Host d None) w h = tt
-known_of (Host d (Some k)) w h = omega (arith, h (KeyOf d k), key_named d k)
+-- one more place may hold it: null, a number, or something with a count
+abbrev pub IsThere : Slot → World → Type 0
+IsThere v w = HasObject v w.objects × HasKey v w.hosts
 
-pub there_known : (v : Slot) (w : World) → IsThere v w → IsKnown v w
-there_known (Bits n) w h = tt
-there_known (Script None) w h = tt
-there_known (Script (Some n)) w h = h
-there_known (Host d None) w h = tt
-there_known (Host d (Some k)) w h = tt
+pub there_of : (v : Slot) (w : World) → ((x : Thing) → names x v ≤ count_in x w) → IsThere v w
+there_of (Bits n) w h = (tt, tt)
+there_of (Script None) w h = (tt, tt)
+there_of (Script (Some n)) w h = (omega (arith, h (NumberOf n), self_named n), tt)
+there_of (Host d None) w h = (tt, tt)
+there_of (Host d (Some k)) w h = (tt, omega (arith, h (KeyOf d k), key_named d k))
 
 -- on the stack
 pub counted_there : (v : Slot) (s : List Slot) (w : World) → ((x : Thing) → names x v ≤ how_many x s) → IsCounted s w → IsThere v w
-counted_there v s w h p = known_of v w (λ x. omega (arith, p.counts.counts x, h x))
+counted_there v s w h p = there_of v w (λ x. omega (arith, p.counts.counts x, h x))
 
 pub first_there : (v : Slot) (s : List Slot) (w : World) → IsCounted (v ∷ s) w → IsThere v w
 first_there v s w p = counted_there v (v ∷ s) w (λ x. omega arith) p
@@ -96,14 +85,14 @@ list_index x (l ∷ ls) (suc m) = omega (arith, list_index x ls m)
 pub global_there : (m g : ℕ) (s : List Slot) (w : World) → IsCounted s w → IsThere (global_or m g (Bits 0) w) w
 unfolding global_or
 global_there m g s w p =
-    known_of (global_or m g (Bits 0) w) w
+    there_of (global_or m g (Bits 0) w) w
     (λ x. omega (arith, p.counts.counts x, names_index x (globals_of m w) g (Bits 0) (bits_name_none 0 x), list_index x w.globals m))
 
 -- in a field
 field_known : (s : List Slot) (w : World) (n i : ℕ) (o : Option ScriptRecord) → map.get w.objects n ≡ o → IsCounted s w → IsThere (field_of o i (Bits 0)) w
-field_known s w n i None g p = tt
+field_known s w n i None g p = (tt, tt)
 field_known s w n i (Some o) g p =
-    known_of (slice_index_or o.fields i (Bits 0)) w
+    there_of (slice_index_or o.fields i (Bits 0)) w
     (λ x. omega (arith, p.counts.counts x, names_index x o.fields i (Bits 0) (bits_name_none 0 x), sum-bound (λ r. how_many x r.fields) w.objects n o g))
 
 pub field_there : (s : List Slot) (w : World) (n i : ℕ) → IsCounted s w → IsThere (field_or n i (Bits 0) w) w
@@ -112,16 +101,13 @@ field_there s w n i p = field_known s w n i (map.get w.objects n) refl p
 
 -- ---- a step that may be refused
 
-pub told_counted : (s : List Slot) (is : List Input) (w : World) → IsCounted s w → IsCounted s (with_inputs is w)
-told_counted s is w p = counted_same s w (with_inputs is w) refl refl refl p
-
 abbrev pub TriedCounted : List Slot → List Slot → Tried → Type 0
 TriedCounted more s (Yes w) = IsCounted more w
 TriedCounted more s (No w) = IsCounted s w
 
 if_counted : (b : Bool) (s : List Slot) (is : List Input) (w : World) → IsCounted s w → TriedCounted s s (if_told b (with_inputs is w))
-if_counted true s is w p = told_counted s is w p
-if_counted false s is w p = told_counted s is w p
+if_counted true s is w p = p
+if_counted false s is w p = p
 
 memory_from : (inputs : List Input) (s : List Slot) (w : World) → IsCounted s w → TriedCounted s s (memory_told inputs w)
 memory_from [] s w p = p
@@ -136,27 +122,21 @@ memory_counted s w p = memory_from w.inputs s w p
 
 -- what one more place may hold is the same whatever was told
 abbrev TriedKnown : Slot → List Slot → Tried → Type 0
-TriedKnown v s (Yes w) = IsCounted s w × IsKnown v w
+TriedKnown v s (Yes w) = IsCounted s w × HasObject v w.objects
 TriedKnown v s (No w) = IsCounted s w
 
-known_told : (v : Slot) (is : List Input) (w : World) → IsKnown v w → IsKnown v (with_inputs is w)
-known_told (Bits n) is w h = tt
-known_told (Script None) is w h = tt
-known_told (Script (Some n)) is w h = h
-known_told (Host d k) is w h = tt
+tally_if : (b : Bool) (v : Slot) (s : List Slot) (is : List Input) (w : World) → HasObject v w.objects → IsCounted s w → TriedKnown v s (if_told b (with_inputs is w))
+tally_if true v s is w k p = (p, k)
+tally_if false v s is w k p = p
 
-tally_if : (b : Bool) (v : Slot) (s : List Slot) (is : List Input) (w : World) → IsKnown v w → IsCounted s w → TriedKnown v s (if_told b (with_inputs is w))
-tally_if true v s is w k p = (told_counted s is w p, known_told v is w k)
-tally_if false v s is w k p = told_counted s is w p
-
-tally_from : (inputs : List Input) (v : Slot) (s : List Slot) (w : World) → IsKnown v w → IsCounted s w → TriedKnown v s (tally_told inputs w)
+tally_from : (inputs : List Input) (v : Slot) (s : List Slot) (w : World) → HasObject v w.objects → IsCounted s w → TriedKnown v s (tally_told inputs w)
 tally_from [] v s w k p = p
 tally_from (Counted b ∷ rest) v s w k p = tally_if b v s rest w k p
 tally_from (Room b ∷ rest) v s w k p = p
 tally_from (Said r ∷ rest) v s w k p = p
 tally_from (Fresh n ∷ rest) v s w k p = p
 
-tally_counted : (v : Slot) (s : List Slot) (w : World) → IsKnown v w → IsCounted s w → TriedKnown v s (tally_step v w)
+tally_counted : (v : Slot) (s : List Slot) (w : World) → HasObject v w.objects → IsCounted s w → TriedKnown v s (tally_step v w)
 unfolding tally_step
 tally_counted (Bits n) s w k p = (p, tt)
 tally_counted (Script None) s w k p = (p, tt)
@@ -168,7 +148,7 @@ held_counted : (v : Slot) (s : List Slot) (o : Tried) → TriedKnown v s o → T
 held_counted v s (No w) p = p
 held_counted v s (Yes w) p = more_counted v s w p.1 p.0
 
-pub hold_counted : (v : Slot) (s : List Slot) (w : World) → IsKnown v w → IsCounted s w → TriedCounted (v ∷ s) s (hold v w)
+pub hold_counted : (v : Slot) (s : List Slot) (w : World) → HasObject v w.objects → IsCounted s w → TriedCounted (v ∷ s) s (hold v w)
 unfolding hold
 hold_counted v s w k p = held_counted v s (tally_step v w) (tally_counted v s w k p)
 
@@ -198,7 +178,7 @@ lists_places x (l ∷ ls) (suc m) g d v h = omega (arith, lists_places x ls m g 
 pub put_counted : (m g : ℕ) (d v : Slot) (s : List Slot) (w : World) → ((x : Thing) → names x d ≡ names x v) → IsCounted (v ∷ s) w → IsCounted (global_or m g d w ∷ s) (global_put m g v w)
 unfolding global_or global_put
 put_counted m g d v s w h p = record {
-  counts = record { counts = λ x. omega (arith, p.counts.counts x, lists_places x w.globals m g d v (h x), count_same x w (global_put m g v w) refl refl) };
+  counts = record { counts = λ x. omega (arith, p.counts.counts x, lists_places x w.globals m g d v (h x)) };
   ordered = p.ordered;
 }
 
@@ -289,8 +269,7 @@ taken_below n (Host d k) w t r g = tt
 
 defaults_name_none : (x : Thing) (k : FieldKind) → names x (default_of k) ≡ 0
 defaults_name_none x NumberField = bits_name_none 0 x
-defaults_name_none x ScriptField = null_names_none x
-defaults_name_none x (HostField d) = no_key_names_none d x
+defaults_name_none x HandleField = null_names_none x
 
 pub defaults_many : (x : Thing) (ks : List FieldKind) → how_many x (list_map default_of ks) ≡ 0
 defaults_many x [] = refl
@@ -298,8 +277,7 @@ defaults_many x (k ∷ ks) = omega (arith, defaults_name_none x k, defaults_many
 
 default_below : (os : ScriptObjects) (r : ℕ) (k : FieldKind) → IsBelow os r (default_of k)
 default_below os r NumberField = tt
-default_below os r ScriptField = tt
-default_below os r (HostField d) = tt
+default_below os r HandleField = tt
 
 defaults_below : (os : ScriptObjects) (r : ℕ) (ks : List FieldKind) → AreBelow os r (list_map default_of ks)
 defaults_below os r [] = tt
@@ -340,18 +318,18 @@ falls_new : (b : Bool) (os : ScriptObjects) (n q : ℕ) (o p : ScriptRecord) →
 falls_new true os n q o p h z f e = let s : o ≡ p = ap (λ x. unwrap_or x o) e in subst (λ x. AreBelow (map.insert os n o) x.rank x.fields) s f
 falls_new false os n q o p h z f e = still_below_new os p.rank n o p.fields (z q p e) (h.falls q p e)
 
-pub new_counted : (n c : ℕ) (k : Class) (is : List Input) (s : List Slot) (w : World) → map.get w.objects n ≡ None → IsCounted s w
-    → IsCounted (Script (Some n) ∷ s) (record w { inputs = is; objects = map.insert w.objects n (new_object c k) })
-new_counted n c k is s w g p =
-    let o = new_object c k in
+pub new_counted : (n : ℕ) (k : Class) (is : List Input) (s : List Slot) (w : World) → map.get w.objects n ≡ None → IsCounted s w
+    → IsCounted (Script (Some n) ∷ s) (record w { inputs = is; objects = map.insert w.objects n (new_object k) })
+new_counted n k is s w g p =
+    let o = new_object k in
     let zero_count : count_in (NumberOf n) w ≡ 0 = ap count_of_object g in
     let unnamed : (m : ℕ) (r : ScriptRecord) → map.get w.objects m ≡ Some r → how_many (NumberOf n) r.fields ≡ 0 =
     λ m r e. omega (arith, zero_count, p.counts.counts (NumberOf n), sum-bound (λ x. how_many (NumberOf n) x.fields) w.objects m r e) in
     record {
-      counts = record { counts = λ x. omega (arith, p.counts.counts x, count_new x w n o is g refl, defaults_many x k.kinds, sum-new (λ r. how_many x r.fields) w.objects n o g) };
+      counts = record { counts = λ x. omega (arith, p.counts.counts x, count_new x w n o is g refl, defaults_many x k.fields, sum-new (λ r. how_many x r.fields) w.objects n o g) };
       ordered = record {
         alive = λ q r e. alive_with (nat_eq n q) w.objects q o r p.ordered (omega arith) (sym (get_inserted w.objects n q o) ∙ e);
-        falls = λ q r e. falls_new (nat_eq n q) w.objects n q o r p.ordered unnamed (defaults_below (map.insert w.objects n o) k.rank k.kinds) (sym (get_inserted w.objects n q o) ∙ e);
+        falls = λ q r e. falls_new (nat_eq n q) w.objects n q o r p.ordered unnamed (defaults_below (map.insert w.objects n o) k.rank k.fields) (sym (get_inserted w.objects n q o) ∙ e);
       };
     }
 
@@ -359,14 +337,6 @@ new_counted n c k is s w g p =
 pub traded_counted : (m g : ℕ) (v : Slot) (s t : List Slot) (w : World) → ((x : Thing) → how_many x t + names x v ≡ how_many x s + names x (global_or m g v w)) → IsCounted s w → IsCounted t (global_put m g v w)
 unfolding global_or global_put
 traded_counted m g v s t w h p = record {
-  counts = record { counts = λ x. omega (arith, p.counts.counts x, lists_places x w.globals m g v v refl, h x, count_same x w (global_put m g v w) refl refl) };
+  counts = record { counts = λ x. omega (arith, p.counts.counts x, lists_places x w.globals m g v v refl, h x) };
   ordered = p.ordered;
 }
-
--- ---- a part of what is counted may be given up
-
-pub can_give : (s : List Slot) (w : World) → IsCounted s w → CanGive s w
-can_give s w p = ((λ x. in_lists x w.globals), p.counts)
-
-pub can_give_one : (v : Slot) (vs : List Slot) (w : World) → CanGive (v ∷ vs) w → CanGive (v ∷ []) w
-can_give_one v vs w p = ((λ x. p.0 x + how_many x vs), record { counts = λ x. omega (arith, p.1.counts x) })

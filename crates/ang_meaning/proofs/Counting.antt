@@ -8,7 +8,7 @@ use Rattle.ang_host.specs.State.{count_of, count_at}
 use Rattle.ang_meaning.specs.declared.slot.Slot.{Slot}
 use Rattle.ang_meaning.specs.declared.slot.Slot.TheVariants.{Bits, Script, Host}
 use Rattle.ang_meaning.specs.World.{World, ScriptRecord, ScriptObjects, HostCounts, raised_at, script_raised, host_raised, one_more, Lowered, Gone, Kept, one_less, lowered_at, script_lowered, host_less, host_lowered, host_given, each_given, script_given, given, give}
-use Rattle.ang_meaning.specs.Counting.{Thing, KeyOf, NumberOf, names, how_many, in_fields, count_of_object, count_in, Counts, IsKnown}
+use Rattle.ang_meaning.specs.Counting.{Thing, KeyOf, NumberOf, names, how_many, in_fields, count_of_object, count_in, Counts, HasObject}
 use Rattle.ang_meaning.proofs.Tables.{get_inserted, get_without, sum-gone, sum-changed, len_over, len_gone, none_of_len}
 
 -- ---- lists of places
@@ -71,18 +71,26 @@ host_raised_at true d e k j hs t =
     ∙ ap (λ i. count_at (hs i) j + cond (nat_eq k j) 1 0) (eqb-true d e t)
 host_raised_at false d e k j hs t = omega arith
 
-pub more_count : (x : Thing) (v : Slot) (w : World) → IsKnown v w → count_in x (one_more v w) ≡ count_in x w + names x v
-unfolding one_more script_raised host_raised
-more_count (KeyOf d k) (Bits n) w h = omega arith
-more_count (KeyOf d k) (Script None) w h = omega arith
-more_count (KeyOf d k) (Script (Some n)) w h = omega arith
-more_count (KeyOf d k) (Host e None) w h = omega arith
-more_count (KeyOf d k) (Host e (Some j)) w h = host_raised_at (nat_eq e d) e d j k w.hosts refl
-more_count (NumberOf q) (Bits n) w h = omega arith
-more_count (NumberOf q) (Script None) w h = omega arith
-more_count (NumberOf q) (Script (Some n)) w h = raised_count n q w.objects (map.get w.objects n) refl h
-more_count (NumberOf q) (Host e None) w h = omega arith
-more_count (NumberOf q) (Host e (Some j)) w h = omega arith
+-- of a host object, whether it is there or not
+pub more_key : (d k : ℕ) (v : Slot) (w : World) → count_at ((one_more v w).hosts d) k ≡ count_at (w.hosts d) k + names (KeyOf d k) v
+unfolding one_more host_raised
+more_key d k (Bits n) w = omega arith
+more_key d k (Script None) w = omega arith
+more_key d k (Script (Some n)) w = omega arith
+more_key d k (Host e None) w = omega arith
+more_key d k (Host e (Some j)) w = host_raised_at (nat_eq e d) e d j k w.hosts refl
+
+more_object : (q : ℕ) (v : Slot) (w : World) → HasObject v w.objects → count_in (NumberOf q) (one_more v w) ≡ count_in (NumberOf q) w + names (NumberOf q) v
+unfolding one_more script_raised
+more_object q (Bits n) w h = omega arith
+more_object q (Script None) w h = omega arith
+more_object q (Script (Some n)) w h = raised_count n q w.objects (map.get w.objects n) refl h
+more_object q (Host e None) w h = omega arith
+more_object q (Host e (Some j)) w h = omega arith
+
+pub more_count : (x : Thing) (v : Slot) (w : World) → HasObject v w.objects → count_in x (one_more v w) ≡ count_in x w + names x v
+more_count (KeyOf d k) v w h = more_key d k v w
+more_count (NumberOf q) v w h = more_object q v w h
 
 pub more_fields : (x : Thing) (v : Slot) (w : World) → in_fields x (one_more v w).objects ≡ in_fields x w.objects
 unfolding one_more script_raised
@@ -100,7 +108,7 @@ more_globals (Script (Some n)) w = refl
 more_globals (Host e None) w = refl
 more_globals (Host e (Some j)) w = refl
 
-pub more_counts : (e : Thing → ℕ) (v : Slot) (vs : List Slot) (w : World) → IsKnown v w → Counts e vs w → Counts e (v ∷ vs) (one_more v w)
+pub more_counts : (e : Thing → ℕ) (v : Slot) (vs : List Slot) (w : World) → HasObject v w.objects → Counts e vs w → Counts e (v ∷ vs) (one_more v w)
 more_counts e v vs w h p = record { counts = λ x. omega (arith, p.counts x, more_count x v w h, more_fields x v w) }
 
 -- ---- one place fewer: a host object
@@ -127,7 +135,7 @@ put_count true d e k j a v m hs t g s c =
     omega (arith, c, host_less_at (nat_eq k j) (hs d) k j v a refl g s, z)
 put_count false d e k j a v m hs t g s c = omega arith
 
-lower_host : (d e k j : ℕ) (o : Option ℕ) (hs : HostCounts) → map.get (hs d) k ≡ o → 0 < count_of o
+pub lower_host : (d e k j : ℕ) (o : Option ℕ) (hs : HostCounts) → map.get (hs d) k ≡ o → 0 < count_of o
     → count_at ((host_less d k o hs).hosts e) j + cond (nat_eq d e && nat_eq k j) 1 0 ≡ count_at (hs e) j
 lower_host d e k j None hs g h = absurd (omega (arith, h))
 lower_host d e k j (Some zero) hs g h = absurd (omega (arith, h))
@@ -179,7 +187,7 @@ less_fields x n os o zero g = sum-gone (λ r. how_many x r.fields) os n o g
 less_fields x n os o (suc zero) g = sum-gone (λ r. how_many x r.fields) os n o g
 less_fields x n os o (suc (suc c)) g = let s = sum-changed (λ r. how_many x r.fields) os n o (record o { count = suc c }) g in omega (arith, s)
 
-lower_fields : (x : Thing) (n : ℕ) (os : ScriptObjects) (o : Option ScriptRecord) → map.get os n ≡ o
+pub lower_fields : (x : Thing) (n : ℕ) (os : ScriptObjects) (o : Option ScriptRecord) → map.get os n ≡ o
     → in_fields x os ≡ how_many x (freed_of (lowered_at n o os)) + in_fields x (left_of (lowered_at n o os))
 lower_fields x n os None g = omega arith
 lower_fields x n os (Some o) g = less_fields x n os o o.count g

@@ -15,14 +15,9 @@ use Rattle.ang_host.proofs.Counts.{IsLive-held, IsBalanced-none}
 use Rattle.ang_meaning.specs.declared.slot.Slot.{Slot}
 use Rattle.ang_meaning.specs.declared.slot.Slot.TheVariants.{Host}
 use Rattle.ang_meaning.specs.World.{World, HostCounts, host_put, host_raised, host_less, host_lowered, host_given, one_more, give}
-use Rattle.ang_meaning.specs.Counting.{Thing, in_lists, IsCounted, CanGive}
+use Rattle.ang_meaning.specs.Counting.{Thing, in_lists, IsCounted, counts_by}
 use Rattle.ang_meaning.proofs.Roots.{no_roots}
-use Rattle.ang_meaning.proofs.Counting.{held_key}
 use Rattle.ang_meaning.proofs.Giving.{give_key}
-
--- the counts of the drivers in these states
-abbrev pub counts_by : List State → HostCounts
-counts_by ss = λ d. (state_at ss d).counts
 
 put_at : (b : Bool) (ss ts : List State) (i e : ℕ) (m : map.FinMap nat_cmp ℕ) → nat_eq i e ≡ b → ts ≡ slice_set ss i (state_at ts i) → (state_at ts i).counts ≡ m
     → (state_at ts e).counts ≡ cond b m (state_at ss e).counts
@@ -68,13 +63,12 @@ pub world_added : (ss ts : List State) (i k : ℕ) (w : World) → w.hosts ≡ c
 unfolding one_more
 world_added ss ts i k w hs h a = ap (λ q. record w { hosts = q }) (ap (host_raised i k) hs ∙ sym (counts_added ss ts i k h a))
 
--- what may be given up is live
-pub live_of : (ss : List State) (i k : ℕ) (vs : List Slot) (w : World) → w.hosts ≡ counts_by ss → CanGive (Host i (Some k) ∷ vs) w → IsLive (state_at ss i) k
-live_of ss i k vs w hs p =
-    IsLive-held (state_at ss i) k (subst (λ q. 0 < count_at (q i) k) hs (held_key p.0 i k vs w p.1))
+-- what is counted is live
+pub live_of : (ss : List State) (i k : ℕ) → 0 < count_at (counts_by ss i) k → IsLive (state_at ss i) k
+live_of ss i k h = IsLive-held (state_at ss i) k h
 
 -- and its driver is in the list
-pub in_list_of : (ss : List State) (i k : ℕ) → 0 < count_at (state_at ss i).counts k → i < length ss
+pub in_list_of : (ss : List State) (i k : ℕ) → 0 < count_at (counts_by ss i) k → i < length ss
 in_list_of [] i k h = absurd (omega (arith, h, ap count_of (get-empty {X = ℕ} nat_cmp k)))
 in_list_of (s ∷ ss) zero k h = omega arith
 in_list_of (s ∷ ss) (suc i) k h = omega (arith, in_list_of ss i k h)

@@ -1,11 +1,10 @@
 -- What giving up does, without the bound on how deep it goes: as a heap does it.
-use Rattle.std.proofs.Common.{◌≡◌, ℕ, zero, suc, ◌≤◌, List, [], ◌∷◌, ◌++◌, Option, Some, None, refl, sym, ap, ◌∙◌, arith}
+use Rattle.std.proofs.Common.{◌≡◌, ℕ, zero, suc, ◌≤◌, List, [], ◌∷◌, Option, Some, None, refl, sym, ap, ◌∙◌, arith}
 use Rattle.std.specs.FinMap as map
 use Rattle.ang_meaning.specs.declared.slot.Slot.{Slot}
 use Rattle.ang_meaning.specs.declared.slot.Slot.TheVariants.{Bits, Script, Host}
-use Rattle.ang_meaning.specs.World.{World, Lowered, Gone, Kept, lowered_at, script_lowered, host_less, host_lowered, host_given, each_given, script_given, given, give, give_all}
-use Rattle.ang_meaning.specs.Counting.{CanGive}
-use Rattle.ang_meaning.proofs.Counting.{left_of, freed_of, Fewer, lower_fewer, given_fewer, given_enough, empty_given, give_counts, lowered_counts}
+use Rattle.ang_meaning.specs.World.{World, ScriptObjects, Lowered, Gone, Kept, lowered_at, script_lowered, host_less, host_lowered, host_given, each_given, script_given, given, give, give_all}
+use Rattle.ang_meaning.proofs.Counting.{left_of, freed_of, Fewer, lower_fewer, given_fewer, given_enough, empty_given}
 
 pub give_bits : (n : ℕ) (w : World) → give (Bits n) w ≡ w
 unfolding give given
@@ -52,13 +51,13 @@ pub give_script : (k : ℕ) (w : World) → give (Script (Some k)) w ≡ give_al
 unfolding give
 give_script k w = with_more (map.len w.objects) k w (omega arith)
 
--- and the fields can be given up there
-pub can_give_fields : (k : ℕ) (vs : List Slot) (w : World) → CanGive (Script (Some k) ∷ vs) w → CanGive (freed_of (script_lowered k w.objects) ++ vs) (record w { objects = left_of (script_lowered k w.objects) })
-unfolding script_lowered
-can_give_fields k vs w p = (p.0, lowered_counts p.0 k vs w p.1)
+-- the same by what lowering its count comes to: it was not the last reference, or none
+pub give_kept : (k : ℕ) (os : ScriptObjects) (w : World) → script_lowered k w.objects ≡ Kept os → give (Script (Some k)) w ≡ record w { objects = os }
+give_kept k os w e = give_script k w ∙ ap (λ l. give_all (freed_of l) (record w { objects = left_of l })) e
 
-pub can_give_rest : (v : Slot) (vs : List Slot) (w : World) → CanGive (v ∷ vs) w → CanGive vs (give v w)
-can_give_rest v vs w p = (p.0, give_counts p.0 v vs w p.1)
+-- it was the last
+pub give_gone : (k : ℕ) (fs : List Slot) (os : ScriptObjects) (w : World) → script_lowered k w.objects ≡ Gone fs os → give (Script (Some k)) w ≡ give_all fs (record w { objects = os })
+give_gone k fs os w e = give_script k w ∙ ap (λ l. give_all (freed_of l) (record w { objects = left_of l })) e
 
 -- ---- where nothing lives nothing is given up
 

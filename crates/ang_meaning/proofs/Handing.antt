@@ -15,22 +15,19 @@ use Rattle.ang_meaning.specs.declared.slot.Slot.TheVariants.{Bits, Script, Host}
 use Rattle.ang_meaning.specs.declared.host.HostType.{HostType}
 use Rattle.ang_meaning.specs.declared.host.HostType.TheVariants.{Nothing, Plain, Handle}
 use Rattle.ang_meaning.specs.declared.host.HostUse.{HostUse}
-use Rattle.ang_meaning.specs.World.{World}
+use Rattle.ang_meaning.specs.World.{ScriptObjects}
 use Rattle.ang_meaning.specs.Hosts.{plain_value, value_of, values_of}
 use Rattle.ang_meaning.specs.Perform.{Receiver, Of, Missing, key_at, receiver_of, behind_first, arguments_of}
-use Rattle.ang_meaning.specs.Counting.{Thing, names, how_many, IsCounted, IsThere}
+use Rattle.ang_meaning.specs.Counting.{Thing, names, how_many, AreEnough, HasKey, counts_by}
 use Rattle.ang_meaning.proofs.Counting.{many_append}
-use Rattle.ang_meaning.proofs.Counted.{counted_there}
-use Rattle.ang_meaning.proofs.Driving.{counts_by}
+use Rattle.ang_meaning.proofs.Enough.{enough_key}
+use Rattle.ang_meaning.proofs.Driving.{live_of}
 
 pub many_reverse : (x : Thing) (vs : List Slot) → how_many x (reverse vs) ≡ how_many x vs
 many_reverse x [] = refl
 many_reverse x (v ∷ vs) = omega (arith, ap (how_many x) (reverse-cons v vs), many_append x (reverse vs) (v ∷ []), many_reverse x vs)
 
-module _ (ss : List State) (w : World) (read : w.hosts ≡ counts_by ss) where
-  key_live : (d k : ℕ) → IsThere (Host d (Some k)) w → IsLive (state_at ss d) k
-  key_live d k h = IsLive-held (state_at ss d) k (subst (λ q. 0 < count_at (q d) k) read h)
-
+module _ (ss : List State) where
   plain_live : (s : State) (p : Primitive) (n : ℕ) → IsLiveValue s (plain_value p n)
   plain_live s I8 n = tt
   plain_live s I16 n = tt
@@ -42,11 +39,11 @@ module _ (ss : List State) (w : World) (read : w.hosts ≡ counts_by ss) where
   plain_live s U64 n = tt
   plain_live s TruthType n = tt
 
-  handle_live : (d e k : ℕ) (b : Bool) → nat_eq d e ≡ b → IsThere (Host e (Some k)) w → IsLiveValue (state_at ss d) (cond b (Key (Some k)) (Key None))
-  handle_live d e k true t h = subst (λ i. IsLive (state_at ss i) k) (sym (eqb-true d e t)) (key_live e k h)
+  handle_live : (d e k : ℕ) (b : Bool) → nat_eq d e ≡ b → HasKey (Host e (Some k)) (counts_by ss) → IsLiveValue (state_at ss d) (cond b (Key (Some k)) (Key None))
+  handle_live d e k true t h = subst (λ i. IsLive (state_at ss i) k) (sym (eqb-true d e t)) (live_of ss e k h)
   handle_live d e k false t h = tt
 
-  value_live : (d : ℕ) (ty : HostType) (v : Slot) → IsThere v w → IsLiveValue (state_at ss d) (value_of d ty v)
+  value_live : (d : ℕ) (ty : HostType) (v : Slot) → HasKey v (counts_by ss) → IsLiveValue (state_at ss d) (value_of d ty v)
   value_live d Nothing (Bits n) h = tt
   value_live d Nothing (Script j) h = tt
   value_live d Nothing (Host e j) h = tt
@@ -58,9 +55,9 @@ module _ (ss : List State) (w : World) (read : w.hosts ≡ counts_by ss) where
   value_live d Handle (Host e None) h = tt
   value_live d Handle (Host e (Some k)) h = handle_live d e k (nat_eq d e) refl h
 
-  module _ (s : List Slot) (counted : IsCounted s w) where
+  module _ (s : List Slot) (os : ScriptObjects) (enough : AreEnough s os (counts_by ss)) where
     pub value_handed : (d : ℕ) (ty : HostType) (v : Slot) → ((x : Thing) → names x v ≤ how_many x s) → IsLiveValue (state_at ss d) (value_of d ty v)
-    value_handed d ty v h = value_live d ty v (counted_there v s w h counted)
+    value_handed d ty v h = value_live d ty v (enough_key v s os (counts_by ss) h enough)
 
     pub values_handed : (d : ℕ) (types : List HostType) (vs : List Slot) → ((x : Thing) → how_many x vs ≤ how_many x s) → AreLive (state_at ss d) (values_of d types vs)
     values_handed d [] vs h = tt
@@ -73,8 +70,8 @@ module _ (ss : List State) (w : World) (read : w.hosts ≡ counts_by ss) where
     IsLiveReceiver d Missing = Unit {0}
     IsLiveReceiver d (Of k) = IsLiveOption (state_at ss d) k
 
-    of_live : (d e k : ℕ) (b : Bool) → nat_eq d e ≡ b → IsThere (Host e (Some k)) w → IsLiveReceiver d (cond b (Of (Some k)) Missing)
-    of_live d e k true t h = subst (λ i. IsLive (state_at ss i) k) (sym (eqb-true d e t)) (key_live e k h)
+    of_live : (d e k : ℕ) (b : Bool) → nat_eq d e ≡ b → HasKey (Host e (Some k)) (counts_by ss) → IsLiveReceiver d (cond b (Of (Some k)) Missing)
+    of_live d e k true t h = subst (λ i. IsLive (state_at ss i) k) (sym (eqb-true d e t)) (live_of ss e k h)
     of_live d e k false t h = tt
 
     key_handed : (d : ℕ) (vs : List Slot) → ((x : Thing) → how_many x vs ≤ how_many x s) → IsLiveReceiver d (key_at d vs)
@@ -83,7 +80,7 @@ module _ (ss : List State) (w : World) (read : w.hosts ≡ counts_by ss) where
     key_handed d (Script j ∷ vs) h = tt
     key_handed d (Host e None ∷ vs) h = tt
     key_handed d (Host e (Some k) ∷ vs) h =
-        of_live d e k (nat_eq d e) refl (counted_there (Host e (Some k)) s w (λ x. let q = h x in omega (arith, q)) counted)
+        of_live d e k (nat_eq d e) refl (enough_key (Host e (Some k)) s os (counts_by ss) (λ x. let q = h x in omega (arith, q)) enough)
 
     receiver_at : (b : Bool) (d : ℕ) (vs : List Slot) → ((x : Thing) → how_many x vs ≤ how_many x s) → IsLiveReceiver d (cond b (key_at d vs) (Of None))
     receiver_at true d vs h = key_handed d vs h

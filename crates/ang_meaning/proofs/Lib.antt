@@ -7,6 +7,7 @@ pub mod Ranks
 pub mod Roots
 pub mod Counted
 pub mod Operating
+pub mod Enough
 pub mod Giving
 pub mod Driving
 pub mod Cancelling

@@ -24,7 +24,8 @@ use Rattle.ang_meaning.specs.declared.routine.Passing.TheVariants.{In, Out, Obje
 use Rattle.ang_meaning.specs.Numbers.{Worked, Is, Cannot, Changed, Into, Never, worked}
 use Rattle.ang_meaning.specs.World.{World, ScriptRecord, HostCounts, Input, Room, Said, Counted, Fresh, Tried, Yes, No, memory_told, memory_step, one_more, tally_told, tally_step, held, hold, Lowered, Gone, Kept, host_lowered, each_given, script_given, script_lowered, given, give, give_all}
 use Rattle.ang_meaning.specs.Told.{has_room, stopped_by, answers_told, answers_listed, Moves, GoesOn, Stops}
-use Rattle.ang_meaning.specs.Setting.{Setting, Class, class_in, use_at}
+use Rattle.ang_meaning.specs.declared.class.Class.{Class}
+use Rattle.ang_meaning.specs.Setting.{Setting, class_in, use_at}
 use Rattle.ang_meaning.specs.Hosts.{Done, Fine, Fails, holding, accepted, is_void, slot_of, replied_by, is_reply_to, asked_from, asked_told, asked, value_of, values_of}
 use Rattle.ang_meaning.specs.Perform.{work_done, change_of, global_or, global_put, stored_global, changed_global, Receiver, Of, Missing, receiver_of, arguments_of, gives_up, called_of, read_of, write_of, in_place_of, altered_to, altered_of, field_or, field_put, may_take, stored_field, changed_field, is_under, cast_to, number_for, made_at, made_from, made_told, perform}
 use Rattle.ang_meaning.specs.Results.{give_some, give_back, give_others}
@@ -336,20 +337,20 @@ cast_goes : (b : Bool) (n : ℕ) (w : World) → DoneFrom w (cast_to b n w)
 cast_goes true n w = nothing w
 cast_goes false n w = gives w _ (give_moves (Script (Some n)) w)
 
-made_at_goes : (c : ℕ) (k : Class) (n q : ℕ) (rest : List Input) (w : World) → w.inputs ≡ Fresh q ∷ rest → DoneFrom w (made_at c k n rest w)
-made_at_goes c k n q rest w e =
+made_at_goes : (k : Class) (n q : ℕ) (rest : List Input) (w : World) → w.inputs ≡ Fresh q ∷ rest → DoneFrom w (made_at k n rest w)
+made_at_goes k n q rest w e =
     record { used = Fresh q ∷ []; moves = record { more = []; inputs = e; events = sym (append-nil w.events); answers = refl }; room = refl }
 
-made_from_goes : (c : ℕ) (k : Class) (inputs : List Input) (w : World) → w.inputs ≡ inputs → DoneFrom w (made_from c k inputs w)
-made_from_goes c k [] w e = faulted Memory w w (nothing w)
-made_from_goes c k (Fresh n ∷ rest) w e = made_at_goes c k (number_for n w.objects) n rest w e
-made_from_goes c k (Said r ∷ rest) w e = faulted Memory w w (nothing w)
-made_from_goes c k (Room b ∷ rest) w e = faulted Memory w w (nothing w)
-made_from_goes c k (Counted b ∷ rest) w e = faulted Memory w w (nothing w)
+made_from_goes : (k : Class) (inputs : List Input) (w : World) → w.inputs ≡ inputs → DoneFrom w (made_from k inputs w)
+made_from_goes k [] w e = faulted Memory w w (nothing w)
+made_from_goes k (Fresh n ∷ rest) w e = made_at_goes k (number_for n w.objects) n rest w e
+made_from_goes k (Said r ∷ rest) w e = faulted Memory w w (nothing w)
+made_from_goes k (Room b ∷ rest) w e = faulted Memory w w (nothing w)
+made_from_goes k (Counted b ∷ rest) w e = faulted Memory w w (nothing w)
 
-made_goes : (c : ℕ) (k : Class) (w : World) (o : Tried) → TriedFrom Memory w o → DoneFrom w (made_told c k o)
-made_goes c k w (No w') p = p
-made_goes c k w (Yes w') p = done_then w w' _ p (made_from_goes c k w'.inputs w' refl)
+made_goes : (k : Class) (w : World) (o : Tried) → TriedFrom Memory w o → DoneFrom w (made_told k o)
+made_goes k w (No w') p = p
+made_goes k w (Yes w') p = done_then w w' _ p (made_from_goes k w'.inputs w' refl)
 
 misfit : (w : World) → Stops Null w w
 misfit w = faulted Null w w (nothing w)
@@ -418,7 +419,7 @@ perform_goes z m (Alter e c) (o ∷ (v ∷ [])) w =
     let r = receiver_of (use_at z m e) (o ∷ []) in
     gives_up_goes (o ∷ []) w _ (altered_goes z m e r c v w (read_of z m e r w) (read_goes z m e r w))
 perform_goes z m (Alter e c) (o ∷ (v ∷ (u ∷ us))) w = misfit w
-perform_goes z m (Make c) [] w = made_goes c (class_in (z.class m c)) w (memory_step w) (memory_goes w)
+perform_goes z m (Make c) [] w = made_goes (class_in (z.class m c)) w (memory_step w) (memory_goes w)
 perform_goes z m (Make c) (v ∷ vs) w = misfit w
 perform_goes z m (FieldGet i) [] w = misfit w
 perform_goes z m (FieldGet i) (Bits x ∷ us) w = misfit w

@@ -25,14 +25,15 @@ use Rattle.ang_meaning.specs.declared.operation.Operation.{Operation}
 use Rattle.ang_meaning.specs.declared.operation.Operation.TheVariants.{Work, Compare, Convert, Negate, Complement, Not, Same, GlobalGet, GlobalSet, GlobalChange, Ask, Read, Write, Alter, Make, FieldGet, FieldSet, FieldChange, Cast}
 use Rattle.ang_meaning.specs.Numbers.{Worked, Is, Cannot, Changed, Into, Never, worked}
 use Rattle.ang_meaning.specs.World.{World, ScriptRecord, Input, Room, Said, Counted, Fresh, with_inputs, if_told, Tried, Yes, No, memory_step, tally_told, tally_step, one_more, held, hold, give}
-use Rattle.ang_meaning.specs.Setting.{Setting, Class, class_in, use_at, host_in, is_property, may_access, is_fit}
+use Rattle.ang_meaning.specs.declared.class.Class.{Class}
+use Rattle.ang_meaning.specs.Setting.{Setting, class_in, use_at, host_in, is_property, may_access, is_fit}
 use Rattle.ang_meaning.specs.Hosts.{Done, Fine, Fails, holding, accepted, is_void, if_within, slot_of, replied_by, is_reply_to, asked_from, asked_told, asked, value_of, values_of}
 use Rattle.ang_meaning.specs.Perform.{work_done, change_of, global_or, global_put, stored_global, changed_global, Receiver, Of, Missing, receiver_of, arguments_of, gives_up, called_of, read_of, write_of, in_place_of, altered_to, altered_of, field_or, field_put, may_take, stored_field, changed_field, is_under, cast_to, number_for, made_from, made_told, perform}
-use Rattle.ang_meaning.specs.Counting.{Thing, names, IsCounted, IsKnown, IsBelow, AreOrdered}
+use Rattle.ang_meaning.specs.Counting.{Thing, names, IsCounted, HasObject, IsBelow, AreOrdered}
 use Rattle.ang_meaning.proofs.Counting.{bits_name_none, null_names_none}
 use Rattle.ang_meaning.proofs.Ranks.{stems_ranked, still_below, more_stems}
 use Rattle.ang_meaning.proofs.Tables.{number_free}
-use Rattle.ang_meaning.proofs.Counted.{counted_as, counted_same, more_counted, give_counted, give_all_under, there_known, first_there, global_there, field_there, TriedCounted, memory_counted, hold_counted, put_counted, field_counted, taken_below, new_counted}
+use Rattle.ang_meaning.proofs.Counted.{counted_as, more_counted, give_counted, give_all_under, first_there, global_there, field_there, TriedCounted, memory_counted, hold_counted, put_counted, field_counted, taken_below, new_counted}
 
 -- the operands are still held, with the value on top
 abbrev pub DoneWith : List Slot → Done → Type 0
@@ -74,7 +75,7 @@ holding_counted v s (Yes w) p = p
 
 abbrev KnownOption : World → Option Slot → Type 0
 KnownOption w None = Unit {0}
-KnownOption w (Some v) = IsKnown v w
+KnownOption w (Some v) = HasObject v w.objects
 
 within_known : (w : World) (b : Bool) (n : ℕ) → KnownOption w (if_within b n)
 within_known w true n = tt
@@ -101,7 +102,8 @@ slot_known w d (Plain p) (Key k) = tt
 slot_known w d Handle (Int z) = tt
 slot_known w d Handle (Uint n) = tt
 slot_known w d Handle (Truth b) = tt
-slot_known w d Handle (Key k) = tt
+slot_known w d Handle (Key None) = tt
+slot_known w d Handle (Key (Some k)) = tt
 
 no_slot : (d : ℕ) (v : Value) → slot_of d Nothing v ≡ None
 unfolding slot_of
@@ -157,7 +159,7 @@ module _ (z : Setting) (m : ℕ) (e : EntityNo) where
 
   from_counted : (object : Option ℕ) (args : List Value) (result : HostType) (inputs : List Input) (s : List Slot) (w : World) → IsCounted s w → DoneWith s (asked_from z m e object args result inputs w)
   from_counted object args result [] s w p = p
-  from_counted object args result (Said reply ∷ rest) s w p = said_counted (is_reply_to (use_at z m e).role reply) result reply s w _ p (counted_same s w _ refl refl refl p)
+  from_counted object args result (Said reply ∷ rest) s w p = said_counted (is_reply_to (use_at z m e).role reply) result reply s w _ p p
   from_counted object args result (Room b ∷ rest) s w p = p
   from_counted object args result (Counted b ∷ rest) s w p = p
   from_counted object args result (Fresh n ∷ rest) s w p = p
@@ -186,7 +188,7 @@ module _ (z : Setting) (m : ℕ) (e : EntityNo) where
 
     from_void : (object : Option ℕ) (args : List Value) (inputs : List Input) (s : List Slot) (w : World) → IsCounted s w → DoneVoid s (asked_from z m e object args Nothing inputs w)
     from_void object args [] s w p = p
-    from_void object args (Said reply ∷ rest) s w p = said_void (is_reply_to (use_at z m e).role reply) reply s w _ refl p (counted_same s w _ refl refl refl p)
+    from_void object args (Said reply ∷ rest) s w p = said_void (is_reply_to (use_at z m e).role reply) reply s w _ refl p p
     from_void object args (Room b ∷ rest) s w p = p
     from_void object args (Counted b ∷ rest) s w p = p
     from_void object args (Fresh n ∷ rest) s w p = p
@@ -344,16 +346,16 @@ field_stored n i v s (Yes w) b p =
     let old = field_or n i v w in
     give_counted o (v ∷ s) (give old put) (give_counted old (o ∷ v ∷ s) put stands)
 
-made_from_counted : (c : ℕ) (k : Class) (inputs : List Input) (s : List Slot) (w : World) → IsCounted s w → DoneWith s (made_from c k inputs w)
-made_from_counted c k [] s w p = p
-made_from_counted c k (Fresh n ∷ rest) s w p = new_counted (number_for n w.objects) c k rest s w (number_free n w.objects) p
-made_from_counted c k (Said r ∷ rest) s w p = p
-made_from_counted c k (Room b ∷ rest) s w p = p
-made_from_counted c k (Counted b ∷ rest) s w p = p
+made_from_counted : (k : Class) (inputs : List Input) (s : List Slot) (w : World) → IsCounted s w → DoneWith s (made_from k inputs w)
+made_from_counted k [] s w p = p
+made_from_counted k (Fresh n ∷ rest) s w p = new_counted (number_for n w.objects) k rest s w (number_free n w.objects) p
+made_from_counted k (Said r ∷ rest) s w p = p
+made_from_counted k (Room b ∷ rest) s w p = p
+made_from_counted k (Counted b ∷ rest) s w p = p
 
-made_counted : (c : ℕ) (k : Class) (s : List Slot) (o : Tried) → TriedCounted s s o → DoneWith s (made_told c k o)
-made_counted c k s (No w) p = p
-made_counted c k s (Yes w) p = made_from_counted c k w.inputs s w p
+made_counted : (k : Class) (s : List Slot) (o : Tried) → TriedCounted s s o → DoneWith s (made_told k o)
+made_counted k s (No w) p = p
+made_counted k s (Yes w) p = made_from_counted k w.inputs s w p
 
 -- without operands
 made_taken : (s : List Slot) (d : Done) → DoneWith s d → DoneCounted [] s d
@@ -369,7 +371,7 @@ may_store_counted : (b : Bool) (n i : ℕ) (v : Slot) (s : List Slot) (w : World
 may_store_counted false n i v s w t p = p
 may_store_counted true n i v s w t p =
     let o = Script (Some n) in
-    let known : IsKnown v w = there_known v w (first_there v (o ∷ s) w (swapped o v s w p)) in
+    let known : HasObject v w.objects = (first_there v (o ∷ s) w (swapped o v s w p)).0 in
     field_stored n i v s (hold v w) (hold_below n v w p.ordered (taken_below n v w t)) (hold_counted v (o ∷ v ∷ s) w known p)
 
 -- ---- an entity that is asked as a property is one
@@ -430,10 +432,10 @@ perform_counted z m Same (y ∷ (x ∷ [])) s w fit p = push_none (Bits _) s (gi
 perform_counted z m Same (y ∷ (x ∷ (u ∷ us))) s w fit p = p
 perform_counted z m (GlobalGet g) [] s w fit p =
     let v = global_or m g (Bits 0) w in
-    made_taken s _ (holding_counted v s (hold v w) (hold_counted v s w (there_known v w (global_there m g s w p)) p))
+    made_taken s _ (holding_counted v s (hold v w) (hold_counted v s w ((global_there m g s w p).0) p))
 perform_counted z m (GlobalGet g) (v ∷ vs) s w fit p = p
 perform_counted z m (GlobalSet g) [] s w fit p = p
-perform_counted z m (GlobalSet g) (v ∷ []) s w fit p = stored_counted m g v s (hold v w) (hold_counted v (v ∷ s) w (there_known v w (first_there v s w p)) p)
+perform_counted z m (GlobalSet g) (v ∷ []) s w fit p = stored_counted m g v s (hold v w) (hold_counted v (v ∷ s) w ((first_there v s w p).0) p)
 perform_counted z m (GlobalSet g) (v ∷ (u ∷ us)) s w fit p = p
 perform_counted z m (GlobalChange g c) [] s w fit p = p
 perform_counted z m (GlobalChange g c) (v ∷ []) s w fit p =
@@ -458,7 +460,7 @@ perform_counted z m (Alter e c) (o ∷ (v ∷ [])) s w fit p =
     let property = access_role (z.host m e.0) fit in
     of_object z m e property o v s _ (altered_plain z m e property r c v (read_of z m e r w)) (altered_void z m e property r c v (o ∷ v ∷ s) (read_of z m e r w) (read_counted z m e r (o ∷ v ∷ s) w p))
 perform_counted z m (Alter e c) (o ∷ (v ∷ (u ∷ us))) s w fit p = p
-perform_counted z m (Make c) [] s w fit p = made_taken s _ (made_counted c (class_in (z.class m c)) s (memory_step w) (memory_counted s w p))
+perform_counted z m (Make c) [] s w fit p = made_taken s _ (made_counted (class_in (z.class m c)) s (memory_step w) (memory_counted s w p))
 perform_counted z m (Make c) (v ∷ vs) s w fit p = p
 perform_counted z m (FieldGet i) [] s w fit p = p
 perform_counted z m (FieldGet i) (Bits x ∷ us) s w fit p = p
@@ -466,7 +468,7 @@ perform_counted z m (FieldGet i) (Script None ∷ us) s w fit p = p
 perform_counted z m (FieldGet i) (Script (Some n) ∷ []) s w fit p =
     let v = field_or n i (Bits 0) w in
     let o = Script (Some n) in
-    field_got n v s (hold v w) (hold_counted v (o ∷ s) w (there_known v w (field_there (o ∷ s) w n i p)) p)
+    field_got n v s (hold v w) (hold_counted v (o ∷ s) w ((field_there (o ∷ s) w n i p).0) p)
 perform_counted z m (FieldGet i) (Script (Some n) ∷ (u ∷ us)) s w fit p = p
 perform_counted z m (FieldGet i) (Host d j ∷ us) s w fit p = p
 perform_counted z m (FieldSet i) [] s w fit p = p

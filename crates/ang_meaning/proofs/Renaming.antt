@@ -10,10 +10,10 @@ use Rattle.std.proofs.lemmas.List.{map-append, reverse-append}
 use Rattle.ang_meaning.specs.declared.slot.Slot.{Slot}
 use Rattle.ang_meaning.specs.declared.slot.Slot.TheVariants.{Bits, Script, Host}
 use Rattle.ang_meaning.specs.World.{World, ScriptRecord, ScriptObjects}
-use Rattle.ang_meaning.specs.Counting.{Thing, NumberOf, names, how_many, in_lists, in_fields, count_of_object, count_in, IsCounted, IsKnown}
+use Rattle.ang_meaning.specs.Counting.{Thing, NumberOf, names, how_many, in_lists, in_fields, count_of_object, count_in, IsCounted, HasObject}
 use Rattle.ang_meaning.specs.Alike.{Renaming, renamed, renamed_all, renamed_lists, renamed_record, Tables, Match, Alike}
 use Rattle.ang_meaning.proofs.Tables.{get_inserted, get_without, sum-bound}
-use Rattle.ang_meaning.proofs.Counted.{known_of, there_known}
+use Rattle.ang_meaning.proofs.Counted.{there_of}
 
 -- ---- numbers
 
@@ -90,7 +90,7 @@ some_counted : (o : Option ScriptRecord) → 0 < count_of_object o → (p : Scri
 some_counted None h = absurd (omega (arith, h))
 some_counted (Some p) h = (p, refl)
 
-renamed_same : (r q : Renaming) (v : Slot) (w : World) → Agrees r q w.objects → IsKnown v w → renamed q v ≡ renamed r v
+renamed_same : (r q : Renaming) (v : Slot) (w : World) → Agrees r q w.objects → HasObject v w.objects → renamed q v ≡ renamed r v
 renamed_same r q (Bits n) w a k = refl
 renamed_same r q (Script None) w a k = refl
 renamed_same r q (Script (Some n)) w a k = let s = some_counted (map.get w.objects n) k in ap (λ j. Script (Some j)) (a.same n s.0 s.1)
@@ -102,7 +102,7 @@ cons_same x y xs ys e f = ap (λ a. a ∷ xs) e ∙ ap (λ l. y ∷ l) f
 pub all_same : (r q : Renaming) (vs : List Slot) (w : World) → Agrees r q w.objects → ((x : Thing) → how_many x vs ≤ count_in x w) → renamed_all q vs ≡ renamed_all r vs
 all_same r q [] w a h = refl
 all_same r q (v ∷ vs) w a h =
-    cons_same (renamed q v) (renamed r v) (renamed_all q vs) (renamed_all r vs) (renamed_same r q v w a (there_known v w (known_of v w (λ x. omega (arith, h x)))))
+    cons_same (renamed q v) (renamed r v) (renamed_all q vs) (renamed_all r vs) (renamed_same r q v w a ((there_of v w (λ x. omega (arith, h x))).0))
     (all_same r q vs w a (λ x. omega (arith, h x)))
 
 lists_same : (r q : Renaming) (ls : List (List Slot)) (w : World) → Agrees r q w.objects → ((x : Thing) → in_lists x ls ≤ count_in x w) → renamed_lists q ls ≡ renamed_lists r ls

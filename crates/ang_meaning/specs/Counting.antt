@@ -1,11 +1,13 @@
--- Counts against the places that hold what is counted (docs/MEANING.md, "The world of a run"; the AngelScript manual, "Memory management").
-use Rattle.std.specs.Prelude.{ℕ, ◌+◌, ◌<◌, ◌≡◌, cond, ◌&&◌, nat_eq, List, [], ◌∷◌, Option, Some, None}
+-- Counts against the places that hold what is counted: each variable, parameter, field and value in flight that holds an object counts once
+-- (docs/MEANING.md, "The world of a run"; the AngelScript manual, "Memory management").
+use Rattle.std.specs.Prelude.{ℕ, ◌+◌, ◌<◌, ◌≤◌, ◌≡◌, cond, ◌&&◌, nat_eq, List, [], ◌∷◌, Option, Some, None}
 use Rattle.std.specs.Ordering.{nat_cmp}
 use Rattle.std.specs.FinMap as map
-use Rattle.ang_host.specs.State.{count_at}
+use Rattle.ang_host.specs.State.{State, count_at}
+use Rattle.ang_host.specs.Members.{state_at}
 use Rattle.ang_meaning.specs.declared.slot.Slot.{Slot}
 use Rattle.ang_meaning.specs.declared.slot.Slot.TheVariants.{Bits, Script, Host}
-use Rattle.ang_meaning.specs.World.{World, ScriptRecord, ScriptObjects}
+use Rattle.ang_meaning.specs.World.{World, ScriptRecord, ScriptObjects, HostCounts}
 
 -- what a place can name: a key of a driver, or a script object's number
 pub data Thing : Type 0 where
@@ -28,7 +30,7 @@ abbrev pub how_many : Thing → List Slot → ℕ
 how_many x [] = 0
 how_many x (v ∷ vs) = names x v + how_many x vs
 
--- of several lists
+-- of several lists, as those of the globals
 abbrev pub in_lists : Thing → List (List Slot) → ℕ
 in_lists x [] = 0
 in_lists x (l ∷ ls) = how_many x l + in_lists x ls
@@ -50,13 +52,20 @@ abbrev pub count_of_object : Option ScriptRecord → ℕ
 count_of_object None = 0
 count_of_object (Some o) = o.count
 
-abbrev pub count_in : Thing → World → ℕ
-count_in (KeyOf d k) w = count_at (w.hosts d) k
-count_in (NumberOf n) w = count_of_object (map.get w.objects n)
+abbrev pub count_by : Thing → ScriptObjects → HostCounts → ℕ
+count_by (KeyOf d k) os hs = count_at (hs d) k
+count_by (NumberOf n) os hs = count_of_object (map.get os n)
 
--- each count is that of elsewhere, and of the places among vs and all fields
-pub record Counts (elsewhere : Thing → ℕ) (vs : List Slot) (w : World) : Type 0 where
-  pub counts : (x : Thing) → count_in x w ≡ elsewhere x + (how_many x vs + in_fields x w.objects)
+abbrev pub count_in : Thing → World → ℕ
+count_in x w = count_by x w.objects w.hosts
+
+-- Each count is that of elsewhere, and of the places among vs and all fields. This and what is said with it below speak of parts of a world, so that what
+-- a run was told and has listed does not matter.
+pub record AreCounts (elsewhere : Thing → ℕ) (vs : List Slot) (os : ScriptObjects) (hs : HostCounts) : Type 0 where
+  pub counts : (x : Thing) → count_by x os hs ≡ elsewhere x + (how_many x vs + in_fields x os)
+
+abbrev pub Counts : (Thing → ℕ) → List Slot → World → Type 0
+Counts elsewhere vs w = AreCounts elsewhere vs w.objects w.hosts
 
 -- an object that a field holds is of a lower rank
 abbrev pub IsBelow : ScriptObjects → ℕ → Slot → Type 0
@@ -75,28 +84,38 @@ pub record AreOrdered (os : ScriptObjects) : Type 0 where
   pub falls : (n : ℕ) (o : ScriptRecord) → map.get os n ≡ Some o → AreBelow os o.rank o.fields
 
 -- the counts are the numbers of places, among vs, the globals and all fields
-pub record IsCounted (vs : List Slot) (w : World) : Type 0 where
-  pub counts : Counts (λ x. in_lists x w.globals) vs w
-  pub ordered : AreOrdered w.objects
+pub record AreCounted (vs : List Slot) (os : ScriptObjects) (hs : HostCounts) (gs : List (List Slot)) : Type 0 where
+  pub counts : AreCounts (λ x. in_lists x gs) vs os hs
+  pub ordered : AreOrdered os
 
--- there is a count at least for each of vs and each field
+abbrev pub IsCounted : List Slot → World → Type 0
+IsCounted vs w = AreCounted vs w.objects w.hosts w.globals
+
+-- A count at least for each of these places and each field, of host objects alone: all that a driver asks where a reference is given up. A script object
+-- needs none: one that is not there is given up without a change.
+pub record AreEnough (vs : List Slot) (os : ScriptObjects) (hs : HostCounts) : Type 0 where
+  pub enough : (d k : ℕ) → how_many (KeyOf d k) vs + in_fields (KeyOf d k) os ≤ count_at (hs d) k
+
 abbrev pub CanGive : List Slot → World → Type 0
-CanGive vs w = (elsewhere : Thing → ℕ) × Counts elsewhere vs w
+CanGive vs w = AreEnough vs w.objects w.hosts
 
--- one more place may hold it: null, a number, or something with a count
-abbrev pub IsThere : Slot → World → Type 0
-IsThere (Bits n) w = Unit {0}
-IsThere (Script None) w = Unit {0}
-IsThere (Script (Some n)) w = 0 < count_in (NumberOf n) w
-IsThere (Host d None) w = Unit {0}
-IsThere (Host d (Some k)) w = 0 < count_in (KeyOf d k) w
+-- where the value names a host object, that is counted: what a driver asks before it adds a reference
+abbrev pub HasKey : Slot → HostCounts → Type 0
+HasKey (Bits n) hs = Unit {0}
+HasKey (Script j) hs = Unit {0}
+HasKey (Host d None) hs = Unit {0}
+HasKey (Host d (Some k)) hs = 0 < count_at (hs d) k
 
--- as far as the definitions need it: a script object is there
-abbrev pub IsKnown : Slot → World → Type 0
-IsKnown (Bits n) w = Unit {0}
-IsKnown (Script None) w = Unit {0}
-IsKnown (Script (Some n)) w = 0 < count_in (NumberOf n) w
-IsKnown (Host d k) w = Unit {0}
+-- where it names a script object, that is there
+abbrev pub HasObject : Slot → ScriptObjects → Type 0
+HasObject (Bits n) os = Unit {0}
+HasObject (Script None) os = Unit {0}
+HasObject (Script (Some n)) os = 0 < count_of_object (map.get os n)
+HasObject (Host d k) os = Unit {0}
+
+-- the counts of drivers in these states: what the world has of host objects is read off the drivers
+abbrev pub counts_by : List State → HostCounts
+counts_by ss = λ d. (state_at ss d).counts
 
 -- Where no place outside the fields holds anything there is no script object, and no host object is counted.
 abbrev pub NoRoots : Type 0

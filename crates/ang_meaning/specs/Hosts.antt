@@ -15,7 +15,7 @@ use Rattle.ang_host.specs.declared.event.HostEvent.TheVariants.{Called}
 use Rattle.ang_host.specs.declared.event.Role.{Role}
 use Rattle.ang_host.specs.declared.event.Role.TheVariants.{Making as MakingRole, Calling as CallingRole, Property as PropertyRole}
 use Rattle.ang_meaning.specs.declared.slot.Slot.{Slot}
-use Rattle.ang_meaning.specs.declared.slot.Slot.TheVariants.{Bits, Host}
+use Rattle.ang_meaning.specs.declared.slot.Slot.TheVariants.{Bits, Script, Host}
 use Rattle.ang_meaning.specs.declared.host.HostType.{HostType}
 use Rattle.ang_meaning.specs.declared.host.HostType.TheVariants.{Nothing, Plain, Handle}
 use Rattle.ang_meaning.specs.Numbers.{is_signed, width_of, number, bits_of, least}
@@ -76,12 +76,13 @@ abbrev pub if_within : Bool → ℕ → Option Slot
 if_within true n = Some (Bits n)
 if_within false n = None
 
--- what a driver's value of a declared type is in a slot; none where it is not of that type or not in its range
+-- What a driver's value of a declared type is in a slot; none where it is not of that type or not in its range. There is one null, whatever the type.
 unfoldable pub slot_of : ℕ → HostType → Value → Option Slot
 slot_of d (Plain p) (Int z) = if_within (is_signed p && is_within p z) (bits_of p z)
 slot_of d (Plain TruthType) (Truth b) = Some (Bits (if b then 1 else 0))
 slot_of d (Plain p) (Uint n) = if_within (is_unsigned p && nat_lt n (2 ^ width_of p)) n
-slot_of d Handle (Key k) = Some (Host d k)
+slot_of d Handle (Key None) = Some (Script None)
+slot_of d Handle (Key (Some k)) = Some (Host d (Some k))
 slot_of d _ _ = None
 
 abbrev pub accepted : Option Slot → World → Done

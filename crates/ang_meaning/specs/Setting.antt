@@ -8,6 +8,9 @@ use Rattle.ang_meaning.specs.declared.slot.Slot.TheVariants.{Bits, Script, Host}
 use Rattle.ang_kinds.specs.declared.mask.EntityNo.{EntityNo}
 use Rattle.ang_host.specs.declared.event.Role.TheVariants.{Making as MakingRole, Calling as CallingRole, Property as PropertyRole}
 use Rattle.ang_host.specs.declared.event.Role.{Role}
+use Rattle.ang_meaning.specs.declared.class.Class.{Class}
+use Rattle.ang_meaning.specs.declared.class.FieldKind.{FieldKind}
+use Rattle.ang_meaning.specs.declared.class.FieldKind.TheVariants.{Plain as NumberField, Handle as HandleField}
 use Rattle.ang_meaning.specs.declared.host.HostType.{HostType}
 use Rattle.ang_meaning.specs.declared.host.HostType.TheVariants.{Nothing, Plain, Handle}
 use Rattle.ang_meaning.specs.declared.operation.Operation.{Operation}
@@ -20,43 +23,33 @@ use Rattle.ang_meaning.specs.declared.routine.Callee.TheVariants.{Own, Import, V
 use Rattle.ang_meaning.specs.declared.routine.Passing.{Passing}
 use Rattle.ang_meaning.specs.declared.routine.Passing.TheVariants.{In, Out, Object}
 
--- what a field is
-pub data FieldKind : Type 0 where
-  NumberField : FieldKind
-  ScriptField : FieldKind
-  HostField : ℕ → FieldKind
-
--- no value yet
-abbrev pub default_of : FieldKind → Slot
-default_of NumberField = Bits 0
-default_of ScriptField = Script None
-default_of (HostField d) = Host d None
-
--- A class: its rank, the kinds of its fields, those of the base class first, and the numbers of the classes and interfaces that it stands under, its own
--- among them.
-pub record Class : Type 0 where
-  pub rank : ℕ
-  pub kinds : List FieldKind
-  pub under : List ℕ
-
--- By module: its name, each import's parameters as the module declares them, and where the import leads, if it is bound. An import takes no objects but
--- handles, so its call never faults with `Null`. By number: the registered entities. By routine: a function's parameters, where there is such a function.
--- Parameters have the last one first. And how many functions may stand one inside the other: 200, and 201 where the outermost is an initializer, which
--- does not count.
+-- The values of a function's parameters come with the last one first, here and everywhere. By module, the first number of each:
+--   its name; the registered entities that the module sees, by their numbers (docs/MEANING.md, "Masks and views");
+--   each import's parameters as the module declares them, and where the import leads, if it is bound (the AngelScript manual, "Imports"): an import takes no
+--   objects but handles, so its call never faults with `Null`;
+--   its classes; the method that a class has in a slot, its own or an inherited one, and the parameters of the methods in a slot, of which the receiver is
+--   the first one, so the last of the list (the manual, "Inheritance and polymorphism").
+-- By routine: a function's parameters, where there is such a function. And how many functions may stand one inside the other: 200, and 201 where the
+-- outermost is an initializer, which does not count.
 pub record Setting : Type 0 where
   pub name : ℕ → List ℕ
   pub host : ℕ → ℕ → Option HostUse
-  pub params : Routine → Option (List Passing)
   pub imported : ℕ → ℕ → Option (List Passing)
   pub linked : ℕ → ℕ → Option Routine
-  pub nesting : ℕ
   pub class : ℕ → ℕ → Option Class
   pub method : ℕ → ℕ → ℕ → Option Routine
   pub slot : ℕ → ℕ → Option (List Passing)
+  pub params : Routine → Option (List Passing)
+  pub nesting : ℕ
+
+-- what a field holds while nothing was stored in it: a variable without an initializer is 0, false or null (the manual, "Variable declarations")
+abbrev pub default_of : FieldKind → Slot
+default_of NumberField = Bits 0
+default_of HandleField = Script None
 
 -- stands where there is no class; no sound code makes one
 abbrev pub class_in : Option Class → Class
-class_in None = record { rank = 0; kinds = []; under = [] }
+class_in None = record { number = 0; rank = 0; fields = []; under = [] }
 class_in (Some c) = c
 
 -- stands where there is no entity; no sound code asks it
@@ -79,7 +72,12 @@ abbrev pub bound : Option Routine → Found
 bound (Some g) = Enters g
 bound None = Misses Unbound
 
--- the method of an object's class in a slot
+-- the parameters there are, and none where there is no such function or slot
+abbrev pub params_in : Option (List Passing) → List Passing
+params_in (Some ps) = ps
+params_in None = []
+
+-- the method of an object's class in a slot; null where there is no object
 abbrev pub method_of : Setting → ℕ → ℕ → Option ScriptRecord → Found
 method_of z m s None = Misses Null
 method_of z m s (Some o) = bound (z.method m o.class s)
@@ -90,22 +88,19 @@ virtual_of z m s (Script None) w = Misses Null
 virtual_of z m s (Script (Some n)) w = method_of z m s (map.get w.objects n)
 virtual_of z m s (Host d k) w = Misses Null
 
-abbrev pub slot_params : Option (List Passing) → List Passing
-slot_params None = []
-slot_params (Some ps) = ps
-
--- the value of the first parameter, which is the last of the list
+-- the value of the first parameter, which is the last of the list; of the values only as many are looked at as there are parameters
 abbrev pub receiver_in : List Passing → List Slot → Slot
 receiver_in [] vs = Bits 0
 receiver_in (p ∷ ps) [] = Bits 0
 receiver_in (p ∷ []) (v ∷ vs) = v
 receiver_in (p ∷ (q ∷ ps)) (v ∷ vs) = receiver_in (q ∷ ps) vs
 
--- What a callee means in a module, where the values on top are its arguments, the last one first.
+-- What a callee means in a module, where the values on top are its arguments, the last one first. A method is that of the receiver's class (the
+-- AngelScript manual, "Inheritance and polymorphism").
 unfoldable pub target : Setting → ℕ → Callee → List Slot → World → Found
 target z m (Own g) vs w = Enters (record { home = m; number = g })
 target z m (Import i) vs w = bound (z.linked m i)
-target z m (Virtual s) vs w = virtual_of z m s (receiver_in (slot_params (z.slot m s)) vs) w
+target z m (Virtual s) vs w = virtual_of z m s (receiver_in (params_in (z.slot m s)) vs) w
 
 unfoldable pub is_null : Slot → Bool
 is_null (Bits n) = false
@@ -121,11 +116,6 @@ has_objects (p ∷ ps) [] = true
 has_objects (In ∷ ps) (v ∷ vs) = has_objects ps vs
 has_objects (Out ∷ ps) (v ∷ vs) = has_objects ps vs
 has_objects (Object ∷ ps) (v ∷ vs) = not (is_null v) && has_objects ps vs
-
--- the parameters of a function, and none where there is no such function
-abbrev pub params_in : Option (List Passing) → List Passing
-params_in (Some ps) = ps
-params_in None = []
 
 abbrev pub params_of : Setting → Routine → List Passing
 params_of z g = params_in (z.params g)
