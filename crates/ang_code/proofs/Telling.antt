@@ -16,7 +16,7 @@ use Rattle.ang_meaning.specs.Results.{local_at, drop_some, give_some, give_back,
 use Rattle.ang_meaning.proofs.Moving.{goes_then, goes_stop, faulted, gives, stop_gives, nothing, give_moves, give_all_moves, give_some_moves, give_back_moves, give_others_moves, put_moves, TriedFrom, memory_goes, hold_goes, DoneFrom, perform_goes}
 use Rattle.ang_code.specs.declared.instruction.Frame.{Frame}
 use Rattle.ang_code.specs.declared.instruction.Instruction.{Instruction}
-use Rattle.ang_code.specs.declared.instruction.Instruction.TheVariants.{PushBits, PushNull, PushNoKey, Load, Store, Change, Do, Drop, Leave, SkipIfFalse, GoOn, Tick, Back, Enter, Swap, SwapGlobal, DropUnder, Return}
+use Rattle.ang_code.specs.declared.instruction.Instruction.TheVariants.{PushBits, PushNull, Load, Store, Change, Do, Drop, Leave, SkipIfFalse, GoOn, Tick, Back, Enter, Swap, SwapGlobal, DropUnder, Return}
 use Rattle.ang_code.specs.Machine.{Texts, Config, At, Over, Stuck, fault, roomy, within, enough, on_top, did, changed_into, back, begins, found_enters, act, step, steps, take_some, call_begins, initializer_begins}
 use Rattle.ang_code.specs.Told.{ComesFrom, CallsComeFrom, InitializersComeFrom}
 
@@ -91,7 +91,6 @@ module _ (z : Setting) (code : Texts) (u : World) where
   act_from : (i : Instruction) (f : Routine) (pc room : ℕ) (s : List Slot) (fr : List Frame) (t : ℕ) (w : World) → GoesOn u w → ComesFrom u (act z code (Some i) f pc room s fr t w)
   act_from (PushBits n) f pc room s fr t w p = roomy_from room s _ p
   act_from PushNull f pc room s fr t w p = roomy_from room s _ p
-  act_from (PushNoKey d) f pc room s fr t w p = roomy_from room s _ p
   act_from (Load d) f pc room s fr t w p =
       within_from d s _ (roomy_from room s _ (else_from Tally s w (hold (local_at s d) w) _ p (hold_goes (local_at s d) w) (λ w' q. q)))
   act_from (Store d) f pc room s fr t w p =

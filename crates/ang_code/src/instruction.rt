@@ -8,10 +8,8 @@ use ang_meaning::{Callee, Change, Operation, Passing, Routine};
 pub enum Instruction {
     /// Pushes a number or truth value.
     PushBits(u64),
-    /// Pushes the null handle to a script type.
+    /// Pushes null.
     PushNull,
-    /// Pushes the null handle to a type of that driver.
-    PushNoKey(u32),
     /// Pushes the value at that place.
     Load(usize),
     /// Stores the top value at that place, counted without the top, and leaves the top.

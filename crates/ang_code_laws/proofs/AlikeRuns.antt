@@ -12,7 +12,6 @@ use Rattle.ang_meaning.specs.Told.{Told, has_room, answers_told}
 use Rattle.ang_meaning.specs.Setting.{Setting}
 use Rattle.ang_meaning.specs.Counting.{IsCounted}
 use Rattle.ang_meaning.specs.Alike.{Renaming, renamed, renamed_all, Match, Alike}
-use Rattle.ang_meaning.proofs.Counted.{told_counted}
 use Rattle.ang_meaning.proofs.AlikeWorlds.{three, HasMore}
 use Rattle.ang_code.specs.Machine.{Texts, Config, At, Over, Outcome, Finished, Faulted, Stuck, steps, call_begins, initializer_begins}
 use Rattle.ang_code.specs.Runs.{Ending, Gives, Stops, ended, Runs}
@@ -271,13 +270,13 @@ module _ (z : Setting) (code : Texts) (r : Renaming) (v w : World) (alike : AreA
       → Comes z code (λ is. call_begins z code budget g vs (with_inputs is v)) is o → Comes z code (λ is. call_begins z code budget g (renamed_all r vs) (with_inputs is w)) js p → RunsAlike apart (Over o) (Over p)
   call_pairs budget g vs counted apart is js o p m a b =
       together z code (call_begins z code budget g vs (with_inputs is v)) (call_begins z code budget g (renamed_all r vs) (with_inputs js w)) apart a.0 b.0 o p
-      (calls_count z code 0 budget g vs (with_inputs is v) (told_counted vs is v counted)) (call_alike apart z code budget g vs r (with_inputs is v) (with_inputs js w) (begun apart r is js v w alike m)) a.1 b.1
+      (calls_count z code 0 budget g vs (with_inputs is v) counted) (call_alike apart z code budget g vs r (with_inputs is v) (with_inputs js w) (begun apart r is js v w alike m)) a.1 b.1
 
   initializer_pairs : (t : ℕ) (g : Routine) → IsCounted [] v → (apart : Type 0) (is js : List Input) (o p : Outcome) → Match apart is js
       → Comes z code (λ is. initializer_begins z code t g (with_inputs is v)) is o → Comes z code (λ is. initializer_begins z code t g (with_inputs is w)) js p → RunsAlike apart (Over o) (Over p)
   initializer_pairs t g counted apart is js o p m a b =
       together z code (initializer_begins z code t g (with_inputs is v)) (initializer_begins z code t g (with_inputs js w)) apart a.0 b.0 o p
-      (initializers_count z code 0 t g (with_inputs is v) (told_counted [] is v counted)) (initializer_alike apart z code t g r (with_inputs is v) (with_inputs js w) (begun apart r is js v w alike m)) a.1 b.1
+      (initializers_count z code 0 t g (with_inputs is v) counted) (initializer_alike apart z code t g r (with_inputs is v) (with_inputs js w) (begun apart r is js v w alike m)) a.1 b.1
 
 pub call_runs_alike : CallRunsAlike
 call_runs_alike z code budget g vs r v w v' w' end other p h run back m =

@@ -28,7 +28,7 @@ use Rattle.ang_meaning.proofs.AlikeWorlds.{three, HasMore, TriedLeaves, DoneLeav
 use Rattle.ang_meaning.proofs.AlikeOperations.{OneAlike, null_renamed, change_renamed, perform_alike}
 use Rattle.ang_code.specs.declared.instruction.Frame.{Frame}
 use Rattle.ang_code.specs.declared.instruction.Instruction.{Instruction}
-use Rattle.ang_code.specs.declared.instruction.Instruction.TheVariants.{PushBits, PushNull, PushNoKey, Load, Store, Change, Do, Drop, Leave, SkipIfFalse, GoOn, Tick, Back, Enter, Swap, SwapGlobal, DropUnder, Return}
+use Rattle.ang_code.specs.declared.instruction.Instruction.TheVariants.{PushBits, PushNull, Load, Store, Change, Do, Drop, Leave, SkipIfFalse, GoOn, Tick, Back, Enter, Swap, SwapGlobal, DropUnder, Return}
 use Rattle.ang_code.specs.Machine.{Texts, Config, At, Over, Finished, Faulted, Stuck, fault, roomy, within, enough, fitting, on_top, did, changed_into, back, begins, enters, found_enters, act, step, steps, take_some, call_begins, initializer_begins}
 use Rattle.ang_code_laws.specs.Alike.{turned, WorldAlike, ConfigsAlike, StepsAlike}
 use Rattle.ang_code_laws.specs.Counting.{CountedAt}
@@ -264,7 +264,6 @@ module _ (apart : Type 0) where
         → RunsAlike (act z code (Some i) f pc room s fr t v) (act z code (Some i) f pc room (renamed_all r s) fr t w)
     act_alike (PushBits n) f pc room s fr t r v w p h = roomy_alike r w room s (renamed_all r s) _ _ (many_renamed r s) (at_alike r v w h f (pc + 1) room (Bits n ∷ s) _ fr t refl)
     act_alike PushNull f pc room s fr t r v w p h = roomy_alike r w room s (renamed_all r s) _ _ (many_renamed r s) (at_alike r v w h f (pc + 1) room (Script None ∷ s) _ fr t refl)
-    act_alike (PushNoKey d) f pc room s fr t r v w p h = roomy_alike r w room s (renamed_all r s) _ _ (many_renamed r s) (at_alike r v w h f (pc + 1) room (Host d None ∷ s) _ fr t refl)
     act_alike (Load d) f pc room s fr t r v w p h =
         let us = renamed_all r s in
         within_alike r w d s us _ _ (many_renamed r s) (roomy_alike r w room s us _ _ (many_renamed r s)

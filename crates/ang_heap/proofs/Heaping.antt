@@ -1,0 +1,132 @@
+-- Script objects by number, against the slab that keeps them.
+use Rattle.std.specs.Prelude.{ℕ, zero, suc, ◌+◌, ◌-◌, ◌≡◌, ◌≢◌, ◌<◌, ◌≤◌, Bool, true, false, cond, nat_eq, is_some, IfSome, List, [], ◌∷◌, Option, Some, None, map as list_map, slice_index_or}
+use Rattle.std.specs.Option.{option_map}
+use Rattle.std.specs.Ordering.{nat_cmp, is_eq}
+use Rattle.std.specs.FinMap as map
+use Rattle.std.specs.FinMap.{get-insert, get-remove, get-from_entries, same_map, nat_cmp-IsAntisymmetric, find}
+use Rattle.std.proofs.lemmas.Cmp.{nat_cmp_total}
+use Rattle.std.proofs.lemmas.Bool.{cases_eq, eq-eqb, ne_eqb}
+use Rattle.std.proofs.Common.{refl, sym, ◌∙◌, ap, subst, arith, inl, inr}
+use Rattle.slab.specs.Slab.{Slab, get, slab_len, with_value, Updates, entries_from, entries}
+use Rattle.slab.proofs.SlabLemmas.{ContainsKey-within, Updates-with_value}
+use Rattle.std.proofs.lemmas.List.Sums.{sum_by-set}
+use Rattle.ang_host.proofs.Steps.{same_test}
+use Rattle.ang_meaning.specs.World.{ScriptRecord, ScriptObjects, Gone, Kept, one_less, lowered_at, script_lowered, raised_at, script_raised}
+use Rattle.ang_heap.specs.declared.heap.ScriptObject.{ScriptObject}
+use Rattle.ang_heap.specs.Heaps.{record_of, objects_in}
+
+abbrev entry_of : ℕ × ScriptObject → ℕ × ScriptRecord
+entry_of e = (e.0, record_of e.1)
+
+find_below : (a : ℕ) (slots : List (Option ScriptObject)) (q : ℕ) → q < a → find nat_cmp q (list_map (λ e. (e.0, record_of e.1)) (entries_from a slots)) ≡ None
+find_below a [] q lt = refl
+find_below a (None ∷ rest) q lt = find_below (a + 1) rest q (omega (arith, lt))
+find_below a (Some v ∷ rest) q lt =
+    let ne : a ≡ q → ⊥ = λ e. absurd (omega (arith, e, lt)) in
+    ap (λ b. cond b (Some (record_of v)) (find nat_cmp q (list_map (λ e. (e.0, record_of e.1)) (entries_from (a + 1) rest)))) (same_test q a ∙ ne_eqb a q ne)
+    ∙ find_below (a + 1) rest q (omega (arith, lt))
+
+find_at : (a : ℕ) (slots : List (Option ScriptObject)) (i : ℕ) → find nat_cmp (a + i) (list_map (λ e. (e.0, record_of e.1)) (entries_from a slots)) ≡ option_map record_of (slice_index_or slots i None)
+find_at a [] i = refl
+find_at a (None ∷ rest) zero = find_below (a + 1) rest (a + 0) (omega arith)
+find_at a (None ∷ rest) (suc i) =
+    let e : a + suc i ≡ a + 1 + i = omega arith in
+    ap (λ q. find nat_cmp q (list_map (λ e. (e.0, record_of e.1)) (entries_from (a + 1) rest))) e ∙ find_at (a + 1) rest i
+find_at a (Some v ∷ rest) zero =
+    let e : a ≡ a + 0 = omega arith in
+    ap (λ b. cond b (Some (record_of v)) (find nat_cmp (a + 0) (list_map (λ e. (e.0, record_of e.1)) (entries_from (a + 1) rest)))) (same_test (a + 0) a ∙ eq-eqb a (a + 0) e)
+find_at a (Some v ∷ rest) (suc i) =
+    let ne : a ≡ a + suc i → ⊥ = λ x. absurd (omega (arith, x)) in
+    let e : a + suc i ≡ a + 1 + i = omega arith in
+    ap (λ b. cond b (Some (record_of v)) (find nat_cmp (a + suc i) (list_map (λ e. (e.0, record_of e.1)) (entries_from (a + 1) rest)))) (same_test (a + suc i) a ∙ ne_eqb a (a + suc i) ne)
+    ∙ ap (λ q. find nat_cmp q (list_map (λ e. (e.0, record_of e.1)) (entries_from (a + 1) rest))) e ∙ find_at (a + 1) rest i
+
+pub get_object : (s : Slab ScriptObject) (q : ℕ) → map.get (objects_in s) q ≡ option_map record_of (get s q)
+unfolding objects_in
+get_object s q =
+    get-from_entries nat_cmp_total (list_map (λ e. (e.0, record_of e.1)) (entries s)) q
+    ∙ (let e : q ≡ 0 + q = omega arith in ap (λ n. find nat_cmp n (list_map (λ e. (e.0, record_of e.1)) (entries_from 0 s.slots))) e)
+    ∙ find_at 0 s.slots q
+
+-- an object in the place of another
+pub object_set : (s t : Slab ScriptObject) (k : ℕ) (o : ScriptObject) → Updates s t k (Some o) → objects_in t ≡ map.insert (objects_in s) k (record_of o)
+object_set s t k o u = same_map nat_cmp_total nat_cmp-IsAntisymmetric _ _ (λ q.
+    get_object t q
+    ∙ elim (cases_eq k q) [
+      | inl e ↦ ap (λ j. option_map record_of (get t j)) (sym e) ∙ ap (option_map record_of) u.changed ∙ ap (λ b. cond b (Some (record_of o)) (map.get (objects_in s) q)) (sym (same_test q k ∙ eq-eqb k q e))
+      | inr ne ↦ ap (option_map record_of) (u.others q (λ e. ne (sym e))) ∙ sym (get_object s q) ∙ ap (λ b. cond b (Some (record_of o)) (map.get (objects_in s) q)) (sym (same_test q k ∙ ne_eqb k q ne))
+    ]
+    ∙ sym (get-insert nat_cmp_total (objects_in s) k (record_of o) q))
+
+-- an object that is gone
+pub object_gone : (s t : Slab ScriptObject) (k : ℕ) → Updates s t k None → objects_in t ≡ map.remove (objects_in s) k
+object_gone s t k u = same_map nat_cmp_total nat_cmp-IsAntisymmetric _ _ (λ q.
+    get_object t q
+    ∙ elim (cases_eq k q) [
+      | inl e ↦ ap (λ j. option_map record_of (get t j)) (sym e) ∙ ap (option_map record_of) u.changed ∙ ap (λ b. cond b None (map.get (objects_in s) q)) (sym (same_test q k ∙ eq-eqb k q e))
+      | inr ne ↦ ap (option_map record_of) (u.others q (λ e. ne (sym e))) ∙ sym (get_object s q) ∙ ap (λ b. cond b None (map.get (objects_in s) q)) (sym (same_test q k ∙ ne_eqb k q ne))
+    ]
+    ∙ sym (get-remove nat_cmp_total (objects_in s) k q))
+
+-- ---- what lowering a count answers
+
+pub lower_none : (s : Slab ScriptObject) (k : ℕ) → get s k ≡ None → script_lowered k (objects_in s) ≡ Kept (objects_in s)
+unfolding script_lowered
+lower_none s k g = ap (λ o. lowered_at k o (objects_in s)) (get_object s k ∙ ap (option_map record_of) g)
+
+kept_at : (r : ScriptRecord) (c k : ℕ) (os : ScriptObjects) → r.count ≡ suc (suc c) → lowered_at k (Some r) os ≡ Kept (map.insert os k (record r { count = suc c }))
+kept_at r c k os e = ap (λ n. one_less k r n os) e
+
+gone_at : (r : ScriptRecord) (c k : ℕ) (os : ScriptObjects) → r.count ≡ c → c ≤ 1 → lowered_at k (Some r) os ≡ Gone r.fields (map.remove os k)
+gone_at r zero k os e le = ap (λ n. one_less k r n os) e
+gone_at r (suc zero) k os e le = ap (λ n. one_less k r n os) e
+gone_at r (suc (suc c)) k os e le = absurd (omega (arith, le))
+
+pub lower_kept : (s t : Slab ScriptObject) (k : ℕ) (o : ScriptObject) → get s k ≡ Some o → 1 < o.count → Updates s t k (Some (record o { count = o.count - 1 }))
+    → script_lowered k (objects_in s) ≡ Kept (objects_in t)
+unfolding script_lowered
+lower_kept s t k o g lt u =
+    let two : o.count ≡ suc (suc (o.count - 2)) = omega (arith, lt) in
+    let one : suc (o.count - 2) ≡ o.count - 1 = omega (arith, lt) in
+    ap (λ x. lowered_at k x (objects_in s)) (get_object s k ∙ ap (option_map record_of) g)
+    ∙ kept_at (record_of o) (o.count - 2) k (objects_in s) two
+    ∙ ap (λ c. Kept (map.insert (objects_in s) k (record { class = o.class; rank = o.rank; count = c; fields = o.fields.items }))) one
+    ∙ ap Kept (sym (object_set s t k (record o { count = o.count - 1 }) u))
+
+pub lower_gone : (s t : Slab ScriptObject) (k : ℕ) (o : ScriptObject) → get s k ≡ Some o → o.count ≤ 1 → Updates s t k None
+    → script_lowered k (objects_in s) ≡ Gone o.fields.items (objects_in t)
+unfolding script_lowered
+lower_gone s t k o g le u =
+    ap (λ x. lowered_at k x (objects_in s)) (get_object s k ∙ ap (option_map record_of) g)
+    ∙ gone_at (record_of o) o.count k (objects_in s) refl le
+    ∙ ap (Gone o.fields.items) (sym (object_gone s t k u))
+
+-- a value in the place of another
+pub value_updates : (s t : Slab ScriptObject) (k : ℕ) (o v : ScriptObject) → get s k ≡ Some o → t ≡ with_value s k v → Updates s t k (Some v)
+value_updates s t k o v g e = subst (λ x. Updates s x k (Some v)) (sym e) (Updates-with_value s k v (ap is_some g))
+
+pub value_length : (s t : Slab ScriptObject) (k : ℕ) (o v : ScriptObject) → get s k ≡ Some o → t ≡ with_value s k v → slab_len t ≡ slab_len s
+value_length s t k o v g e =
+    let sums = sum_by-set (λ x. cond (is_some x) 1 0) s.slots k (Some v) None (ContainsKey-within s k (ap is_some g)) in
+    let one : ◌≡◌ {A = ℕ} (cond (is_some (get s k)) 1 0) 1 = ap (λ x. cond (is_some x) 1 0) g in
+    let same : slab_len (with_value s k v) ≡ slab_len s = omega (arith, sums, one) in
+    ap slab_len e ∙ same
+
+pub lower_gone_some : (s t : Slab ScriptObject) (k : ℕ) (o : ScriptObject) (r : Option ScriptObject) → get s k ≡ Some o → o.count ≤ 1 → r ≡ get s k → Updates s t k None
+    → IfSome r (λ x. script_lowered k (objects_in s) ≡ Gone x.fields.items (objects_in t))
+lower_gone_some s t k o r g le is u = subst (λ y. IfSome y (λ x. script_lowered k (objects_in s) ≡ Gone x.fields.items (objects_in t))) (sym (is ∙ g)) (lower_gone s t k o g le u)
+
+-- ---- what raising a count does
+
+pub raise_none : (s : Slab ScriptObject) (k : ℕ) → get s k ≡ None → objects_in s ≡ script_raised k (objects_in s)
+unfolding script_raised
+raise_none s k g = sym (ap (λ o. raised_at k o (objects_in s)) (get_object s k ∙ ap (option_map record_of) g))
+
+pub raise_done : (s t : Slab ScriptObject) (k : ℕ) (o : ScriptObject) → get s k ≡ Some o → Updates s t k (Some (record o { count = o.count + 1 }))
+    → objects_in t ≡ script_raised k (objects_in s)
+unfolding script_raised
+raise_done s t k o g u =
+    let one : o.count + 1 ≡ suc o.count = omega arith in
+    object_set s t k (record o { count = o.count + 1 }) u
+    ∙ ap (λ c. map.insert (objects_in s) k (record { class = o.class; rank = o.rank; count = c; fields = o.fields.items })) one
+    ∙ sym (ap (λ x. raised_at k x (objects_in s)) (get_object s k ∙ ap (option_map record_of) g))

@@ -1,0 +1,4 @@
+pub mod Hosting
+pub mod Heaping
+pub mod Giving
+pub mod Storing
