@@ -49,16 +49,16 @@ turned n body step next =
 abbrev mutual
   pub run : Setting → ℕ → Callees → Passes → Statement → List Slot → ℕ → World → Ran
   run z m c p Skip ls t w = Went ls t w
-  run z m c p (Evaluate e) ls t w = with_value (eval z m c e ls t w) (λ v ls' t' w'. Went ls' t' (give v w'))
-  run z m c p (Declare e) ls t w = with_value (eval z m c e ls t w) (λ v ls' t' w'. Went (v ∷ ls') t' w')
+  run z m c p (Evaluate e) ls t w = with_value (eval z m c e.value ls t w) (λ v ls' t' w'. Went ls' t' (give v w'))
+  run z m c p (Declare e) ls t w = with_value (eval z m c e.value ls t w) (λ v ls' t' w'. Went (v ∷ ls') t' w')
   run z m c p (Block' shape row) ls t w = leave (length ls) (run_row z m c p row ls t w)
   run z m c p (If' e x a y b) ls t w =
-      with_value (eval z m c e ls t w)
+      with_value (eval z m c e.value ls t w)
       (λ v ls' t' w'. on_test v (Halted Null ls' (give v w')) (leave (length ls') (run z m c p b ls' t' w')) (leave (length ls') (run z m c p a ls' t' w')))
-  run z m c p (While' e x s y step) ls t w = ticked t (Halted Budget ls w) (λ t'. p e s step ls t' w)
+  run z m c p (While' e x s y step) ls t w = ticked t (Halted Budget ls w) (λ t'. p e.value s step ls t' w)
   run z m c p (DoWhile' e x s) ls t w =
-      turned (length ls) (run z m c p s ls t w) (λ ls' t' w'. Went ls' t' w') (λ ls' t' w'. p e s Skip ls' t' w')
-  run z m c p (Return e) ls t w = with_value (eval z m c e ls t w) (λ v ls' t' w'. Returned v ls' t' w')
+      turned (length ls) (run z m c p s ls t w) (λ ls' t' w'. Went ls' t' w') (λ ls' t' w'. p e.value s Skip ls' t' w')
+  run z m c p (Return e) ls t w = with_value (eval z m c e.value ls t w) (λ v ls' t' w'. Returned v ls' t' w')
   run z m c p Break ls t w = Broken ls t w
   run z m c p Continue ls t w = Continued ls t w
 

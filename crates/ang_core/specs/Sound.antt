@@ -91,13 +91,13 @@ row_declared (more_of-Statement s rest) = row_declared rest + declared s
 abbrev mutual
   pub SoundStatement : Setting → ℕ → Bool → ℕ → Statement → Type 0
   SoundStatement z m loop n Skip = Unit {0}
-  SoundStatement z m loop n (Evaluate e) = Sound z m n e
-  SoundStatement z m loop n (Declare e) = Sound z m n e
+  SoundStatement z m loop n (Evaluate e) = Sound z m n e.value
+  SoundStatement z m loop n (Declare e) = Sound z m n e.value
   SoundStatement z m loop n (Block' shape row) = SoundRow z m loop n row
-  SoundStatement z m loop n (If' e x a y b) = Sound z m n e × SoundStatement z m loop n a × SoundStatement z m loop n b
-  SoundStatement z m loop n (While' e x s y step) = Sound z m n e × SoundStatement z m true n s × SoundStatement z m false n step
-  SoundStatement z m loop n (DoWhile' e x s) = Sound z m n e × SoundStatement z m true n s
-  SoundStatement z m loop n (Return e) = Sound z m n e
+  SoundStatement z m loop n (If' e x a y b) = Sound z m n e.value × SoundStatement z m loop n a × SoundStatement z m loop n b
+  SoundStatement z m loop n (While' e x s y step) = Sound z m n e.value × SoundStatement z m true n s × SoundStatement z m false n step
+  SoundStatement z m loop n (DoWhile' e x s) = Sound z m n e.value × SoundStatement z m true n s
+  SoundStatement z m loop n (Return e) = Sound z m n e.value
   SoundStatement z m loop n Break = IsTrue loop
   SoundStatement z m loop n Continue = IsTrue loop
 

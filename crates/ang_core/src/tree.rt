@@ -27,6 +27,7 @@ pub enum Expression {
 }
 
 /// A statement.
+#[derive(Drop)]
 pub enum Statement {
     /// Nothing.
     Skip,
@@ -49,26 +50,6 @@ pub enum Statement {
     Break,
     /// Goes on with the step of the innermost loop.
     Continue,
-}
-
-impl Drop for Statement {
-    fn drop(mut self) {
-        loop {
-            match self {
-                Statement::Skip | Statement::Break | Statement::Continue => return,
-                Statement::Evaluate(_e) => return,
-                Statement::Declare(_e) => return,
-                Statement::Return(_e) => return,
-                Statement::Block(mut row) => match row.pop() {
-                    None => return,
-                    Some(last) => self = last,
-                },
-                Statement::If(_test, _first, second) => self = Box::into_inner(second),
-                Statement::While(_test, body, _step) => self = Box::into_inner(body),
-                Statement::DoWhile(_test, body) => self = Box::into_inner(body),
-            }
-        }
-    }
 }
 
 /// A function, or an initializer's body, which has no parameters.

@@ -23,7 +23,7 @@ use Rattle.ang_gen_body.proofs.Bodies.{behaves}
 use Rattle.ang_source.specs.Meaning.{Codes, code_or, passings_in, called_with, initialized}
 use Rattle.ang_lower.specs.Same.{AreBodies, MeansSame}
 use Rattle.ang_lower.proofs.Modules.{params_are, means_program, keeps_sound, sound_together}
-use Rattle.ang_gen_emit.specs.Programs.{IsBodyCode, items_in, statement_in, text_in, height_in, texts_of}
+use Rattle.ang_gen_body.specs.Programs.{IsBodyCode, items_in, statement_in, text_in, height_in, texts_of}
 use Rattle.ang_gen.specs.Compiled.{IsCompiled}
 use Rattle.ang_gen.specs.Behaves.{HasCodes, IsModule, sources_of, BehavesAsSource, NeverStuck}
 

@@ -6,7 +6,7 @@ use Rattle.ang_core.specs.declared.tree.Body.{Body}
 use Rattle.ang_code.specs.declared.instruction.RoutineCode.{RoutineCode}
 use Rattle.ang_lower.specs.Plain.{plain_body}
 use Rattle.ang_lower.specs.Lowered.{lowered_module}
-use Rattle.ang_gen_emit.specs.Programs.{IsBodyCode}
+use Rattle.ang_gen_body.specs.Programs.{IsBodyCode}
 
 -- There are core bodies that are lowered from the module's tree, and each code is that of the body at its place.
 pub record IsCompiled (p : t.Program) (codes : List RoutineCode) : Type 0 where

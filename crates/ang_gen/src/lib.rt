@@ -10,7 +10,7 @@ ghost use Rattle.ang_source.specs.Meaning.{passings_in};
 ghost use Rattle.ang_gen.specs.Compiled.{IsCompiled};
 
 use ang_code::RoutineCode;
-use ang_gen_emit::generate_module;
+use ang_gen_body::generate_module;
 use ang_lower::lower;
 use ang_typed::Typed;
 use std::alloc::{AllocError, Global};

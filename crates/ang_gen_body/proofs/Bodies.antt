@@ -118,13 +118,13 @@ module _ (z : Setting) (code : Texts) (r : Running) (ps : List Passing) (ps_is :
     stmt_runs Skip x kb kc pc n ls t w n_is st ok low le =
         (comes_to z code _ _ _ (here z code _) (let e : pc ≡ pc + 0 = omega arith in ap (λ j. at r j (ls ++ r.below) t w) e), omega (arith, n_is), omega arith)
     stmt_runs (Evaluate e) x kb kc pc n ls t w n_is st ok low le =
-        let ce = expr_code 0 e in
+        let ce = expr_code 0 e.value in
         let len : pc + length ce + 1 ≡ pc + length (ce ++ Drop ∷ []) = omega (arith, length-append ce (Drop ∷ [])) in
         run_ends z code r ps x _ _ _ n (0 + n) t _ len
-        (value_goes z code r ps x _ (pc + length ce) _ n n (0 + n) t (eval z r.of.home calls e ls t w) (λ v ls' t' w'. Went ls' t' (give v w')) (expr_runs e pc n ls t w n_is (has_front (code.text r.of) pc ce _ st.has) ok low le)
+        (value_goes z code r ps x _ (pc + length ce) _ n n (0 + n) t (eval z r.of.home calls e.value ls t w) (λ v ls' t' w'. Went ls' t' (give v w')) (expr_runs e.value pc n ls t w n_is (has_front (code.text r.of) pc ce _ st.has) ok low le)
         (λ v ls' t' w' n2_is lt. (one_step z code r.of (pc + length ce) r.room (v ∷ (ls' ++ r.below)) r.callers t' w' Drop (has_back (code.text r.of) pc ce _ st.has).0, omega (arith, n2_is), omega arith)))
     stmt_runs (Declare e) x kb kc pc n ls t w n_is st ok low le =
-        value_goes z code r ps x _ (pc + length (expr_code 0 e)) _ n n (1 + n) t (eval z r.of.home calls e ls t w) (λ v ls' t' w'. Went (v ∷ ls') t' w') (expr_runs e pc n ls t w n_is st.has ok low le)
+        value_goes z code r ps x _ (pc + length (expr_code 0 e.value)) _ n n (1 + n) t (eval z r.of.home calls e.value ls t w) (λ v ls' t' w'. Went (v ∷ ls') t' w') (expr_runs e.value pc n ls t w n_is st.has ok low le)
         (λ v ls' t' w' n2_is lt. (here z code _, omega (arith, n2_is), omega arith))
     stmt_runs (Block' shape row) x kb kc pc n ls t w n_is st ok low le =
         let d = row_declared row in
@@ -136,7 +136,7 @@ module _ (z : Setting) (code : Texts) (r : Running) (ps : List Passing) (ps_is :
         subst (λ m. RunGoes z code r ps (at r pc (ls ++ r.below) t w) (pc + length (block_code cr d)) x n (0 + n) t (leave m (run_row z r.of.home calls passes row ls t w))) (sym n_is)
         (block_goes_from_0 x cr d _ pc n t (run_row z r.of.home calls passes row ls t w) st.params st.alive st.has inner)
     stmt_runs (If' e x1 a x2 b) x kb kc pc n ls t w n_is st ok low le =
-        let ce = expr_code 0 e in
+        let ce = expr_code 0 e.value in
         let la = length (leave_code (declared a)) in
         let lb = length (leave_code (declared b)) in
         let sb = stmt_code q n x.alive (kb + lb) (kc + lb) b in
@@ -163,9 +163,9 @@ module _ (z : Setting) (code : Texts) (r : Running) (ps : List Passing) (ps_is :
         let st_a : Stands code r q sa (p + 1) ka ja n x = record { has = has_front (code.text r.of) (p + 1) sa _ at_a; params = st.params; alive = st.alive; out = omega (arith, st.out, end_is, len_a); again = omega (arith, st.again, end_is, len_a) } in
         let st_b : Stands code r q sb p2 (kb + lb) (kc + lb) n x = record { has = has_front (code.text r.of) p2 sb _ at_b; params = st.params; alive = st.alive; out = omega (arith, st.out, end_is, len_b); again = omega (arith, st.again, end_is, len_b) } in
         let to_else : p2 ≡ p + 1 + (length ca + length cp) = omega arith in
-        value_goes z code r ps x _ p end n n (0 + n) t (eval z r.of.home calls e ls t w)
+        value_goes z code r ps x _ p end n n (0 + n) t (eval z r.of.home calls e.value ls t w)
         (λ v ls' t' w'. on_test v (Halted NullFault ls' (give v w')) (leave (length ls') (run z r.of.home calls passes b ls' t' w')) (leave (length ls') (run z r.of.home calls passes a ls' t' w')))
-        (expr_runs e pc n ls t w n_is (has_front (code.text r.of) pc ce _ st.has) ok.0 low.0 le)
+        (expr_runs e.value pc n ls t w n_is (has_front (code.text r.of) pc ce _ st.has) ok.0 low.0 le)
         (λ v ls' t' w' n2_is lt.
         let one = run z r.of.home calls passes a ls' t' w' in let two = run z r.of.home calls passes b ls' t' w' in
         let b1 = block_goes_from_0 x sa (declared a) _ (p + 1) n t' one st.params st.alive at_a (stmt_runs a x ka ja (p + 1) n ls' t' w' n2_is st_a ok.1 low.1 (omega arith)) in
@@ -178,33 +178,33 @@ module _ (z : Setting) (code : Texts) (r : Running) (ps : List Passing) (ps_is :
         (run_ends z code r ps x _ _ _ n (0 + n) t' (leave n one) end_is
         (past_run z code r ps x _ p1 (length cb) n (0 + n) t' (leave n one) at_past b1))))
     stmt_runs (While' e x1 s x2 step) x kb kc pc n ls t w n_is st ok low le =
-        let loop : LoopStands z code r q h e s step pc n = record { has = st.has; params = st.params; sound_test = ok.0; low_test = low.0; sound_body = ok.1; low_body = low.1; sound_step = ok.2; low_step = low.2 } in
-        let c = loop_code q n e s step in
+        let loop : LoopStands z code r q h e.value s step pc n = record { has = st.has; params = st.params; sound_test = ok.0; low_test = low.0; sound_body = ok.1; low_body = low.1; sound_step = ok.2; low_step = low.2 } in
+        let c = loop_code q n e.value s step in
         to_0 x _ (pc + length c) n t _
-        (tick_run z code r ps x _ (pc + length c) n n t ls w (λ t'. at r (pc + 1) (ls ++ r.below) t' w) (λ t'. passes e s step ls t' w)
+        (tick_run z code r ps x _ (pc + length c) n n t ls w (λ t'. at r (pc + 1) (ls ++ r.below) t' w) (λ t'. passes e.value s step ls t' w)
         (one_step z code r.of pc r.room (ls ++ r.below) r.callers t w Tick st.has.0)
-        (λ t' lt. passes_go x n e s step pc ls t' w n_is loop (omega arith)))
+        (λ t' lt. passes_go x n e.value s step pc ls t' w n_is loop (omega arith)))
     stmt_runs (DoWhile' e x1 s) x kb kc pc n ls t w n_is st ok low le =
-        let ce = expr_code 0 e in
-        let c = loop_code q n e s Skip in
+        let ce = expr_code 0 e.value in
+        let c = loop_code q n e.value s Skip in
         let p1 = pc + 1 + 1 + length ce + 1 in
-        let loop : LoopStands z code r q h e s Skip (pc + 1) n = record { has = st.has.1; params = st.params; sound_test = ok.0; low_test = low.0; sound_body = ok.1; low_body = low.1; sound_step = tt; low_step = tt } in
+        let loop : LoopStands z code r q h e.value s Skip (pc + 1) n = record { has = st.has.1; params = st.params; sound_test = ok.0; low_test = low.0; sound_body = ok.1; low_body = low.1; sound_step = tt; low_step = tt } in
         let there : pc + 1 + (length ce + 2) ≡ p1 = omega arith in
         let p = comes_to z code _ _ _ (one_step z code r.of pc r.room (ls ++ r.below) r.callers t w (GoOn (length ce + 2)) st.has.0) (ap (λ j. at r j (ls ++ r.below) t w) there) in
         let inside = run z r.of.home calls passes s ls t w in
         let nothing = λ (ls' : List Slot) (t' : ℕ) (w' : World). Went ls' t' w' in
-        let turn = turn_runs x n e s Skip (pc + 1) ls t w inside nothing loop le
+        let turn = turn_runs x n e.value s Skip (pc + 1) ls t w inside nothing loop le
         (λ body_st. stmt_runs s _ _ _ p1 n ls t w n_is body_st ok.1 low.1 le)
         (λ ls2 t2 w2 n2_is lt2 step_st. (comes_to z code _ _ _ (here z code _) (let e2 : p1 + length (stmt_code q n n (length (leave_code (declared s)) + 0 + 1) (length (leave_code (declared s))) s) + length (leave_code (declared s)) ≡ p1 + length (stmt_code q n n (length (leave_code (declared s)) + 0 + 1) (length (leave_code (declared s))) s) + length (leave_code (declared s)) + 0 = omega arith in ap (λ j. at r j (ls2 ++ r.below) t2 w2) e2), omega (arith, n2_is), omega arith)) in
         let len : pc + 1 + length c ≡ pc + length (GoOn (length ce + 2) ∷ c) = omega arith in
-        let go = λ (m : ℕ). turned m inside nothing (λ ls' t' w'. passes e s Skip ls' t' w') in
+        let go = λ (m : ℕ). turned m inside nothing (λ ls' t' w'. passes e.value s Skip ls' t' w') in
         to_0 x _ (pc + length (GoOn (length ce + 2) ∷ c)) n t _
         (run_ends z code r ps x _ _ _ n n t (go (length ls)) len
         (after_run z code r ps x _ _ (pc + 1 + length c) n n n n t t (go (length ls)) p (omega arith) refl (omega arith)
         (subst (λ m. RunGoes z code r ps (at r p1 (ls ++ r.below) t w) (pc + 1 + length c) x n n t (go m)) (sym n_is) turn)))
     stmt_runs (ReturnOf e) x kb kc pc n ls t w n_is st ok low le =
-        let ce = expr_code 0 e in
-        value_goes z code r ps x _ (pc + length ce) _ n n (0 + n) t (eval z r.of.home calls e ls t w) (λ v ls' t' w'. Returned v ls' t' w') (expr_runs e pc n ls t w n_is (has_front (code.text r.of) pc ce _ st.has) ok low le)
+        let ce = expr_code 0 e.value in
+        value_goes z code r ps x _ (pc + length ce) _ n n (0 + n) t (eval z r.of.home calls e.value ls t w) (λ v ls' t' w'. Returned v ls' t' w') (expr_runs e.value pc n ls t w n_is (has_front (code.text r.of) pc ce _ st.has) ok low le)
         (λ v ls' t' w' n2_is lt.
         (return_goes z code r ps _ (pc + length ce) (n - q) t' v ls' w' ps_is (has_back (code.text r.of) pc ce _ st.has).0 (omega (arith, n2_is)) (omega (arith, n2_is, st.params)) (here z code _), omega arith, omega (arith, n2_is)))
     stmt_runs Break x kb kc pc n ls t w n_is st ok low le =

@@ -7,3 +7,8 @@ pub mod Stmts
 pub mod Bodies
 pub mod Writing
 pub mod Telling
+pub mod Lists
+pub mod Shapes
+pub mod Arms
+pub mod Turns
+pub mod Rising

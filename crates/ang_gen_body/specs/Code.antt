@@ -75,27 +75,27 @@ block_code code n = code ++ leave_code n
 abbrev mutual
   pub stmt_code : ℕ → ℕ → ℕ → ℕ → ℕ → Statement → List Instruction
   stmt_code q n m kb kc Skip = []
-  stmt_code q n m kb kc (Evaluate e) = expr_code 0 e ++ Drop ∷ []
-  stmt_code q n m kb kc (Declare e) = expr_code 0 e
+  stmt_code q n m kb kc (Evaluate e) = expr_code 0 e.value ++ Drop ∷ []
+  stmt_code q n m kb kc (Declare e) = expr_code 0 e.value
   stmt_code q n m kb kc (Block' shape row) =
       block_code (row_code q n m (kb + length (leave_code (row_declared row))) (kc + length (leave_code (row_declared row))) row) (row_declared row)
   stmt_code q n m kb kc (If' e x a y b) =
       let cb = block_code (stmt_code q n m (kb + length (leave_code (declared b))) (kc + length (leave_code (declared b))) b) (declared b) in
       let cp = past_code (length cb) in
-      either_code (expr_code 0 e)
+      either_code (expr_code 0 e.value)
       (block_code (stmt_code q n m (kb + length cb + length cp + length (leave_code (declared a))) (kc + length cb + length cp + length (leave_code (declared a))) a) (declared a))
       cb
   stmt_code q n m kb kc (While' e x s y step) =
       let cs = block_code (stmt_code q n 0 0 0 step) (declared step) in
-      while_code (expr_code 0 e)
+      while_code (expr_code 0 e.value)
       (block_code (stmt_code q n n (length (leave_code (declared s)) + length cs + 1) (length (leave_code (declared s))) s) (declared s))
       cs
   stmt_code q n m kb kc (DoWhile' e x s) =
-      GoOn (length (expr_code 0 e) + 2)
-      ∷ while_code (expr_code 0 e)
+      GoOn (length (expr_code 0 e.value) + 2)
+      ∷ while_code (expr_code 0 e.value)
       (block_code (stmt_code q n n (length (leave_code (declared s)) + 0 + 1) (length (leave_code (declared s))) s) (declared s))
       []
-  stmt_code q n m kb kc (ReturnOf e) = expr_code 0 e ++ Return (n - q) ∷ []
+  stmt_code q n m kb kc (ReturnOf e) = expr_code 0 e.value ++ Return (n - q) ∷ []
   stmt_code q n m kb kc Break = leave_code (n - m) ++ GoOn kb ∷ []
   stmt_code q n m kb kc Continue = leave_code (n - m) ++ GoOn kc ∷ []
 

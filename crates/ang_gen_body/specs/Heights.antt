@@ -27,13 +27,13 @@ abbrev mutual
 abbrev mutual
   pub BelowStatement : ℕ → ℕ → Statement → Type 0
   BelowStatement h n Skip = Unit {0}
-  BelowStatement h n (Evaluate e) = Below h n e
-  BelowStatement h n (Declare e) = Below h n e
+  BelowStatement h n (Evaluate e) = Below h n e.value
+  BelowStatement h n (Declare e) = Below h n e.value
   BelowStatement h n (Block' shape row) = BelowRow h n row
-  BelowStatement h n (If' e x a y b) = Below h n e × BelowStatement h n a × BelowStatement h n b
-  BelowStatement h n (While' e x s y step) = Below h n e × BelowStatement h n s × BelowStatement h n step
-  BelowStatement h n (DoWhile' e x s) = Below h n e × BelowStatement h n s
-  BelowStatement h n (Return e) = Below h n e
+  BelowStatement h n (If' e x a y b) = Below h n e.value × BelowStatement h n a × BelowStatement h n b
+  BelowStatement h n (While' e x s y step) = Below h n e.value × BelowStatement h n s × BelowStatement h n step
+  BelowStatement h n (DoWhile' e x s) = Below h n e.value × BelowStatement h n s
+  BelowStatement h n (Return e) = Below h n e.value
   BelowStatement h n Break = Unit {0}
   BelowStatement h n Continue = Unit {0}
 

@@ -1,0 +1,136 @@
+//! The code of expressions, written from its end.
+ghost use Rattle.std.specs.Prelude.{◌≡◌, ◌+◌, ◌++◌, IfOk, OnOk};
+ghost use Rattle.ang_gen_body.specs.Code.{expr_code, outs_code, swap_at, swaps_code};
+ghost use Rattle.ang_gen_body.specs.Rows.{list_code};
+
+use crate::text::Text;
+use ang_code::Instruction;
+use ang_core::Expression;
+use ang_meaning::{Spot, Target};
+use std::alloc::AllocError;
+
+/// The sum, or want of memory where no stack could have so many values.
+pub fn sum(a: usize, b: usize) -> Result<usize, AllocError>
+    ensures exact { IfOk result (λ n. n ≡ a + b) }
+{
+    match a.checked_add(b) {
+        Some(n) => Ok(n),
+        None => Err(AllocError),
+    }
+}
+
+// The value of an `&out` parameter at the place `under` moves into its target, where the locals begin at
+// the place `base`.
+fn swap(target: &Target, under: u32, base: usize) -> Result<Instruction, AllocError>
+    ensures exact { IfOk result (λ i. i ≡ swap_at target.now.to under base target.now.spot) }
+{
+    match target.spot {
+        Spot::Local(i) => {
+            let with = sum(base, i)?;
+            Ok(Instruction::Swap {
+                to: target.to,
+                under,
+                with,
+            })
+        }
+        Spot::Global(global) => Ok(Instruction::SwapGlobal {
+            to: target.to,
+            under,
+            global,
+        }),
+    }
+}
+
+// The code of all targets, behind a call. The first target in the list is the last one of the call.
+fn write_swaps(text: &mut Text, base: usize, targets: &[Target]) -> Result<(), AllocError>
+    ensures code { OnOk result (text.new ≡ swaps_code 1 base targets.now ++ text.old) }
+{
+    let mut under: u32 = 1;
+    for target in targets {
+        let instruction = swap(target, under, base)?;
+        text.put(instruction)?;
+        under = next_place(under)?;
+    }
+    Ok(())
+}
+
+// The place below, or want of memory where no stack could have it.
+fn next_place(under: u32) -> Result<u32, AllocError>
+    ensures exact { IfOk result (λ n. n ≡ under + 1) }
+{
+    match under.checked_add(1) {
+        Some(n) => Ok(n),
+        None => Err(AllocError),
+    }
+}
+
+// What follows a call's entry: the values of its `&out` parameters move into their targets.
+fn write_outs(text: &mut Text, above: usize, targets: &[Target]) -> Result<(), AllocError>
+    ensures code { OnOk result (text.new ≡ outs_code above targets.now ++ text.old) }
+{
+    if targets.is_empty() {
+        return Ok(());
+    }
+    let count = sum(1, targets.len())?;
+    let base = sum(count, above)?;
+    text.put(Instruction::DropUnder(targets.len()))?;
+    write_swaps(text, base, targets)
+}
+
+/// Writes the code of an expression, where `above` values stand on the stack above the locals.
+#[cycle(expression)]
+pub fn write_expression(text: &mut Text, above: usize, e: &Expression) -> Result<(), AllocError>
+    ensures code { OnOk result (text.new ≡ expr_code above e.now ++ text.old) }
+{
+    match e {
+        Expression::Number(n) => text.put(Instruction::PushBits(*n)),
+        Expression::Null => text.put(Instruction::PushNull),
+        Expression::NoKey(driver) => text.put(Instruction::PushNoKey(*driver)),
+        Expression::Local(i) => {
+            let place = sum(above, *i)?;
+            text.put(Instruction::Load(place))
+        }
+        Expression::Assign(i, value) => {
+            let place = sum(above, *i)?;
+            text.put(Instruction::Store(place))?;
+            write_expression(text, above, value)
+        }
+        Expression::Change(i, change, value) => {
+            let place = sum(above, *i)?;
+            text.put(Instruction::Change(*change, place))?;
+            write_expression(text, above, value)
+        }
+        Expression::Apply(operation, operands) => {
+            text.put(Instruction::Do(*operation))?;
+            write_operands(text, above, operands)
+        }
+        Expression::Call(callee, operands, targets) => {
+            write_outs(text, above, targets)?;
+            text.put(Instruction::Enter(*callee))?;
+            write_operands(text, above, operands)
+        }
+        Expression::Choose(test, one, two) => {
+            let end = text.len();
+            write_expression(text, above, two)?;
+            let second = text.len();
+            text.put(Instruction::GoOn(second - end))?;
+            write_expression(text, above, one)?;
+            let first = text.len();
+            text.put(Instruction::SkipIfFalse(first - second))?;
+            write_expression(text, above, test)
+        }
+    }
+}
+
+// Operands in their order, each above the values of those before it.
+#[cycle(expression)]
+fn write_operands(text: &mut Text, above: usize, operands: &[Expression]) -> Result<(), AllocError>
+    ensures code { OnOk result (text.new ≡ list_code above operands.now ++ text.old) }
+{
+    let mut next = sum(above, operands.len())?;
+    for e in operands.iter().rev() {
+        next -= 1;
+        write_expression(text, next, e)?;
+    }
+    Ok(())
+}
