@@ -17,7 +17,7 @@ use Rattle.ang_meaning.specs.declared.operation.Operation.{Operation}
 use Rattle.ang_meaning.specs.Numbers.{Changed, Into, Never}
 use Rattle.ang_meaning.specs.World.{World, ScriptRecord, Tried, Yes, No, hold, give, give_all, memory_step}
 use Rattle.ang_meaning.specs.Told.{Moves}
-use Rattle.ang_meaning.specs.Setting.{Setting, Found, Enters, Misses, method_of, virtual_of, slot_params, receiver_in, target, is_null, has_objects, params_of, is_fit}
+use Rattle.ang_meaning.specs.Setting.{Setting, Found, Enters, Misses, method_of, virtual_of, params_in, receiver_in, target, is_null, has_objects, params_of, is_fit}
 use Rattle.ang_meaning.specs.Hosts.{Done, Fine, Fails}
 use Rattle.ang_meaning.specs.Perform.{perform, operands, change_of, global_or, global_put}
 use Rattle.ang_meaning.specs.Results.{local_at, local_set, drop_some, give_some, give_back, at_zero, on_test, ticked, or_else, brought, outs_of, give_others, may_nest}
@@ -103,7 +103,7 @@ module _ (r : Renaming) where
     target_renamed z m (Own g) s = refl
     target_renamed z m (Import i) s = refl
     target_renamed z m (Virtual k) s =
-        ap (λ x. virtual_of z m k x w) (receiver_renamed (slot_params (z.slot m k)) s) ∙ virtual_renamed z m k (receiver_in (slot_params (z.slot m k)) s)
+        ap (λ x. virtual_of z m k x w) (receiver_renamed (params_in (z.slot m k)) s) ∙ virtual_renamed z m k (receiver_in (params_in (z.slot m k)) s)
 
 module _ (apart : Type 0) where
   -- ---- given up

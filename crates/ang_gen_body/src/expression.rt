@@ -85,7 +85,6 @@ pub fn write_expression(text: &mut Text, above: usize, e: &Expression) -> Result
     match e {
         Expression::Number(n) => text.put(Instruction::PushBits(*n)),
         Expression::Null => text.put(Instruction::PushNull),
-        Expression::NoKey(driver) => text.put(Instruction::PushNoKey(*driver)),
         Expression::Local(i) => {
             let place = sum(above, *i)?;
             text.put(Instruction::Load(place))

@@ -1,9 +1,9 @@
 -- Script objects by number, against the slab that keeps them.
-use Rattle.std.specs.Prelude.{ℕ, zero, suc, ◌+◌, ◌-◌, ◌≡◌, ◌≢◌, ◌<◌, ◌≤◌, Bool, true, false, cond, nat_eq, is_some, IfSome, List, [], ◌∷◌, Option, Some, None, map as list_map, slice_index_or}
+use Rattle.std.specs.Prelude.{ℕ, zero, suc, ◌+◌, ◌-◌, ◌≡◌, ◌≢◌, ◌<◌, ◌≤◌, Bool, true, false, cond, nat_eq, is_some, IfSome, List, [], ◌∷◌, Option, Some, None, map as list_map, slice_index_or, slice_set}
 use Rattle.std.specs.Option.{option_map}
 use Rattle.std.specs.Ordering.{nat_cmp, is_eq}
 use Rattle.std.specs.FinMap as map
-use Rattle.std.specs.FinMap.{get-insert, get-remove, get-from_entries, same_map, nat_cmp-IsAntisymmetric, find}
+use Rattle.std.specs.FinMap.{get-empty, get-insert, get-remove, get-from_entries, same_map, nat_cmp-IsAntisymmetric, find}
 use Rattle.std.proofs.lemmas.Cmp.{nat_cmp_total}
 use Rattle.std.proofs.lemmas.Bool.{cases_eq, eq-eqb, ne_eqb}
 use Rattle.std.proofs.Common.{refl, sym, ◌∙◌, ap, subst, arith, inl, inr}
@@ -12,6 +12,8 @@ use Rattle.slab.proofs.SlabLemmas.{ContainsKey-within, Updates-with_value}
 use Rattle.std.proofs.lemmas.List.Sums.{sum_by-set}
 use Rattle.ang_host.proofs.Steps.{same_test}
 use Rattle.ang_meaning.specs.World.{ScriptRecord, ScriptObjects, Gone, Kept, one_less, lowered_at, script_lowered, raised_at, script_raised}
+use Rattle.ang_meaning.specs.declared.slot.Slot.{Slot}
+use Rattle.ang_meaning.specs.Perform.{with_field}
 use Rattle.ang_heap.specs.declared.heap.ScriptObject.{ScriptObject}
 use Rattle.ang_heap.specs.Heaps.{record_of, objects_in}
 
@@ -130,3 +132,28 @@ raise_done s t k o g u =
     object_set s t k (record o { count = o.count + 1 }) u
     ∙ ap (λ c. map.insert (objects_in s) k (record { class = o.class; rank = o.rank; count = c; fields = o.fields.items })) one
     ∙ sym (ap (λ x. raised_at k x (objects_in s)) (get_object s k ∙ ap (option_map record_of) g))
+
+-- ---- objects made and changed
+
+pub no_objects : (s : Slab ScriptObject) → s.slots ≡ [] → objects_in s ≡ map.empty
+no_objects s e = same_map nat_cmp_total nat_cmp-IsAntisymmetric _ _ (λ q. get_object s q ∙ ap (λ l. option_map record_of (slice_index_or l q None)) e ∙ sym (get-empty nat_cmp q))
+
+pub same_objects : (s t : Slab ScriptObject) → t.slots ≡ s.slots → objects_in t ≡ objects_in s
+unfolding objects_in
+same_objects s t e = ap (λ l. map.from_entries (list_map (λ x. (x.0, record_of x.1)) (entries_from 0 l))) e
+
+pub free_object : (s : Slab ScriptObject) (k : ℕ) → get s k ≡ None → map.get (objects_in s) k ≡ None
+free_object s k g = get_object s k ∙ ap (option_map record_of) g
+
+field_at : (s t : Slab ScriptObject) (k i : ℕ) (v : Slot) (o : Option ScriptObject) → get s k ≡ o
+    → ((r : ScriptObject) → get s k ≡ Some r → (p : ScriptObject) × (t ≡ with_value s k p) × (record_of p ≡ record (record_of r) { fields = slice_set r.fields.items i v }))
+    → (get s k ≡ None → t ≡ s) → objects_in t ≡ with_field k (option_map record_of o) i v (objects_in s)
+field_at s t k i v None g some none = ap objects_in (none g)
+field_at s t k i v (Some r) g some none =
+    let q = some r g in
+    object_set s t k q.0 (value_updates s t k r q.0 g q.1) ∙ ap (map.insert (objects_in s) k) q.2
+
+pub field_stored : (s t : Slab ScriptObject) (k i : ℕ) (v : Slot)
+    → ((r : ScriptObject) → get s k ≡ Some r → (p : ScriptObject) × (t ≡ with_value s k p) × (record_of p ≡ record (record_of r) { fields = slice_set r.fields.items i v }))
+    → (get s k ≡ None → t ≡ s) → objects_in t ≡ with_field k (map.get (objects_in s) k) i v (objects_in s)
+field_stored s t k i v some none = field_at s t k i v (get s k) refl some none ∙ ap (λ o. with_field k o i v (objects_in s)) (sym (get_object s k))

@@ -13,8 +13,10 @@ use Rattle.ang_host.specs.declared.event.Role.{Role}
 use Rattle.ang_host.specs.declared.event.HostEvent.{HostEvent}
 use Rattle.ang_host.specs.declared.event.HostEvent.TheVariants.{Ended}
 use Rattle.ang_host.specs.declared.answer.Answer.{Answer}
+use Rattle.ang_host.specs.declared.answer.Made.{Made}
+use Rattle.ang_host.specs.declared.answer.Made.TheVariants.{Key as MadeKey, Nothing as MadeNothing, Fault as MadeFault, Memory as MadeMemory, Full as MadeFull}
 use Rattle.ang_host.specs.State.{State, Ask, count_of, count_at}
-use Rattle.ang_host.specs.Laws.{Fits, Meaning, IsLive, IsSound, Adds, Releases, Answered, WasAdded, WasReleased}
+use Rattle.ang_host.specs.Laws.{Fits, Meaning, IsLive, IsSound, Adds, Makes, Releases, Answered, WasMade, WasAdded, WasReleased}
 use Rattle.ang_host.specs.Members.{nothing, state_at, rule_at, OneMoved}
 use Rattle.ang_host.specs.Events.{ends}
 use Rattle.ang_host.proofs.Counts.{Answers-counts}
@@ -23,7 +25,7 @@ use Rattle.ang_meaning.specs.declared.slot.Slot.{Slot}
 use Rattle.ang_meaning.specs.declared.slot.Slot.TheVariants.{Host}
 use Rattle.ang_meaning.specs.World.{ScriptObjects, HostCounts, Input, host_put, host_raised, give}
 use Rattle.ang_meaning.specs.Counting.{counts_by}
-use Rattle.ang_meaning.proofs.Driving.{counts_put, counts_added, world_released, in_list_of}
+use Rattle.ang_meaning.proofs.Driving.{counts_put, counts_added, counts_made, world_released, in_list_of}
 use Rattle.ang_heap.specs.Parts.{world_by, live_in, AreReady, PartsMove}
 
 -- one where it is so
@@ -177,6 +179,56 @@ module _ {B V : Type 0} (st : B → State) (kind : B → V) (rule : V → Fits) 
 
   pub answer_length : length ys ≡ length xs
   answer_length = sym (length-map ys st) ∙ states_length st kind rule xs ys d _ one ∙ length-map xs st
+
+-- ---- a host call that may make an object
+
+-- the counts of driver d once it has answered so
+abbrev pub made_by : Made → ℕ → HostCounts → HostCounts
+made_by (MadeKey k) d hs = host_raised d k hs
+made_by MadeNothing d hs = hs
+made_by (MadeFault n) d hs = hs
+made_by MadeMemory d hs = hs
+made_by MadeFull d hs = hs
+
+-- how many objects it made
+abbrev pub born : Made → ℕ
+born (MadeKey k) = 1
+born MadeNothing = 0
+born (MadeFault n) = 0
+born MadeMemory = 0
+born MadeFull = 0
+
+len_new : (m : map.FinMap nat_cmp ℕ) (k v : ℕ) → map.get m k ≡ None → map.len (map.insert m k v) ≡ map.len m + 1
+len_new m k v g = len-insert nat_cmp_total m k v ∙ ap (λ o. cond (is_some o) (map.len m) (map.len m + 1)) g
+
+made_len : (fits : Fits) (s t : State) (q : Ask) (r : Made) → Makes fits s q r t → map.len t.counts ≡ map.len s.counts + born r
+made_len fits s t q (MadeKey k) h = ap map.len h.1 ∙ len_new s.counts k 1 h.0
+made_len fits s t q MadeNothing h = let e = ap map.len h.0 in omega (arith, e)
+made_len fits s t q (MadeFault n) h = let e = ap map.len h.0 in omega (arith, e)
+made_len fits s t q MadeMemory h = let e = ap map.len h.0 in omega (arith, e)
+made_len fits s t q MadeFull h = let e = ap (λ x. map.len x.counts) h.0 in omega (arith, e)
+
+module _ {B V : Type 0} (st : B → State) (kind : B → V) (rule : V → Fits) (xs ys : List B) (d : ℕ) (ask : Ask) where
+  kept_counts : (r : Made) (one : OneMoved st kind rule xs d (λ f s t. WasMade f s ask r t) ys) → (state_at (list_map st ys) d).counts ≡ (state_at (list_map st xs) d).counts
+      → counts_by (list_map st ys) ≡ counts_by (list_map st xs)
+  kept_counts r one e = counts_put (list_map st xs) (list_map st ys) d (state_at (list_map st xs) d).counts one.others e ∙ same_put d (counts_by (list_map st xs))
+
+  pub made_counts : (r : Made) → OneMoved st kind rule xs d (λ f s t. WasMade f s ask r t) ys → counts_by (list_map st ys) ≡ made_by r d (counts_by (list_map st xs))
+  made_counts (MadeKey k) one = counts_made (rule_at (list_map rule (list_map kind xs)) d) (list_map st xs) (list_map st ys) d k ask one.others one.moved.moved
+  made_counts MadeNothing one = kept_counts MadeNothing one one.moved.moved.0
+  made_counts (MadeFault n) one = kept_counts (MadeFault n) one one.moved.moved.0
+  made_counts MadeMemory one = kept_counts MadeMemory one one.moved.moved.0
+  made_counts MadeFull one = kept_counts MadeFull one (ap (λ x. x.counts) one.moved.moved.0)
+
+  pub made_live : (r : Made) → OneMoved st kind rule xs d (λ f s t. WasMade f s ask r t) ys → live_in (list_map st ys) ≡ live_in (list_map st xs) + born r
+  made_live r one =
+      let more = made_len (rule_at (list_map rule (list_map kind xs)) d) (state_at (list_map st xs) d) (state_at (list_map st ys) d) ask r one.moved.moved in
+      omega (arith, more, live_moved st kind rule xs ys d _ one)
+
+  pub made_ready : (r : Made) → OneMoved st kind rule xs d (λ f s t. WasMade f s ask r t) ys → (len capacity len' capacity' : ℕ) → AreReady (list_map st xs) len capacity
+      → len' + (live_in (list_map st xs) + born r) ≤ capacity' → AreReady (list_map st ys) len' capacity'
+  made_ready r one len capacity len' capacity' ready room =
+      record { sound = each_sound st kind rule xs ys d _ one one.moved.sound ready.sound; room = omega (arith, room, made_live r one) }
 
 -- ---- events that are followed
 

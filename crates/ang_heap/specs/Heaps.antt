@@ -1,5 +1,5 @@
 -- Script objects by number, read off the slab that keeps them.
-use Rattle.std.specs.Prelude.{ℕ, List, map as list_map}
+use Rattle.std.specs.Prelude.{ℕ, List, Option, Some, None, map as list_map}
 use Rattle.std.specs.FinMap as map
 use Rattle.slab.specs.Slab.{Slab, entries}
 use Rattle.ang_meaning.specs.World.{ScriptRecord, ScriptObjects}
@@ -14,3 +14,12 @@ objects_in s = map.from_entries (list_map (λ e. (e.0, record_of e.1)) (entries 
 
 abbrev pub objects_of : Heap → ScriptObjects
 objects_of h = objects_in h.records
+
+-- the class and the rank of an object, where there is one
+abbrev pub class_in : Option ScriptRecord → Option ℕ
+class_in None = None
+class_in (Some o) = Some o.class
+
+abbrev pub rank_in : Option ScriptRecord → Option ℕ
+rank_in None = None
+rank_in (Some o) = Some o.rank

@@ -31,7 +31,7 @@ pub struct ScriptObject {
 /// The script objects that live, by their numbers.
 #[derive(Drop)]
 pub struct Heap {
-    records: Slab<ScriptObject>,
+    pub(crate) records: Slab<ScriptObject>,
 }
 
 impl Heap {

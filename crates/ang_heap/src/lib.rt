@@ -6,6 +6,7 @@
 mod globals;
 mod heap;
 mod hosts;
+mod objects;
 mod store;
 
 pub use ang_meaning::Slot;
