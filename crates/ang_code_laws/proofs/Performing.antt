@@ -19,7 +19,8 @@ use Rattle.ang_meaning.specs.declared.operation.Operation.{Operation}
 use Rattle.ang_meaning.specs.declared.operation.Operation.TheVariants.{Work, Compare, Convert, Negate, Complement, Not, Same, GlobalGet, GlobalSet, GlobalChange, Ask, Read, Write, Alter, Make, FieldGet, FieldSet, FieldChange, Cast}
 use Rattle.ang_meaning.specs.Numbers.{Worked, Is, Cannot, Changed, Into, Never, worked}
 use Rattle.ang_meaning.specs.World.{World, ScriptRecord, Input, Room, Said, Counted, Fresh, Tried, Yes, No, memory_step, hold, give, give_all}
-use Rattle.ang_meaning.specs.Setting.{Setting, Class, class_in, use_at, is_fit}
+use Rattle.ang_meaning.specs.declared.class.Class.{Class}
+use Rattle.ang_meaning.specs.Setting.{Setting, class_in, use_at, is_fit}
 use Rattle.ang_meaning.specs.Hosts.{Done, Fine, Fails, holding, accepted, is_void, slot_of, replied_by, is_reply_to, asked_from, asked_told, asked, value_of, values_of}
 use Rattle.ang_meaning.specs.Perform.{work_done, change_of, global_or, global_put, stored_global, changed_global, Receiver, Of, Missing, receiver_of, arguments_of, gives_up, called_of, read_of, write_of, in_place_of, altered_to, altered_of, field_or, field_put, may_take, stored_field, changed_field, is_under, cast_to, made_from, made_told, perform}
 use Rattle.ang_meaning.proofs.Moving.{give_moves, give_all_moves, put_moves, field_moves}
@@ -150,16 +151,16 @@ module _ (z : Setting) (m : ℕ) where
   cast_asks true n w = nothing z w
   cast_asks false n w = untold z w _ (give_moves (Script (Some n)) w)
 
-  made_from_asks : (c : ℕ) (k : Class) (inputs : List Input) (w : World) → DoneAsks w (made_from c k inputs w)
-  made_from_asks c k [] w = nothing z w
-  made_from_asks c k (Fresh n ∷ rest) w = record { more = []; events = sym (append-nil w.events); askings = tt }
-  made_from_asks c k (Said r ∷ rest) w = nothing z w
-  made_from_asks c k (Room b ∷ rest) w = nothing z w
-  made_from_asks c k (Counted b ∷ rest) w = nothing z w
+  made_from_asks : (k : Class) (inputs : List Input) (w : World) → DoneAsks w (made_from k inputs w)
+  made_from_asks k [] w = nothing z w
+  made_from_asks k (Fresh n ∷ rest) w = record { more = []; events = sym (append-nil w.events); askings = tt }
+  made_from_asks k (Said r ∷ rest) w = nothing z w
+  made_from_asks k (Room b ∷ rest) w = nothing z w
+  made_from_asks k (Counted b ∷ rest) w = nothing z w
 
-  made_asks : (c : ℕ) (k : Class) (w : World) (o : Tried) → TriedAsks z w o → DoneAsks w (made_told c k o)
-  made_asks c k w (No w') p = p
-  made_asks c k w (Yes w') p = done_then w w' _ p (made_from_asks c k w'.inputs w')
+  made_asks : (k : Class) (w : World) (o : Tried) → TriedAsks z w o → DoneAsks w (made_told k o)
+  made_asks k w (No w') p = p
+  made_asks k w (Yes w') p = done_then w w' _ p (made_from_asks k w'.inputs w')
 
   -- what the guard of an operation says of its entity
   fit_ask : (e : EntityNo) → is_fit z m (Ask e) ≡ true → MayBeAsked z m e
@@ -242,7 +243,7 @@ module _ (z : Setting) (m : ℕ) where
       let r = receiver_of (use_at z m e) (o ∷ []) in
       gives_up_asks (o ∷ []) w _ (altered_asks e (fit_alter e c h) r c v w (read_of z m e r w) (read_asks e (fit_alter e c h) r w))
   perform_asks (Alter e c) (o ∷ (v ∷ (u ∷ us))) w h = nothing z w
-  perform_asks (Make c) [] w h = made_asks c (class_in (z.class m c)) w (memory_step w) (memory_asks z w)
+  perform_asks (Make c) [] w h = made_asks (class_in (z.class m c)) w (memory_step w) (memory_asks z w)
   perform_asks (Make c) (v ∷ vs) w h = nothing z w
   perform_asks (FieldGet i) [] w h = nothing z w
   perform_asks (FieldGet i) (Bits x ∷ us) w h = nothing z w

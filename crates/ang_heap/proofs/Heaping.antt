@@ -6,16 +6,16 @@ use Rattle.std.specs.FinMap as map
 use Rattle.std.specs.FinMap.{get-empty, get-insert, get-remove, get-from_entries, same_map, nat_cmp-IsAntisymmetric, find}
 use Rattle.std.proofs.lemmas.Cmp.{nat_cmp_total}
 use Rattle.std.proofs.lemmas.Bool.{cases_eq, eq-eqb, ne_eqb}
-use Rattle.std.proofs.Common.{refl, sym, ◌∙◌, ap, subst, arith, inl, inr}
+use Rattle.std.proofs.Common.{refl, sym, ◌∙◌, ap, subst, arith, inl, inr, unwrap_or}
 use Rattle.slab.specs.Slab.{Slab, get, slab_len, with_value, Updates, entries_from, entries}
 use Rattle.slab.proofs.SlabLemmas.{ContainsKey-within, Updates-with_value}
 use Rattle.std.proofs.lemmas.List.Sums.{sum_by-set}
 use Rattle.ang_host.proofs.Steps.{same_test}
 use Rattle.ang_meaning.specs.World.{ScriptRecord, ScriptObjects, Gone, Kept, one_less, lowered_at, script_lowered, raised_at, script_raised}
 use Rattle.ang_meaning.specs.declared.slot.Slot.{Slot}
-use Rattle.ang_meaning.specs.Perform.{with_field}
+use Rattle.ang_meaning.specs.Perform.{field_of, with_field}
 use Rattle.ang_heap.specs.declared.heap.ScriptObject.{ScriptObject}
-use Rattle.ang_heap.specs.Heaps.{record_of, objects_in}
+use Rattle.ang_heap.specs.Heaps.{record_of, objects_in, class_in, rank_in}
 
 abbrev entry_of : ℕ × ScriptObject → ℕ × ScriptRecord
 entry_of e = (e.0, record_of e.1)
@@ -157,3 +157,36 @@ pub field_stored : (s t : Slab ScriptObject) (k i : ℕ) (v : Slot)
     → ((r : ScriptObject) → get s k ≡ Some r → (p : ScriptObject) × (t ≡ with_value s k p) × (record_of p ≡ record (record_of r) { fields = slice_set r.fields.items i v }))
     → (get s k ≡ None → t ≡ s) → objects_in t ≡ with_field k (map.get (objects_in s) k) i v (objects_in s)
 field_stored s t k i v some none = field_at s t k i v (get s k) refl some none ∙ ap (λ o. with_field k o i v (objects_in s)) (sym (get_object s k))
+
+pub class_at : (s : Slab ScriptObject) (k : ℕ) (o : ScriptObject) → get s k ≡ Some o → Some o.class ≡ class_in (map.get (objects_in s) k)
+class_at s k o g = sym (ap class_in (get_object s k ∙ ap (option_map record_of) g))
+
+pub no_class : (s : Slab ScriptObject) (k : ℕ) → get s k ≡ None → None ≡ class_in (map.get (objects_in s) k)
+no_class s k g = sym (ap class_in (free_object s k g))
+
+pub rank_at : (s : Slab ScriptObject) (k : ℕ) (o : ScriptObject) → get s k ≡ Some o → Some o.rank ≡ rank_in (map.get (objects_in s) k)
+rank_at s k o g = sym (ap rank_in (get_object s k ∙ ap (option_map record_of) g))
+
+pub no_rank : (s : Slab ScriptObject) (k : ℕ) → get s k ≡ None → None ≡ rank_in (map.get (objects_in s) k)
+no_rank s k g = sym (ap rank_in (free_object s k g))
+
+pub field_read : (s : Slab ScriptObject) (k i : ℕ) (o : ScriptObject) (v other : Slot) → get s k ≡ Some o → v ≡ slice_index_or o.fields.items i other → v ≡ field_of (map.get (objects_in s) k) i other
+field_read s k i o v other g e = e ∙ sym (ap (λ x. field_of x i other) (get_object s k ∙ ap (option_map record_of) g))
+
+pub no_field : (s : Slab ScriptObject) (k i : ℕ) (other : Slot) → get s k ≡ None → other ≡ field_of (map.get (objects_in s) k) i other
+no_field s k i other g = sym (ap (λ x. field_of x i other) (free_object s k g))
+
+-- an object put where there was none, behind the slab's growth
+pub object_new : (s u t : Slab ScriptObject) (k : ℕ) (o : ScriptObject) → u.slots ≡ s.slots → Updates u t k (Some o) → objects_in t ≡ map.insert (objects_in s) k (record_of o)
+object_new s u t k o e p = object_set u t k o p ∙ ap (λ m. map.insert m k (record_of o)) (same_objects s u e)
+
+pub place_free : (s u : Slab ScriptObject) (k : ℕ) → u.slots ≡ s.slots → get u k ≡ None → map.get (objects_in s) k ≡ None
+place_free s u k e g = ap (λ m. map.get m k) (sym (same_objects s u e)) ∙ free_object u k g
+
+-- one that `get_mut` lends and that is written back
+pub lent_stored : (s t : Slab ScriptObject) (k i : ℕ) (v : Slot) (old new : ScriptObject) → get s k ≡ Some old → t ≡ with_value s k new
+    → record_of new ≡ record (record_of old) { fields = slice_set old.fields.items i v }
+    → (r : ScriptObject) → get s k ≡ Some r → (p : ScriptObject) × (t ≡ with_value s k p) × (record_of p ≡ record (record_of r) { fields = slice_set r.fields.items i v })
+lent_stored s t k i v old new g e put r h =
+    let same : old ≡ r = ap (λ x. unwrap_or x old) (sym g ∙ h) in
+    (new, e, put ∙ ap (λ x. record (record_of x) { fields = slice_set x.fields.items i v }) same)

@@ -16,7 +16,7 @@ use Rattle.ang_host.specs.declared.answer.Answer.{Answer}
 use Rattle.ang_host.specs.declared.answer.Made.{Made}
 use Rattle.ang_host.specs.declared.answer.Made.TheVariants.{Key as MadeKey, Nothing as MadeNothing, Fault as MadeFault, Memory as MadeMemory, Full as MadeFull}
 use Rattle.ang_host.specs.State.{State, Ask, count_of, count_at}
-use Rattle.ang_host.specs.Laws.{Fits, Meaning, IsLive, IsSound, Adds, Makes, Releases, Answered, WasMade, WasAdded, WasReleased}
+use Rattle.ang_host.specs.Laws.{Fits, Meaning, IsFull, IsSound, Adds, Makes, Releases, Answered, WasMade, WasAdded, WasReleased}
 use Rattle.ang_host.specs.Members.{nothing, state_at, rule_at, OneMoved}
 use Rattle.ang_host.specs.Events.{ends}
 use Rattle.ang_host.proofs.Counts.{Answers-counts}
@@ -154,6 +154,11 @@ module _ {B V : Type 0} (st : B → State) (kind : B → V) (rule : V → Fits) 
   add_counts true one = counts_added (list_map st xs) (list_map st ys) d k one.others one.moved.moved
   add_counts false one =
       counts_put (list_map st xs) (list_map st ys) d (state_at (list_map st xs) d).counts one.others (ap (λ x. x.counts) one.moved.moved.0) ∙ same_put d (counts_by (list_map st xs))
+
+  -- it was refused where a tally has run out
+  pub add_full : (b : Bool) → OneMoved st kind rule xs d (λ f s t. WasAdded s k b t) ys → b ≡ false → IsFull (state_at (list_map st xs) d)
+  add_full true one e = absurd (let x : ⊥ = cc in x)
+  add_full false one e = one.moved.moved.1
 
   pub add_live : (b : Bool) → OneMoved st kind rule xs d (λ f s t. WasAdded s k b t) ys → live_in (list_map st ys) ≡ live_in (list_map st xs)
   add_live b one =

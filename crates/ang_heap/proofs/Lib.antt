@@ -2,3 +2,4 @@ pub mod Hosting
 pub mod Heaping
 pub mod Giving
 pub mod Storing
+pub mod Puts

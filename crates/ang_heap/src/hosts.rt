@@ -1,8 +1,9 @@
 //! Places that hold a host object.
-ghost use Rattle.std.specs.Prelude.{ℕ, ◌+◌, ◌≡◌, ◌<◌, ◌≤◌, List, [], Some, length, vec_len, vec_capacity, if◌then◌else◌};
+ghost use Rattle.std.specs.Prelude.{ℕ, ◌+◌, ◌≡◌, ◌<◌, ◌≤◌, false, List, [], Some, length, vec_len, vec_capacity, if◌then◌else◌};
 ghost use Rattle.ang_host.specs.declared.event.Role.{Role};
 ghost use Rattle.ang_host.specs.State.{count_at};
-ghost use Rattle.ang_host.specs.Members.{states_of};
+ghost use Rattle.ang_host.specs.Laws.{IsFull};
+ghost use Rattle.ang_host.specs.Members.{state_at, states_of};
 ghost use Rattle.ang_host.specs.Boxes.{members};
 ghost use Rattle.ang_host.specs.Events.{DriversFollow};
 ghost use Rattle.ang_meaning.specs.declared.slot.Slot.TheVariants.{Host};
@@ -37,6 +38,7 @@ pub fn add(drivers: &mut Drivers, driver: u32, key: u64) -> bool
     ensures live { live_of (λ v. (⟦<dyn Driver as Driver>⟧ v).meaning) (members drivers.new) ≡ live_of (λ v. (⟦<dyn Driver as Driver>⟧ v).meaning) (members drivers.old) }
     ensures ready { (len capacity : ℕ) → AreReady (states_of (λ v. (⟦<dyn Driver as Driver>⟧ v).meaning) (members drivers.old)) len capacity
         → AreReady (states_of (λ v. (⟦<dyn Driver as Driver>⟧ v).meaning) (members drivers.new)) len capacity }
+    ensures full { result ≡ false → IsFull (state_at (states_of (λ v. (⟦<dyn Driver as Driver>⟧ v).meaning) (members drivers.old)) driver) }
     ensures follow { (roles : List Role) → DriversFollow (λ v. (⟦<dyn Driver as Driver>⟧ v).meaning) roles (members drivers.old) [] (members drivers.new) }
 {
     drivers.add_ref(driver, key)

@@ -110,10 +110,8 @@ fn insert(records: &mut Slab<ScriptObject>, object: ScriptObject) -> Result<usiz
     ensures made { IfOk result (λ n. objects_in records.new ≡ map.insert (objects_in records.old) n (record_of object)) }
     ensures unchanged { OnErr result (objects_in records.new ≡ objects_in records.old) }
 {
-    match records.insert(object) {
-        Ok(number) => Ok(number),
-        Err(_) => Err(AllocError),
-    }
+    records.reserve(1)?;
+    Ok(records.insert_reserved(object))
 }
 
 /// The value at an index, and `other` where there is none.

@@ -1,0 +1,9 @@
+use Rattle.std.proofs.Common.{ap}
+use Rattle.ang_heap.proofs.Heaping.{object_new, place_free}
+use Rattle.ang_heap.proofs.objects.insert.Goals as goal
+
+pub returns-clause-free : goal.returns-clause-free
+returns-clause-free c = place_free c.args.records.now c.reserve.new.self c.insert_reserved.result (ap (λ s. s.slots) c.reserve.ensures.rest_kept) c.insert_reserved.ensures.was_vacant
+
+pub returns-clause-made : goal.returns-clause-made
+returns-clause-made c = object_new c.args.records.now c.reserve.new.self c.insert_reserved.new.self c.insert_reserved.result c.args.object (ap (λ s. s.slots) c.reserve.ensures.rest_kept) c.insert_reserved.ensures.updates
