@@ -1,5 +1,5 @@
 -- Script objects by number, against the slab that keeps them.
-use Rattle.std.specs.Prelude.{ℕ, zero, suc, ◌+◌, ◌-◌, ◌≡◌, ◌≢◌, ◌<◌, ◌≤◌, Bool, true, false, cond, nat_eq, is_some, IfSome, List, [], ◌∷◌, Option, Some, None, map as list_map, slice_index_or, slice_set}
+use Rattle.std.specs.Prelude.{ℕ, zero, suc, ◌+◌, ◌-◌, ◌≡◌, ◌≢◌, ◌<◌, ◌≤◌, Bool, true, false, cond, nat_eq, is_some, IfSome, List, [], ◌∷◌, Option, Some, None, map as list_map, slice_index_or, slice_set, Result, Ok, Err, OnErr}
 use Rattle.std.specs.Option.{option_map}
 use Rattle.std.specs.Ordering.{nat_cmp, is_eq}
 use Rattle.std.specs.FinMap as map
@@ -190,3 +190,7 @@ pub lent_stored : (s t : Slab ScriptObject) (k i : ℕ) (v : Slot) (old new : Sc
 lent_stored s t k i v old new g e put r h =
     let same : old ≡ r = ap (λ x. unwrap_or x old) (sym g ∙ h) in
     (new, e, put ∙ ap (λ x. record (record_of x) { fields = slice_set x.fields.items i v }) same)
+
+pub on_err : {A E P : Type 0} (r : Result A E) → P → OnErr r P
+on_err (Ok a) p = tt
+on_err (Err e) p = p
