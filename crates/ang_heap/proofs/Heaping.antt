@@ -1,5 +1,5 @@
 -- Script objects by number, against the slab that keeps them.
-use Rattle.std.specs.Prelude.{ℕ, zero, suc, ◌+◌, ◌-◌, ◌≡◌, ◌≢◌, ◌<◌, ◌≤◌, Bool, true, false, cond, nat_eq, is_some, IfSome, List, [], ◌∷◌, Option, Some, None, map as list_map, slice_index_or, slice_set, Result, Ok, Err, OnErr}
+use Rattle.std.specs.Prelude.{ℕ, zero, suc, ◌+◌, ◌-◌, ◌≡◌, ◌≢◌, ◌<◌, ◌≤◌, Bool, true, false, cond, nat_eq, is_some, IfSome, count_by, List, [], ◌∷◌, Option, Some, None, map as list_map, slice_index_or, slice_set, Result, Ok, Err, OnErr}
 use Rattle.std.specs.Option.{option_map}
 use Rattle.std.specs.Ordering.{nat_cmp, is_eq}
 use Rattle.std.specs.FinMap as map
@@ -9,13 +9,14 @@ use Rattle.std.proofs.lemmas.Bool.{cases_eq, eq-eqb, ne_eqb}
 use Rattle.std.proofs.Common.{refl, sym, ◌∙◌, ap, subst, arith, inl, inr, unwrap_or}
 use Rattle.slab.specs.Slab.{Slab, get, slab_len, with_value, Updates, entries_from, entries}
 use Rattle.slab.proofs.SlabLemmas.{ContainsKey-within, Updates-with_value}
-use Rattle.std.proofs.lemmas.List.Sums.{sum_by-set}
+use Rattle.std.proofs.lemmas.List.Sums.{sum_by-set, sum_by-cons}
 use Rattle.ang_host.proofs.Steps.{same_test}
 use Rattle.ang_meaning.specs.World.{ScriptRecord, ScriptObjects, Gone, Kept, one_less, lowered_at, script_lowered, raised_at, script_raised}
 use Rattle.ang_meaning.specs.declared.slot.Slot.{Slot}
+use Rattle.ang_meaning.specs.Counting.{count_of_object}
 use Rattle.ang_meaning.specs.Perform.{field_of, with_field}
 use Rattle.ang_heap.specs.declared.heap.ScriptObject.{ScriptObject}
-use Rattle.ang_heap.specs.Heaps.{record_of, objects_in, class_in, rank_in}
+use Rattle.ang_heap.specs.Heaps.{record_of, objects_in, class_of_record, rank_of_record}
 
 abbrev entry_of : ℕ × ScriptObject → ℕ × ScriptRecord
 entry_of e = (e.0, record_of e.1)
@@ -133,6 +134,35 @@ raise_done s t k o g u =
     ∙ ap (λ c. map.insert (objects_in s) k (record { class = o.class; rank = o.rank; count = c; fields = o.fields.items })) one
     ∙ sym (ap (λ x. raised_at k x (objects_in s)) (get_object s k ∙ ap (option_map record_of) g))
 
+pub count_in_slab : (s : Slab ScriptObject) (k : ℕ) (o : ScriptObject) → get s k ≡ Some o → count_of_object (map.get (objects_in s) k) ≡ o.count
+count_in_slab s k o g = ap count_of_object (get_object s k ∙ ap (option_map record_of) g)
+
+-- ---- a slab without objects
+
+none_at : (slots : List (Option ScriptObject)) (i : ℕ) → count_by is_some slots ≡ 0 → slice_index_or slots i None ≡ None
+none_at [] i e = refl
+none_at (None ∷ rest) zero e = refl
+none_at (None ∷ rest) (suc i) e = none_at rest i (omega (arith, e))
+none_at (Some o ∷ rest) i e = let more = sum_by-cons (λ (x : Option ScriptObject). cond (is_some x) 1 0) (Some o) rest in absurd (omega (arith, e, more))
+
+some_not_none : {A : Type 0} (a : A) → Some a ≡ None → ⊥
+some_not_none a e = cc
+
+count_none : (slots : List (Option ScriptObject)) → ((i : ℕ) → slice_index_or slots i None ≡ None) → count_by is_some slots ≡ 0
+count_none [] h = refl
+count_none (None ∷ rest) h = let e : count_by is_some rest ≡ 0 = count_none rest (λ i. h (suc i)) in omega (arith, e)
+count_none (Some o ∷ rest) h = absurd (some_not_none o (h 0))
+
+unmapped : (o : Option ScriptObject) → option_map record_of o ≡ None → o ≡ None
+unmapped None e = refl
+unmapped (Some o) e = absurd (some_not_none (record_of o) e)
+
+pub empty_objects : (s : Slab ScriptObject) → slab_len s ≡ 0 → objects_in s ≡ map.empty
+empty_objects s e = same_map nat_cmp_total nat_cmp-IsAntisymmetric _ _ (λ q. get_object s q ∙ ap (option_map record_of) (none_at s.slots q e) ∙ sym (get-empty nat_cmp q))
+
+pub empty_slab : (s : Slab ScriptObject) → objects_in s ≡ map.empty → slab_len s ≡ 0
+empty_slab s e = count_none s.slots (λ q. unmapped (get s q) (sym (get_object s q) ∙ ap (λ os. map.get os q) e ∙ get-empty nat_cmp q))
+
 -- ---- objects made and changed
 
 pub no_objects : (s : Slab ScriptObject) → s.slots ≡ [] → objects_in s ≡ map.empty
@@ -158,17 +188,17 @@ pub field_stored : (s t : Slab ScriptObject) (k i : ℕ) (v : Slot)
     → (get s k ≡ None → t ≡ s) → objects_in t ≡ with_field k (map.get (objects_in s) k) i v (objects_in s)
 field_stored s t k i v some none = field_at s t k i v (get s k) refl some none ∙ ap (λ o. with_field k o i v (objects_in s)) (sym (get_object s k))
 
-pub class_at : (s : Slab ScriptObject) (k : ℕ) (o : ScriptObject) → get s k ≡ Some o → Some o.class ≡ class_in (map.get (objects_in s) k)
-class_at s k o g = sym (ap class_in (get_object s k ∙ ap (option_map record_of) g))
+pub class_at : (s : Slab ScriptObject) (k : ℕ) (o : ScriptObject) → get s k ≡ Some o → Some o.class ≡ class_of_record (map.get (objects_in s) k)
+class_at s k o g = sym (ap class_of_record (get_object s k ∙ ap (option_map record_of) g))
 
-pub no_class : (s : Slab ScriptObject) (k : ℕ) → get s k ≡ None → None ≡ class_in (map.get (objects_in s) k)
-no_class s k g = sym (ap class_in (free_object s k g))
+pub no_class : (s : Slab ScriptObject) (k : ℕ) → get s k ≡ None → None ≡ class_of_record (map.get (objects_in s) k)
+no_class s k g = sym (ap class_of_record (free_object s k g))
 
-pub rank_at : (s : Slab ScriptObject) (k : ℕ) (o : ScriptObject) → get s k ≡ Some o → Some o.rank ≡ rank_in (map.get (objects_in s) k)
-rank_at s k o g = sym (ap rank_in (get_object s k ∙ ap (option_map record_of) g))
+pub rank_at : (s : Slab ScriptObject) (k : ℕ) (o : ScriptObject) → get s k ≡ Some o → Some o.rank ≡ rank_of_record (map.get (objects_in s) k)
+rank_at s k o g = sym (ap rank_of_record (get_object s k ∙ ap (option_map record_of) g))
 
-pub no_rank : (s : Slab ScriptObject) (k : ℕ) → get s k ≡ None → None ≡ rank_in (map.get (objects_in s) k)
-no_rank s k g = sym (ap rank_in (free_object s k g))
+pub no_rank : (s : Slab ScriptObject) (k : ℕ) → get s k ≡ None → None ≡ rank_of_record (map.get (objects_in s) k)
+no_rank s k g = sym (ap rank_of_record (free_object s k g))
 
 pub field_read : (s : Slab ScriptObject) (k i : ℕ) (o : ScriptObject) (v other : Slot) → get s k ≡ Some o → v ≡ slice_index_or o.fields.items i other → v ≡ field_of (map.get (objects_in s) k) i other
 field_read s k i o v other g e = e ∙ sym (ap (λ x. field_of x i other) (get_object s k ∙ ap (option_map record_of) g))

@@ -7,7 +7,7 @@ use Rattle.std.proofs.lemmas.Cmp.{nat_cmp_total}
 use Rattle.std.proofs.Common.{refl, sym, ◌∙◌, ap, subst, arith, inl, inr, get_or-set_other, append-nil, append_assoc}
 use Rattle.std.specs.declared.alloc.Global.{Global}
 use Rattle.std.specs.declared.dyn_box.DynBox.{DynBox}
-use Rattle.std.proofs.lemmas.List.{length-map, length-set}
+use Rattle.std.proofs.lemmas.List.{length-map, length-set, set-get_or}
 use Rattle.std.proofs.lemmas.Bool.{cases_eq, eqb-true}
 use Rattle.ang_host.specs.declared.event.Role.{Role}
 use Rattle.ang_host.specs.declared.event.HostEvent.{HostEvent}
@@ -159,6 +159,10 @@ module _ {B V : Type 0} (st : B → State) (kind : B → V) (rule : V → Fits) 
   pub add_full : (b : Bool) → OneMoved st kind rule xs d (λ f s t. WasAdded s k b t) ys → b ≡ false → IsFull (state_at (list_map st xs) d)
   add_full true one e = absurd (let x : ⊥ = cc in x)
   add_full false one e = one.moved.moved.1
+
+  pub add_unchanged : (b : Bool) → OneMoved st kind rule xs d (λ f s t. WasAdded s k b t) ys → b ≡ false → list_map st ys ≡ list_map st xs
+  add_unchanged true one e = absurd (let x : ⊥ = cc in x)
+  add_unchanged false one e = one.others ∙ ap (slice_set (list_map st xs) d) one.moved.moved.0 ∙ set-get_or (list_map st xs) d nothing
 
   pub add_live : (b : Bool) → OneMoved st kind rule xs d (λ f s t. WasAdded s k b t) ys → live_in (list_map st ys) ≡ live_in (list_map st xs)
   add_live b one =

@@ -1,5 +1,5 @@
 -- Values held and given up in a store, over worlds.
-use Rattle.std.proofs.Common.{◌≡◌, ℕ, List, [], ◌∷◌, Bool, true, false, refl, sym, ap, ◌∙◌, Some, None, cond, append-nil, subst}
+use Rattle.std.proofs.Common.{◌≡◌, ℕ, List, [], ◌∷◌, Bool, true, false, refl, sym, ap, ◌∙◌, Some, None, cond, append-nil, subst, Result, Ok, Err, is_ok, OnErr}
 use Rattle.std.specs.declared.alloc.Global.{Global}
 use Rattle.std.specs.declared.dyn_box.DynBox.{DynBox}
 use Rattle.ang_host.specs.declared.event.HostEvent.{HostEvent}
@@ -14,7 +14,7 @@ use Rattle.ang_meaning.specs.World.{World, ScriptObjects, HostCounts, Input, Cou
 use Rattle.ang_meaning.specs.Told.{Told}
 use Rattle.ang_heap.specs.declared.store.Store.{Store}
 use Rattle.ang_heap.specs.Parts.{world_by, PartsMove}
-use Rattle.ang_heap.specs.Stores.{IsReady, Moves}
+use Rattle.ang_heap.specs.Stores.{IsReady, StoreMoves}
 use Rattle.ang_heap.proofs.Hosting.{parts_none, parts_join}
 
 pub bits_hold : (n : ℕ) (w : World) → Told (λ is. hold (Bits n) (with_inputs is w)) (λ is. if_told true (with_inputs is w))
@@ -63,12 +63,16 @@ pub script_held : (v : Slot) (n : ℕ) (b : Bool) (w : World) (os' : ScriptObjec
 script_held v n b w os' e h =
     subst (λ x. Told (λ is. hold x (with_inputs is w)) (λ is. if_told b (with_inputs is (record w { objects = os' })))) (sym e) (script_hold w.globals w.events n b w.objects os' w.hosts h)
 
+pub on_false : {A E P : Type 0} (r : Result A E) → is_ok r ≡ false → OnErr r P → P
+on_false (Ok a) e p = absurd (let x : ⊥ = cc in x)
+on_false (Err e) h p = p
+
 -- ---- pieces of a run
 
-pub moves_none : {V : Type 0} {P : V → Type 0} (m : (v : V) → Meaning (P v)) (roles : List Role) (s : Store V P) → Moves m roles s s
+pub moves_none : {V : Type 0} {P : V → Type 0} (m : (v : V) → Meaning (P v)) (roles : List Role) (s : Store V P) → StoreMoves m roles s s
 moves_none m roles s = record { parts = parts_none m roles (members s.drivers) s.events.items; ready = λ r. r }
 
-pub moves_join : {V : Type 0} {P : V → Type 0} (m : (v : V) → Meaning (P v)) (roles : List Role) (s t u : Store V P) → Moves m roles s t → Moves m roles t u → Moves m roles s u
+pub moves_join : {V : Type 0} {P : V → Type 0} (m : (v : V) → Meaning (P v)) (roles : List Role) (s t u : Store V P) → StoreMoves m roles s t → StoreMoves m roles t u → StoreMoves m roles s u
 moves_join m roles s t u p q = record {
   parts = parts_join m roles (members s.drivers) (members t.drivers) (members u.drivers) s.events.items t.events.items u.events.items p.parts q.parts;
   ready = λ r. q.ready (p.ready r);

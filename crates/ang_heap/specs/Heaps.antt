@@ -16,10 +16,10 @@ abbrev pub objects_of : Heap → ScriptObjects
 objects_of h = objects_in h.records
 
 -- the class and the rank of an object, where there is one
-abbrev pub class_in : Option ScriptRecord → Option ℕ
-class_in None = None
-class_in (Some o) = Some o.class
+abbrev pub class_of_record : Option ScriptRecord → Option ℕ
+class_of_record None = None
+class_of_record (Some o) = Some o.class
 
-abbrev pub rank_in : Option ScriptRecord → Option ℕ
-rank_in None = None
-rank_in (Some o) = Some o.rank
+abbrev pub rank_of_record : Option ScriptRecord → Option ℕ
+rank_of_record None = None
+rank_of_record (Some o) = Some o.rank

@@ -1,17 +1,18 @@
 -- The parts of a store, as contracts see them.
-use Rattle.std.specs.Prelude.{ℕ, ◌+◌, ◌≡◌, ◌<◌, ◌≤◌, List, [], ◌∷◌, ◌++◌, length}
+use Rattle.std.specs.Prelude.{ℕ, ◌+◌, ◌-◌, ◌^◌, ◌≡◌, ◌<◌, ◌≤◌, List, [], ◌∷◌, ◌++◌, Some, None, length}
 use Rattle.std.specs.FinMap as map
 use Rattle.std.specs.declared.alloc.Global.{Global}
 use Rattle.std.specs.declared.dyn_box.DynBox.{DynBox}
 use Rattle.ang_host.specs.declared.event.HostEvent.{HostEvent}
 use Rattle.ang_host.specs.declared.event.Role.{Role}
 use Rattle.ang_host.specs.State.{State}
-use Rattle.ang_host.specs.Laws.{Meaning, IsSound}
+use Rattle.ang_host.specs.Laws.{Meaning, IsFull, IsSound}
 use Rattle.ang_host.specs.Members.{state_at, states_of}
 use Rattle.ang_host.specs.Events.{DriversFollow}
 use Rattle.ang_meaning.specs.declared.slot.Slot.{Slot}
+use Rattle.ang_meaning.specs.declared.slot.Slot.TheVariants.{Bits, Script, Host}
 use Rattle.ang_meaning.specs.World.{World, ScriptObjects, HostCounts, Input}
-use Rattle.ang_meaning.specs.Counting.{counts_by}
+use Rattle.ang_meaning.specs.Counting.{counts_by, count_of_object}
 
 -- by driver, the count of each live key
 abbrev pub counts_of : {V : Type 0} {P : V → Type 0} → ((v : V) → Meaning (P v)) → List (DynBox V Global P) → HostCounts
@@ -32,6 +33,14 @@ live_of m bs = live_in (states_of m bs)
 pub record AreReady (ss : List State) (len capacity : ℕ) : Type 0 where
   pub sound : (i : ℕ) → i < length ss → IsSound (state_at ss i)
   pub room : len + live_in ss ≤ capacity
+
+-- why one place more was refused: the tallies of the object's driver, or the script object's count, have run out
+abbrev pub IsTallyFull : Slot → ScriptObjects → List State → Type 0
+IsTallyFull (Bits n) os ss = ⊥
+IsTallyFull (Script None) os ss = ⊥
+IsTallyFull (Script (Some n)) os ss = 2 ^ 64 - 1 ≤ count_of_object (map.get os n)
+IsTallyFull (Host d None) os ss = ⊥
+IsTallyFull (Host d (Some k)) os ss = IsFull (state_at ss d)
 
 -- the drivers follow what was listed
 pub record PartsMove {V : Type 0} {P : V → Type 0} (m : (v : V) → Meaning (P v)) (roles : List Role) (xs : List (DynBox V Global P)) (es : List HostEvent) (ys : List (DynBox V Global P)) (fs : List HostEvent) : Type 0 where

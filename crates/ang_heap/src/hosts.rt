@@ -39,6 +39,7 @@ pub fn add(drivers: &mut Drivers, driver: u32, key: u64) -> bool
     ensures ready { (len capacity : ℕ) → AreReady (states_of (λ v. (⟦<dyn Driver as Driver>⟧ v).meaning) (members drivers.old)) len capacity
         → AreReady (states_of (λ v. (⟦<dyn Driver as Driver>⟧ v).meaning) (members drivers.new)) len capacity }
     ensures full { result ≡ false → IsFull (state_at (states_of (λ v. (⟦<dyn Driver as Driver>⟧ v).meaning) (members drivers.old)) driver) }
+    ensures unchanged { result ≡ false → states_of (λ v. (⟦<dyn Driver as Driver>⟧ v).meaning) (members drivers.new) ≡ states_of (λ v. (⟦<dyn Driver as Driver>⟧ v).meaning) (members drivers.old) }
     ensures follow { (roles : List Role) → DriversFollow (λ v. (⟦<dyn Driver as Driver>⟧ v).meaning) roles (members drivers.old) [] (members drivers.new) }
 {
     drivers.add_ref(driver, key)

@@ -4,7 +4,7 @@ ghost use Rattle.std.specs.FinMap as map;
 ghost use Rattle.ang_meaning.specs.Perform.{field_of, with_field, new_object};
 ghost use Rattle.ang_meaning.specs.Setting.{default_of};
 ghost use Rattle.slab.specs.Slab.{get as slab_get, with_value};
-ghost use Rattle.ang_heap.specs.Heaps.{record_of, objects_in, objects_of, class_in, rank_in};
+ghost use Rattle.ang_heap.specs.Heaps.{record_of, objects_in, objects_of, class_of_record, rank_of_record};
 
 use crate::heap::{Heap, ScriptObject};
 use ang_meaning::{Class, FieldKind, Slot};
@@ -17,6 +17,7 @@ impl Heap {
         ensures empty { objects_of result ≡ map.empty }
     {
         Heap {
+            alloc,
             records: Slab::new(alloc),
         }
     }
@@ -26,18 +27,18 @@ impl Heap {
     ///
     /// # Errors
     /// Want of memory, and then nothing changes.
-    pub fn make(&mut self, alloc: Global, class: &Class) -> Result<usize, AllocError>
+    pub fn make(&mut self, class: &Class) -> Result<usize, AllocError>
         ensures free { IfOk result (λ n. map.get (objects_of self.old) n ≡ None) }
         ensures made { IfOk result (λ n. objects_of self.new ≡ map.insert (objects_of self.old) n (new_object class.now)) }
         ensures unchanged { OnErr result (objects_of self.new ≡ objects_of self.old) }
     {
-        let fields = defaults(alloc, class.fields.as_slice())?;
+        let fields = defaults(self.alloc, class.fields.as_slice())?;
         insert(&mut self.records, new_record(class, fields))
     }
 
     /// The class of an object, where there is one of that number.
     pub fn class(&self, number: usize) -> Option<u32>
-        ensures exact { result ≡ class_in (map.get (objects_of self.now) number) }
+        ensures exact { result ≡ class_of_record (map.get (objects_of self.now) number) }
     {
         match self.records.get(number) {
             Some(object) => Some(object.class),
@@ -47,7 +48,7 @@ impl Heap {
 
     /// The rank of an object, where there is one of that number.
     pub fn rank(&self, number: usize) -> Option<u32>
-        ensures exact { result ≡ rank_in (map.get (objects_of self.now) number) }
+        ensures exact { result ≡ rank_of_record (map.get (objects_of self.now) number) }
     {
         match self.records.get(number) {
             Some(object) => Some(object.rank),
@@ -66,8 +67,8 @@ impl Heap {
     }
 
     /// Stores a value into a field of an object, where there is such a field, and gives the old value back;
-    /// where there is none, the value itself. A script object that is stored has to be of a lower rank than
-    /// the object, or giving up might not end.
+    /// where there is none, the value itself. Only a script object of a lower rank than the object should
+    /// be stored: else objects could hold one another in a circle, and would never be given up.
     pub fn set_field(&mut self, number: usize, index: u32, value: Slot) -> Slot
         ensures old { result ≡ field_of (map.get (objects_of self.old) number) index value }
         ensures put { objects_of self.new ≡ with_field number (map.get (objects_of self.old) number) index value (objects_of self.old) }

@@ -2,7 +2,7 @@ use Rattle.ang_host.specs.Boxes.{members}
 use Rattle.ang_host.specs.Members.{state_at, states_of}
 use Rattle.ang_host.proofs.Counts.{IsLive-held}
 use Rattle.ang_host.proofs.Steps.{AllFollow-added}
-use Rattle.ang_heap.proofs.Hosting.{in_list, add_counts, add_full, add_live, add_ready}
+use Rattle.ang_heap.proofs.Hosting.{in_list, add_counts, add_full, add_unchanged, add_live, add_ready}
 use Rattle.ang_heap.proofs.hosts.add.Goals as goal
 
 pub add_ref-requires-clause-in_list : goal.add_ref-requires-clause-in_list
@@ -16,6 +16,9 @@ returns-clause-counts g c = add_counts _ _ _ _ _ _ _ _ c.add_ref.ensures.moved
 
 pub returns-clause-full : goal.returns-clause-full
 returns-clause-full g c = λ e. add_full _ _ _ _ _ _ _ _ c.add_ref.ensures.moved e
+
+pub returns-clause-unchanged : goal.returns-clause-unchanged
+returns-clause-unchanged g c = λ e. add_unchanged _ _ _ _ _ _ _ _ c.add_ref.ensures.moved e
 
 pub returns-clause-live : goal.returns-clause-live
 returns-clause-live g c = add_live _ _ _ _ _ _ _ _ c.add_ref.ensures.moved

@@ -1,30 +1,30 @@
-use Rattle.std.proofs.Common.{[], Some, None, sym, ap, ◌∙◌, append-nil}
-use Rattle.ang_meaning.specs.declared.slot.Slot.TheVariants.{Script, Host}
+use Rattle.std.proofs.Common.{[], sym, ap, subst, ◌∙◌, append-nil}
+use Rattle.ang_meaning.specs.World.{hold, if_told, with_inputs}
+use Rattle.ang_meaning.specs.Told.{Told}
 use Rattle.ang_heap.specs.Stores.{world_of}
-use Rattle.ang_heap.proofs.Storing.{bits_held, null_held, no_key_held, host_held, script_held}
+use Rattle.ang_heap.specs.Globals.{values_in}
+use Rattle.ang_heap.specs.Heaps.{objects_of}
+use Rattle.ang_heap.specs.Parts.{counts_of, world_by}
+use Rattle.ang_host.specs.Boxes.{members}
+use Rattle.ang_heap.proofs.Storing.{on_false}
 use Rattle.ang_heap.proofs.store.hold_object.Goals as goal
 
-pub returns-in-Bits-clause-told : goal.returns-in-Bits-clause-told
-returns-in-Bits-clause-told g c = bits_held c.args.value _ (world_of (λ v. (g.dyn-1.0.entry v).1.meaning) c.args.store.now) c.in-Bits.is
+pub returns-clause-told : goal.returns-clause-told
+returns-clause-told g c =
+    subst (λ b. Told (λ is. hold c.args.value (with_inputs is (world_of (λ v. (g.dyn-1.0.entry v).1.meaning) c.args.store.now))) (λ is. if_told b (world_by (objects_of c.hold.new.self) (counts_of (λ v. (g.dyn-1.0.entry v).1.meaning) (members c.hold.new.drivers)) (values_in c.args.store.now.globals) c.args.store.now.events.items is)))
+    (sym c.is_ok.ensures.value) (c.hold.ensures.holds (values_in c.args.store.now.globals) c.args.store.now.events.items)
 
-pub returns-in-Some-clause-told : goal.returns-in-Some-clause-told
-returns-in-Some-clause-told g c =
-    host_held c.args.value c.in-Host.driver c.in-Some.key c.add.result (world_of (λ v. (g.dyn-1.0.entry v).1.meaning) c.args.store.now) _
-    (c.in-Host.is ∙ ap (λ o. Host c.in-Host.driver o) c.in-Some.is) c.add.ensures.counts
+pub returns-clause-full : goal.returns-clause-full
+returns-clause-full g c = λ e. on_false c.hold.result (sym c.is_ok.ensures.value ∙ e) c.hold.ensures.full
 
-pub returns-in-Some-clause-moves : goal.returns-in-Some-clause-moves
-returns-in-Some-clause-moves g c = λ roles. record {
-  parts = record { more = []; events = sym (append-nil _); follow = c.add.ensures.follow roles };
-  ready = λ r. record { parts = c.add.ensures.ready _ _ r.parts; alive = r.alive ∙ sym c.add.ensures.live; kept = r.kept };
+pub returns-clause-unchanged : goal.returns-clause-unchanged
+returns-clause-unchanged g c = λ e. on_false c.hold.result (sym c.is_ok.ensures.value ∙ e) c.hold.ensures.same_drivers
+
+pub returns-clause-moves : goal.returns-clause-moves
+returns-clause-moves g c = λ roles. record {
+  parts = record { more = []; events = sym (append-nil _); follow = c.hold.ensures.follow roles };
+  ready = λ r. record {
+    kept = record { drivers = c.hold.ensures.ready _ _ r.kept.drivers; alive = r.kept.alive ∙ sym c.hold.ensures.live; none = r.kept.none };
+    room = r.room;
+  };
 }
-
-pub returns-in-None-clause-told : goal.returns-in-None-clause-told
-returns-in-None-clause-told g c = no_key_held c.args.value c.in-Host.driver (world_of (λ v. (g.dyn-1.0.entry v).1.meaning) c.args.store.now) (c.in-Host.is ∙ ap (λ o. Host c.in-Host.driver o) c.in-None.is)
-
-pub returns-in-Some-handle-clause-told : goal.returns-in-Some-handle-clause-told
-returns-in-Some-handle-clause-told g c =
-    script_held c.args.value c.in-Some-handle.number c.raise.result (world_of (λ v. (g.dyn-1.0.entry v).1.meaning) c.args.store.now) _
-    (c.in-Script.is ∙ ap Script c.in-Some-handle.is) c.raise.ensures.raised
-
-pub returns-in-None-handle-clause-told : goal.returns-in-None-handle-clause-told
-returns-in-None-handle-clause-told g c = null_held c.args.value (world_of (λ v. (g.dyn-1.0.entry v).1.meaning) c.args.store.now) (c.in-Script.is ∙ ap Script c.in-None-handle.is)
