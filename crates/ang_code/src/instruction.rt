@@ -52,6 +52,18 @@ pub enum Instruction {
         /// The global's number.
         global: u32,
     },
+    /// The same with a field of the object at the place `object`, where it is there and the field may take
+    /// the value; else nothing changes.
+    SwapField {
+        /// The integer type.
+        to: Option<Prim>,
+        /// The place of the value that moves.
+        under: u32,
+        /// The object's place.
+        object: u32,
+        /// The field's number.
+        field: u32,
+    },
     /// Gives up so many values below the top one, the lowest first.
     DropUnder(usize),
     /// Leaves the body with the top value; below it so many locals are given up, and then the parameters

@@ -10,7 +10,7 @@ use Rattle.ang_meaning.specs.declared.slot.Slot.TheVariants.{Bits, Script, Host}
 use Rattle.ang_meaning.specs.declared.routine.Routine.{Routine}
 use Rattle.ang_meaning.specs.World.{World, ScriptRecord, Input, with_inputs, Tried, Yes, No, memory_step, give}
 use Rattle.ang_meaning.specs.Told.{has_room, answers_told, answers_listed}
-use Rattle.ang_meaning.specs.declared.class.FieldKind.{FieldKind}
+use Rattle.ang_meaning.specs.declared.class.ValueKind.{ValueKind}
 use Rattle.ang_meaning.specs.Setting.{Setting, default_of}
 use Rattle.ang_meaning.specs.Perform.{globals_of}
 use Rattle.ang_meaning.specs.Results.{Reply, Yields, Raises, or_else, give_back}
@@ -79,7 +79,7 @@ back_globals : (vs : List Slot) (w : World) → (give_back vs w).globals ≡ w.g
 back_globals [] w = refl
 back_globals (v ∷ vs) w = give_globals v (give_back vs w) ∙ back_globals vs w
 
-relaid_counted : (m : ℕ) (kinds : List FieldKind) (w : World) → IsCounted [] w → IsCounted [] (relaid m kinds w)
+relaid_counted : (m : ℕ) (kinds : List ValueKind) (w : World) → IsCounted [] w → IsCounted [] (relaid m kinds w)
 unfolding relaid
 relaid_counted m kinds w p =
     let empty = with_globals m [] w in
@@ -97,7 +97,7 @@ module _ (apart : Type 0) (r : Renaming) where
     inputs = h.inputs;
   }
 
-  relaid_alike : (m : ℕ) (kinds : List FieldKind) (v w : World) → Alike apart r v w → Alike apart r (relaid m kinds v) (relaid m kinds w)
+  relaid_alike : (m : ℕ) (kinds : List ValueKind) (v w : World) → Alike apart r v w → Alike apart r (relaid m kinds v) (relaid m kinds w)
   unfolding relaid
   relaid_alike m kinds v w h =
       laid_alike m (list_map default_of kinds) (list_map default_of kinds) _ _ (sym (defaults_renamed r kinds))

@@ -11,7 +11,7 @@ use Rattle.ang_meaning.specs.declared.routine.Routine.{Routine}
 use Rattle.ang_meaning.specs.declared.routine.Passing.{Passing}
 use Rattle.ang_meaning.specs.World.{World, Input, with_inputs, memory_step, give}
 use Rattle.ang_meaning.specs.Told.{has_room, answers_told, answers_listed}
-use Rattle.ang_meaning.specs.declared.class.FieldKind.{FieldKind}
+use Rattle.ang_meaning.specs.declared.class.ValueKind.{ValueKind}
 use Rattle.ang_meaning.specs.Setting.{Setting, default_of}
 use Rattle.ang_meaning.specs.Perform.{globals_of}
 use Rattle.ang_meaning.specs.Hosts.{value_of}
@@ -33,12 +33,12 @@ pub data Turn : Type 0 where
   Wants : Turn
   Calls : Setting → Bodies → ℕ → Routine → List ℕ → Turn
   Initializes : Setting → Bodies → List Routine → ℕ → Turn
-  Relays : ℕ → List FieldKind → Turn
+  Relays : ℕ → List ValueKind → Turn
 
 abbrev pub with_globals : ℕ → List Slot → World → World
 with_globals m l w = record w { globals = slice_set w.globals m l }
 
-unfoldable pub relaid : ℕ → List FieldKind → World → World
+unfoldable pub relaid : ℕ → List ValueKind → World → World
 relaid m kinds w = with_globals m (list_map default_of kinds) (give_back (globals_of m w) (with_globals m [] w))
 
 abbrev pub done_by : Turn → World → Reply

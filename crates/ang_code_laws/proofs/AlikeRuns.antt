@@ -7,7 +7,7 @@ use Rattle.ang_host.specs.declared.answer.HostReply.{HostReply}
 use Rattle.ang_meaning.specs.declared.slot.Slot.{Slot}
 use Rattle.ang_meaning.specs.declared.slot.Slot.TheVariants.{Bits}
 use Rattle.ang_meaning.specs.declared.routine.Routine.{Routine}
-use Rattle.ang_meaning.specs.World.{World, Input, Room, Said, Counted, Fresh, with_inputs}
+use Rattle.ang_meaning.specs.World.{World, Input, Room, Said, Tallied, Fresh, with_inputs}
 use Rattle.ang_meaning.specs.Told.{Told, has_room, answers_told}
 use Rattle.ang_meaning.specs.Setting.{Setting}
 use Rattle.ang_meaning.specs.Counting.{IsCounted}
@@ -29,26 +29,26 @@ match_then apart [] (j ∷ b) c d h k = absurd h
 match_then apart (i ∷ a) [] c d h k = absurd h
 match_then apart (Room x ∷ a) (Room y ∷ b) c d h k = (h.0, match_then apart a b c d h.1 k)
 match_then apart (Room x ∷ a) (Said y ∷ b) c d h k = absurd h
-match_then apart (Room x ∷ a) (Counted y ∷ b) c d h k = absurd h
+match_then apart (Room x ∷ a) (Tallied y ∷ b) c d h k = absurd h
 match_then apart (Room x ∷ a) (Fresh y ∷ b) c d h k = absurd h
 match_then apart (Said x ∷ a) (Room y ∷ b) c d h k = absurd h
 match_then apart (Said x ∷ a) (Said y ∷ b) c d h k = (h.0, match_then apart a b c d h.1 k)
-match_then apart (Said x ∷ a) (Counted y ∷ b) c d h k = absurd h
+match_then apart (Said x ∷ a) (Tallied y ∷ b) c d h k = absurd h
 match_then apart (Said x ∷ a) (Fresh y ∷ b) c d h k = absurd h
-match_then apart (Counted x ∷ a) (Room y ∷ b) c d h k = absurd h
-match_then apart (Counted x ∷ a) (Said y ∷ b) c d h k = absurd h
-match_then apart (Counted x ∷ a) (Counted y ∷ b) c d h k = (h.0, match_then apart a b c d h.1 k)
-match_then apart (Counted x ∷ a) (Fresh y ∷ b) c d h k = absurd h
+match_then apart (Tallied x ∷ a) (Room y ∷ b) c d h k = absurd h
+match_then apart (Tallied x ∷ a) (Said y ∷ b) c d h k = absurd h
+match_then apart (Tallied x ∷ a) (Tallied y ∷ b) c d h k = (h.0, match_then apart a b c d h.1 k)
+match_then apart (Tallied x ∷ a) (Fresh y ∷ b) c d h k = absurd h
 match_then apart (Fresh x ∷ a) (Room y ∷ b) c d h k = absurd h
 match_then apart (Fresh x ∷ a) (Said y ∷ b) c d h k = absurd h
-match_then apart (Fresh x ∷ a) (Counted y ∷ b) c d h k = absurd h
+match_then apart (Fresh x ∷ a) (Tallied y ∷ b) c d h k = absurd h
 match_then apart (Fresh x ∷ a) (Fresh y ∷ b) c d h k = match_then apart a b c d h k
 
 pub match_same : (a : List Input) → Match ⊥ a a
 match_same [] = λ x. x
 match_same (Room b ∷ a) = (refl, match_same a)
 match_same (Said q ∷ a) = (refl, match_same a)
-match_same (Counted b ∷ a) = (refl, match_same a)
+match_same (Tallied b ∷ a) = (refl, match_same a)
 match_same (Fresh n ∷ a) = match_same a
 
 match_whole : (apart : Type 0) (a b : List Input) → Match apart a b → Match apart (a ++ []) (b ++ [])
@@ -97,21 +97,21 @@ compare (Room true ∷ u) (Room true ∷ v) h k e = longer (Room true) (Room tru
 compare (Room true ∷ u) (Room false ∷ v) h k e = absurd (let q : ⊥ = cc in q)
 compare (Room false ∷ u) (Room y ∷ v) h k e = absurd (let q : ⊥ = cc in q)
 compare (Room x ∷ u) (Said y ∷ v) h k e = inr (inl tt)
-compare (Room x ∷ u) (Counted y ∷ v) h k e = inr (inl tt)
+compare (Room x ∷ u) (Tallied y ∷ v) h k e = inr (inl tt)
 compare (Room x ∷ u) (Fresh y ∷ v) h k e = inr (inl tt)
 compare (Said x ∷ u) (Room y ∷ v) h k e = inr (inl tt)
 compare (Said x ∷ u) (Said y ∷ v) h k e = longer (Said x) (Said y) u v (λ a l m t. (ap (first_answer x) e, t)) (compare u v h k (ap later_answers e))
-compare (Said x ∷ u) (Counted y ∷ v) h k e = inr (inl tt)
+compare (Said x ∷ u) (Tallied y ∷ v) h k e = inr (inl tt)
 compare (Said x ∷ u) (Fresh y ∷ v) h k e = inr (inl tt)
-compare (Counted x ∷ u) (Room y ∷ v) h k e = inr (inl tt)
-compare (Counted x ∷ u) (Said y ∷ v) h k e = inr (inl tt)
-compare (Counted true ∷ u) (Counted true ∷ v) h k e = longer (Counted true) (Counted true) u v (λ a l m t. (refl, t)) (compare u v h k e)
-compare (Counted true ∷ u) (Counted false ∷ v) h k e = absurd (let q : ⊥ = cc in q)
-compare (Counted false ∷ u) (Counted y ∷ v) h k e = absurd (let q : ⊥ = cc in q)
-compare (Counted x ∷ u) (Fresh y ∷ v) h k e = inr (inl tt)
+compare (Tallied x ∷ u) (Room y ∷ v) h k e = inr (inl tt)
+compare (Tallied x ∷ u) (Said y ∷ v) h k e = inr (inl tt)
+compare (Tallied true ∷ u) (Tallied true ∷ v) h k e = longer (Tallied true) (Tallied true) u v (λ a l m t. (refl, t)) (compare u v h k e)
+compare (Tallied true ∷ u) (Tallied false ∷ v) h k e = absurd (let q : ⊥ = cc in q)
+compare (Tallied false ∷ u) (Tallied y ∷ v) h k e = absurd (let q : ⊥ = cc in q)
+compare (Tallied x ∷ u) (Fresh y ∷ v) h k e = inr (inl tt)
 compare (Fresh x ∷ u) (Room y ∷ v) h k e = inr (inl tt)
 compare (Fresh x ∷ u) (Said y ∷ v) h k e = inr (inl tt)
-compare (Fresh x ∷ u) (Counted y ∷ v) h k e = inr (inl tt)
+compare (Fresh x ∷ u) (Tallied y ∷ v) h k e = inr (inl tt)
 compare (Fresh x ∷ u) (Fresh y ∷ v) h k e = longer (Fresh x) (Fresh y) u v (λ a l m t. t) (compare u v h k e)
 
 -- ---- ends

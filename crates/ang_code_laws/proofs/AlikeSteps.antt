@@ -19,16 +19,16 @@ use Rattle.ang_meaning.specs.World.{World, ScriptRecord, Tried, Yes, No, hold, g
 use Rattle.ang_meaning.specs.Told.{Moves}
 use Rattle.ang_meaning.specs.Setting.{Setting, Found, Enters, Misses, method_of, virtual_of, params_in, receiver_in, target, is_null, has_objects, params_of, is_fit}
 use Rattle.ang_meaning.specs.Hosts.{Done, Fine, Fails}
-use Rattle.ang_meaning.specs.Perform.{perform, operands, change_of, global_or, global_put}
+use Rattle.ang_meaning.specs.Perform.{perform, operands, change_of, global_or, global_put, member_or, member_put}
 use Rattle.ang_meaning.specs.Results.{local_at, local_set, drop_some, give_some, give_back, at_zero, on_test, ticked, or_else, brought, outs_of, give_others, may_nest}
 use Rattle.ang_meaning.specs.Counting.{IsCounted}
 use Rattle.ang_meaning.specs.Alike.{Renaming, renamed, renamed_all, renamed_record, Match, Alike}
 use Rattle.ang_meaning.proofs.Moving.{give_all_moves}
-use Rattle.ang_meaning.proofs.AlikeWorlds.{three, HasMore, TriedLeaves, DoneLeaves, TriedSame, DoneSame, TriedAlike, DoneAlike, memory_alike, hold_alike, give_alike, give_all_alike, global_renamed, put_alike}
+use Rattle.ang_meaning.proofs.AlikeWorlds.{three, HasMore, TriedLeaves, DoneLeaves, TriedSame, DoneSame, TriedAlike, DoneAlike, memory_alike, hold_alike, give_alike, give_all_alike, global_renamed, put_alike, member_renamed, member_alike}
 use Rattle.ang_meaning.proofs.AlikeOperations.{OneAlike, null_renamed, change_renamed, perform_alike}
 use Rattle.ang_code.specs.declared.instruction.Frame.{Frame}
 use Rattle.ang_code.specs.declared.instruction.Instruction.{Instruction}
-use Rattle.ang_code.specs.declared.instruction.Instruction.TheVariants.{PushBits, PushNull, Load, Store, Change, Do, Drop, Leave, SkipIfFalse, GoOn, Tick, Back, Enter, Swap, SwapGlobal, DropUnder, Return}
+use Rattle.ang_code.specs.declared.instruction.Instruction.TheVariants.{PushBits, PushNull, Load, Store, Change, Do, Drop, Leave, SkipIfFalse, GoOn, Tick, Back, Enter, Swap, SwapGlobal, SwapField, DropUnder, Return}
 use Rattle.ang_code.specs.Machine.{Texts, Config, At, Over, Finished, Faulted, Stuck, fault, roomy, within, enough, fitting, on_top, did, changed_into, back, begins, enters, found_enters, act, step, steps, take_some, call_begins, initializer_begins}
 use Rattle.ang_code_laws.specs.Alike.{turned, WorldAlike, ConfigsAlike, StepsAlike}
 use Rattle.ang_code_laws.specs.Counting.{CountedAt}
@@ -325,6 +325,19 @@ module _ (apart : Type 0) where
         (sym (ap (brought to) (at_renamed r s under) ∙ brought_renamed r to (local_at s under)))
         (at_alike r _ _ (put_alike apart r f.home g x v w h) f (pc + 1) room (local_set s under (global_or f.home g x v)) _ fr t
         (ap (λ y. local_set us under y) (global_renamed apart r f.home g x v w h) ∙ set_renamed r s under (global_or f.home g x v))))
+    act_alike (SwapField to under d i) f pc room s fr t r v w p h =
+        let us = renamed_all r s in
+        let x = brought to (local_at s under) in
+        let o = local_at s d in
+        within_alike r w under s us _ _ (many_renamed r s) (within_alike r w d s us _ _ (many_renamed r s)
+        (subst (λ y. RunsAlike (At f (pc + 1) room (local_set s under (member_or i o x v)) fr t (member_put i o x v))
+        (At f (pc + 1) room (local_set us under (member_or i (local_at us d) y w)) fr t (member_put i (local_at us d) y w)))
+        (sym (ap (brought to) (at_renamed r s under) ∙ brought_renamed r to (local_at s under)))
+        (subst (λ q. RunsAlike (At f (pc + 1) room (local_set s under (member_or i o x v)) fr t (member_put i o x v))
+        (At f (pc + 1) room (local_set us under (member_or i q (renamed r x) w)) fr t (member_put i q (renamed r x) w)))
+        (sym (at_renamed r s d))
+        (at_alike r _ _ (member_alike apart r i o x v w h) f (pc + 1) room (local_set s under (member_or i o x v)) _ fr t
+        (ap (λ y. local_set us under y) (member_renamed apart r i o x v w h) ∙ set_renamed r s under (member_or i o x v))))))
     act_alike (DropUnder n) f pc room s fr t r v w p h =
         top_alike r w s _ _ (λ x u. enough_alike r w n u (renamed_all r u) _ _ (many_renamed r u)
         (subst (λ l. RunsAlike (At f (pc + 1) room (x ∷ drop_some n u) fr t (give_back (take_some n u) v)) (At f (pc + 1) room (renamed r x ∷ drop_some n (renamed_all r u)) fr t (give_back l w))) (sym (take_renamed r n u))

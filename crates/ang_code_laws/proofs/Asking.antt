@@ -1,6 +1,7 @@
 -- Each step of a run asks for the module that runs alone.
-use Rattle.std.proofs.Common.{◌≡◌, ℕ, zero, suc, ◌+◌, List, [], ◌∷◌, ◌++◌, length, Option, Some, None, refl}
+use Rattle.std.proofs.Common.{◌≡◌, ℕ, zero, suc, ◌+◌, ◌≤◌, List, [], ◌∷◌, ◌++◌, length, Option, Some, None, refl, ap, arith}
 use Rattle.std.specs.Prelude.{Bool, true, false, cond, ltb, leb, slice_get}
+use Rattle.std.proofs.lemmas.Bool.{leb-true}
 use Rattle.ang_kinds.specs.declared.fault.Fault.{Fault}
 use Rattle.ang_kinds.specs.declared.fault.Fault.TheVariants.{Null as NullFault, Budget, Depth, Memory, Tally}
 use Rattle.ang_meaning.specs.declared.slot.Slot.{Slot}
@@ -11,16 +12,21 @@ use Rattle.ang_meaning.specs.World.{World, Tried, Yes, No, hold, give, give_all,
 use Rattle.ang_meaning.specs.Told.{Moves}
 use Rattle.ang_meaning.specs.Setting.{Setting, Found, Enters, Misses, target, has_objects, params_of, is_fit}
 use Rattle.ang_meaning.specs.Hosts.{Done, Fine, Fails}
-use Rattle.ang_meaning.specs.Perform.{perform, operands, change_of, global_put}
+use Rattle.ang_meaning.specs.Perform.{perform, operands, change_of, global_put, member_put}
 use Rattle.ang_meaning.specs.Results.{local_at, drop_some, give_some, give_back, at_zero, on_test, ticked, or_else, brought, give_others, may_nest}
-use Rattle.ang_meaning.proofs.Moving.{give_moves, give_all_moves, give_some_moves, give_back_moves, give_others_moves, put_moves}
+use Rattle.ang_meaning.proofs.Moving.{give_moves, give_all_moves, give_some_moves, give_back_moves, give_others_moves, put_moves, member_moves}
 use Rattle.ang_code.specs.declared.instruction.Frame.{Frame}
 use Rattle.ang_code.specs.declared.instruction.Instruction.{Instruction}
-use Rattle.ang_code.specs.declared.instruction.Instruction.TheVariants.{PushBits, PushNull, Load, Store, Change, Do, Drop, Leave, SkipIfFalse, GoOn, Tick, Back, Enter, Swap, SwapGlobal, DropUnder, Return}
+use Rattle.ang_code.specs.declared.instruction.Instruction.TheVariants.{PushBits, PushNull, Load, Store, Change, Do, Drop, Leave, SkipIfFalse, GoOn, Tick, Back, Enter, Swap, SwapGlobal, SwapField, DropUnder, Return}
 use Rattle.ang_code.specs.Machine.{Texts, Config, At, Over, Stuck, fault, roomy, within, enough, on_top, did, changed_into, back, begins, found_enters, act, step, steps, take_some, call_begins, initializer_begins}
 use Rattle.ang_code_laws.specs.Asked.{Asks, AsksFrom, CallsAsk, InitializersAsk}
 use Rattle.ang_code_laws.proofs.Events.{asks_then, nothing, untold, TriedAsks, memory_asks, hold_asks}
 use Rattle.ang_code_laws.proofs.Performing.{DoneAsks, perform_asks}
+
+taken_length : (n : ℕ) (s : List Slot) → n ≤ length s → length (take_some n s) ≡ n
+taken_length zero s le = refl
+taken_length (suc n) [] le = absurd (omega (arith, le))
+taken_length (suc n) (v ∷ s) le = ap suc (taken_length n s (omega (arith, le)))
 
 module _ (z : Setting) (code : Texts) (u : World) where
   -- a test before a step
@@ -107,10 +113,11 @@ module _ (z : Setting) (code : Texts) (u : World) where
   act_from (Change by d) f pc room s fr t w p =
       top_from s _ (λ v r. within_from d r _ (changed_from (change_of by (local_at r d) v) (v ∷ r) w _ p (λ a b. p)))
   act_from (Do o) f pc room s fr t w p =
-      let vs = take_some (operands z f.home o) s in
-      fit_from (is_fit z f.home o) _ (λ fit. enough_from (operands z f.home o) s _ (roomy_from room (drop_some (operands z f.home o) s) _
+      let n = operands z f.home o in
+      let vs = take_some n s in
+      fit_from (is_fit z f.home o) _ (λ fit. fit_from (leb n (length s)) _ (λ le. roomy_from room (drop_some n s) _
       (did_from f.home w (perform z f.home o vs w) s _ p
-      (perform_asks z f.home o vs w fit) (λ v w' q. q))))
+      (perform_asks z f.home o vs w fit (taken_length n s (leb-true n (length s) le))) (λ v w' q. q))))
   act_from Drop f pc room s fr t w p = top_from s _ (λ v r. (then_gives w (give v w) p (give_moves v w)))
   act_from (Leave n) f pc room s fr t w p = enough_from n s _ (then_gives w (give_some n s w) p (give_some_moves n s w))
   act_from (SkipIfFalse n) f pc room s fr t w p = top_from s _ (λ v r. test_from v _ _ _ (fault_from NullFault (v ∷ r) w p) p p)
@@ -122,6 +129,10 @@ module _ (z : Setting) (code : Texts) (u : World) where
   act_from (SwapGlobal to under g) f pc room s fr t w p =
       let v = brought to (local_at s under) in
       within_from under s _ (then_gives w (global_put f.home g v w) p (put_moves f.home g v w))
+  act_from (SwapField to under d i) f pc room s fr t w p =
+      let v = brought to (local_at s under) in
+      let o = local_at s d in
+      within_from under s _ (within_from d s _ (then_gives w (member_put i o v w) p (member_moves i o v w)))
   act_from (DropUnder n) f pc room s fr t w p =
       top_from s _ (λ v r. enough_from n r _ (then_gives w (give_back (take_some n r) w) p (give_back_moves (take_some n r) w)))
   act_from (Return n) f pc room s fr t w p =

@@ -6,7 +6,7 @@ use Rattle.ang_host.specs.declared.event.HostEvent.{HostEvent}
 use Rattle.ang_host.specs.declared.event.HostEvent.TheVariants.{Called, Ended}
 use Rattle.ang_meaning.specs.declared.slot.Slot.{Slot}
 use Rattle.ang_meaning.specs.declared.slot.Slot.TheVariants.{Bits, Script, Host}
-use Rattle.ang_meaning.specs.World.{World, Input, Room, Said, Counted, Fresh, Tried, Yes, No, if_told, memory_told, memory_step, one_more, tally_told, tally_step, held, hold, with_inputs}
+use Rattle.ang_meaning.specs.World.{World, Input, Room, Said, Tallied, Fresh, Tried, Yes, No, if_told, memory_told, memory_step, one_more, tally_told, tally_step, held, hold, with_inputs}
 use Rattle.ang_meaning.specs.Told.{answers_listed, Moves}
 use Rattle.ang_meaning.specs.Setting.{Setting}
 use Rattle.ang_code_laws.specs.Asked.{IsAskedBy, Asks}
@@ -52,7 +52,7 @@ module _ (z : Setting) where
   memory_from [] w = nothing w
   memory_from (Room b ∷ rest) w = told_asks b rest w
   memory_from (Said r ∷ rest) w = nothing w
-  memory_from (Counted b ∷ rest) w = nothing w
+  memory_from (Tallied b ∷ rest) w = nothing w
   memory_from (Fresh n ∷ rest) w = nothing w
 
   pub memory_asks : (w : World) → TriedAsks w (memory_step w)
@@ -61,7 +61,7 @@ module _ (z : Setting) where
 
   tally_from : (inputs : List Input) (w : World) → TriedAsks w (tally_told inputs w)
   tally_from [] w = nothing w
-  tally_from (Counted b ∷ rest) w = told_asks b rest w
+  tally_from (Tallied b ∷ rest) w = told_asks b rest w
   tally_from (Said r ∷ rest) w = nothing w
   tally_from (Room b ∷ rest) w = nothing w
   tally_from (Fresh n ∷ rest) w = nothing w

@@ -1,9 +1,13 @@
 -- What a run asks of the host, and for which module.
-use Rattle.std.specs.Prelude.{◌≡◌, ◌⊎◌, ℕ, true, List, ◌++◌}
+use Rattle.std.specs.Prelude.{◌≡◌, ◌⊎◌, ℕ, true, false, List, [], ◌++◌, length, Option, is_some}
 use Rattle.std.specs.List.{AllByRecursion}
 use Rattle.ang_kinds.specs.declared.mask.EntityNo.{EntityNo}
+use Rattle.ang_kinds.specs.declared.value.Value.{Value}
 use Rattle.ang_host.specs.declared.event.HostEvent.{HostEvent}
 use Rattle.ang_host.specs.declared.event.HostEvent.TheVariants.{Called, Ended}
+use Rattle.ang_host.specs.declared.event.Role.{Role}
+use Rattle.ang_host.specs.declared.event.Role.TheVariants.{Making, Calling, Property}
+use Rattle.ang_meaning.specs.declared.host.HostUse.{HostUse}
 use Rattle.ang_meaning.specs.declared.slot.Slot.{Slot}
 use Rattle.ang_meaning.specs.declared.routine.Routine.{Routine}
 use Rattle.ang_meaning.specs.World.{World, with_inputs}
@@ -16,11 +20,23 @@ use Rattle.ang_code.specs.Runs.{Runs, Ending}
 abbrev pub MayBeAsked : Setting → ℕ → EntityNo → Type 0
 MayBeAsked z m e = (may_call (z.host m e.0) ≡ true) ⊎ (may_access (z.host m e.0) ≡ true)
 
--- the event is an asking by a module, of an entity that this module sees, in the way of its role, and its reply is of the kind that this role gives; or an
--- object's end
+-- what an entity is asked with: as many arguments as it declares; a property with none where it is read, and with one where it is written, and then it is
+-- not declared `const`
+abbrev pub ArgumentsBy : Role → HostUse → List Value → Type 0
+ArgumentsBy (Making f) u args = length args ≡ length u.params
+ArgumentsBy (Calling f) u args = length args ≡ length u.params
+ArgumentsBy (Property f) u args = (args ≡ []) ⊎ ((length args ≡ 1) × (u.read_only ≡ false))
+
+-- it is asked of an object just where it is a member
+pub record FitsUse (u : HostUse) (object : Option ℕ) (args : List Value) : Type 0 where
+  pub of_object : is_some object ≡ u.member
+  pub arguments : ArgumentsBy u.role u args
+
+-- the event is an asking by a module, of an entity that this module sees, of its driver, as it is declared, and its reply is of the kind that its role gives;
+-- or an object's end
 abbrev pub IsAskedBy : Setting → HostEvent → Type 0
 IsAskedBy z (Called caller entity driver object args reply) =
-    (m : ℕ) × (caller ≡ z.name m) × MayBeAsked z m entity × (is_reply_to (use_at z m entity).role reply ≡ true)
+    (m : ℕ) × (caller ≡ z.name m) × MayBeAsked z m entity × (driver ≡ (use_at z m entity).driver) × FitsUse (use_at z m entity) object args × (is_reply_to (use_at z m entity).role reply ≡ true)
 IsAskedBy z (Ended driver key) = Unit {0}
 
 -- what a run listed since

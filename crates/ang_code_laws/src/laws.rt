@@ -1,11 +1,12 @@
-//! What each run of code asks.
+//! What each run of code asks and counts, that it has one end, and that the numbers of objects do not show.
 ghost use Rattle.ang_code_laws.specs.Alike.{StepsAlike, CallRunsAlike, InitializerRunsAlike, GrantedCallsAlike, GrantedInitializersAlike};
 ghost use Rattle.ang_code_laws.specs.Asked.{CallsAsk, InitializersAsk, CallRunsAsk, InitializerRunsAsk};
 ghost use Rattle.ang_code_laws.specs.Counting.{CallsCount, InitializersCount, StepsCount, CallRunsCount, InitializerRunsCount};
 ghost use Rattle.ang_code_laws.specs.Determined.{HasOneEnd};
 
-/// A run lists, as far as it has come, askings by modules, each of an entity that this module sees, in the
-/// way of its role and with a reply of the kind that this role gives, and ends of objects.
+/// A run lists, as far as it has come, askings by modules and ends of objects. Each asking is of an entity
+/// that this module sees and of its driver, of an object just where it is a member, with as many arguments
+/// as it declares and with a reply of the kind that its role gives; a `const` property is never written.
 #[tactic(auto, using(crate::proofs::Asking::calls_ask, crate::proofs::Asking::initializers_ask))]
 pub fn each_run_asks()
     ensures calls { CallsAsk }

@@ -46,10 +46,11 @@ pub record LinksFit (z : Setting) : Type 0 where
   pub same : (m i : ℕ) (g : Routine) → z.linked m i ≡ Some g → z.params g ≡ z.imported m i
   pub methods : (m c s : ℕ) (g : Routine) → z.method m c s ≡ Some g → z.params g ≡ z.slot m s
 
--- targets that are locals are among the n that are alive
+-- a target's local, or the one that holds the target's object, is among the n that are alive
 abbrev pub IsSpot : ℕ → Spot → Type 0
 IsSpot n (spot.Local i) = i < n
 IsSpot n (spot.Global g) = Unit {0}
+IsSpot n (spot.Field o i) = o < n
 
 abbrev pub AreSpots : ℕ → List Target → Type 0
 AreSpots n [] = Unit {0}

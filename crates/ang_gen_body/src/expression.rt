@@ -38,6 +38,25 @@ fn swap(target: &Target, under: u32, base: usize) -> Result<Instruction, AllocEr
             under,
             global,
         }),
+        Spot::Field { object, field } => {
+            let place = sum(base, object)?;
+            Ok(Instruction::SwapField {
+                to: target.to,
+                under,
+                object: narrow(place)?,
+                field,
+            })
+        }
+    }
+}
+
+// A place as an instruction has it, or want of memory where no stack could have it.
+fn narrow(place: usize) -> Result<u32, AllocError>
+    ensures exact { IfOk result (λ n. n ≡ place) }
+{
+    match u32::try_from(place) {
+        Ok(n) => Ok(n),
+        Err(_) => Err(AllocError),
     }
 }
 

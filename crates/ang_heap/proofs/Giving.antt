@@ -5,11 +5,11 @@ use Rattle.std.proofs.Common.{refl, sym, ◌∙◌, ap, subst, arith, append-nil
 use Rattle.ang_meaning.specs.declared.slot.Slot.{Slot}
 use Rattle.ang_meaning.specs.declared.slot.Slot.TheVariants.{Script}
 use Rattle.ang_meaning.specs.World.{World, ScriptObjects, HostCounts, Gone, script_lowered, give, give_all}
-use Rattle.ang_meaning.specs.Counting.{AreEnough, CanGive}
+use Rattle.ang_meaning.specs.Counting.{EnoughIn, CanGive}
 use Rattle.ang_meaning.proofs.Enough.{gone_enough, give_can}
 
-pub fields_enough : (k : ℕ) (fs : List Slot) (os us : ScriptObjects) (hs : HostCounts) → script_lowered k os ≡ Gone fs us → AreEnough (Script (Some k) ∷ []) os hs → AreEnough fs us hs
-fields_enough k fs os us hs e p = subst (λ l. AreEnough l us hs) (append-nil fs) (gone_enough k fs [] os us hs e p)
+pub fields_enough : (k : ℕ) (fs : List Slot) (os us : ScriptObjects) (hs : HostCounts) → script_lowered k os ≡ Gone fs us → EnoughIn (Script (Some k) ∷ []) os hs → EnoughIn fs us hs
+fields_enough k fs os us hs e p = subst (λ l. EnoughIn l us hs) (append-nil fs) (gone_enough k fs [] os us hs e p)
 
 pub taken : (fs : List Slot) (i : ℕ) (v : Slot) → i < length fs → v ≡ slice_index_or fs i v → drop i fs ≡ v ∷ drop (i + 1) fs
 taken fs i v lt e =

@@ -10,7 +10,7 @@ use Rattle.ang_host.specs.Boxes.{members}
 use Rattle.ang_host.specs.Events.{DriversFollow}
 use Rattle.ang_meaning.specs.declared.slot.Slot.{Slot}
 use Rattle.ang_meaning.specs.declared.slot.Slot.TheVariants.{Bits, Script, Host}
-use Rattle.ang_meaning.specs.World.{World, ScriptObjects, HostCounts, Input, Counted, Yes, No, hold, one_more, tally_step, host_raised, script_raised, if_told, with_inputs}
+use Rattle.ang_meaning.specs.World.{World, ScriptObjects, HostCounts, Input, Tallied, Yes, No, hold, one_more, tally_step, host_raised, script_raised, if_told, with_inputs}
 use Rattle.ang_meaning.specs.Told.{Told}
 use Rattle.ang_heap.specs.declared.store.Store.{Store}
 use Rattle.ang_heap.specs.Parts.{world_by, PartsMove}
@@ -33,14 +33,14 @@ module _ (gs : List (List Slot)) (es : List HostEvent) where
   pub host_hold : (d k : ℕ) (b : Bool) (os : ScriptObjects) (hs hs' : HostCounts) → hs' ≡ cond b (host_raised d k hs) hs
       → Told (λ is. hold (Host d (Some k)) (with_inputs is (world_by os hs gs es []))) (λ is. if_told b (with_inputs is (world_by os hs' gs es [])))
   unfolding hold tally_step one_more
-  host_hold d k true os hs hs' e = record { used = Counted true ∷ []; tells = λ rest. ap (λ h. Yes (world_by os h gs es rest)) (sym e) }
-  host_hold d k false os hs hs' e = record { used = Counted false ∷ []; tells = λ rest. ap (λ h. No (world_by os h gs es rest)) (sym e) }
+  host_hold d k true os hs hs' e = record { used = Tallied true ∷ []; tells = λ rest. ap (λ h. Yes (world_by os h gs es rest)) (sym e) }
+  host_hold d k false os hs hs' e = record { used = Tallied false ∷ []; tells = λ rest. ap (λ h. No (world_by os h gs es rest)) (sym e) }
 
   pub script_hold : (n : ℕ) (b : Bool) (os os' : ScriptObjects) (hs : HostCounts) → os' ≡ cond b (script_raised n os) os
       → Told (λ is. hold (Script (Some n)) (with_inputs is (world_by os hs gs es []))) (λ is. if_told b (with_inputs is (world_by os' hs gs es [])))
   unfolding hold tally_step one_more
-  script_hold n true os os' hs e = record { used = Counted true ∷ []; tells = λ rest. ap (λ o. Yes (world_by o hs gs es rest)) (sym e) }
-  script_hold n false os os' hs e = record { used = Counted false ∷ []; tells = λ rest. ap (λ o. No (world_by o hs gs es rest)) (sym e) }
+  script_hold n true os os' hs e = record { used = Tallied true ∷ []; tells = λ rest. ap (λ o. Yes (world_by o hs gs es rest)) (sym e) }
+  script_hold n false os os' hs e = record { used = Tallied false ∷ []; tells = λ rest. ap (λ o. No (world_by o hs gs es rest)) (sym e) }
 
 -- ---- the same of a value that is such a one
 

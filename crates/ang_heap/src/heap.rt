@@ -7,7 +7,7 @@ ghost use Rattle.ang_host.specs.Members.{states_of};
 ghost use Rattle.ang_host.specs.Boxes.{members};
 ghost use Rattle.ang_meaning.specs.World.{Input, Gone, Kept, script_raised, script_lowered, hold as hold_in, give as give_in, if_told};
 ghost use Rattle.ang_meaning.specs.Told.{Told};
-ghost use Rattle.ang_meaning.specs.Counting.{AreEnough, HasKey, count_of_object};
+ghost use Rattle.ang_meaning.specs.Counting.{EnoughIn, HasKey, count_of_object};
 ghost use Rattle.slab.specs.Slab.{get as slab_get, slab_len, with_value};
 ghost use Rattle.ang_heap.specs.Parts.{counts_of, live_of, world_by, AreReady, IsTallyFull, PartsMove};
 ghost use Rattle.ang_heap.specs.Heaps.{objects_in, objects_of};
@@ -77,7 +77,7 @@ impl Heap {
     /// always succeeds: the end of each host object has its room in `events`.
     pub fn give_up(&mut self, drivers: &mut Drivers, events: &mut Vec<HostEvent>, value: Slot)
         requires ready { AreReady (states_of (λ v. (⟦<dyn Driver as Driver>⟧ v).meaning) (members drivers.old)) (vec_len events.old) (vec_capacity events.old) }
-        requires enough { AreEnough (value ∷ []) (objects_of self.old) (counts_of (λ v. (⟦<dyn Driver as Driver>⟧ v).meaning) (members drivers.old)) }
+        requires enough { EnoughIn (value ∷ []) (objects_of self.old) (counts_of (λ v. (⟦<dyn Driver as Driver>⟧ v).meaning) (members drivers.old)) }
         ensures gives { (gs : List (List Slot)) (is : List Input)
             → give_in value (world_by (objects_of self.old) (counts_of (λ v. (⟦<dyn Driver as Driver>⟧ v).meaning) (members drivers.old)) gs events.old.items is)
             ≡ world_by (objects_of self.new) (counts_of (λ v. (⟦<dyn Driver as Driver>⟧ v).meaning) (members drivers.new)) gs events.new.items is }
@@ -169,7 +169,7 @@ fn give_up(
     value: Slot,
 )
     requires ready { AreReady (states_of (λ v. (⟦<dyn Driver as Driver>⟧ v).meaning) (members drivers.old)) (vec_len events.old) (vec_capacity events.old) }
-    requires enough { AreEnough (value ∷ []) (objects_in records.old) (counts_of (λ v. (⟦<dyn Driver as Driver>⟧ v).meaning) (members drivers.old)) }
+    requires enough { EnoughIn (value ∷ []) (objects_in records.old) (counts_of (λ v. (⟦<dyn Driver as Driver>⟧ v).meaning) (members drivers.old)) }
     ensures gives { (gs : List (List Slot)) (is : List Input)
         → give_in value (world_by (objects_in records.old) (counts_of (λ v. (⟦<dyn Driver as Driver>⟧ v).meaning) (members drivers.old)) gs events.old.items is)
         ≡ world_by (objects_in records.new) (counts_of (λ v. (⟦<dyn Driver as Driver>⟧ v).meaning) (members drivers.new)) gs events.new.items is }

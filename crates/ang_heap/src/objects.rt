@@ -7,7 +7,7 @@ ghost use Rattle.slab.specs.Slab.{get as slab_get, with_value};
 ghost use Rattle.ang_heap.specs.Heaps.{record_of, objects_in, objects_of, class_of_record, rank_of_record};
 
 use crate::heap::{Heap, ScriptObject};
-use ang_meaning::{Class, FieldKind, Slot};
+use ang_meaning::{Class, Slot, ValueKind};
 use slab::Slab;
 use std::alloc::{AllocError, Global};
 
@@ -79,17 +79,17 @@ impl Heap {
     }
 }
 
-fn default_slot(kind: FieldKind) -> Slot
+fn default_slot(kind: ValueKind) -> Slot
     ensures exact { result ≡ default_of kind }
 {
     match kind {
-        FieldKind::Plain => Slot::Bits(0),
-        FieldKind::Handle => Slot::Script(None),
+        ValueKind::Number => Slot::Bits(0),
+        ValueKind::Handle => Slot::Script(None),
     }
 }
 
 /// The fields of a new object.
-fn defaults(alloc: Global, kinds: &[FieldKind]) -> Result<Vec<Slot>, AllocError>
+fn defaults(alloc: Global, kinds: &[ValueKind]) -> Result<Vec<Slot>, AllocError>
     ensures exact { IfOk result (λ fields. fields.items ≡ list_map default_of kinds.now) }
 {
     Ok(kinds.iter().map(|kind| default_slot(*kind)).collect(alloc)?)

@@ -24,11 +24,11 @@ use Rattle.ang_meaning.specs.declared.operation.Change.{Change}
 use Rattle.ang_meaning.specs.declared.operation.Operation.{Operation}
 use Rattle.ang_meaning.specs.declared.operation.Operation.TheVariants.{Work, Compare, Convert, Negate, Complement, Not, Same, GlobalGet, GlobalSet, GlobalChange, Ask, Read, Write, Alter, Make, FieldGet, FieldSet, FieldChange, Cast}
 use Rattle.ang_meaning.specs.Numbers.{Worked, Is, Cannot, Changed, Into, Never, worked, truth, holds_of, converted, negated, complemented, denied}
-use Rattle.ang_meaning.specs.World.{World, ScriptRecord, ScriptObjects, Input, Room, Said, Counted, Fresh, Tried, Yes, No, memory_step, one_more, hold, give, give_all}
+use Rattle.ang_meaning.specs.World.{World, ScriptRecord, ScriptObjects, Input, Room, Said, Tallied, Fresh, Tried, Yes, No, memory_step, one_more, hold, give, give_all}
 use Rattle.ang_meaning.specs.declared.class.Class.{Class}
-use Rattle.ang_meaning.specs.declared.class.FieldKind.{FieldKind}
-use Rattle.ang_meaning.specs.declared.class.FieldKind.TheVariants.{Plain as NumberField, Handle as HandleField}
-use Rattle.ang_meaning.specs.Setting.{Setting, default_of, class_in, use_at, is_null}
+use Rattle.ang_meaning.specs.declared.class.ValueKind.{ValueKind}
+use Rattle.ang_meaning.specs.declared.class.ValueKind.TheVariants.{Number as NumberField, Handle as HandleField}
+use Rattle.ang_meaning.specs.Setting.{Setting, default_of, class_at, use_at, is_null}
 use Rattle.ang_meaning.specs.Hosts.{Done, Fine, Fails, holding, accepted, is_void, if_within, slot_of, replied_by, is_reply_to, asked_from, asked_told, asked, value_of, values_of}
 use Rattle.ang_meaning.specs.Perform.{work_done, name_one, is_same, change_of, global_or, global_put, stored_global, changed_global, Receiver, Of, Missing, key_at, receiver_of, behind_first, arguments_of, gives_up, called_of, read_of, write_of, in_place_of, altered_to, altered_of, field_or, field_put, may_take, stored_field, changed_field, is_under, cast_to, new_object, number_for, made_at, made_from, made_told, perform}
 use Rattle.ang_meaning.specs.Counting.{IsCounted}
@@ -177,11 +177,11 @@ slot_fixed r d Handle (Key (Some k)) = refl
 
 -- ---- a new object
 
-default_renamed : (r : Renaming) (k : FieldKind) → renamed r (default_of k) ≡ default_of k
+default_renamed : (r : Renaming) (k : ValueKind) → renamed r (default_of k) ≡ default_of k
 default_renamed r NumberField = refl
 default_renamed r HandleField = refl
 
-pub defaults_renamed : (r : Renaming) (ks : List FieldKind) → renamed_all r (list_map default_of ks) ≡ list_map default_of ks
+pub defaults_renamed : (r : Renaming) (ks : List ValueKind) → renamed_all r (list_map default_of ks) ≡ list_map default_of ks
 defaults_renamed r [] = refl
 defaults_renamed r (k ∷ ks) = ap (λ x. x ∷ renamed_all r (list_map default_of ks)) (default_renamed r k) ∙ ap (λ l. default_of k ∷ l) (defaults_renamed r ks)
 
@@ -223,19 +223,19 @@ module _ (apart : Type 0) (r : Renaming) where
   made_from_alike o s (i ∷ is) [] v w e f mt h counted = absurd mt
   made_from_alike o s (Room a ∷ is) (Room b ∷ js) v w e f mt h counted = kept s _ _ (inl (refl, h))
   made_from_alike o s (Room a ∷ is) (Said u ∷ js) v w e f mt h counted = kept s _ _ (inl (refl, h))
-  made_from_alike o s (Room a ∷ is) (Counted b ∷ js) v w e f mt h counted = kept s _ _ (inl (refl, h))
+  made_from_alike o s (Room a ∷ is) (Tallied b ∷ js) v w e f mt h counted = kept s _ _ (inl (refl, h))
   made_from_alike o s (Room a ∷ is) (Fresh k ∷ js) v w e f mt h counted = kept s _ _ (inr (inl (mt, record { first = Room a; rest = is; inputs = e })))
   made_from_alike o s (Said q ∷ is) (Room b ∷ js) v w e f mt h counted = kept s _ _ (inl (refl, h))
   made_from_alike o s (Said q ∷ is) (Said u ∷ js) v w e f mt h counted = kept s _ _ (inl (refl, h))
-  made_from_alike o s (Said q ∷ is) (Counted b ∷ js) v w e f mt h counted = kept s _ _ (inl (refl, h))
+  made_from_alike o s (Said q ∷ is) (Tallied b ∷ js) v w e f mt h counted = kept s _ _ (inl (refl, h))
   made_from_alike o s (Said q ∷ is) (Fresh k ∷ js) v w e f mt h counted = kept s _ _ (inr (inl (mt, record { first = Said q; rest = is; inputs = e })))
-  made_from_alike o s (Counted a ∷ is) (Room b ∷ js) v w e f mt h counted = kept s _ _ (inl (refl, h))
-  made_from_alike o s (Counted a ∷ is) (Said u ∷ js) v w e f mt h counted = kept s _ _ (inl (refl, h))
-  made_from_alike o s (Counted a ∷ is) (Counted b ∷ js) v w e f mt h counted = kept s _ _ (inl (refl, h))
-  made_from_alike o s (Counted a ∷ is) (Fresh k ∷ js) v w e f mt h counted = kept s _ _ (inr (inl (mt, record { first = Counted a; rest = is; inputs = e })))
+  made_from_alike o s (Tallied a ∷ is) (Room b ∷ js) v w e f mt h counted = kept s _ _ (inl (refl, h))
+  made_from_alike o s (Tallied a ∷ is) (Said u ∷ js) v w e f mt h counted = kept s _ _ (inl (refl, h))
+  made_from_alike o s (Tallied a ∷ is) (Tallied b ∷ js) v w e f mt h counted = kept s _ _ (inl (refl, h))
+  made_from_alike o s (Tallied a ∷ is) (Fresh k ∷ js) v w e f mt h counted = kept s _ _ (inr (inl (mt, record { first = Tallied a; rest = is; inputs = e })))
   made_from_alike o s (Fresh n ∷ is) (Room b ∷ js) v w e f mt h counted = kept s _ _ (inr (inr (mt, record { first = Room b; rest = js; inputs = f })))
   made_from_alike o s (Fresh n ∷ is) (Said u ∷ js) v w e f mt h counted = kept s _ _ (inr (inr (mt, record { first = Said u; rest = js; inputs = f })))
-  made_from_alike o s (Fresh n ∷ is) (Counted b ∷ js) v w e f mt h counted = kept s _ _ (inr (inr (mt, record { first = Counted b; rest = js; inputs = f })))
+  made_from_alike o s (Fresh n ∷ is) (Tallied b ∷ js) v w e f mt h counted = kept s _ _ (inr (inr (mt, record { first = Tallied b; rest = js; inputs = f })))
   made_from_alike o s (Fresh n ∷ is) (Fresh k ∷ js) v w e f mt h counted = made_at_alike o (number_for n v.objects) (number_for k w.objects) is js s v w (number_free n v.objects) (number_free k w.objects) mt counted h
 
   made_told_alike : (k : Class) (s : List Slot) (o p : Tried) → TriedSame apart r o p → TriedCounted s s o → OneAlike apart r s (made_told k o) (made_told k p)
@@ -307,19 +307,19 @@ module _ (apart : Type 0) (r : Renaming) where
     from_alike object args result (i ∷ is) [] v w le ri mt h = absurd mt
     from_alike object args result (Room a ∷ is) (Room b ∷ js) v w le ri mt h = inl (refl, h)
     from_alike object args result (Room a ∷ is) (Said u ∷ js) v w le ri mt h = inr (inl (mt, record { first = Room a; rest = is; inputs = le }))
-    from_alike object args result (Room a ∷ is) (Counted b ∷ js) v w le ri mt h = inl (refl, h)
+    from_alike object args result (Room a ∷ is) (Tallied b ∷ js) v w le ri mt h = inl (refl, h)
     from_alike object args result (Room a ∷ is) (Fresh k ∷ js) v w le ri mt h = inl (refl, h)
     from_alike object args result (Said q ∷ is) (Room b ∷ js) v w le ri mt h = inr (inr (mt, record { first = Room b; rest = js; inputs = ri }))
     from_alike object args result (Said q ∷ is) (Said u ∷ js) v w le ri mt h = pair_alike object args result q u is js v w mt.0 mt.1 h
-    from_alike object args result (Said q ∷ is) (Counted b ∷ js) v w le ri mt h = inr (inr (mt, record { first = Counted b; rest = js; inputs = ri }))
+    from_alike object args result (Said q ∷ is) (Tallied b ∷ js) v w le ri mt h = inr (inr (mt, record { first = Tallied b; rest = js; inputs = ri }))
     from_alike object args result (Said q ∷ is) (Fresh k ∷ js) v w le ri mt h = inr (inr (mt, record { first = Fresh k; rest = js; inputs = ri }))
-    from_alike object args result (Counted a ∷ is) (Room b ∷ js) v w le ri mt h = inl (refl, h)
-    from_alike object args result (Counted a ∷ is) (Said u ∷ js) v w le ri mt h = inr (inl (mt, record { first = Counted a; rest = is; inputs = le }))
-    from_alike object args result (Counted a ∷ is) (Counted b ∷ js) v w le ri mt h = inl (refl, h)
-    from_alike object args result (Counted a ∷ is) (Fresh k ∷ js) v w le ri mt h = inl (refl, h)
+    from_alike object args result (Tallied a ∷ is) (Room b ∷ js) v w le ri mt h = inl (refl, h)
+    from_alike object args result (Tallied a ∷ is) (Said u ∷ js) v w le ri mt h = inr (inl (mt, record { first = Tallied a; rest = is; inputs = le }))
+    from_alike object args result (Tallied a ∷ is) (Tallied b ∷ js) v w le ri mt h = inl (refl, h)
+    from_alike object args result (Tallied a ∷ is) (Fresh k ∷ js) v w le ri mt h = inl (refl, h)
     from_alike object args result (Fresh n ∷ is) (Room b ∷ js) v w le ri mt h = inl (refl, h)
     from_alike object args result (Fresh n ∷ is) (Said u ∷ js) v w le ri mt h = inr (inl (mt, record { first = Fresh n; rest = is; inputs = le }))
-    from_alike object args result (Fresh n ∷ is) (Counted b ∷ js) v w le ri mt h = inl (refl, h)
+    from_alike object args result (Fresh n ∷ is) (Tallied b ∷ js) v w le ri mt h = inl (refl, h)
     from_alike object args result (Fresh n ∷ is) (Fresh k ∷ js) v w le ri mt h = inl (refl, h)
 
     asked_same : (object : Option ℕ) (args : List Value) (result : HostType) (o p : Tried) → TriedSame apart r o p → DoneAlike apart r (asked_told z m e object args result o) (asked_told z m e object args result p)
@@ -585,7 +585,7 @@ module _ (apart : Type 0) (r : Renaming) where
     perform_alike (Alter e c) (x ∷ []) = kept s _ _ (altered_alike z m e [] c x v w h)
     perform_alike (Alter e c) (o ∷ (x ∷ [])) = kept s _ _ (gives_alike (o ∷ []) _ _ (altered_alike z m e (o ∷ []) c x v w h))
     perform_alike (Alter e c) (o ∷ (x ∷ (u ∷ us))) = misfit
-    perform_alike (Make c) [] = made_alike (class_in (z.class m c)) s v w counted h
+    perform_alike (Make c) [] = made_alike (class_at z m c) s v w counted h
     perform_alike (Make c) (x ∷ vs) = misfit
     perform_alike (FieldGet i) [] = misfit
     perform_alike (FieldGet i) (Bits x ∷ us) = misfit

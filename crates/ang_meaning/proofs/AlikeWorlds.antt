@@ -7,9 +7,9 @@ use Rattle.ang_kinds.specs.declared.fault.Fault.TheVariants.{Tally}
 use Rattle.ang_host.specs.declared.event.HostEvent.TheVariants.{Ended}
 use Rattle.ang_meaning.specs.declared.slot.Slot.{Slot}
 use Rattle.ang_meaning.specs.declared.slot.Slot.TheVariants.{Bits, Script, Host}
-use Rattle.ang_meaning.specs.World.{World, ScriptRecord, ScriptObjects, Input, Room, Said, Counted, Fresh, with_inputs, Tried, Yes, No, if_told, memory_told, memory_step, raised_at, script_raised, host_raised, one_more, tally_told, tally_step, held, hold, Lowered, Gone, Kept, one_less, lowered_at, script_lowered, host_lowered, host_given, each_given, script_given, given, give, give_all}
+use Rattle.ang_meaning.specs.World.{World, ScriptRecord, ScriptObjects, Input, Room, Said, Tallied, Fresh, with_inputs, Tried, Yes, No, if_told, memory_told, memory_step, raised_at, script_raised, host_raised, one_more, tally_told, tally_step, held, hold, Lowered, Gone, Kept, one_less, lowered_at, script_lowered, host_lowered, host_given, each_given, script_given, given, give, give_all}
 use Rattle.ang_meaning.specs.Hosts.{Done, Fine, Fails, holding}
-use Rattle.ang_meaning.specs.Perform.{globals_of, global_or, global_put, field_of, field_or, with_field, field_put, is_lower, may_take}
+use Rattle.ang_meaning.specs.Perform.{globals_of, global_or, global_put, field_of, field_or, with_field, field_put, is_lower, may_take, member_or, member_put}
 use Rattle.ang_meaning.specs.Alike.{Renaming, renamed, renamed_all, renamed_lists, renamed_record, Tables, Match, Alike}
 use Rattle.ang_meaning.proofs.Renaming.{tables_insert, tables_remove}
 
@@ -74,19 +74,19 @@ module _ (apart : Type 0) (r : Renaming) where
   memory_from (i ∷ is) [] v w e f mt h = absurd mt
   memory_from (Room a ∷ is) (Room b ∷ js) v w e f mt h = if_alike a b is js v w mt.0 mt.1 h
   memory_from (Room a ∷ is) (Said u ∷ js) v w e f mt h = inr (inr (mt, record { first = Said u; rest = js; inputs = f }))
-  memory_from (Room a ∷ is) (Counted b ∷ js) v w e f mt h = inr (inr (mt, record { first = Counted b; rest = js; inputs = f }))
+  memory_from (Room a ∷ is) (Tallied b ∷ js) v w e f mt h = inr (inr (mt, record { first = Tallied b; rest = js; inputs = f }))
   memory_from (Room a ∷ is) (Fresh k ∷ js) v w e f mt h = inr (inr (mt, record { first = Fresh k; rest = js; inputs = f }))
   memory_from (Said q ∷ is) (Room b ∷ js) v w e f mt h = inr (inl (mt, record { first = Said q; rest = is; inputs = e }))
   memory_from (Said q ∷ is) (Said u ∷ js) v w e f mt h = inl h
-  memory_from (Said q ∷ is) (Counted b ∷ js) v w e f mt h = inl h
+  memory_from (Said q ∷ is) (Tallied b ∷ js) v w e f mt h = inl h
   memory_from (Said q ∷ is) (Fresh k ∷ js) v w e f mt h = inl h
-  memory_from (Counted a ∷ is) (Room b ∷ js) v w e f mt h = inr (inl (mt, record { first = Counted a; rest = is; inputs = e }))
-  memory_from (Counted a ∷ is) (Said u ∷ js) v w e f mt h = inl h
-  memory_from (Counted a ∷ is) (Counted b ∷ js) v w e f mt h = inl h
-  memory_from (Counted a ∷ is) (Fresh k ∷ js) v w e f mt h = inl h
+  memory_from (Tallied a ∷ is) (Room b ∷ js) v w e f mt h = inr (inl (mt, record { first = Tallied a; rest = is; inputs = e }))
+  memory_from (Tallied a ∷ is) (Said u ∷ js) v w e f mt h = inl h
+  memory_from (Tallied a ∷ is) (Tallied b ∷ js) v w e f mt h = inl h
+  memory_from (Tallied a ∷ is) (Fresh k ∷ js) v w e f mt h = inl h
   memory_from (Fresh n ∷ is) (Room b ∷ js) v w e f mt h = inr (inl (mt, record { first = Fresh n; rest = is; inputs = e }))
   memory_from (Fresh n ∷ is) (Said u ∷ js) v w e f mt h = inl h
-  memory_from (Fresh n ∷ is) (Counted b ∷ js) v w e f mt h = inl h
+  memory_from (Fresh n ∷ is) (Tallied b ∷ js) v w e f mt h = inl h
   memory_from (Fresh n ∷ is) (Fresh k ∷ js) v w e f mt h = inl h
 
   pub memory_alike : (v w : World) → Alike apart r v w → TriedAlike apart r (memory_step v) (memory_step w)
@@ -99,19 +99,19 @@ module _ (apart : Type 0) (r : Renaming) where
   tally_from (i ∷ is) [] v w e f mt h = absurd mt
   tally_from (Room a ∷ is) (Room b ∷ js) v w e f mt h = inl h
   tally_from (Room a ∷ is) (Said u ∷ js) v w e f mt h = inl h
-  tally_from (Room a ∷ is) (Counted b ∷ js) v w e f mt h = inr (inl (mt, record { first = Room a; rest = is; inputs = e }))
+  tally_from (Room a ∷ is) (Tallied b ∷ js) v w e f mt h = inr (inl (mt, record { first = Room a; rest = is; inputs = e }))
   tally_from (Room a ∷ is) (Fresh k ∷ js) v w e f mt h = inl h
   tally_from (Said q ∷ is) (Room b ∷ js) v w e f mt h = inl h
   tally_from (Said q ∷ is) (Said u ∷ js) v w e f mt h = inl h
-  tally_from (Said q ∷ is) (Counted b ∷ js) v w e f mt h = inr (inl (mt, record { first = Said q; rest = is; inputs = e }))
+  tally_from (Said q ∷ is) (Tallied b ∷ js) v w e f mt h = inr (inl (mt, record { first = Said q; rest = is; inputs = e }))
   tally_from (Said q ∷ is) (Fresh k ∷ js) v w e f mt h = inl h
-  tally_from (Counted a ∷ is) (Room b ∷ js) v w e f mt h = inr (inr (mt, record { first = Room b; rest = js; inputs = f }))
-  tally_from (Counted a ∷ is) (Said u ∷ js) v w e f mt h = inr (inr (mt, record { first = Said u; rest = js; inputs = f }))
-  tally_from (Counted a ∷ is) (Counted b ∷ js) v w e f mt h = if_alike a b is js v w mt.0 mt.1 h
-  tally_from (Counted a ∷ is) (Fresh k ∷ js) v w e f mt h = inr (inr (mt, record { first = Fresh k; rest = js; inputs = f }))
+  tally_from (Tallied a ∷ is) (Room b ∷ js) v w e f mt h = inr (inr (mt, record { first = Room b; rest = js; inputs = f }))
+  tally_from (Tallied a ∷ is) (Said u ∷ js) v w e f mt h = inr (inr (mt, record { first = Said u; rest = js; inputs = f }))
+  tally_from (Tallied a ∷ is) (Tallied b ∷ js) v w e f mt h = if_alike a b is js v w mt.0 mt.1 h
+  tally_from (Tallied a ∷ is) (Fresh k ∷ js) v w e f mt h = inr (inr (mt, record { first = Fresh k; rest = js; inputs = f }))
   tally_from (Fresh n ∷ is) (Room b ∷ js) v w e f mt h = inl h
   tally_from (Fresh n ∷ is) (Said u ∷ js) v w e f mt h = inl h
-  tally_from (Fresh n ∷ is) (Counted b ∷ js) v w e f mt h = inr (inl (mt, record { first = Fresh n; rest = is; inputs = e }))
+  tally_from (Fresh n ∷ is) (Tallied b ∷ js) v w e f mt h = inr (inl (mt, record { first = Fresh n; rest = is; inputs = e }))
   tally_from (Fresh n ∷ is) (Fresh k ∷ js) v w e f mt h = inl h
 
   tally_alike : (x : Slot) (v w : World) → Alike apart r v w → TriedAlike apart r (tally_step x v) (tally_step (renamed r x) w)
@@ -296,6 +296,33 @@ module _ (apart : Type 0) (r : Renaming) where
       ap (λ o. is_lower o (map.get w.objects (r.to n))) (h.objects.has k) ∙ ap (λ o. is_lower (renamed_record r (map.get v.objects k)) o) (h.objects.has n)
       ∙ lower_renamed (map.get v.objects k) (map.get v.objects n)
   takes_renamed n (Host d k) v w h = refl
+
+  taken_renamed : (b c : Bool) (n i : ℕ) (x : Slot) (v w : World) → c ≡ b → Alike apart r v w
+      → cond c (field_or (r.to n) i (renamed r x) w) (renamed r x) ≡ renamed r (cond b (field_or n i x v) x)
+  taken_renamed true true n i x v w e h = field_renamed n i x v w h
+  taken_renamed true false n i x v w e h = absurd (let y : ⊥ = cc in y)
+  taken_renamed false true n i x v w e h = absurd (let y : ⊥ = cc in y)
+  taken_renamed false false n i x v w e h = refl
+
+  pub member_renamed : (i : ℕ) (o x : Slot) (v w : World) → Alike apart r v w → member_or i (renamed r o) (renamed r x) w ≡ renamed r (member_or i o x v)
+  unfolding member_or
+  member_renamed i (Bits n) x v w h = refl
+  member_renamed i (Script None) x v w h = refl
+  member_renamed i (Script (Some n)) x v w h = taken_renamed (may_take n x v) (may_take (r.to n) (renamed r x) w) n i x v w (takes_renamed n x v w h) h
+  member_renamed i (Host d k) x v w h = refl
+
+  taken_alike : (b c : Bool) (n i : ℕ) (x : Slot) (v w : World) → c ≡ b → Alike apart r v w → Alike apart r (cond b (field_put n i x v) v) (cond c (field_put (r.to n) i (renamed r x) w) w)
+  taken_alike true true n i x v w e h = field_alike n i x v w h
+  taken_alike true false n i x v w e h = absurd (let y : ⊥ = cc in y)
+  taken_alike false true n i x v w e h = absurd (let y : ⊥ = cc in y)
+  taken_alike false false n i x v w e h = h
+
+  pub member_alike : (i : ℕ) (o x : Slot) (v w : World) → Alike apart r v w → Alike apart r (member_put i o x v) (member_put i (renamed r o) (renamed r x) w)
+  unfolding member_put
+  member_alike i (Bits n) x v w h = h
+  member_alike i (Script None) x v w h = h
+  member_alike i (Script (Some n)) x v w h = taken_alike (may_take n x v) (may_take (r.to n) (renamed r x) w) n i x v w (takes_renamed n x v w h) h
+  member_alike i (Host d k) x v w h = h
 
   -- ---- values that are held
 

@@ -6,14 +6,14 @@ use Rattle.std.proofs.lemmas.Bool.{eqb-true, ltb-true, eq-eqb}
 use Rattle.ang_host.specs.State.{count_at}
 use Rattle.ang_meaning.specs.declared.slot.Slot.{Slot}
 use Rattle.ang_meaning.specs.declared.slot.Slot.TheVariants.{Bits, Script, Host}
-use Rattle.ang_meaning.specs.World.{World, ScriptRecord, ScriptObjects, Input, Room, Said, Counted, Fresh, with_inputs, if_told, Tried, Yes, No, memory_told, memory_step, tally_told, tally_step, one_more, held, hold, give, give_all}
+use Rattle.ang_meaning.specs.World.{World, ScriptRecord, ScriptObjects, Input, Room, Said, Tallied, Fresh, with_inputs, if_told, Tried, Yes, No, memory_told, memory_step, tally_told, tally_step, one_more, held, hold, give, give_all}
 use Rattle.ang_meaning.specs.declared.class.Class.{Class}
-use Rattle.ang_meaning.specs.declared.class.FieldKind.{FieldKind}
-use Rattle.ang_meaning.specs.declared.class.FieldKind.TheVariants.{Plain as NumberField, Handle as HandleField}
+use Rattle.ang_meaning.specs.declared.class.ValueKind.{ValueKind}
+use Rattle.ang_meaning.specs.declared.class.ValueKind.TheVariants.{Number as NumberField, Handle as HandleField}
 use Rattle.ang_meaning.specs.Setting.{default_of}
-use Rattle.ang_meaning.specs.Perform.{globals_of, global_or, global_put, field_of, field_or, with_field, field_put, is_lower, may_take, new_object}
+use Rattle.ang_meaning.specs.Perform.{globals_of, global_or, global_put, field_of, field_or, with_field, field_put, is_lower, may_take, member_or, member_put, new_object}
 use Rattle.ang_meaning.specs.Results.{local_at, local_set}
-use Rattle.ang_meaning.specs.Counting.{Thing, KeyOf, NumberOf, names, how_many, in_lists, in_fields, count_of_object, count_in, Counts, IsBelow, AreBelow, AreOrdered, IsCounted, HasObject, HasKey}
+use Rattle.ang_meaning.specs.Counting.{Thing, KeyOf, NumberOf, names, how_many, in_lists, in_fields, count_of_object, count_in, Counts, IsBelow, AreBelow, AreSoundObjects, IsCounted, HasObject, HasKey}
 use Rattle.ang_meaning.proofs.Tables.{get_inserted, sum-new, sum-changed, sum-bound}
 use Rattle.ang_meaning.proofs.Counting.{many_append, counts_as, more_counts, more_globals, give_counts, give_globals, bits_name_none, null_names_none, key_named, self_named}
 use Rattle.ang_meaning.proofs.Ranks.{AreRanked, all_still_below, more_ordered, give_ordered}
@@ -113,7 +113,7 @@ memory_from : (inputs : List Input) (s : List Slot) (w : World) → IsCounted s 
 memory_from [] s w p = p
 memory_from (Room b ∷ rest) s w p = if_counted b s rest w p
 memory_from (Said r ∷ rest) s w p = p
-memory_from (Counted b ∷ rest) s w p = p
+memory_from (Tallied b ∷ rest) s w p = p
 memory_from (Fresh n ∷ rest) s w p = p
 
 pub memory_counted : (s : List Slot) (w : World) → IsCounted s w → TriedCounted s s (memory_step w)
@@ -131,7 +131,7 @@ tally_if false v s is w k p = p
 
 tally_from : (inputs : List Input) (v : Slot) (s : List Slot) (w : World) → HasObject v w.objects → IsCounted s w → TriedKnown v s (tally_told inputs w)
 tally_from [] v s w k p = p
-tally_from (Counted b ∷ rest) v s w k p = tally_if b v s rest w k p
+tally_from (Tallied b ∷ rest) v s w k p = tally_if b v s rest w k p
 tally_from (Room b ∷ rest) v s w k p = p
 tally_from (Said r ∷ rest) v s w k p = p
 tally_from (Fresh n ∷ rest) v s w k p = p
@@ -207,16 +207,16 @@ set_below os r [] i v p q = tt
 set_below os r (u ∷ vs) zero v p q = (q, p.1)
 set_below os r (u ∷ vs) (suc i) v p q = (p.0, set_below os r vs i v p.1 q)
 
-falls_with : (b : Bool) (os later : ScriptObjects) (q : ℕ) (r p : ScriptRecord) → AreRanked os later → AreOrdered os → AreBelow os r.rank r.fields → cond b (Some r) (map.get os q) ≡ Some p
+falls_with : (b : Bool) (os later : ScriptObjects) (q : ℕ) (r p : ScriptRecord) → AreRanked os later → AreSoundObjects os → AreBelow os r.rank r.fields → cond b (Some r) (map.get os q) ≡ Some p
     → AreBelow later p.rank p.fields
 falls_with true os later q r p k h f e = let s : r ≡ p = ap (λ x. unwrap_or x r) e in all_still_below os later p.rank p.fields k (subst (λ x. AreBelow os x.rank x.fields) s f)
 falls_with false os later q r p k h f e = all_still_below os later p.rank p.fields k (h.falls q p e)
 
-alive_with : (b : Bool) (os : ScriptObjects) (q : ℕ) (r p : ScriptRecord) → AreOrdered os → 0 < r.count → cond b (Some r) (map.get os q) ≡ Some p → 0 < p.count
+alive_with : (b : Bool) (os : ScriptObjects) (q : ℕ) (r p : ScriptRecord) → AreSoundObjects os → 0 < r.count → cond b (Some r) (map.get os q) ≡ Some p → 0 < p.count
 alive_with true os q r p h lt e = let s : r ≡ p = ap (λ x. unwrap_or x r) e in subst (λ x. 0 < x.count) s lt
 alive_with false os q r p h lt e = h.alive q p e
 
-ordered_with : (os : ScriptObjects) (n : ℕ) (o r : ScriptRecord) → map.get os n ≡ Some o → AreOrdered os → o.rank ≡ r.rank → 0 < r.count → AreBelow os r.rank r.fields → AreOrdered (map.insert os n r)
+ordered_with : (os : ScriptObjects) (n : ℕ) (o r : ScriptRecord) → map.get os n ≡ Some o → AreSoundObjects os → o.rank ≡ r.rank → 0 < r.count → AreBelow os r.rank r.fields → AreSoundObjects (map.insert os n r)
 ordered_with os n o r g h a lt f =
     let k : AreRanked os (map.insert os n r) = λ q p e. ranked_with (nat_eq n q) os n q o r p refl g a (sym (get_inserted os n q r) ∙ e) in
     record {
@@ -265,21 +265,33 @@ taken_below n (Script None) w t r g = tt
 taken_below n (Script (Some k)) w t r g = λ o h. lower_at (map.get w.objects k) (map.get w.objects n) o r h g t
 taken_below n (Host d k) w t r g = tt
 
+-- a value and a member change places
+taken_counted : (b : Bool) (n i : ℕ) (v : Slot) (s : List Slot) (w : World) → may_take n v w ≡ b → IsCounted (v ∷ s) w → IsCounted (cond b (field_or n i v w) v ∷ s) (cond b (field_put n i v w) w)
+taken_counted true n i v s w e p = field_counted n i v v s w (λ x. refl) (taken_below n v w e) p
+taken_counted false n i v s w e p = p
+
+pub member_counted : (i : ℕ) (o v : Slot) (s : List Slot) (w : World) → IsCounted (v ∷ s) w → IsCounted (member_or i o v w ∷ s) (member_put i o v w)
+unfolding member_or member_put
+member_counted i (Bits x) v s w p = p
+member_counted i (Script None) v s w p = p
+member_counted i (Script (Some n)) v s w p = taken_counted (may_take n v w) n i v s w refl p
+member_counted i (Host d k) v s w p = p
+
 -- ---- a new object
 
-defaults_name_none : (x : Thing) (k : FieldKind) → names x (default_of k) ≡ 0
+defaults_name_none : (x : Thing) (k : ValueKind) → names x (default_of k) ≡ 0
 defaults_name_none x NumberField = bits_name_none 0 x
 defaults_name_none x HandleField = null_names_none x
 
-pub defaults_many : (x : Thing) (ks : List FieldKind) → how_many x (list_map default_of ks) ≡ 0
+pub defaults_many : (x : Thing) (ks : List ValueKind) → how_many x (list_map default_of ks) ≡ 0
 defaults_many x [] = refl
 defaults_many x (k ∷ ks) = omega (arith, defaults_name_none x k, defaults_many x ks)
 
-default_below : (os : ScriptObjects) (r : ℕ) (k : FieldKind) → IsBelow os r (default_of k)
+default_below : (os : ScriptObjects) (r : ℕ) (k : ValueKind) → IsBelow os r (default_of k)
 default_below os r NumberField = tt
 default_below os r HandleField = tt
 
-defaults_below : (os : ScriptObjects) (r : ℕ) (ks : List FieldKind) → AreBelow os r (list_map default_of ks)
+defaults_below : (os : ScriptObjects) (r : ℕ) (ks : List ValueKind) → AreBelow os r (list_map default_of ks)
 defaults_below os r [] = tt
 defaults_below os r (k ∷ ks) = (default_below os r k, defaults_below os r ks)
 
@@ -313,7 +325,7 @@ still_below_new os r n o (Script (Some j) ∷ vs) z p = (
 )
 still_below_new os r n o (Host d k ∷ vs) z p = (tt, still_below_new os r n o vs (omega (arith, z)) p.1)
 
-falls_new : (b : Bool) (os : ScriptObjects) (n q : ℕ) (o p : ScriptRecord) → AreOrdered os → ((m : ℕ) (r : ScriptRecord) → map.get os m ≡ Some r → how_many (NumberOf n) r.fields ≡ 0)
+falls_new : (b : Bool) (os : ScriptObjects) (n q : ℕ) (o p : ScriptRecord) → AreSoundObjects os → ((m : ℕ) (r : ScriptRecord) → map.get os m ≡ Some r → how_many (NumberOf n) r.fields ≡ 0)
     → AreBelow (map.insert os n o) o.rank o.fields → cond b (Some o) (map.get os q) ≡ Some p → AreBelow (map.insert os n o) p.rank p.fields
 falls_new true os n q o p h z f e = let s : o ≡ p = ap (λ x. unwrap_or x o) e in subst (λ x. AreBelow (map.insert os n o) x.rank x.fields) s f
 falls_new false os n q o p h z f e = still_below_new os p.rank n o p.fields (z q p e) (h.falls q p e)

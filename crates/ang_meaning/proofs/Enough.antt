@@ -8,7 +8,7 @@ use Rattle.ang_host.specs.State.{count_of, count_at}
 use Rattle.ang_meaning.specs.declared.slot.Slot.{Slot}
 use Rattle.ang_meaning.specs.declared.slot.Slot.TheVariants.{Bits, Script, Host}
 use Rattle.ang_meaning.specs.World.{World, ScriptRecord, ScriptObjects, HostCounts, one_more, Lowered, Gone, Kept, lowered_at, script_lowered, host_less, host_lowered, host_given, each_given, script_given, given, give, give_all}
-use Rattle.ang_meaning.specs.Counting.{Thing, KeyOf, names, how_many, in_lists, in_fields, Counts, AreEnough, CanGive, IsCounted, HasKey}
+use Rattle.ang_meaning.specs.Counting.{Thing, KeyOf, names, how_many, in_lists, in_fields, Counts, EnoughIn, CanGive, IsCounted, HasKey}
 use Rattle.ang_meaning.proofs.Tables.{get_without}
 use Rattle.ang_meaning.proofs.Counting.{many_append, key_named, more_key, more_fields, lower_host, left_of, freed_of, lower_fields}
 
@@ -21,23 +21,23 @@ pub counted_enough : (vs : List Slot) (w : World) → IsCounted vs w → CanGive
 counted_enough vs w p = counts_enough (λ x. in_lists x w.globals) vs w p.counts
 
 -- fewer places of each thing
-pub enough_as : (us vs : List Slot) (os : ScriptObjects) (hs : HostCounts) → ((x : Thing) → how_many x vs ≤ how_many x us) → AreEnough us os hs → AreEnough vs os hs
+pub enough_as : (us vs : List Slot) (os : ScriptObjects) (hs : HostCounts) → ((x : Thing) → how_many x vs ≤ how_many x us) → EnoughIn us os hs → EnoughIn vs os hs
 enough_as us vs os hs h p = record { enough = λ d k. omega (arith, p.enough d k, h (KeyOf d k)) }
 
-pub first_enough : (v : Slot) (vs : List Slot) (os : ScriptObjects) (hs : HostCounts) → AreEnough (v ∷ vs) os hs → AreEnough (v ∷ []) os hs
+pub first_enough : (v : Slot) (vs : List Slot) (os : ScriptObjects) (hs : HostCounts) → EnoughIn (v ∷ vs) os hs → EnoughIn (v ∷ []) os hs
 first_enough v vs os hs p = record { enough = λ d k. omega (arith, p.enough d k) }
 
-pub rest_enough : (v : Slot) (vs : List Slot) (os : ScriptObjects) (hs : HostCounts) → AreEnough (v ∷ vs) os hs → AreEnough vs os hs
+pub rest_enough : (v : Slot) (vs : List Slot) (os : ScriptObjects) (hs : HostCounts) → EnoughIn (v ∷ vs) os hs → EnoughIn vs os hs
 rest_enough v vs os hs p = record { enough = λ d k. omega (arith, p.enough d k) }
 
 -- what stands among the places is counted
-pub enough_key : (v : Slot) (vs : List Slot) (os : ScriptObjects) (hs : HostCounts) → ((x : Thing) → names x v ≤ how_many x vs) → AreEnough vs os hs → HasKey v hs
+pub enough_key : (v : Slot) (vs : List Slot) (os : ScriptObjects) (hs : HostCounts) → ((x : Thing) → names x v ≤ how_many x vs) → EnoughIn vs os hs → HasKey v hs
 enough_key (Bits n) vs os hs h p = tt
 enough_key (Script j) vs os hs h p = tt
 enough_key (Host d None) vs os hs h p = tt
 enough_key (Host d (Some k)) vs os hs h p = omega (arith, p.enough d k, h (KeyOf d k), key_named d k)
 
-pub first_key : (v : Slot) (vs : List Slot) (os : ScriptObjects) (hs : HostCounts) → AreEnough (v ∷ vs) os hs → HasKey v hs
+pub first_key : (v : Slot) (vs : List Slot) (os : ScriptObjects) (hs : HostCounts) → EnoughIn (v ∷ vs) os hs → HasKey v hs
 first_key v vs os hs p = enough_key v (v ∷ vs) os hs (λ x. omega arith) p
 
 -- ---- one more place
@@ -73,20 +73,20 @@ key_can : (d k : ℕ) (vs : List Slot) (w : World) → CanGive (Host d (Some k) 
 key_can d k vs w p = record { enough = λ e j. omega (arith, p.enough e j, lowered_key d e k j w.hosts) }
 
 -- the fields that are to be given up, and what is left
-lowered_can : (k : ℕ) (o : Option ScriptRecord) (vs : List Slot) (os : ScriptObjects) (hs : HostCounts) → map.get os k ≡ o → AreEnough (Script (Some k) ∷ vs) os hs
-    → AreEnough (freed_of (lowered_at k o os) ++ vs) (left_of (lowered_at k o os)) hs
+lowered_can : (k : ℕ) (o : Option ScriptRecord) (vs : List Slot) (os : ScriptObjects) (hs : HostCounts) → map.get os k ≡ o → EnoughIn (Script (Some k) ∷ vs) os hs
+    → EnoughIn (freed_of (lowered_at k o os) ++ vs) (left_of (lowered_at k o os)) hs
 lowered_can k o vs os hs g p = record {
   enough = λ d j. omega (arith, p.enough d j, lower_fields (KeyOf d j) k os o g, many_append (KeyOf d j) (freed_of (lowered_at k o os)) vs);
 }
 
-pub script_enough : (k : ℕ) (vs : List Slot) (os : ScriptObjects) (hs : HostCounts) → AreEnough (Script (Some k) ∷ vs) os hs
-    → AreEnough (freed_of (script_lowered k os) ++ vs) (left_of (script_lowered k os)) hs
+pub script_enough : (k : ℕ) (vs : List Slot) (os : ScriptObjects) (hs : HostCounts) → EnoughIn (Script (Some k) ∷ vs) os hs
+    → EnoughIn (freed_of (script_lowered k os) ++ vs) (left_of (script_lowered k os)) hs
 unfolding script_lowered
 script_enough k vs os hs p = lowered_can k (map.get os k) vs os hs refl p
 
 -- what an object held that ended
-pub gone_enough : (k : ℕ) (fs vs : List Slot) (os us : ScriptObjects) (hs : HostCounts) → script_lowered k os ≡ Gone fs us → AreEnough (Script (Some k) ∷ vs) os hs → AreEnough (fs ++ vs) us hs
-gone_enough k fs vs os us hs e p = subst (λ l. AreEnough (freed_of l ++ vs) (left_of l) hs) e (script_enough k vs os hs p)
+pub gone_enough : (k : ℕ) (fs vs : List Slot) (os us : ScriptObjects) (hs : HostCounts) → script_lowered k os ≡ Gone fs us → EnoughIn (Script (Some k) ∷ vs) os hs → EnoughIn (fs ++ vs) us hs
+gone_enough k fs vs os us hs e p = subst (λ l. EnoughIn (freed_of l ++ vs) (left_of l) hs) e (script_enough k vs os hs p)
 
 abbrev KeepsEnough : (Slot → World → World) → Type 0
 KeepsEnough go = (v : Slot) (vs : List Slot) (w : World) → CanGive (v ∷ vs) w → CanGive vs (go v w)
@@ -95,7 +95,7 @@ each_can : (go : Slot → World → World) → KeepsEnough go → (fs vs : List 
 each_can go h [] vs w p = p
 each_can go h (f ∷ fs) vs w p = each_can go h fs vs (go f w) (h f (fs ++ vs) w p)
 
-script_can : (go : Slot → World → World) → KeepsEnough go → (l : Lowered) (vs : List Slot) (w : World) → AreEnough (freed_of l ++ vs) (left_of l) w.hosts → CanGive vs (script_given go l w)
+script_can : (go : Slot → World → World) → KeepsEnough go → (l : Lowered) (vs : List Slot) (w : World) → EnoughIn (freed_of l ++ vs) (left_of l) w.hosts → CanGive vs (script_given go l w)
 script_can go h (Kept os) vs w p = p
 script_can go h (Gone fs os) vs w p = each_can go h fs vs (record w { objects = os }) p
 

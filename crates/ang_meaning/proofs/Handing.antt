@@ -18,7 +18,7 @@ use Rattle.ang_meaning.specs.declared.host.HostUse.{HostUse}
 use Rattle.ang_meaning.specs.World.{ScriptObjects}
 use Rattle.ang_meaning.specs.Hosts.{plain_value, value_of, values_of}
 use Rattle.ang_meaning.specs.Perform.{Receiver, Of, Missing, key_at, receiver_of, behind_first, arguments_of}
-use Rattle.ang_meaning.specs.Counting.{Thing, names, how_many, AreEnough, HasKey, counts_by}
+use Rattle.ang_meaning.specs.Counting.{Thing, names, how_many, EnoughIn, HasKey, counts_by}
 use Rattle.ang_meaning.proofs.Counting.{many_append}
 use Rattle.ang_meaning.proofs.Enough.{enough_key}
 use Rattle.ang_meaning.proofs.Driving.{live_of}
@@ -55,7 +55,7 @@ module _ (ss : List State) where
   value_live d Handle (Host e None) h = tt
   value_live d Handle (Host e (Some k)) h = handle_live d e k (nat_eq d e) refl h
 
-  module _ (s : List Slot) (os : ScriptObjects) (enough : AreEnough s os (counts_by ss)) where
+  module _ (s : List Slot) (os : ScriptObjects) (enough : EnoughIn s os (counts_by ss)) where
     pub value_handed : (d : ℕ) (ty : HostType) (v : Slot) → ((x : Thing) → names x v ≤ how_many x s) → IsLiveValue (state_at ss d) (value_of d ty v)
     value_handed d ty v h = value_live d ty v (enough_key v s os (counts_by ss) h enough)
 

@@ -22,19 +22,19 @@ use Rattle.ang_meaning.specs.declared.operation.Operation.TheVariants.{Work, Com
 use Rattle.ang_meaning.specs.declared.routine.Passing.{Passing}
 use Rattle.ang_meaning.specs.declared.routine.Passing.TheVariants.{In, Out, Object}
 use Rattle.ang_meaning.specs.Numbers.{Worked, Is, Cannot, Changed, Into, Never, worked}
-use Rattle.ang_meaning.specs.World.{World, ScriptRecord, HostCounts, Input, Room, Said, Counted, Fresh, Tried, Yes, No, memory_told, memory_step, one_more, tally_told, tally_step, held, hold, Lowered, Gone, Kept, host_lowered, each_given, script_given, script_lowered, given, give, give_all}
-use Rattle.ang_meaning.specs.Told.{has_room, stopped_by, answers_told, answers_listed, Moves, GoesOn, Stops}
+use Rattle.ang_meaning.specs.World.{World, ScriptRecord, HostCounts, Input, Room, Said, Tallied, Fresh, Tried, Yes, No, memory_told, memory_step, one_more, tally_told, tally_step, held, hold, Lowered, Gone, Kept, host_lowered, each_given, script_given, script_lowered, given, give, give_all}
+use Rattle.ang_meaning.specs.Told.{has_room, stopped_by, answers_told, answers_listed, Moves, GoesOn, Faults}
 use Rattle.ang_meaning.specs.declared.class.Class.{Class}
-use Rattle.ang_meaning.specs.Setting.{Setting, class_in, use_at}
+use Rattle.ang_meaning.specs.Setting.{Setting, class_at, use_at}
 use Rattle.ang_meaning.specs.Hosts.{Done, Fine, Fails, holding, accepted, is_void, slot_of, replied_by, is_reply_to, asked_from, asked_told, asked, value_of, values_of}
-use Rattle.ang_meaning.specs.Perform.{work_done, change_of, global_or, global_put, stored_global, changed_global, Receiver, Of, Missing, receiver_of, arguments_of, gives_up, called_of, read_of, write_of, in_place_of, altered_to, altered_of, field_or, field_put, may_take, stored_field, changed_field, is_under, cast_to, number_for, made_at, made_from, made_told, perform}
+use Rattle.ang_meaning.specs.Perform.{work_done, change_of, global_or, global_put, stored_global, changed_global, Receiver, Of, Missing, receiver_of, arguments_of, gives_up, called_of, read_of, write_of, in_place_of, altered_to, altered_of, field_or, field_put, may_take, member_put, stored_field, changed_field, is_under, cast_to, number_for, made_at, made_from, made_told, perform}
 use Rattle.ang_meaning.specs.Results.{give_some, give_back, give_others}
 
 told_append : (a b : List Input) → answers_told (a ++ b) ≡ answers_told a ++ answers_told b
 told_append [] b = refl
 told_append (Said r ∷ a) b = ap (λ l. r ∷ l) (told_append a b)
 told_append (Room x ∷ a) b = told_append a b
-told_append (Counted x ∷ a) b = told_append a b
+told_append (Tallied x ∷ a) b = told_append a b
 told_append (Fresh n ∷ a) b = told_append a b
 
 listed_append : (a b : List HostEvent) → answers_listed (a ++ b) ≡ answers_listed a ++ answers_listed b
@@ -47,8 +47,8 @@ room_append [] b h = refl
 room_append (Said r ∷ a) b h = room_append a b h
 room_append (Room true ∷ a) b h = room_append a b h
 room_append (Room false ∷ a) b h = absurd (cc)
-room_append (Counted true ∷ a) b h = room_append a b h
-room_append (Counted false ∷ a) b h = absurd (cc)
+room_append (Tallied true ∷ a) b h = room_append a b h
+room_append (Tallied false ∷ a) b h = absurd (cc)
 room_append (Fresh n ∷ a) b h = room_append a b h
 
 stopped_append : (a b : List Input) → has_room a ≡ true → stopped_by (a ++ b) ≡ stopped_by b
@@ -56,8 +56,8 @@ stopped_append [] b h = refl
 stopped_append (Said r ∷ a) b h = stopped_append a b h
 stopped_append (Room true ∷ a) b h = stopped_append a b h
 stopped_append (Room false ∷ a) b h = absurd (cc)
-stopped_append (Counted true ∷ a) b h = stopped_append a b h
-stopped_append (Counted false ∷ a) b h = absurd (cc)
+stopped_append (Tallied true ∷ a) b h = stopped_append a b h
+stopped_append (Tallied false ∷ a) b h = absurd (cc)
 stopped_append (Fresh n ∷ a) b h = stopped_append a b h
 
 moves_then : (u v w : World) (a b : List Input) → Moves u a v → Moves v b w → Moves u (a ++ b) w
@@ -71,14 +71,14 @@ moves_then u v w a b p q = record {
 pub goes_then : (u v w : World) → GoesOn u v → GoesOn v w → GoesOn u w
 goes_then u v w p q = record { used = p.used ++ q.used; moves = moves_then u v w p.used q.used p.moves q.moves; room = room_append p.used q.used p.room ∙ q.room }
 
-pub goes_stop : (f : Fault) (u v w : World) → GoesOn u v → Stops f v w → Stops f u w
+pub goes_stop : (f : Fault) (u v w : World) → GoesOn u v → Faults f v w → Faults f u w
 goes_stop f u v w p q = record {
   used = p.used ++ q.used;
   moves = moves_then u v w p.used q.used p.moves q.moves;
   told = ⊎_elim (λ (e : has_room q.used ≡ true). inl (room_append p.used q.used p.room ∙ e)) (λ (e : stopped_by q.used ≡ Some f). inr (stopped_append p.used q.used p.room ∙ e)) q.told;
 }
 
-pub faulted : (f : Fault) (u v : World) → GoesOn u v → Stops f u v
+pub faulted : (f : Fault) (u v : World) → GoesOn u v → Faults f u v
 faulted f u v p = record { used = p.used; moves = p.moves; told = inl p.room }
 
 -- what asks for nothing
@@ -86,7 +86,7 @@ pub gives : (u v : World) → Moves u [] v → GoesOn u v
 gives u v p = record { used = []; moves = p; room = refl }
 
 -- and so may follow a refusal
-pub stop_gives : (f : Fault) (u v w : World) → Stops f u v → Moves v [] w → Stops f u w
+pub stop_gives : (f : Fault) (u v w : World) → Faults f u v → Moves v [] w → Faults f u w
 stop_gives f u v w p q =
     let m = p.moves in
     record {
@@ -162,7 +162,7 @@ put_moves m g v w = same w _ refl refl
 -- a step that may be refused
 abbrev pub TriedFrom : Fault → World → Tried → Type 0
 TriedFrom f w (Yes w') = GoesOn w w'
-TriedFrom f w (No w') = Stops f w w'
+TriedFrom f w (No w') = Faults f w w'
 
 told_one : (w : World) (i : Input) (rest : List Input) → w.inputs ≡ i ∷ rest → answers_told (i ∷ []) ≡ [] → Moves w (i ∷ []) (record w { inputs = rest })
 told_one w i rest e a = record { more = []; inputs = e; events = sym (append-nil w.events); answers = sym a }
@@ -172,7 +172,7 @@ memory_from [] w e = faulted Memory w w (nothing w)
 memory_from (Room true ∷ rest) w e = record { used = Room true ∷ []; moves = told_one w (Room true) rest e refl; room = refl }
 memory_from (Room false ∷ rest) w e = record { used = Room false ∷ []; moves = told_one w (Room false) rest e refl; told = inr refl }
 memory_from (Said r ∷ rest) w e = faulted Memory w w (nothing w)
-memory_from (Counted b ∷ rest) w e = faulted Memory w w (nothing w)
+memory_from (Tallied b ∷ rest) w e = faulted Memory w w (nothing w)
 memory_from (Fresh n ∷ rest) w e = faulted Memory w w (nothing w)
 
 pub memory_goes : (w : World) → TriedFrom Memory w (memory_step w)
@@ -181,8 +181,8 @@ memory_goes w = memory_from w.inputs w refl
 
 tally_from : (inputs : List Input) (w : World) → w.inputs ≡ inputs → TriedFrom Tally w (tally_told inputs w)
 tally_from [] w e = faulted Tally w w (nothing w)
-tally_from (Counted true ∷ rest) w e = record { used = Counted true ∷ []; moves = told_one w (Counted true) rest e refl; room = refl }
-tally_from (Counted false ∷ rest) w e = record { used = Counted false ∷ []; moves = told_one w (Counted false) rest e refl; told = inr refl }
+tally_from (Tallied true ∷ rest) w e = record { used = Tallied true ∷ []; moves = told_one w (Tallied true) rest e refl; room = refl }
+tally_from (Tallied false ∷ rest) w e = record { used = Tallied false ∷ []; moves = told_one w (Tallied false) rest e refl; told = inr refl }
 tally_from (Said r ∷ rest) w e = faulted Tally w w (nothing w)
 tally_from (Room b ∷ rest) w e = faulted Tally w w (nothing w)
 tally_from (Fresh n ∷ rest) w e = faulted Tally w w (nothing w)
@@ -214,7 +214,7 @@ hold_goes v w = held_goes v w (tally_step v w) (tally_goes v w)
 -- an operation
 abbrev pub DoneFrom : World → Done → Type 0
 DoneFrom w (Fine v w') = GoesOn w w'
-DoneFrom w (Fails f w') = Stops f w w'
+DoneFrom w (Fails f w') = Faults f w w'
 
 done_then : (u w : World) (o : Done) → GoesOn u w → DoneFrom w o → DoneFrom u o
 done_then u w (Fine v w') p q = goes_then u w w' p q
@@ -260,7 +260,7 @@ module _ (z : Setting) (m : ℕ) (e : EntityNo) where
       (replied_goes (use_at z m e).driver result reply u))
   asked_said object args result [] w h = faulted Memory w w (nothing w)
   asked_said object args result (Room b ∷ rest) w h = faulted Memory w w (nothing w)
-  asked_said object args result (Counted b ∷ rest) w h = faulted Memory w w (nothing w)
+  asked_said object args result (Tallied b ∷ rest) w h = faulted Memory w w (nothing w)
   asked_said object args result (Fresh n ∷ rest) w h = faulted Memory w w (nothing w)
 
   asked_tried : (object : Option ℕ) (args : List Value) (result : HostType) (w : World) (o : Tried) → TriedFrom Memory w o → DoneFrom w (asked_told z m e object args result o)
@@ -317,6 +317,17 @@ pub field_moves : (n i : ℕ) (v : Slot) (w : World) → Moves w [] (field_put n
 unfolding field_put
 field_moves n i v w = same w _ refl refl
 
+taken_moves : (b : Bool) (n i : ℕ) (v : Slot) (w : World) → Moves w [] (cond b (field_put n i v w) w)
+taken_moves true n i v w = field_moves n i v w
+taken_moves false n i v w = same w w refl refl
+
+pub member_moves : (i : ℕ) (o v : Slot) (w : World) → Moves w [] (member_put i o v w)
+unfolding member_put
+member_moves i (Bits x) v w = same w w refl refl
+member_moves i (Script None) v w = same w w refl refl
+member_moves i (Script (Some n)) v w = taken_moves (may_take n v w) n i v w
+member_moves i (Host d k) v w = same w w refl refl
+
 stored_field_goes : (n i : ℕ) (v : Slot) (w : World) (o : Tried) → TriedFrom Tally w o → DoneFrom w (stored_field n i v o)
 stored_field_goes n i v w (No w') p = p
 stored_field_goes n i v w (Yes w') p =
@@ -346,13 +357,13 @@ made_from_goes k [] w e = faulted Memory w w (nothing w)
 made_from_goes k (Fresh n ∷ rest) w e = made_at_goes k (number_for n w.objects) n rest w e
 made_from_goes k (Said r ∷ rest) w e = faulted Memory w w (nothing w)
 made_from_goes k (Room b ∷ rest) w e = faulted Memory w w (nothing w)
-made_from_goes k (Counted b ∷ rest) w e = faulted Memory w w (nothing w)
+made_from_goes k (Tallied b ∷ rest) w e = faulted Memory w w (nothing w)
 
 made_goes : (k : Class) (w : World) (o : Tried) → TriedFrom Memory w o → DoneFrom w (made_told k o)
 made_goes k w (No w') p = p
 made_goes k w (Yes w') p = done_then w w' _ p (made_from_goes k w'.inputs w' refl)
 
-misfit : (w : World) → Stops Null w w
+misfit : (w : World) → Faults Null w w
 misfit w = faulted Null w w (nothing w)
 
 pub perform_goes : (z : Setting) (m : ℕ) (o : Operation) (vs : List Slot) (w : World) → DoneFrom w (perform z m o vs w)
@@ -419,7 +430,7 @@ perform_goes z m (Alter e c) (o ∷ (v ∷ [])) w =
     let r = receiver_of (use_at z m e) (o ∷ []) in
     gives_up_goes (o ∷ []) w _ (altered_goes z m e r c v w (read_of z m e r w) (read_goes z m e r w))
 perform_goes z m (Alter e c) (o ∷ (v ∷ (u ∷ us))) w = misfit w
-perform_goes z m (Make c) [] w = made_goes (class_in (z.class m c)) w (memory_step w) (memory_goes w)
+perform_goes z m (Make c) [] w = made_goes (class_at z m c) w (memory_step w) (memory_goes w)
 perform_goes z m (Make c) (v ∷ vs) w = misfit w
 perform_goes z m (FieldGet i) [] w = misfit w
 perform_goes z m (FieldGet i) (Bits x ∷ us) w = misfit w

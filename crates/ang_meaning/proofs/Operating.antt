@@ -1,6 +1,6 @@
 -- Each strict operation leaves the counts those of the places.
 use Rattle.std.proofs.Common.{◌≡◌, ℕ, List, [], ◌∷◌, ◌++◌, Option, Some, None, refl, sym, ◌∙◌, subst, arith}
-use Rattle.std.specs.Prelude.{Bool, true, false, cond, reverse}
+use Rattle.std.specs.Prelude.{Bool, true, false, cond, ◌&&◌, not, reverse}
 use Rattle.std.specs.FinMap as map
 use Rattle.ang_kinds.specs.declared.mask.EntityNo.{EntityNo}
 use Rattle.ang_kinds.specs.declared.value.Value.{Value}
@@ -24,12 +24,12 @@ use Rattle.ang_meaning.specs.declared.operation.Change.{Change}
 use Rattle.ang_meaning.specs.declared.operation.Operation.{Operation}
 use Rattle.ang_meaning.specs.declared.operation.Operation.TheVariants.{Work, Compare, Convert, Negate, Complement, Not, Same, GlobalGet, GlobalSet, GlobalChange, Ask, Read, Write, Alter, Make, FieldGet, FieldSet, FieldChange, Cast}
 use Rattle.ang_meaning.specs.Numbers.{Worked, Is, Cannot, Changed, Into, Never, worked}
-use Rattle.ang_meaning.specs.World.{World, ScriptRecord, Input, Room, Said, Counted, Fresh, with_inputs, if_told, Tried, Yes, No, memory_step, tally_told, tally_step, one_more, held, hold, give}
+use Rattle.ang_meaning.specs.World.{World, ScriptRecord, Input, Room, Said, Tallied, Fresh, with_inputs, if_told, Tried, Yes, No, memory_step, tally_told, tally_step, one_more, held, hold, give}
 use Rattle.ang_meaning.specs.declared.class.Class.{Class}
-use Rattle.ang_meaning.specs.Setting.{Setting, class_in, use_at, host_in, is_property, may_access, is_fit}
+use Rattle.ang_meaning.specs.Setting.{Setting, class_at, use_at, host_in, is_property, may_write, is_fit}
 use Rattle.ang_meaning.specs.Hosts.{Done, Fine, Fails, holding, accepted, is_void, if_within, slot_of, replied_by, is_reply_to, asked_from, asked_told, asked, value_of, values_of}
 use Rattle.ang_meaning.specs.Perform.{work_done, change_of, global_or, global_put, stored_global, changed_global, Receiver, Of, Missing, receiver_of, arguments_of, gives_up, called_of, read_of, write_of, in_place_of, altered_to, altered_of, field_or, field_put, may_take, stored_field, changed_field, is_under, cast_to, number_for, made_from, made_told, perform}
-use Rattle.ang_meaning.specs.Counting.{Thing, names, IsCounted, HasObject, IsBelow, AreOrdered}
+use Rattle.ang_meaning.specs.Counting.{Thing, names, IsCounted, HasObject, IsBelow, AreSoundObjects}
 use Rattle.ang_meaning.proofs.Counting.{bits_name_none, null_names_none}
 use Rattle.ang_meaning.proofs.Ranks.{stems_ranked, still_below, more_stems}
 use Rattle.ang_meaning.proofs.Tables.{number_free}
@@ -161,7 +161,7 @@ module _ (z : Setting) (m : ℕ) (e : EntityNo) where
   from_counted object args result [] s w p = p
   from_counted object args result (Said reply ∷ rest) s w p = said_counted (is_reply_to (use_at z m e).role reply) result reply s w _ p p
   from_counted object args result (Room b ∷ rest) s w p = p
-  from_counted object args result (Counted b ∷ rest) s w p = p
+  from_counted object args result (Tallied b ∷ rest) s w p = p
   from_counted object args result (Fresh n ∷ rest) s w p = p
 
   told_counted : (object : Option ℕ) (args : List Value) (result : HostType) (s : List Slot) (o : Tried) → TriedCounted s s o → DoneWith s (asked_told z m e object args result o)
@@ -190,7 +190,7 @@ module _ (z : Setting) (m : ℕ) (e : EntityNo) where
     from_void object args [] s w p = p
     from_void object args (Said reply ∷ rest) s w p = said_void (is_reply_to (use_at z m e).role reply) reply s w _ refl p p
     from_void object args (Room b ∷ rest) s w p = p
-    from_void object args (Counted b ∷ rest) s w p = p
+    from_void object args (Tallied b ∷ rest) s w p = p
     from_void object args (Fresh n ∷ rest) s w p = p
 
     told_void : (object : Option ℕ) (args : List Value) (s : List Slot) (o : Tried) → TriedCounted s s o → DoneVoid s (asked_told z m e object args Nothing o)
@@ -308,27 +308,27 @@ abbrev pub TriedBelow : ℕ → Slot → Tried → Type 0
 TriedBelow n v (Yes w) = (r : ScriptRecord) → map.get w.objects n ≡ Some r → IsBelow w.objects r.rank v
 TriedBelow n v (No w) = Unit {0}
 
-pub below_more : (n : ℕ) (v : Slot) (w : World) → AreOrdered w.objects → ((r : ScriptRecord) → map.get w.objects n ≡ Some r → IsBelow w.objects r.rank v)
+pub below_more : (n : ℕ) (v : Slot) (w : World) → AreSoundObjects w.objects → ((r : ScriptRecord) → map.get w.objects n ≡ Some r → IsBelow w.objects r.rank v)
     → (r : ScriptRecord) → map.get (one_more v w).objects n ≡ Some r → IsBelow (one_more v w).objects r.rank v
 below_more n v w h b r g =
     let ranked = stems_ranked w.objects (one_more v w).objects (more_stems v w h) in
     let q = ranked n r g in
     subst (λ k. IsBelow (one_more v w).objects k v) q.2 (still_below w.objects (one_more v w).objects q.0.rank v ranked (b q.0 q.1))
 
-below_if : (b : Bool) (n : ℕ) (v : Slot) (is : List Input) (w : World) → AreOrdered w.objects → ((r : ScriptRecord) → map.get w.objects n ≡ Some r → IsBelow w.objects r.rank v)
+below_if : (b : Bool) (n : ℕ) (v : Slot) (is : List Input) (w : World) → AreSoundObjects w.objects → ((r : ScriptRecord) → map.get w.objects n ≡ Some r → IsBelow w.objects r.rank v)
     → TriedBelow n v (held v (if_told b (with_inputs is w)))
 below_if true n v is w h b = below_more n v (with_inputs is w) h b
 below_if false n v is w h b = tt
 
-below_from : (inputs : List Input) (n : ℕ) (v : Slot) (w : World) → AreOrdered w.objects → ((r : ScriptRecord) → map.get w.objects n ≡ Some r → IsBelow w.objects r.rank v)
+below_from : (inputs : List Input) (n : ℕ) (v : Slot) (w : World) → AreSoundObjects w.objects → ((r : ScriptRecord) → map.get w.objects n ≡ Some r → IsBelow w.objects r.rank v)
     → TriedBelow n v (held v (tally_told inputs w))
 below_from [] n v w h b = tt
-below_from (Counted x ∷ rest) n v w h b = below_if x n v rest w h b
+below_from (Tallied x ∷ rest) n v w h b = below_if x n v rest w h b
 below_from (Room x ∷ rest) n v w h b = tt
 below_from (Said r ∷ rest) n v w h b = tt
 below_from (Fresh k ∷ rest) n v w h b = tt
 
-pub hold_below : (n : ℕ) (v : Slot) (w : World) → AreOrdered w.objects → ((r : ScriptRecord) → map.get w.objects n ≡ Some r → IsBelow w.objects r.rank v) → TriedBelow n v (hold v w)
+pub hold_below : (n : ℕ) (v : Slot) (w : World) → AreSoundObjects w.objects → ((r : ScriptRecord) → map.get w.objects n ≡ Some r → IsBelow w.objects r.rank v) → TriedBelow n v (hold v w)
 unfolding hold tally_step
 hold_below n (Bits x) w h b = below_more n (Bits x) w h b
 hold_below n (Script None) w h b = below_more n (Script None) w h b
@@ -351,7 +351,7 @@ made_from_counted k [] s w p = p
 made_from_counted k (Fresh n ∷ rest) s w p = new_counted (number_for n w.objects) k rest s w (number_free n w.objects) p
 made_from_counted k (Said r ∷ rest) s w p = p
 made_from_counted k (Room b ∷ rest) s w p = p
-made_from_counted k (Counted b ∷ rest) s w p = p
+made_from_counted k (Tallied b ∷ rest) s w p = p
 
 made_counted : (k : Class) (s : List Slot) (o : Tried) → TriedCounted s s o → DoneWith s (made_told k o)
 made_counted k s (No w) p = p
@@ -376,9 +376,13 @@ may_store_counted true n i v s w t p =
 
 -- ---- an entity that is asked as a property is one
 
-access_role : (o : Option HostUse) → may_access o ≡ true → is_property (host_in o).role ≡ true
+both_true : (a b : Bool) → (a && b) ≡ true → a ≡ true
+both_true true b h = refl
+both_true false b h = h
+
+access_role : (o : Option HostUse) → may_write o ≡ true → is_property (host_in o).role ≡ true
 access_role None h = absurd (let x : ⊥ = cc in x)
-access_role (Some u) h = h
+access_role (Some u) h = both_true (is_property u.role) (not u.read_only) h
 
 work_counted : (o : Worked) (x y : ℕ) (s : List Slot) (w : World) → IsCounted (Bits y ∷ Bits x ∷ s) w → DoneCounted (Bits y ∷ Bits x ∷ []) s (work_done o w)
 work_counted (Is n) x y s w p = counted_as (Bits y ∷ Bits x ∷ s) (Bits n ∷ s) w (λ t. omega (arith, bits_none y t, bits_none x t, bits_none n t)) p
@@ -460,7 +464,7 @@ perform_counted z m (Alter e c) (o ∷ (v ∷ [])) s w fit p =
     let property = access_role (z.host m e.0) fit in
     of_object z m e property o v s _ (altered_plain z m e property r c v (read_of z m e r w)) (altered_void z m e property r c v (o ∷ v ∷ s) (read_of z m e r w) (read_counted z m e r (o ∷ v ∷ s) w p))
 perform_counted z m (Alter e c) (o ∷ (v ∷ (u ∷ us))) s w fit p = p
-perform_counted z m (Make c) [] s w fit p = made_taken s _ (made_counted (class_in (z.class m c)) s (memory_step w) (memory_counted s w p))
+perform_counted z m (Make c) [] s w fit p = made_taken s _ (made_counted (class_at z m c) s (memory_step w) (memory_counted s w p))
 perform_counted z m (Make c) (v ∷ vs) s w fit p = p
 perform_counted z m (FieldGet i) [] s w fit p = p
 perform_counted z m (FieldGet i) (Bits x ∷ us) s w fit p = p

@@ -10,7 +10,7 @@ use Rattle.ang_host.specs.State.{count_at}
 use Rattle.ang_meaning.specs.declared.slot.Slot.{Slot}
 use Rattle.ang_meaning.specs.declared.slot.Slot.TheVariants.{Bits, Script, Host}
 use Rattle.ang_meaning.specs.World.{World, ScriptRecord, ScriptObjects}
-use Rattle.ang_meaning.specs.Counting.{Thing, KeyOf, NumberOf, how_many, in_lists, sum_over, in_fields, count_of_object, count_in, IsBelow, AreBelow, AreOrdered, IsCounted}
+use Rattle.ang_meaning.specs.Counting.{Thing, KeyOf, NumberOf, how_many, in_lists, sum_over, in_fields, count_of_object, count_in, IsBelow, AreBelow, AreSoundObjects, IsCounted}
 use Rattle.ang_meaning.proofs.Tables.{sum-bound, entry_of_sum}
 
 below_if : (b : Bool) (os : ScriptObjects) (r j n : ℕ) (o : ScriptRecord) (rest : ℕ) → nat_eq j n ≡ b → map.get os n ≡ Some o → IsBelow os r (Script (Some j))
@@ -26,7 +26,7 @@ named_below os r n o (Script None ∷ vs) g p lt = named_below os r n o vs g p.1
 named_below os r n o (Script (Some j) ∷ vs) g p lt = below_if (nat_eq j n) os r j n o (how_many (NumberOf n) vs) refl g p.0 (named_below os r n o vs g p.1) lt
 named_below os r n o (Host d k ∷ vs) g p lt = named_below os r n o vs g p.1 (omega (arith, lt))
 
-module _ (os : ScriptObjects) (ordered : AreOrdered os) (held : (n : ℕ) (o : ScriptRecord) → map.get os n ≡ Some o → 0 < in_fields (NumberOf n) os) where
+module _ (os : ScriptObjects) (ordered : AreSoundObjects os) (held : (n : ℕ) (o : ScriptRecord) → map.get os n ≡ Some o → 0 < in_fields (NumberOf n) os) where
   -- each object is in a field of one of a greater rank, and so on without end
   no_chain : (d n : ℕ) (o : ScriptRecord) → map.get os n ≡ Some o → sum_over (λ x. x.rank) os < o.rank + d → ⊥
   no_chain zero n o g lt = absurd (omega (arith, lt, sum-bound (λ x. x.rank) os n o g))

@@ -3,7 +3,7 @@ use Rattle.std.specs.Prelude.{ℕ, ◌≡◌, Bool, List, [], ◌∷◌, Option,
 use Rattle.std.specs.FinMap as map
 use Rattle.ang_meaning.specs.declared.slot.Slot.{Slot}
 use Rattle.ang_meaning.specs.declared.slot.Slot.TheVariants.{Bits, Script, Host}
-use Rattle.ang_meaning.specs.World.{World, ScriptRecord, ScriptObjects, Input, Room, Said, Counted, Fresh}
+use Rattle.ang_meaning.specs.World.{World, ScriptRecord, ScriptObjects, Input, Room, Said, Tallied, Fresh}
 
 -- a permutation of the numbers of script objects
 pub record Renaming : Type 0 where
@@ -48,19 +48,19 @@ Match apart [] (j ∷ js) = ⊥
 Match apart (i ∷ is) [] = ⊥
 Match apart (Room a ∷ is) (Room b ∷ js) = (a ≡ b) × Match apart is js
 Match apart (Room a ∷ is) (Said q ∷ js) = apart
-Match apart (Room a ∷ is) (Counted b ∷ js) = apart
+Match apart (Room a ∷ is) (Tallied b ∷ js) = apart
 Match apart (Room a ∷ is) (Fresh m ∷ js) = apart
 Match apart (Said q ∷ is) (Room b ∷ js) = apart
 Match apart (Said q ∷ is) (Said p ∷ js) = (q ≡ p) × Match apart is js
-Match apart (Said q ∷ is) (Counted b ∷ js) = apart
+Match apart (Said q ∷ is) (Tallied b ∷ js) = apart
 Match apart (Said q ∷ is) (Fresh m ∷ js) = apart
-Match apart (Counted a ∷ is) (Room b ∷ js) = apart
-Match apart (Counted a ∷ is) (Said q ∷ js) = apart
-Match apart (Counted a ∷ is) (Counted b ∷ js) = (a ≡ b) × Match apart is js
-Match apart (Counted a ∷ is) (Fresh m ∷ js) = apart
+Match apart (Tallied a ∷ is) (Room b ∷ js) = apart
+Match apart (Tallied a ∷ is) (Said q ∷ js) = apart
+Match apart (Tallied a ∷ is) (Tallied b ∷ js) = (a ≡ b) × Match apart is js
+Match apart (Tallied a ∷ is) (Fresh m ∷ js) = apart
 Match apart (Fresh n ∷ is) (Room b ∷ js) = apart
 Match apart (Fresh n ∷ is) (Said q ∷ js) = apart
-Match apart (Fresh n ∷ is) (Counted b ∷ js) = apart
+Match apart (Fresh n ∷ is) (Tallied b ∷ js) = apart
 Match apart (Fresh n ∷ is) (Fresh m ∷ js) = Match apart is js
 
 -- the second world is the first one renamed

@@ -61,11 +61,11 @@ count_in x w = count_by x w.objects w.hosts
 
 -- Each count is that of elsewhere, and of the places among vs and all fields. This and what is said with it below speak of parts of a world, so that what
 -- a run was told and has listed does not matter.
-pub record AreCounts (elsewhere : Thing → ℕ) (vs : List Slot) (os : ScriptObjects) (hs : HostCounts) : Type 0 where
+pub record CountsIn (elsewhere : Thing → ℕ) (vs : List Slot) (os : ScriptObjects) (hs : HostCounts) : Type 0 where
   pub counts : (x : Thing) → count_by x os hs ≡ elsewhere x + (how_many x vs + in_fields x os)
 
 abbrev pub Counts : (Thing → ℕ) → List Slot → World → Type 0
-Counts elsewhere vs w = AreCounts elsewhere vs w.objects w.hosts
+Counts elsewhere vs w = CountsIn elsewhere vs w.objects w.hosts
 
 -- an object that a field holds is of a lower rank
 abbrev pub IsBelow : ScriptObjects → ℕ → Slot → Type 0
@@ -79,25 +79,25 @@ AreBelow os r [] = Unit {0}
 AreBelow os r (v ∷ vs) = IsBelow os r v × AreBelow os r vs
 
 -- each script object is held somewhere, and ranks fall along fields
-pub record AreOrdered (os : ScriptObjects) : Type 0 where
+pub record AreSoundObjects (os : ScriptObjects) : Type 0 where
   pub alive : (n : ℕ) (o : ScriptRecord) → map.get os n ≡ Some o → 0 < o.count
   pub falls : (n : ℕ) (o : ScriptRecord) → map.get os n ≡ Some o → AreBelow os o.rank o.fields
 
 -- the counts are the numbers of places, among vs, the globals and all fields
-pub record AreCounted (vs : List Slot) (os : ScriptObjects) (hs : HostCounts) (gs : List (List Slot)) : Type 0 where
-  pub counts : AreCounts (λ x. in_lists x gs) vs os hs
-  pub ordered : AreOrdered os
+pub record CountedIn (vs : List Slot) (os : ScriptObjects) (hs : HostCounts) (gs : List (List Slot)) : Type 0 where
+  pub counts : CountsIn (λ x. in_lists x gs) vs os hs
+  pub ordered : AreSoundObjects os
 
 abbrev pub IsCounted : List Slot → World → Type 0
-IsCounted vs w = AreCounted vs w.objects w.hosts w.globals
+IsCounted vs w = CountedIn vs w.objects w.hosts w.globals
 
 -- A count at least for each of these places and each field, of host objects alone: all that a driver asks where a reference is given up. A script object
 -- needs none: one that is not there is given up without a change.
-pub record AreEnough (vs : List Slot) (os : ScriptObjects) (hs : HostCounts) : Type 0 where
+pub record EnoughIn (vs : List Slot) (os : ScriptObjects) (hs : HostCounts) : Type 0 where
   pub enough : (d k : ℕ) → how_many (KeyOf d k) vs + in_fields (KeyOf d k) os ≤ count_at (hs d) k
 
 abbrev pub CanGive : List Slot → World → Type 0
-CanGive vs w = AreEnough vs w.objects w.hosts
+CanGive vs w = EnoughIn vs w.objects w.hosts
 
 -- where the value names a host object, that is counted: what a driver asks before it adds a reference
 abbrev pub HasKey : Slot → HostCounts → Type 0

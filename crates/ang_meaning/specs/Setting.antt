@@ -1,6 +1,6 @@
 -- What stays the same while a run goes on: the modules, the registered entities, the functions and where the imports lead.
 use Rattle.std.specs.FinMap as map
-use Rattle.std.specs.Prelude.{ℕ, Bool, true, false, ◌&&◌, not, List, [], ◌∷◌, Option, Some, None}
+use Rattle.std.specs.Prelude.{ℕ, Bool, true, false, ◌&&◌, not, is_some, List, [], ◌∷◌, Option, Some, None}
 use Rattle.ang_kinds.specs.declared.fault.Fault.{Fault}
 use Rattle.ang_kinds.specs.declared.fault.Fault.TheVariants.{Null, Unbound}
 use Rattle.ang_meaning.specs.declared.slot.Slot.{Slot}
@@ -9,8 +9,8 @@ use Rattle.ang_kinds.specs.declared.mask.EntityNo.{EntityNo}
 use Rattle.ang_host.specs.declared.event.Role.TheVariants.{Making as MakingRole, Calling as CallingRole, Property as PropertyRole}
 use Rattle.ang_host.specs.declared.event.Role.{Role}
 use Rattle.ang_meaning.specs.declared.class.Class.{Class}
-use Rattle.ang_meaning.specs.declared.class.FieldKind.{FieldKind}
-use Rattle.ang_meaning.specs.declared.class.FieldKind.TheVariants.{Plain as NumberField, Handle as HandleField}
+use Rattle.ang_meaning.specs.declared.class.ValueKind.{ValueKind}
+use Rattle.ang_meaning.specs.declared.class.ValueKind.TheVariants.{Number as NumberField, Handle as HandleField}
 use Rattle.ang_meaning.specs.declared.host.HostType.{HostType}
 use Rattle.ang_meaning.specs.declared.host.HostType.TheVariants.{Nothing, Plain, Handle}
 use Rattle.ang_meaning.specs.declared.operation.Operation.{Operation}
@@ -23,38 +23,42 @@ use Rattle.ang_meaning.specs.declared.routine.Callee.TheVariants.{Own, Import, V
 use Rattle.ang_meaning.specs.declared.routine.Passing.{Passing}
 use Rattle.ang_meaning.specs.declared.routine.Passing.TheVariants.{In, Out, Object}
 
--- The values of a function's parameters come with the last one first, here and everywhere. By module, the first number of each:
---   its name; the registered entities that the module sees, by their numbers (docs/MEANING.md, "Masks and views");
---   each import's parameters as the module declares them, and where the import leads, if it is bound (the AngelScript manual, "Imports"): an import takes no
---   objects but handles, so its call never faults with `Null`;
---   its classes; the method that a class has in a slot, its own or an inherited one, and the parameters of the methods in a slot, of which the receiver is
---   the first one, so the last of the list (the manual, "Inheritance and polymorphism").
--- By routine: a function's parameters, where there is such a function. And how many functions may stand one inside the other: 200, and 201 where the
--- outermost is an initializer, which does not count.
+-- The first number of each is a module's. The values of a function's parameters come with the last one first, here and everywhere.
 pub record Setting : Type 0 where
   pub name : ℕ → List ℕ
+  -- the registered entities that the module sees, by their numbers (docs/MEANING.md, "Masks and views")
   pub host : ℕ → ℕ → Option HostUse
+  -- an import's parameters as the module declares them (the AngelScript manual, "Imports"): it takes no objects but handles, so its call never faults with `Null`
   pub imported : ℕ → ℕ → Option (List Passing)
+  -- where an import leads, if it is bound
   pub linked : ℕ → ℕ → Option Routine
   pub class : ℕ → ℕ → Option Class
+  -- the method that a class has in a slot, its own or an inherited one (the manual, "Inheritance and polymorphism")
   pub method : ℕ → ℕ → ℕ → Option Routine
+  -- the parameters of the methods in a slot, of which the receiver is the first one, so the last of the list
   pub slot : ℕ → ℕ → Option (List Passing)
+  -- a function's parameters, where there is such a function
   pub params : Routine → Option (List Passing)
+  -- how many functions may stand one inside the other: 200, and 201 where the outermost is an initializer, which does not count
   pub nesting : ℕ
 
 -- what a field holds while nothing was stored in it: a variable without an initializer is 0, false or null (the manual, "Variable declarations")
-abbrev pub default_of : FieldKind → Slot
+abbrev pub default_of : ValueKind → Slot
 default_of NumberField = Bits 0
 default_of HandleField = Script None
 
--- stands where there is no class; no sound code makes one
+-- stands where there is no class; no operation that is fit makes one
 abbrev pub class_in : Option Class → Class
 class_in None = record { number = 0; rank = 0; fields = []; under = [] }
 class_in (Some c) = c
 
+-- the class of a number, as its objects have it
+abbrev pub class_at : Setting → ℕ → ℕ → Class
+class_at z m c = record (class_in (z.class m c)) { number = c }
+
 -- stands where there is no entity; no sound code asks it
 abbrev pub nobody : HostUse
-nobody = record { driver = 0; role = CallingRole 0; member = false; params = []; result = Nothing }
+nobody = record { driver = 0; role = CallingRole 0; member = false; params = []; result = Nothing; read_only = false }
 
 abbrev pub host_in : Option HostUse → HostUse
 host_in None = nobody
@@ -145,7 +149,12 @@ abbrev pub may_access : Option HostUse → Bool
 may_access None = false
 may_access (Some u) = is_property u.role
 
--- Whether an operation asks an entity that there is, in the way of its role.
+-- a property that is not `const` (the AngelScript manual, "Registering global properties")
+abbrev pub may_write : Option HostUse → Bool
+may_write None = false
+may_write (Some u) = is_property u.role && not u.read_only
+
+-- Whether an operation asks an entity that there is, in the way of its role, or makes an object of a class that there is.
 unfoldable pub is_fit : Setting → ℕ → Operation → Bool
 is_fit z m (Work a p) = true
 is_fit z m (Compare c signed) = true
@@ -159,9 +168,9 @@ is_fit z m (GlobalSet g) = true
 is_fit z m (GlobalChange g c) = true
 is_fit z m (Ask e) = may_call (z.host m e.0)
 is_fit z m (Read e) = may_access (z.host m e.0)
-is_fit z m (Write e) = may_access (z.host m e.0)
-is_fit z m (Alter e c) = may_access (z.host m e.0)
-is_fit z m (Make c) = true
+is_fit z m (Write e) = may_write (z.host m e.0)
+is_fit z m (Alter e c) = may_write (z.host m e.0)
+is_fit z m (Make c) = is_some (z.class m c)
 is_fit z m (FieldGet i) = true
 is_fit z m (FieldSet i) = true
 is_fit z m (FieldChange i c) = true

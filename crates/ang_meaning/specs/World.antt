@@ -30,7 +30,7 @@ HostCounts = ℕ → map.FinMap nat_cmp ℕ
 pub data Input : Type 0 where
   Room : Bool → Input
   Said : HostReply → Input
-  Counted : Bool → Input
+  Tallied : Bool → Input
   Fresh : ℕ → Input
 
 pub record World : Type 0 where
@@ -85,7 +85,7 @@ one_more (Host d (Some k)) w = record w { hosts = host_raised d k w.hosts }
 
 -- a tally is asked for room where an object is held once more
 abbrev pub tally_told : List Input → World → Tried
-tally_told (Counted b ∷ rest) w = if_told b (with_inputs rest w)
+tally_told (Tallied b ∷ rest) w = if_told b (with_inputs rest w)
 tally_told _ w = No w
 
 unfoldable pub tally_step : Slot → World → Tried

@@ -1,11 +1,11 @@
 //! Script classes as code makes their objects.
 use ang_kinds::List;
 
-/// What a field of a script object holds while nothing was stored in it.
+/// What a field of a script object, or a global, holds while nothing was stored in it.
 #[derive(Clone, Copy, PartialEq, Eq, Debug)]
-pub enum FieldKind {
+pub enum ValueKind {
     /// A number or truth value: 0 or false.
-    Plain,
+    Number,
     /// An object or a handle, of a script class or a host type: null.
     Handle,
 }
@@ -19,7 +19,7 @@ pub struct Class {
     /// reach, so that giving up an object ends.
     pub rank: u32,
     /// What its fields are, those of the base class first, in order of declaration.
-    pub fields: List<FieldKind>,
+    pub fields: List<ValueKind>,
     /// The numbers of the classes and interfaces that it is or stands under.
     pub under: List<u32>,
 }

@@ -10,7 +10,7 @@ mod operation;
 mod routine;
 mod slot;
 
-pub use class::{Class, FieldKind};
+pub use class::{Class, ValueKind};
 pub use host::{HostType, HostUse};
 pub use operation::{Arithmetic, Change, Comparison, Operation};
 pub use routine::{Callee, Passing, Routine, Spot, Target};

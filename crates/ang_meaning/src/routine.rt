@@ -41,6 +41,13 @@ pub enum Spot {
     Local(usize),
     /// The global of that number of the running module.
     Global(u32),
+    /// A field of an object that a local holds, as a method's receiver does.
+    Field {
+        /// The local's number, counted from the innermost one.
+        object: usize,
+        /// The field's number.
+        field: u32,
+    },
 }
 
 /// A variable that an `&out` parameter's value moves into.

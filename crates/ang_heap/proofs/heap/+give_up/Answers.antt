@@ -4,7 +4,7 @@ use Rattle.ang_meaning.specs.declared.slot.Slot.TheVariants.{Bits, Script, Host}
 use Rattle.ang_meaning.specs.World.{give}
 use Rattle.ang_heap.specs.Parts.{counts_of, world_by}
 use Rattle.ang_heap.specs.Heaps.{objects_in}
-use Rattle.ang_meaning.specs.Counting.{AreEnough}
+use Rattle.ang_meaning.specs.Counting.{EnoughIn}
 use Rattle.ang_meaning.proofs.Giving.{give_bits, give_null, give_no_key, give_kept, give_gone}
 use Rattle.ang_meaning.proofs.Enough.{first_key}
 use Rattle.ang_heap.proofs.Hosting.{parts_none, parts_join}
@@ -14,8 +14,8 @@ use Rattle.ang_heap.proofs.heap.+give_up.Goals as goal
 pub loop-i-init : goal.loop-i-init
 loop-i-init g t c =
     let is_script : c.args.value ≡ Script (Some c.in-Some-handle.number) = c.in-Script.is ∙ ap Script c.in-Some-handle.is in
-    let enough : AreEnough (Script (Some c.in-Some-handle.number) ∷ []) (objects_in c.args.records.now) (counts_of (λ v. (g.dyn-1.0.entry v).1.meaning) (members c.args.drivers.now)) =
-    subst (λ v. AreEnough (v ∷ []) (objects_in c.args.records.now) (counts_of (λ v. (g.dyn-1.0.entry v).1.meaning) (members c.args.drivers.now))) is_script c.requires.enough in
+    let enough : EnoughIn (Script (Some c.in-Some-handle.number) ∷ []) (objects_in c.args.records.now) (counts_of (λ v. (g.dyn-1.0.entry v).1.meaning) (members c.args.drivers.now)) =
+    subst (λ v. EnoughIn (v ∷ []) (objects_in c.args.records.now) (counts_of (λ v. (g.dyn-1.0.entry v).1.meaning) (members c.args.drivers.now))) is_script c.requires.enough in
     record {
       gives = λ gs is. refl;
       enough = fields_enough c.in-Some-handle.number c.in-Some-lower.object.fields.items (objects_in c.args.records.now) (objects_in c.lower.new.records) _ c.in-Some-lower.ensures.gone enough;

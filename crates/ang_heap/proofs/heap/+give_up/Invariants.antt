@@ -4,7 +4,7 @@ use Rattle.ang_host.specs.Members.{states_of}
 use Rattle.ang_host.specs.Boxes.{members}
 use Rattle.ang_meaning.specs.declared.slot.Slot.{Slot}
 use Rattle.ang_meaning.specs.World.{Input, give_all}
-use Rattle.ang_meaning.specs.Counting.{AreEnough}
+use Rattle.ang_meaning.specs.Counting.{EnoughIn}
 use Rattle.slab.specs.Slab.{slab_len}
 use Rattle.ang_heap.specs.Parts.{counts_of, live_of, world_by, AreReady, PartsMove}
 use Rattle.ang_heap.specs.Heaps.{objects_in}
@@ -18,7 +18,7 @@ invariant-loop-i g l = record {
   gives : (gs : List (List Slot)) (is : List Input)
       → give_all l.object.fields.items (world_by (objects_in l.initial.records) (counts_of (λ v. (g.dyn-1.0.entry v).1.meaning) (members l.initial.drivers)) gs l.initial.events.items is)
       ≡ give_all (drop l.i l.object.fields.items) (world_by (objects_in l.records) (counts_of (λ v. (g.dyn-1.0.entry v).1.meaning) (members l.drivers)) gs l.events.items is);
-  enough : AreEnough (drop l.i l.object.fields.items) (objects_in l.records) (counts_of (λ v. (g.dyn-1.0.entry v).1.meaning) (members l.drivers));
+  enough : EnoughIn (drop l.i l.object.fields.items) (objects_in l.records) (counts_of (λ v. (g.dyn-1.0.entry v).1.meaning) (members l.drivers));
   ready : AreReady (states_of (λ v. (g.dyn-1.0.entry v).1.meaning) (members l.drivers)) (vec_len l.events) (vec_capacity l.events);
   capacity : vec_capacity l.events ≡ vec_capacity l.initial.events;
   fewer : live_of (λ v. (g.dyn-1.0.entry v).1.meaning) (members l.drivers) ≤ live_of (λ v. (g.dyn-1.0.entry v).1.meaning) (members l.initial.drivers);
