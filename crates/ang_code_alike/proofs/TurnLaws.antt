@@ -32,7 +32,7 @@ use Rattle.ang_code_laws.proofs.Counting.{give_back_with, nothing_below, end_cou
 use Rattle.ang_code_laws.proofs.AlikeSteps.{RunLeaves, RunsAlike, back_alike}
 use Rattle.ang_code_laws.proofs.AlikeRuns.{begun as told_then}
 use Rattle.ang_code_alike.specs.Trees.{Ends}
-use Rattle.ang_code_alike.specs.Turns.{Turn, Wants, Calls, Initializes, Relays, with_globals, relaid, Seen, SeenValue, SeenFault, seen, done_by, IsMade, AreMade, Answer, Does, given_up, onward, DoInTurn, replies_in, AnswersAlike, SessionsAlike, SameSessions, Plan, Finish, Then, IsMadePlan, Follows, SamePlans}
+use Rattle.ang_code_alike.specs.Turns.{Turn, Wants, Calls, Initializes, Relays, with_globals, relaid, Shown, ShownValue, ShownFault, shown, done_by, IsMade, AreMade, Answer, Does, given_up, onward, DoInTurn, replies_in, AnswersAlike, SessionsAlike, SameSessions, Plan, Finish, Then, IsMadePlan, Follows, SamePlans}
 use Rattle.ang_code_alike.proofs.TreeLaws.{call_counted, call_tree, all_counted, all_tree, push_zero, told_alike}
 
 -- ---- arguments
@@ -158,9 +158,9 @@ given_alike (Stops f) r v w h = h
 onward_alike : (e : Ending) (r : Renaming) (v w : World) → AreAlike r v w → AreAlike r (onward e v) (onward (renamed_end r e) w)
 onward_alike e r v w h = let k = given_alike e r v w h in record { objects = k.objects; hosts = k.hosts; globals = k.globals; events = refl; inputs = λ b. b }
 
-seen_renamed : (d : ℕ) (ty : HostType) (r : Renaming) (e : Ending) → seen d ty (renamed_end r e) ≡ seen d ty e
-seen_renamed d ty r (Gives x t) = ap (λ y. SeenValue y t) (value_renamed r d ty x)
-seen_renamed d ty r (Stops f) = refl
+shown_renamed : (d : ℕ) (ty : HostType) (r : Renaming) (e : Ending) → shown d ty (renamed_end r e) ≡ shown d ty e
+shown_renamed d ty r (Gives x t) = ap (λ y. ShownValue y t) (value_renamed r d ty x)
+shown_renamed d ty r (Stops f) = refl
 
 first_of_lists : List (List HostReply) → List HostReply
 first_of_lists [] = []
@@ -173,7 +173,7 @@ later_lists (l ∷ ls) = ls
 -- what one turn leaves
 record TurnTold (a b : Answer) (v w : World) : Type 0 where
   by : Renaming
-  same : (d : ℕ) (ty : HostType) → seen d ty b.end ≡ seen d ty a.end
+  same : (d : ℕ) (ty : HostType) → shown d ty b.end ≡ shown d ty a.end
   events : b.events ≡ a.events
   counted : IsCounted [] (onward a.end v)
   alike : AreAlike by (onward a.end v) (onward b.end w)
@@ -189,7 +189,7 @@ turn_told c r v w left other a b made p h one two k =
     end_counted left a.end (subst (λ o. CountedAt (Over o)) (one.ends.tells []) (turn_counted c (with_inputs (one.used ++ []) v) made p)) in
     record {
       by = end.by;
-      same = λ d ty. ap (seen d ty) end.ending ∙ seen_renamed d ty end.by a.end;
+      same = λ d ty. ap (shown d ty) end.ending ∙ shown_renamed d ty end.by a.end;
       events = two.events ∙ end.worlds.events ∙ sym one.events;
       counted = onward_counted a.end left counted;
       alike = subst (λ q. AreAlike end.by (onward a.end left) (onward q other)) (sym end.ending) (onward_alike a.end end.by left other end.worlds);
@@ -218,11 +218,11 @@ same_plans (Then c next) [] ys r v w v' w' made p h d e k = absurd d
 same_plans (Then c next) (a ∷ xs) [] r v w v' w' made p h d e k = absurd e
 same_plans (Then c next) (a ∷ xs) (b ∷ ys) r v w v' w' made p h d e k =
     let one = turn_told c r v w d.0 e.0 a b made.0 p h d.1 e.1 (ap first_of_lists k) in
-    let sees : (λ (n : ℕ) (ty : HostType). seen n ty b.end) ≡ (λ (n : ℕ) (ty : HostType). seen n ty a.end) = λ i n ty. one.same n ty i in
-    let after = next (λ n ty. seen n ty a.end) a.events in
+    let sees : (λ (n : ℕ) (ty : HostType). shown n ty b.end) ≡ (λ (n : ℕ) (ty : HostType). shown n ty a.end) = λ i n ty. one.same n ty i in
+    let after = next (λ n ty. shown n ty a.end) a.events in
     let follows : Follows (onward b.end e.0) after ys w' =
-    subst (λ s. Follows (onward b.end e.0) (next s a.events) ys w') sees (subst (λ es. Follows (onward b.end e.0) (next (λ n ty. seen n ty b.end) es) ys w') one.events e.2) in
-    let rest = same_plans after xs ys one.by (onward a.end d.0) (onward b.end e.0) v' w' (made.1 (λ n ty. seen n ty a.end) a.events) one.counted one.alike d.2 follows (ap later_lists k) in
+    subst (λ s. Follows (onward b.end e.0) (next s a.events) ys w') sees (subst (λ es. Follows (onward b.end e.0) (next (λ n ty. shown n ty b.end) es) ys w') one.events e.2) in
+    let rest = same_plans after xs ys one.by (onward a.end d.0) (onward b.end e.0) v' w' (made.1 (λ n ty. shown n ty a.end) a.events) one.counted one.alike d.2 follows (ap later_lists k) in
     ((one.same, one.events, rest.0), rest.1)
 
 -- ---- from the same world

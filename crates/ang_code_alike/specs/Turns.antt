@@ -89,20 +89,20 @@ abbrev pub replies_in : Answer → List HostReply
 replies_in a = answers_listed a.events
 
 -- what a host sees of an end, where its value is of a driver and a type
-pub data Seen : Type 0 where
-  SeenValue : Value → ℕ → Seen
-  SeenFault : Fault → Seen
+pub data Shown : Type 0 where
+  ShownValue : Value → ℕ → Shown
+  ShownFault : Fault → Shown
 
-abbrev pub seen : ℕ → HostType → Ending → Seen
-seen d ty (Gives x t) = SeenValue (value_of d ty x) t
-seen d ty (Stops f) = SeenFault f
+abbrev pub shown : ℕ → HostType → Ending → Shown
+shown d ty (Gives x t) = ShownValue (value_of d ty x) t
+shown d ty (Stops f) = ShownFault f
 
--- the same is seen of each end, and the events are the same
+-- each end shows the same, and the events are the same
 abbrev pub AnswersAlike : List Answer → List Answer → Type 0
 AnswersAlike [] [] = Unit {0}
 AnswersAlike [] (b ∷ ys) = ⊥
 AnswersAlike (a ∷ xs) [] = ⊥
-AnswersAlike (a ∷ xs) (b ∷ ys) = ((d : ℕ) (ty : HostType) → seen d ty b.end ≡ seen d ty a.end) × (b.events ≡ a.events) × AnswersAlike xs ys
+AnswersAlike (a ∷ xs) (b ∷ ys) = ((d : ℕ) (ty : HostType) → shown d ty b.end ≡ shown d ty a.end) × (b.events ≡ a.events) × AnswersAlike xs ys
 
 -- Two sessions of the same commands from worlds that are alike, granted all that they asked for, whose drivers answered the same, are told the same.
 abbrev pub SessionsAlike : Type 0
@@ -118,17 +118,17 @@ SameSessions = (cs : List Turn) (xs ys : List Answer) (w v' w' : World) → AreM
 -- What is done next, by what a host sees of each end, whatever driver and type its value is taken for, and by the events.
 pub data Plan : Type 0 where
   Finish : Plan
-  Then : Turn → ((ℕ → HostType → Seen) → List HostEvent → Plan) → Plan
+  Then : Turn → ((ℕ → HostType → Shown) → List HostEvent → Plan) → Plan
 
 abbrev pub IsMadePlan : Plan → Type 0
 IsMadePlan Finish = Unit {0}
-IsMadePlan (Then c next) = IsMade c × ((s : ℕ → HostType → Seen) (es : List HostEvent) → IsMadePlan (next s es))
+IsMadePlan (Then c next) = IsMade c × ((s : ℕ → HostType → Shown) (es : List HostEvent) → IsMadePlan (next s es))
 
 abbrev pub Follows : World → Plan → List Answer → World → Type 0
 Follows w Finish [] after = w ≡ after
 Follows w Finish (a ∷ xs) after = ⊥
 Follows w (Then c next) [] after = ⊥
-Follows w (Then c next) (a ∷ xs) after = (left : World) × Does c w a left × Follows (onward a.end left) (next (λ d ty. seen d ty a.end) a.events) xs after
+Follows w (Then c next) (a ∷ xs) after = (left : World) × Does c w a left × Follows (onward a.end left) (next (λ d ty. shown d ty a.end) a.events) xs after
 
 -- The same of two sessions that follow one plan.
 abbrev pub SamePlans : Type 0

@@ -40,10 +40,11 @@ fn swap(target: &Target, under: u32, base: usize) -> Result<Instruction, AllocEr
         }),
         Spot::Field { object, field } => {
             let place = sum(base, object)?;
+            let object = narrow(place)?;
             Ok(Instruction::SwapField {
                 to: target.to,
                 under,
-                object: narrow(place)?,
+                object,
                 field,
             })
         }

@@ -11,5 +11,5 @@ mod store;
 
 pub use ang_meaning::Slot;
 pub use globals::Globals;
-pub use heap::{Heap, ScriptObject, Tally};
+pub use heap::{Heap, Tally};
 pub use store::{Store, give, hold};
