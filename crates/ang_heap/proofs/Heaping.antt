@@ -1,7 +1,7 @@
 -- Script objects by number, against the slab that keeps them.
-use Rattle.std.specs.Prelude.{ℕ, zero, suc, ◌+◌, ◌-◌, ◌≡◌, ◌≢◌, ◌<◌, ◌≤◌, Bool, true, false, cond, nat_eq, is_some, IfSome, count_by, List, [], ◌∷◌, Option, Some, None, map as list_map, slice_index_or, slice_set, Result, Ok, Err, OnErr}
+use Rattle.std.specs.Prelude.{ℕ, zero, suc, ◌+◌, ◌-◌, ◌≡◌, ◌<◌, ◌≤◌, cond, is_some, IfSome, count_by, List, [], ◌∷◌, Option, Some, None, map as list_map, slice_index_or, slice_set, Result, Ok, Err, OnErr}
 use Rattle.std.specs.Option.{option_map}
-use Rattle.std.specs.Ordering.{nat_cmp, is_eq}
+use Rattle.std.specs.Ordering.{nat_cmp}
 use Rattle.std.specs.FinMap as map
 use Rattle.std.specs.FinMap.{get-empty, get-insert, get-remove, get-from_entries, same_map, nat_cmp-IsAntisymmetric, find}
 use Rattle.std.proofs.lemmas.Cmp.{nat_cmp_total}

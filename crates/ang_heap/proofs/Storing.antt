@@ -1,20 +1,16 @@
 -- Values held and given up in a store, over worlds.
-use Rattle.std.proofs.Common.{◌≡◌, ℕ, List, [], ◌∷◌, Bool, true, false, refl, sym, ap, ◌∙◌, Some, None, cond, append-nil, subst, Result, Ok, Err, is_ok, OnErr}
-use Rattle.std.specs.declared.alloc.Global.{Global}
-use Rattle.std.specs.declared.dyn_box.DynBox.{DynBox}
+use Rattle.std.proofs.Common.{◌≡◌, ℕ, List, [], ◌∷◌, Bool, true, false, refl, sym, ap, Some, None, cond, subst, Result, Ok, Err, is_ok, OnErr}
 use Rattle.ang_host.specs.declared.event.HostEvent.{HostEvent}
 use Rattle.ang_host.specs.declared.event.Role.{Role}
 use Rattle.ang_host.specs.Laws.{Meaning}
-use Rattle.ang_host.specs.Members.{states_of}
 use Rattle.ang_host.specs.Boxes.{members}
-use Rattle.ang_host.specs.Events.{DriversFollow}
 use Rattle.ang_meaning.specs.declared.slot.Slot.{Slot}
 use Rattle.ang_meaning.specs.declared.slot.Slot.TheVariants.{Bits, Script, Host}
-use Rattle.ang_meaning.specs.World.{World, ScriptObjects, HostCounts, Input, Tallied, Yes, No, hold, one_more, tally_step, host_raised, script_raised, if_told, with_inputs}
+use Rattle.ang_meaning.specs.World.{World, ScriptObjects, HostCounts, Tallied, Yes, No, hold, one_more, tally_step, host_raised, script_raised, if_told, with_inputs}
 use Rattle.ang_meaning.specs.Told.{Told}
 use Rattle.ang_heap.specs.declared.store.Store.{Store}
-use Rattle.ang_heap.specs.Parts.{world_by, PartsMove}
-use Rattle.ang_heap.specs.Stores.{IsReady, StoreMoves}
+use Rattle.ang_heap.specs.Parts.{world_by}
+use Rattle.ang_heap.specs.Stores.{StoreMoves}
 use Rattle.ang_heap.proofs.Hosting.{parts_none, parts_join}
 
 pub bits_hold : (n : ℕ) (w : World) → Told (λ is. hold (Bits n) (with_inputs is w)) (λ is. if_told true (with_inputs is w))

@@ -1,5 +1,5 @@
 -- Script objects by number, read off the slab that keeps them.
-use Rattle.std.specs.Prelude.{ℕ, List, Option, Some, None, map as list_map}
+use Rattle.std.specs.Prelude.{ℕ, Option, Some, None, map as list_map}
 use Rattle.std.specs.FinMap as map
 use Rattle.slab.specs.Slab.{Slab, entries}
 use Rattle.ang_meaning.specs.World.{ScriptRecord, ScriptObjects}

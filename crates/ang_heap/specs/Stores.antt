@@ -1,5 +1,5 @@
 -- The world of a store, and what a piece of a run leaves of it.
-use Rattle.std.specs.Prelude.{ℕ, ◌≡◌, ◌≤◌, ◌+◌, List, [], vec_len, vec_capacity}
+use Rattle.std.specs.Prelude.{◌≡◌, ◌≤◌, ◌+◌, List, [], vec_len, vec_capacity}
 use Rattle.ang_host.specs.declared.event.Role.{Role}
 use Rattle.ang_host.specs.Laws.{Meaning}
 use Rattle.ang_host.specs.Members.{states_of}

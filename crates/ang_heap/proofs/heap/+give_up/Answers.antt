@@ -1,12 +1,11 @@
-use Rattle.std.proofs.Common.{◌≡◌, ◌<◌, ◌≤◌, ◌+◌, ◌∷◌, [], Some, None, drop, length, refl, sym, ap, subst, ◌∙◌, arith}
+use Rattle.std.proofs.Common.{◌≡◌, ◌+◌, ◌∷◌, [], Some, None, drop, refl, ap, subst, ◌∙◌, arith}
 use Rattle.ang_host.specs.Boxes.{members}
-use Rattle.ang_meaning.specs.declared.slot.Slot.TheVariants.{Bits, Script, Host}
+use Rattle.ang_meaning.specs.declared.slot.Slot.TheVariants.{Script, Host}
 use Rattle.ang_meaning.specs.World.{give}
 use Rattle.ang_heap.specs.Parts.{counts_of, world_by}
 use Rattle.ang_heap.specs.Heaps.{objects_in}
 use Rattle.ang_meaning.specs.Counting.{EnoughIn}
 use Rattle.ang_meaning.proofs.Giving.{give_bits, give_null, give_no_key, give_kept, give_gone}
-use Rattle.ang_meaning.proofs.Enough.{first_key}
 use Rattle.ang_heap.proofs.Hosting.{parts_none, parts_join}
 use Rattle.ang_heap.proofs.Giving.{fields_enough, taken, turn_gives, turn_can, all_given}
 use Rattle.ang_heap.proofs.heap.+give_up.Goals as goal

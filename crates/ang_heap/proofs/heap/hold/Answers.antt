@@ -1,4 +1,4 @@
-use Rattle.std.proofs.Common.{[], Some, None, sym, ap, subst, ◌∙◌}
+use Rattle.std.proofs.Common.{[], sym, ap, subst, ◌∙◌}
 use Rattle.ang_host.specs.Boxes.{members}
 use Rattle.ang_host.specs.Members.{states_of}
 use Rattle.ang_meaning.specs.declared.slot.Slot.TheVariants.{Script, Host}

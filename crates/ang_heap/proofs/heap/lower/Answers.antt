@@ -1,9 +1,6 @@
-use Rattle.std.proofs.Common.{◌≡◌, ◌<◌, ◌≤◌, ◌-◌, Some, None, sym, ap, subst, ◌∙◌, arith, IfSome, Option}
+use Rattle.std.proofs.Common.{◌≡◌, ◌-◌, Some, sym, ap, ◌∙◌, arith}
 use Rattle.std.specs.Option.{option_copied}
-use Rattle.slab.specs.Slab.{get, Updates}
-use Rattle.ang_meaning.specs.World.{Gone, script_lowered}
-use Rattle.ang_heap.specs.declared.heap.ScriptObject.{ScriptObject}
-use Rattle.ang_heap.specs.Heaps.{objects_in}
+use Rattle.slab.specs.Slab.{get}
 use Rattle.ang_heap.proofs.Heaping.{lower_none, lower_kept, lower_gone_some, value_updates, value_length}
 use Rattle.ang_heap.proofs.heap.lower.Goals as goal
 

@@ -1,4 +1,4 @@
-use Rattle.std.proofs.Common.{◌≡◌, sym, ap, ◌∙◌}
+use Rattle.std.proofs.Common.{sym, ap, ◌∙◌}
 use Rattle.ang_host.specs.Boxes.{members}
 use Rattle.ang_host.specs.Events.{ends}
 use Rattle.ang_host.specs.Members.{state_at, states_of}

@@ -1,4 +1,4 @@
-use Rattle.std.proofs.Common.{◌≡◌, ap, ◌∙◌}
+use Rattle.std.proofs.Common.{ap, ◌∙◌}
 use Rattle.ang_meaning.specs.World.{give, with_inputs}
 use Rattle.ang_heap.specs.Stores.{world_of}
 use Rattle.ang_meaning.proofs.Giving.{give_bits}

@@ -1,4 +1,4 @@
-use Rattle.std.proofs.Common.{◌≡◌, ◌≤◌, ◌+◌, ◌-◌, arith}
+use Rattle.std.proofs.Common.{arith}
 use Rattle.ang_heap.proofs.store.give_object.Goals as goal
 
 pub give_up-requires-clause-ready : goal.give_up-requires-clause-ready

@@ -1,4 +1,4 @@
-use Rattle.std.proofs.Common.{[], sym, ap, subst, ◌∙◌, append-nil}
+use Rattle.std.proofs.Common.{[], sym, subst, ◌∙◌, append-nil}
 use Rattle.ang_meaning.specs.World.{hold, if_told, with_inputs}
 use Rattle.ang_meaning.specs.Told.{Told}
 use Rattle.ang_heap.specs.Stores.{world_of}

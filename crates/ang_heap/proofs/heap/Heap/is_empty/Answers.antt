@@ -1,4 +1,4 @@
-use Rattle.std.proofs.Common.{◌≡◌, sym, ap, ◌∙◌}
+use Rattle.std.proofs.Common.{sym, ◌∙◌}
 use Rattle.std.proofs.lemmas.Bool.{eqb-true, eq-eqb}
 use Rattle.ang_heap.proofs.Heaping.{empty_objects, empty_slab}
 use Rattle.ang_heap.proofs.heap.Heap.is_empty.Goals as goal
