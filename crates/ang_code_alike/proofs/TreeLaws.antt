@@ -1,6 +1,5 @@
 -- Bodies do the same in two worlds that are alike, since their code does.
-use Rattle.std.proofs.Common.{◌≡◌, ℕ, zero, suc, inl, inr, List, [], ◌∷◌, ◌++◌, length, Option, Some, None, refl, sym, ap, ◌∙◌, subst}
-use Rattle.std.specs.Prelude.{◌⊎◌, Bool, true, false}
+use Rattle.std.proofs.Common.{◌≡◌, ℕ, zero, suc, inl, inr, List, [], ◌∷◌, length, Some, refl, sym, ap, ◌∙◌, subst}
 use Rattle.std.proofs.lemmas.List.{length-map}
 use Rattle.ang_kinds.specs.declared.fault.Fault.TheVariants.{Memory}
 use Rattle.ang_meaning.specs.declared.slot.Slot.{Slot}
@@ -16,17 +15,17 @@ use Rattle.ang_meaning.proofs.Counted.{give_counted}
 use Rattle.ang_meaning.proofs.Counting.{bits_name_none}
 use Rattle.ang_meaning.proofs.Operating.{push_none}
 use Rattle.ang_meaning.proofs.AlikeWorlds.{three, give_alike}
-use Rattle.ang_core.specs.Meaning.{Bodies, run, pass_at, body_at, begun, called_with, initialized, then_initialized, initialized_all}
+use Rattle.ang_core.specs.Meaning.{Bodies, run, pass_at, body_at, called_with, initialized, then_initialized, initialized_all}
 use Rattle.ang_core.specs.Sound.{AreSound}
-use Rattle.ang_code.specs.Machine.{Texts, Config, At, Over, Outcome, Finished, Faulted, Stuck, steps, call_begins, initializer_begins}
-use Rattle.ang_code.specs.Runs.{Ending, Gives, Stops, ended}
+use Rattle.ang_code.specs.Machine.{Texts, Over, Outcome, Finished, call_begins, initializer_begins}
+use Rattle.ang_code.specs.Runs.{Ending, Gives, Stops}
 use Rattle.ang_gen_body.specs.Behaves.{outcome_of, IsCode, Behaves}
 use Rattle.ang_gen_body.proofs.Bodies.{behaves}
-use Rattle.ang_code_laws.specs.Alike.{ConfigsAlike, AreAlike, renamed_end, EndsAlike, GrantedAlike}
+use Rattle.ang_code_laws.specs.Alike.{ConfigsAlike, EndsAlike}
 use Rattle.ang_code_laws.specs.Counting.{CountedAt}
 use Rattle.ang_code_laws.proofs.Counting.{calls_count, initializers_count}
-use Rattle.ang_code_laws.proofs.AlikeSteps.{RunLeaves, RunsAlike, call_alike, initializer_alike}
-use Rattle.ang_code_laws.proofs.AlikeRuns.{Leading, related, granted, together, Joined, joined, begun as told_then}
+use Rattle.ang_code_laws.proofs.AlikeSteps.{RunsAlike, call_alike, initializer_alike}
+use Rattle.ang_code_laws.proofs.AlikeRuns.{Leading, related, granted, together, joined, begun as told_then}
 use Rattle.ang_code_alike.specs.Trees.{Ends, AreToldAlike, HaveNoParams, AreAlikeInRuns}
 
 -- an initializer has no `&out` values

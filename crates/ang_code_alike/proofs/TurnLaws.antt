@@ -1,38 +1,35 @@
 -- Sessions of the same commands, whose script objects have other numbers, are told the same.
-use Rattle.std.proofs.Common.{◌≡◌, ℕ, zero, suc, ◌+◌, inl, inr, List, [], ◌∷◌, ◌++◌, length, Option, Some, None, refl, sym, ap, ◌∙◌, subst, arith, append-nil}
-use Rattle.std.specs.Prelude.{◌⊎◌, slice_set, slice_index_or, map as list_map}
+use Rattle.std.proofs.Common.{◌≡◌, ℕ, zero, suc, ◌+◌, inl, inr, List, [], ◌∷◌, ◌++◌, Option, Some, None, refl, sym, ap, ◌∙◌, subst, arith}
+use Rattle.std.specs.Prelude.{slice_set, slice_index_or, map as list_map}
 use Rattle.std.proofs.lemmas.List.{length-map}
 use Rattle.ang_kinds.specs.declared.fault.Fault.TheVariants.{Memory}
 use Rattle.ang_meaning.specs.declared.host.HostType.{HostType}
 use Rattle.ang_host.specs.declared.answer.HostReply.{HostReply}
 use Rattle.ang_meaning.specs.declared.slot.Slot.{Slot}
 use Rattle.ang_meaning.specs.declared.slot.Slot.TheVariants.{Bits, Script, Host}
-use Rattle.ang_meaning.specs.declared.routine.Routine.{Routine}
-use Rattle.ang_meaning.specs.World.{World, ScriptRecord, Input, with_inputs, Tried, Yes, No, memory_step, give}
-use Rattle.ang_meaning.specs.Told.{has_room, answers_told, answers_listed}
+use Rattle.ang_meaning.specs.World.{World, ScriptRecord, with_inputs, Tried, Yes, No, memory_step}
 use Rattle.ang_meaning.specs.declared.class.ValueKind.{ValueKind}
-use Rattle.ang_meaning.specs.Setting.{Setting, default_of}
+use Rattle.ang_meaning.specs.Setting.{default_of}
 use Rattle.ang_meaning.specs.Perform.{globals_of}
-use Rattle.ang_meaning.specs.Results.{Reply, Yields, Raises, or_else, give_back}
-use Rattle.ang_meaning.specs.Counting.{Thing, KeyOf, NumberOf, names, how_many, in_lists, in_fields, count_in, IsCounted}
+use Rattle.ang_meaning.specs.Results.{Yields, Raises, or_else, give_back}
+use Rattle.ang_meaning.specs.Counting.{Thing, how_many, in_lists, IsCounted}
 use Rattle.std.specs.FinMap as map
-use Rattle.ang_meaning.specs.Alike.{Renaming, unchanged, renamed, renamed_all, renamed_lists, renamed_record, Tables, Match, Alike}
+use Rattle.ang_meaning.specs.Alike.{Renaming, unchanged, renamed, renamed_all, renamed_lists, renamed_record, Alike}
 use Rattle.ang_meaning.proofs.Counting.{many_append, bits_name_none, give_globals}
 use Rattle.ang_meaning.proofs.Counted.{give_counted, defaults_many, TriedCounted, memory_counted}
 use Rattle.ang_meaning.proofs.Operating.{push_none}
 use Rattle.ang_meaning.proofs.AlikeWorlds.{three, TriedLeaves, TriedSame, TriedAlike, memory_alike, give_alike, lists_index, lists_set}
 use Rattle.ang_meaning.proofs.AlikeOperations.{defaults_renamed, value_renamed}
-use Rattle.ang_core.specs.Meaning.{Bodies, called_with, initialized_all}
-use Rattle.ang_code.specs.Machine.{Config, At, Over, Outcome, Finished, Faulted, Stuck}
-use Rattle.ang_code.specs.Runs.{Ending, Gives, Stops, ended}
+use Rattle.ang_core.specs.Meaning.{called_with}
+use Rattle.ang_code.specs.Machine.{Over}
+use Rattle.ang_code.specs.Runs.{Ending, Gives, Stops}
 use Rattle.ang_gen_body.specs.Behaves.{outcome_of}
-use Rattle.ang_code_laws.specs.Alike.{ConfigsAlike, AreAlike, renamed_end, EndsAlike, GrantedAlike}
+use Rattle.ang_code_laws.specs.Alike.{AreAlike, renamed_end, GrantedAlike}
 use Rattle.ang_code_laws.specs.Counting.{CountedAt, EndCounted}
-use Rattle.ang_code_laws.proofs.Counting.{give_back_with, nothing_below, end_counted}
+use Rattle.ang_code_laws.proofs.Counting.{give_back_with, end_counted}
 use Rattle.ang_code_laws.proofs.AlikeSteps.{RunLeaves, RunsAlike, back_alike}
 use Rattle.ang_code_laws.proofs.AlikeRuns.{begun as told_then}
-use Rattle.ang_code_alike.specs.Trees.{Ends}
-use Rattle.ang_code_alike.specs.Turns.{Turn, Wants, Calls, Initializes, Relays, with_globals, relaid, Shown, ShownValue, ShownFault, shown, done_by, IsMade, AreMade, Answer, Does, given_up, onward, DoInTurn, replies_in, AnswersAlike, SessionsAlike, SameSessions, Plan, Finish, Then, IsMadePlan, Follows, SamePlans}
+use Rattle.ang_code_alike.specs.Turns.{Turn, Wants, Calls, Initializes, Relays, with_globals, relaid, ShownValue, shown, done_by, IsMade, Answer, Does, given_up, onward, replies_in, SessionsAlike, SameSessions, Finish, Then, Follows, SamePlans}
 use Rattle.ang_code_alike.proofs.TreeLaws.{call_counted, call_tree, all_counted, all_tree, push_zero, told_alike}
 
 -- ---- arguments

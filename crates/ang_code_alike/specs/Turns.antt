@@ -1,5 +1,5 @@
 -- What commands do to the world of runs, one after the other, each over code and a setting of its own.
-use Rattle.std.specs.Prelude.{◌≡◌, ℕ, zero, suc, true, List, [], ◌∷◌, length, Some, map as list_map, slice_set}
+use Rattle.std.specs.Prelude.{◌≡◌, ℕ, true, List, [], ◌∷◌, length, Some, map as list_map, slice_set}
 use Rattle.ang_kinds.specs.declared.fault.Fault.{Fault}
 use Rattle.ang_kinds.specs.declared.fault.Fault.TheVariants.{Memory}
 use Rattle.ang_kinds.specs.declared.value.Value.{Value}
@@ -24,7 +24,7 @@ use Rattle.ang_core.specs.Sound.{AreSound}
 use Rattle.ang_code.specs.Machine.{Texts}
 use Rattle.ang_code.specs.Runs.{Ending, Gives, Stops}
 use Rattle.ang_gen_body.specs.Behaves.{IsCode}
-use Rattle.ang_code_laws.specs.Alike.{AreAlike, renamed_end}
+use Rattle.ang_code_laws.specs.Alike.{AreAlike}
 use Rattle.ang_code_alike.specs.Trees.{Ends, HaveNoParams}
 
 -- What commands are made of: memory is wanted; a call of a function with numbers, the last one first; a module's initializers; and a module's globals given

@@ -1,6 +1,6 @@
 -- Whole runs, told the same but for numbers of new objects, or granted all that they asked for.
-use Rattle.std.proofs.Common.{◌≡◌, ℕ, zero, suc, ◌+◌, inl, inr, List, [], ◌∷◌, ◌++◌, Some, None, refl, sym, ap, ◌∙◌, subst, arith, append-nil}
-use Rattle.std.specs.Prelude.{◌⊎◌, Bool, true, false}
+use Rattle.std.proofs.Common.{◌≡◌, ℕ, ◌+◌, inl, inr, List, [], ◌∷◌, ◌++◌, refl, sym, ap, ◌∙◌, subst, arith, append-nil}
+use Rattle.std.specs.Prelude.{◌⊎◌, true, false}
 use Rattle.ang_kinds.specs.declared.fault.Fault.{Fault}
 use Rattle.ang_kinds.specs.declared.fault.Fault.TheVariants.{Memory}
 use Rattle.ang_host.specs.declared.answer.HostReply.{HostReply}
@@ -8,15 +8,15 @@ use Rattle.ang_meaning.specs.declared.slot.Slot.{Slot}
 use Rattle.ang_meaning.specs.declared.slot.Slot.TheVariants.{Bits}
 use Rattle.ang_meaning.specs.declared.routine.Routine.{Routine}
 use Rattle.ang_meaning.specs.World.{World, Input, Room, Said, Tallied, Fresh, with_inputs}
-use Rattle.ang_meaning.specs.Told.{Told, has_room, answers_told}
+use Rattle.ang_meaning.specs.Told.{has_room, answers_told}
 use Rattle.ang_meaning.specs.Setting.{Setting}
 use Rattle.ang_meaning.specs.Counting.{IsCounted}
 use Rattle.ang_meaning.specs.Alike.{Renaming, renamed, renamed_all, Match, Alike}
-use Rattle.ang_meaning.proofs.AlikeWorlds.{three, HasMore}
+use Rattle.ang_meaning.proofs.AlikeWorlds.{three}
 use Rattle.ang_code.specs.Machine.{Texts, Config, At, Over, Outcome, Finished, Faulted, Stuck, steps, call_begins, initializer_begins}
 use Rattle.ang_code.specs.Runs.{Ending, Gives, Stops, ended, Runs}
 use Rattle.ang_code.proofs.Steps.{more_steps, over_stays}
-use Rattle.ang_code_laws.specs.Alike.{turned, WorldAlike, ConfigsAlike, AreAlike, renamed_end, EndsAlike, CallRunsAlike, InitializerRunsAlike, GrantedAlike, GrantedCallsAlike, GrantedInitializersAlike}
+use Rattle.ang_code_laws.specs.Alike.{ConfigsAlike, AreAlike, renamed_end, EndsAlike, CallRunsAlike, InitializerRunsAlike, GrantedAlike, GrantedCallsAlike, GrantedInitializersAlike}
 use Rattle.ang_code_laws.specs.Counting.{CountedAt}
 use Rattle.ang_code_laws.proofs.Counting.{calls_count, initializers_count}
 use Rattle.ang_code_laws.proofs.AlikeSteps.{RunLeaves, RunsAlike, steps_alike, call_alike, initializer_alike, alike_only}

@@ -1,6 +1,6 @@
 -- Each step of two runs that are alike leaves them so, or one of them was refused for an input of another sort.
 use Rattle.std.proofs.Common.{◌≡◌, ℕ, zero, suc, ◌+◌, inl, inr, List, [], ◌∷◌, ◌++◌, length, Option, Some, None, refl, sym, ap, ◌∙◌, subst}
-use Rattle.std.specs.Prelude.{◌⊎◌, Bool, true, false, cond, ◌&&◌, not, ltb, leb, slice_get, map as list_map}
+use Rattle.std.specs.Prelude.{◌⊎◌, Bool, true, false, cond, ◌&&◌, not, ltb, leb, slice_get}
 use Rattle.std.specs.FinMap as map
 use Rattle.std.proofs.lemmas.List.{length-map, map-append}
 use Rattle.ang_kinds.specs.declared.primitive.Primitive.{Primitive}
@@ -13,23 +13,21 @@ use Rattle.ang_meaning.specs.declared.routine.Callee.{Callee}
 use Rattle.ang_meaning.specs.declared.routine.Callee.TheVariants.{Own, Import, Virtual}
 use Rattle.ang_meaning.specs.declared.routine.Passing.{Passing}
 use Rattle.ang_meaning.specs.declared.routine.Passing.TheVariants.{In, Out, Object}
-use Rattle.ang_meaning.specs.declared.operation.Operation.{Operation}
 use Rattle.ang_meaning.specs.Numbers.{Changed, Into, Never}
 use Rattle.ang_meaning.specs.World.{World, ScriptRecord, Tried, Yes, No, hold, give, give_all, memory_step}
-use Rattle.ang_meaning.specs.Told.{Moves}
 use Rattle.ang_meaning.specs.Setting.{Setting, Found, Enters, Misses, method_of, virtual_of, params_in, receiver_in, target, is_null, has_objects, params_of, is_fit}
 use Rattle.ang_meaning.specs.Hosts.{Done, Fine, Fails}
 use Rattle.ang_meaning.specs.Perform.{perform, operands, change_of, global_or, global_put, member_or, member_put}
 use Rattle.ang_meaning.specs.Results.{local_at, local_set, drop_some, give_some, give_back, at_zero, on_test, ticked, or_else, brought, outs_of, give_others, may_nest}
 use Rattle.ang_meaning.specs.Counting.{IsCounted}
-use Rattle.ang_meaning.specs.Alike.{Renaming, renamed, renamed_all, renamed_record, Match, Alike}
+use Rattle.ang_meaning.specs.Alike.{Renaming, renamed, renamed_all, renamed_record, Alike}
 use Rattle.ang_meaning.proofs.Moving.{give_all_moves}
 use Rattle.ang_meaning.proofs.AlikeWorlds.{three, HasMore, TriedLeaves, DoneLeaves, TriedSame, DoneSame, TriedAlike, DoneAlike, memory_alike, hold_alike, give_alike, give_all_alike, global_renamed, put_alike, member_renamed, member_alike}
-use Rattle.ang_meaning.proofs.AlikeOperations.{OneAlike, null_renamed, change_renamed, perform_alike}
+use Rattle.ang_meaning.proofs.AlikeOperations.{null_renamed, change_renamed, perform_alike}
 use Rattle.ang_code.specs.declared.instruction.Frame.{Frame}
 use Rattle.ang_code.specs.declared.instruction.Instruction.{Instruction}
 use Rattle.ang_code.specs.declared.instruction.Instruction.TheVariants.{PushBits, PushNull, Load, Store, Change, Do, Drop, Leave, SkipIfFalse, GoOn, Tick, Back, Enter, Swap, SwapGlobal, SwapField, DropUnder, Return}
-use Rattle.ang_code.specs.Machine.{Texts, Config, At, Over, Finished, Faulted, Stuck, fault, roomy, within, enough, fitting, on_top, did, changed_into, back, begins, enters, found_enters, act, step, steps, take_some, call_begins, initializer_begins}
+use Rattle.ang_code.specs.Machine.{Texts, Config, At, Over, Finished, Faulted, Stuck, fault, roomy, within, enough, on_top, did, changed_into, back, begins, enters, found_enters, act, step, steps, take_some, call_begins, initializer_begins}
 use Rattle.ang_code_laws.specs.Alike.{turned, WorldAlike, ConfigsAlike, StepsAlike}
 use Rattle.ang_code_laws.specs.Counting.{CountedAt}
 use Rattle.ang_code_laws.proofs.Counting.{step_counted}

@@ -22,7 +22,7 @@ use Rattle.ang_meaning.specs.declared.operation.Change.{Change}
 use Rattle.ang_meaning.specs.declared.operation.Operation.{Operation}
 use Rattle.ang_meaning.specs.declared.operation.Operation.TheVariants.{Work, Compare, Convert, Negate, Complement, Not, Same, GlobalGet, GlobalSet, GlobalChange, Ask, Read, Write, Alter, Make, FieldGet, FieldSet, FieldChange, Cast}
 use Rattle.ang_meaning.specs.Numbers.{Worked, Is, Cannot, Changed, Into, Never, worked}
-use Rattle.ang_meaning.specs.World.{World, ScriptRecord, Input, Room, Said, Tallied, Fresh, Tried, Yes, No, memory_step, hold, give, give_all}
+use Rattle.ang_meaning.specs.World.{World, Input, Room, Said, Tallied, Fresh, Tried, Yes, No, memory_step, hold, give, give_all}
 use Rattle.ang_meaning.specs.declared.class.Class.{Class}
 use Rattle.ang_meaning.specs.Setting.{Setting, class_at, host_in, use_at, is_called_by, is_property, may_call, may_access, may_write, is_fit}
 use Rattle.ang_meaning.specs.Hosts.{Done, Fine, Fails, holding, accepted, is_void, slot_of, replied_by, is_reply_to, asked_from, asked_told, asked, value_of, values_of}
