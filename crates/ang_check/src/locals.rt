@@ -118,8 +118,8 @@ pub fn initializer(
 {
     match written {
         Initializer::Absent => Ok(None),
-        Initializer::Value { value, .. } => {
-            let operand = typing(alloc, setting, pairs, value)?;
+        Initializer::Value(assigned) => {
+            let operand = typing(alloc, setting, pairs, &assigned.value)?;
             Ok(Some(fit(alloc, setting.lineage(), ty, operand)?))
         }
         Initializer::Constructor(arguments) => {

@@ -186,7 +186,7 @@ fn is_initializer_beyond(view: &View, text: &[u8], initializer: &Initializer) ->
 {
     match initializer {
         Initializer::Absent => false,
-        Initializer::Value { value, .. } => is_beyond(view, text, value),
+        Initializer::Value(assigned) => is_beyond(view, text, &assigned.value),
         Initializer::Constructor(arguments) => are_arguments_beyond(view, text, arguments),
     }
 }

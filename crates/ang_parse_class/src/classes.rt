@@ -80,18 +80,17 @@ pub fn class(
     let (heading, rest) = heading(alloc, tokens, limit)?;
     let (members, rest) = members(alloc, rest, depth, limit)?;
     let (close, rest) = a_right_brace(rest)?;
-    Ok((
-        Declaration::Class(Class {
-            final_word,
-            word,
-            name: heading.name,
-            bases: heading.bases,
-            open: heading.open,
-            members,
-            close,
-        }),
-        rest,
-    ))
+    let class = Class {
+        final_word,
+        word,
+        name: heading.name,
+        bases: heading.bases,
+        open: heading.open,
+        members,
+        close,
+    };
+    let class = Box::new(alloc, class)?;
+    Ok((Declaration::Class(class), rest))
 }
 
 /// Reads a final class, behind the word `final`: the word `class` and what stands behind it.

@@ -112,15 +112,14 @@ pub fn interface<'a>(
     let (heading, rest) = heading(alloc, tokens, limit)?;
     let (methods, rest) = methods(alloc, rest, limit)?;
     let (close, rest) = a_right_brace(rest)?;
-    Ok((
-        Declaration::Interface(Interface {
-            word,
-            name: heading.name,
-            bases: heading.bases,
-            open: heading.open,
-            methods,
-            close,
-        }),
-        rest,
-    ))
+    let interface = Interface {
+        word,
+        name: heading.name,
+        bases: heading.bases,
+        open: heading.open,
+        methods,
+        close,
+    };
+    let interface = Box::new(alloc, interface)?;
+    Ok((Declaration::Interface(interface), rest))
 }

@@ -19,7 +19,7 @@ use ang_parse_read::{
     ReadError, a_left_brace, a_left_paren, a_name, a_right_brace, a_semicolon, perhaps_const,
 };
 use ang_parse_stmt::{block, statements};
-use ang_tree::{FieldName, Member, SuperCall, TypeName};
+use ang_tree::{Constructor, FieldName, Fields, Member, Method, SuperCall, TypeName};
 use std::alloc::Global;
 
 /// Reads one more name of a field, behind a comma.
@@ -92,15 +92,14 @@ fn fields(
     let first = with_field(Vec::new(alloc), FieldName { comma, name })?;
     let (names, rest) = other_fields(first, tokens, limit)?;
     let (semicolon, rest) = a_semicolon(rest)?;
-    Ok((
-        Member::Fields {
-            access,
-            declared_type,
-            names,
-            semicolon,
-        },
-        rest,
-    ))
+    let fields = Fields {
+        access,
+        declared_type,
+        names,
+        semicolon,
+    };
+    let fields = Box::new(alloc, fields)?;
+    Ok((Member::Fields(fields), rest))
 }
 
 /// Reads one `final` or `override`, where one stands.
@@ -184,18 +183,17 @@ fn method<'a>(
         attributes,
         body,
     } = end;
-    Ok((
-        Member::Method {
-            access: start.access,
-            result: start.declared_type,
-            name: start.name,
-            parameters,
-            constant,
-            attributes,
-            body,
-        },
-        rest,
-    ))
+    let method = Method {
+        access: start.access,
+        result: start.declared_type,
+        name: start.name,
+        parameters,
+        constant,
+        attributes,
+        body,
+    };
+    let method = Box::new(alloc, method)?;
+    Ok((Member::Method(method), rest))
 }
 
 /// Reads what stands behind the word `super`.
@@ -281,17 +279,16 @@ fn constructor<'a>(
         statements,
         close,
     } = end;
-    Ok((
-        Member::Constructor {
-            name,
-            parameters,
-            open,
-            super_call,
-            statements,
-            close,
-        },
-        rest,
-    ))
+    let constructor = Constructor {
+        name,
+        parameters,
+        open,
+        super_call,
+        statements,
+        close,
+    };
+    let constructor = Box::new(alloc, constructor)?;
+    Ok((Member::Constructor(constructor), rest))
 }
 
 /// Reads fields or a method, behind what they begin with.

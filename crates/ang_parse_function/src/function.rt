@@ -32,12 +32,14 @@ fn constructed(
     let Some(arguments) = arguments else {
         return Err(ReadError::Syntax(tokens));
     };
+    let arguments = Box::new(alloc, arguments)?;
     let first = Variable {
         comma: None,
         name,
         initializer: Initializer::Constructor(arguments),
     };
     let (variables, rest) = variables_behind(alloc, declared_type, first, tokens, limit)?;
+    let variables = Box::new(alloc, variables)?;
     Ok((Declaration::Globals(variables), rest))
 }
 
@@ -53,6 +55,7 @@ fn declared(
     ensures reads { Gives (λ x. (view_decl x.0, x.1.now)) result (read.declared limit declared_type name tokens.now) }
 {
     let (variables, rest) = variables_named(alloc, declared_type, name, tokens, limit)?;
+    let variables = Box::new(alloc, variables)?;
     Ok((Declaration::Globals(variables), rest))
 }
 
@@ -84,15 +87,14 @@ fn told(
                 return constructed(alloc, declared_type, name, arguments, tokens, limit);
             };
             let (body, rest) = block(alloc, *open, rest, depth, limit)?;
-            Ok((
-                Declaration::Function(Function {
-                    result: declared_type,
-                    name,
-                    parameters,
-                    body,
-                }),
-                rest,
-            ))
+            let function = Function {
+                result: declared_type,
+                name,
+                parameters,
+                body,
+            };
+            let function = Box::new(alloc, function)?;
+            Ok((Declaration::Function(function), rest))
         }
         _ => {
             let arguments = group.into_arguments();

@@ -43,16 +43,15 @@ pub fn import<'a>(
     let (name, rest) = a_name(rest)?;
     let (parameters, rest) = a_parameters(alloc, rest, limit)?;
     let ((from_word, module, semicolon), rest) = origin(rest)?;
-    Ok((
-        Declaration::Import(Import {
-            word,
-            result: result_type,
-            name,
-            parameters,
-            from_word,
-            module,
-            semicolon,
-        }),
-        rest,
-    ))
+    let import = Import {
+        word,
+        result: result_type,
+        name,
+        parameters,
+        from_word,
+        module,
+        semicolon,
+    };
+    let import = Box::new(alloc, import)?;
+    Ok((Declaration::Import(import), rest))
 }

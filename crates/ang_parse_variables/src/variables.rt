@@ -11,7 +11,9 @@ ghost use Rattle.ang_parse_variables.specs.ReadVars as read;
 use ang_lex::{Token, TokenKind};
 use ang_parse_expr::{arguments, expression, is_type_name, type_named};
 use ang_parse_read::{ReadError, a_name, a_semicolon, perhaps_const};
-use ang_tree::{Expression, ForStart, Handle, Initializer, TypeName, Variable, Variables};
+use ang_tree::{
+    Assigned, Expression, ForStart, Handle, Initializer, TypeName, Variable, Variables,
+};
 use std::alloc::{AllocError, Global};
 
 /// The list with one more variable at its end.
@@ -48,10 +50,12 @@ pub fn initializer(
         TokenKind::Assign => {
             let (value, rest) = expression(alloc, rest, limit, 0)?;
             let equals = *token;
-            Ok((Initializer::Value { equals, value }, rest))
+            let assigned = Box::new(alloc, Assigned { equals, value })?;
+            Ok((Initializer::Value(assigned), rest))
         }
         TokenKind::LeftParen => {
             let (list, rest) = arguments(alloc, *token, rest, limit)?;
+            let list = Box::new(alloc, list)?;
             Ok((Initializer::Constructor(list), rest))
         }
         _ => Ok((Initializer::Absent, tokens)),

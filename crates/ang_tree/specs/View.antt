@@ -28,6 +28,9 @@ use Rattle.ang_tree.specs.declared.declaration.Declaration.TheVariants as d
 use Rattle.ang_tree.specs.declared.declaration.Class as classes
 use Rattle.ang_tree.specs.declared.declaration.Member.{Member}
 use Rattle.ang_tree.specs.declared.declaration.Member.TheVariants as m
+use Rattle.ang_tree.specs.declared.declaration.Fields.{Fields}
+use Rattle.ang_tree.specs.declared.declaration.Method.{Method}
+use Rattle.ang_tree.specs.declared.declaration.Constructor.{Constructor}
 use Rattle.ang_tree.specs.declared.declaration.SuperCall.{SuperCall}
 use Rattle.ang_tree.specs.declared.declaration.Interface as interfaces
 use Rattle.ang_tree.specs.declared.declaration.InterfaceMethod.{InterfaceMethod}
@@ -89,8 +92,8 @@ view_option = option_map (λ e. view_expr e.value)
 
 abbrev pub view_init : Initializer → Init
 view_init init.Absent = absent
-view_init (init.Value equals e) = value equals (view_expr e)
-view_init (init.Constructor es) = constructor (view_args es)
+view_init (init.Value w) = value w.value.equals (view_expr w.value.value)
+view_init (init.Constructor es) = constructor (view_args es.value)
 
 abbrev pub view_var : Variable → Var
 view_var v = record { comma = v.comma; name = v.name; initializer = view_init v.initializer }
@@ -166,10 +169,19 @@ view_params ps = record { left = ps.open; void_word = ps.void_word; items = ps.i
 abbrev pub view_super : SuperCall → decl.SuperTree
 view_super s = record { word = s.word; arguments = view_args s.arguments; semicolon = s.semicolon }
 
+abbrev pub view_fields : Fields → decl.MemberTree
+view_fields fs = decl.fields fs.access fs.declared_type fs.names.items fs.semicolon
+
+abbrev pub view_own_method : Method → decl.MemberTree
+view_own_method o = decl.method o.access o.result o.name (view_params o.parameters) o.constant o.attributes.items (view_body o.body)
+
+abbrev pub view_constructor : Constructor → decl.MemberTree
+view_constructor c = decl.constructor c.name (view_params c.parameters) c.open (option_map view_super c.super_call) (view_stmts c.statements.items) c.close
+
 abbrev pub view_member : Member → decl.MemberTree
-view_member (m.Fields access y names semicolon) = decl.fields access y names.items semicolon
-view_member (m.Method access y x ps constant attributes b) = decl.method access y x (view_params ps) constant attributes.items (view_body b)
-view_member (m.Constructor x ps left s ss right) = decl.constructor x (view_params ps) left (option_map view_super s) (view_stmts ss.items) right
+view_member (m.Fields fs) = view_fields fs.value
+view_member (m.Method o) = view_own_method o.value
+view_member (m.Constructor c) = view_constructor c.value
 
 abbrev pub view_method : InterfaceMethod → decl.MethodTree
 view_method q = record { result_type = q.result; name = q.name; parameters = view_params q.parameters; constant = q.constant; semicolon = q.semicolon }
@@ -187,11 +199,11 @@ abbrev pub view_function : functions.Function → decl.Decl
 view_function f = decl.function f.result f.name (view_params f.parameters) (view_body f.body)
 
 abbrev pub view_decl : Declaration → decl.Decl
-view_decl (d.Class c) = view_class c
-view_decl (d.Interface i) = view_interface i
-view_decl (d.Import i) = view_import i
-view_decl (d.Function f) = view_function f
-view_decl (d.Globals vs) = decl.globals (view_vars vs)
+view_decl (d.Class c) = view_class c.value
+view_decl (d.Interface i) = view_interface i.value
+view_decl (d.Import i) = view_import i.value
+view_decl (d.Function f) = view_function f.value
+view_decl (d.Globals vs) = decl.globals (view_vars vs.value)
 view_decl (d.Empty semicolon) = decl.empty semicolon
 
 abbrev pub view_script : Script → List decl.Decl

@@ -14,19 +14,20 @@ pub struct Script {
     pub declarations: Vec<Declaration>,
 }
 
-/// A declaration of a script.
+/// A declaration of a script. Each variant is a box, and a `;` its token, so that a list of declarations stays
+/// small.
 #[derive(Drop)]
 pub enum Declaration {
     /// A class.
-    Class(Class),
+    Class(Box<Class>),
     /// An interface.
-    Interface(Interface),
+    Interface(Box<Interface>),
     /// A function that another module is to give.
-    Import(Import),
+    Import(Box<Import>),
     /// A function of the script.
-    Function(Function),
+    Function(Box<Function>),
     /// Global variables, one or several of one type.
-    Globals(Variables),
+    Globals(Box<Variables>),
     /// A `;` by itself, which declares nothing.
     Empty(Token),
 }
@@ -59,52 +60,64 @@ pub struct BaseName {
     pub name: Token,
 }
 
-/// A member of a class.
+/// A member of a class. Each variant is a box, so that a list of members stays small.
 #[derive(Drop)]
 pub enum Member {
-    /// `access type NAME { "," NAME } ";"`
-    Fields {
-        /// The word `private` or `protected`, where one is written.
-        access: Option<Token>,
-        /// The type of all these fields.
-        declared_type: TypeName,
-        /// The fields' names, at least one, in the order of the text.
-        names: Vec<FieldName>,
-        /// The `;` at the end.
-        semicolon: Token,
-    },
-    /// `access type NAME params [ "const" ] { "final" | "override" } block`
-    Method {
-        /// The word `private` or `protected`, where one is written.
-        access: Option<Token>,
-        /// The type of what the method returns, `void` for nothing.
-        result: TypeName,
-        /// The method's name.
-        name: Token,
-        /// The method's parameters, with their parentheses.
-        parameters: Parameters,
-        /// The word `const` behind the parameters, where it is written.
-        constant: Option<Token>,
-        /// The words `final` and `override`, as often as they are written.
-        attributes: Vec<Token>,
-        /// The method's statements, with their braces.
-        body: Block,
-    },
-    /// `NAME params "{" [ "super" args ";" ] { stmt } "}"`
-    Constructor {
-        /// The constructor's name, which is to be that of its class. The grammar does not compare the two.
-        name: Token,
-        /// The constructor's parameters, with their parentheses.
-        parameters: Parameters,
-        /// The `{` in front of the body.
-        open: Token,
-        /// The call of the base class's constructor, where it is written.
-        super_call: Option<SuperCall>,
-        /// The statements of the body behind that call, in the order of the text.
-        statements: Vec<Statement>,
-        /// The `}` behind the body.
-        close: Token,
-    },
+    /// One or several fields of one type.
+    Fields(Box<Fields>),
+    /// A method.
+    Method(Box<Method>),
+    /// A constructor.
+    Constructor(Box<Constructor>),
+}
+
+/// `access type NAME { "," NAME } ";"`
+#[derive(Drop)]
+pub struct Fields {
+    /// The word `private` or `protected`, where one is written.
+    pub access: Option<Token>,
+    /// The type of all these fields.
+    pub declared_type: TypeName,
+    /// The fields' names, at least one, in the order of the text.
+    pub names: Vec<FieldName>,
+    /// The `;` at the end.
+    pub semicolon: Token,
+}
+
+/// `access type NAME params [ "const" ] { "final" | "override" } block`
+#[derive(Drop)]
+pub struct Method {
+    /// The word `private` or `protected`, where one is written.
+    pub access: Option<Token>,
+    /// The type of what the method returns, `void` for nothing.
+    pub result: TypeName,
+    /// The method's name.
+    pub name: Token,
+    /// The method's parameters, with their parentheses.
+    pub parameters: Parameters,
+    /// The word `const` behind the parameters, where it is written.
+    pub constant: Option<Token>,
+    /// The words `final` and `override`, as often as they are written.
+    pub attributes: Vec<Token>,
+    /// The method's statements, with their braces.
+    pub body: Block,
+}
+
+/// `NAME params "{" [ "super" args ";" ] { stmt } "}"`
+#[derive(Drop)]
+pub struct Constructor {
+    /// The constructor's name, which is to be that of its class. The grammar does not compare the two.
+    pub name: Token,
+    /// The constructor's parameters, with their parentheses.
+    pub parameters: Parameters,
+    /// The `{` in front of the body.
+    pub open: Token,
+    /// The call of the base class's constructor, where it is written.
+    pub super_call: Option<SuperCall>,
+    /// The statements of the body behind that call, in the order of the text.
+    pub statements: Vec<Statement>,
+    /// The `}` behind the body.
+    pub close: Token,
 }
 
 /// The name of one of several fields of one type.

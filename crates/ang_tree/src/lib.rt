@@ -11,12 +11,12 @@ mod statement;
 mod type_name;
 
 pub use declaration::{
-    BaseName, Class, Declaration, FieldName, Function, Import, Interface, InterfaceMethod, Member,
-    Parameter, Parameters, Reference, Script, SuperCall,
+    BaseName, Class, Constructor, Declaration, FieldName, Fields, Function, Import, Interface,
+    InterfaceMethod, Member, Method, Parameter, Parameters, Reference, Script, SuperCall,
 };
 pub use expression::{Argument, Arguments, Expression};
 pub use statement::{
-    Block, Else, Ending, ForStart, Guard, Head, Initializer, Jump, Returned, Simple, Statement,
-    Variable, Variables,
+    Assigned, Block, Else, Ending, ForStart, Guard, Head, Initializer, Jump, Returned, Simple,
+    Statement, Variable, Variables,
 };
 pub use type_name::{Handle, TypeName};

@@ -190,13 +190,22 @@ pub struct Variable {
     pub initializer: Initializer,
 }
 
-/// What a variable begins with.
+/// What a variable begins with. Each variant is a box, so that a list of variables stays small.
 #[derive(Drop)]
 pub enum Initializer {
     /// Nothing is written.
     Absent,
     /// A value: `"=" assign`
-    Value { equals: Token, value: Expression },
+    Value(Box<Assigned>),
     /// Arguments for the type's constructor: `args`
-    Constructor(Arguments),
+    Constructor(Box<Arguments>),
+}
+
+/// The value that a variable begins with: `"=" assign`
+#[derive(Drop)]
+pub struct Assigned {
+    /// The `=`.
+    pub equals: Token,
+    /// The value behind it.
+    pub value: Expression,
 }

@@ -144,7 +144,7 @@ fn ends_of(tree: &Expression) -> (Kind, Kind) {
 fn start_of(initializer: &Initializer) -> Start {
     match initializer {
         Initializer::Absent => Start::Absent,
-        Initializer::Value { .. } => Start::Value,
+        Initializer::Value(_) => Start::Value,
         Initializer::Constructor(_) => Start::Constructor,
     }
 }
@@ -187,25 +187,17 @@ fn are_parameters(found: &Parameters, has_void: bool, parts: &[Parts]) -> bool {
 
 fn shape_of(member: &Member) -> Shape {
     match member {
-        Member::Fields { access, names, .. } => Shape::Fields {
-            access: access.is_some(),
-            names: names.len(),
+        Member::Fields(fields) => Shape::Fields {
+            access: fields.access.is_some(),
+            names: fields.names.len(),
         },
-        Member::Method {
-            constant,
-            attributes,
-            ..
-        } => Shape::Method {
-            constant: constant.is_some(),
-            attributes: attributes.len(),
+        Member::Method(method) => Shape::Method {
+            constant: method.constant.is_some(),
+            attributes: method.attributes.len(),
         },
-        Member::Constructor {
-            super_call,
-            statements,
-            ..
-        } => Shape::Constructor {
-            calls_super: super_call.is_some(),
-            statements: statements.len(),
+        Member::Constructor(constructor) => Shape::Constructor {
+            calls_super: constructor.super_call.is_some(),
+            statements: constructor.statements.len(),
         },
     }
 }
@@ -239,7 +231,7 @@ fn is_function(function: &Function, parameters: usize, statements: usize) -> boo
 /// The value of the first variable.
 fn value_of(variables: &Variables) -> Option<&Expression> {
     match &variables.items.first()?.initializer {
-        Initializer::Value { value, .. } => Some(value),
+        Initializer::Value(assigned) => Some(&assigned.value),
         _ => None,
     }
 }
