@@ -485,7 +485,7 @@ KINDS = [
     ("`void f0(){}`", numbered("", "void f%d(){}", most=4096), 300),
     ("32 parameters: `void f0(int,int..){}`", numbered("", f"void f%d({PARAMETERS}){{}}"), 300),
     ("`for(;;)` one inside the other", nested(("for(;;)", ""), ";")[0], MOST_BYTES),
-    ("`{int a;}`", filled("{int a;}"), MOST_BYTES),
+    ("`{int a;}`", filled("{int a;}"), 300),
     ("250 times `x+` in a statement", filled("x+" * 250 + "x;"), MOST_BYTES),
     ("250 times `~`", filled("~" * 250 + "x;"), MOST_BYTES),
     ("`g(x);`", filled("g(x);"), MOST_BYTES),
