@@ -1,4 +1,4 @@
+pub mod Modules
+pub mod Executed
+pub mod Ends
 pub mod Loaded
-pub mod Numbers
-pub mod Entities
-pub mod Started

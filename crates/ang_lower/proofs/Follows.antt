@@ -8,9 +8,9 @@ use Rattle.ang_typed.specs.declared.program.Parameter.{Parameter}
 use Rattle.ang_meaning.specs.declared.slot.Slot.{Slot}
 use Rattle.ang_meaning.specs.declared.routine.Routine.{Routine}
 use Rattle.ang_meaning.specs.declared.routine.Passing.{Passing}
-use Rattle.ang_meaning.specs.World.{World, give, give_all, memory_step}
+use Rattle.ang_meaning.specs.World.{World, or_else, give, give_all, memory_step}
 use Rattle.ang_meaning.specs.Setting.{Setting, target, has_objects, params_of}
-use Rattle.ang_meaning.specs.Results.{Went, Reply, Yields, Raises, Calls, ticked, or_else, with_value, finished, may_nest, entered, enter}
+use Rattle.ang_meaning.specs.Results.{Went, Reply, Yields, Raises, Calls, ticked, with_value, finished, may_nest, entered, enter}
 use Rattle.ang_core.specs.Meaning.{Bodies}
 use Rattle.ang_core.specs.Meaning as core
 use Rattle.ang_source.specs.Meaning.{Code, of_function, of_global, Codes, Callees, evaluate, run_code, passing_of, passings_of}

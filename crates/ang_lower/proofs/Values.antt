@@ -122,7 +122,6 @@ module _ (z : Setting) (m : ℕ) (k k' : Callees) where
   folded_is : (f : ℕ → ℕ) (o : Operation) → Gives z m f o → (e : c.Expr) (ls : List Slot) (t : ℕ) (w : World) → eval z m k (low.folded f o e) ls t w ≡ eval z m k (low.unary o e) ls t w
   folded_is f o g (c.number x) ls t w = ap (λ d. performed d (Bits x ∷ []) ls t) (sym (g x w))
   folded_is f o g c.null ls t w = refl
-  folded_is f o g (c.no_key d) ls t w = refl
   folded_is f o g (c.local i) ls t w = refl
   folded_is f o g (c.assign i a) ls t w = refl
   folded_is f o g (c.change i by a) ls t w = refl

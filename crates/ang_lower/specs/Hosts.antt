@@ -1,5 +1,5 @@
 -- Registered entities as code asks them (docs/MEANING.md, "Operations"; docs/EMBEDDING.md, "Drivers").
-use Rattle.std.specs.Prelude.{◌≡◌, ℕ, Bool, true, false, map, Some}
+use Rattle.std.specs.Prelude.{◌≡◌, ℕ, ◌&&◌, Bool, true, false, map, Option, Some, option_map}
 use Rattle.ang_kinds.specs.declared.types.TypeRef.{TypeRef}
 use Rattle.ang_kinds.specs.declared.types.TypeRef.TheVariants.{Void, Plain as PlainType, Object}
 use Rattle.ang_registry.specs.declared.entry.Entry.{Entry}
@@ -11,7 +11,7 @@ use Rattle.ang_registry.specs.Registration.{RegistrationList, entry_at}
 use Rattle.ang_meaning.specs.declared.host.HostType.{HostType}
 use Rattle.ang_meaning.specs.declared.host.HostType.TheVariants.{Nothing, Plain, Handle}
 use Rattle.ang_meaning.specs.declared.host.HostUse.{HostUse}
-use Rattle.ang_meaning.specs.Setting.{Setting}
+use Rattle.ang_meaning.specs.Setting.{Setting, is_property}
 
 -- a declared type, as its values pass; every object passes as a handle
 abbrev pub host_type_of : TypeRef → HostType
@@ -37,6 +37,10 @@ role_in Property f = Reading f
 role_in Function f = Calling f
 role_in Global f = Reading f
 
+-- a property that is declared `const`
+abbrev pub is_constant : EntryKind → ℕ → Bool → Bool
+is_constant kind f declared = is_property (role_in kind f) && declared
+
 abbrev pub use_of : Entry → HostUse
 use_of x = record {
   driver = x.driver;
@@ -44,8 +48,19 @@ use_of x = record {
   member = is_member x.kind;
   params = map (λ p. host_type_of p.ty) x.signature.params;
   result = host_type_of x.signature.result;
+  read_only = is_constant x.kind x.f x.signature.read_only;
 }
 
--- the setting's entities are those of the view
-pub record HasView (z : Setting) (V : RegistrationList) : Type 0 where
-  pub each : (e : ℕ) (x : Entry) → entry_at V e ≡ Some x → z.host e ≡ Some (use_of x)
+-- what a module with this view sees under a number: the entry there, and nothing where the view is blank
+abbrev pub use_in : RegistrationList → ℕ → Option HostUse
+use_in V e = option_map use_of (entry_at V e)
+
+-- In the setting, module m sees what its view has and nothing else.
+pub record HasView (z : Setting) (m : ℕ) (V : RegistrationList) : Type 0 where
+  pub each : (e : ℕ) → z.host m e ≡ use_in V e
+
+-- the view has an entry under the number, and this is how it is asked
+pub record IsOfView (V : RegistrationList) (e : ℕ) (u : HostUse) : Type 0 where
+  pub entry : Entry
+  pub in_view : entry_at V e ≡ Some entry
+  pub same : use_of entry ≡ u

@@ -32,7 +32,6 @@ binary o l r = c.apply o (c.more l (c.more r c.none))
 abbrev pub number_in : c.Expr → Option ℕ
 number_in (c.number x) = Some x
 number_in c.null = None
-number_in (c.no_key d) = None
 number_in (c.local i) = None
 number_in (c.assign i e) = None
 number_in (c.change i by e) = None

@@ -38,10 +38,10 @@ use Rattle.ang_meaning.specs.declared.routine.Spot.{Spot}
 use Rattle.ang_meaning.specs.declared.routine.Spot.TheVariants as spot
 use Rattle.ang_meaning.specs.declared.routine.Target.{Target}
 use Rattle.ang_meaning.specs.Numbers.{truth, is_signed}
-use Rattle.ang_meaning.specs.World.{World, give, give_all, memory_step}
+use Rattle.ang_meaning.specs.World.{World, or_else, give, give_all, memory_step}
 use Rattle.ang_meaning.specs.Setting.{Setting, params_of}
 use Rattle.ang_meaning.specs.Perform.{perform}
-use Rattle.ang_meaning.specs.Results.{Evaluated, Gave, Failed, Gathered, Ready, Ran, Went, Returned, Halted, Broken, Continued, Reply, Yields, Raises, Calls, local_at, on_test, ticked, or_else, loaded, applied, assigned, altered, chosen, then_rest, called, leave, with_value, then_run, caught, finished, enter}
+use Rattle.ang_meaning.specs.Results.{Evaluated, Gave, Failed, Gathered, Ready, Ran, Went, Returned, Halted, Broken, Continued, Reply, Yields, Raises, Calls, local_at, on_test, ticked, loaded, applied, assigned, altered, chosen, then_rest, called, leave, with_value, then_run, caught, finished, enter}
 
 -- ---- operators
 

@@ -1,5 +1,7 @@
-pub mod Objectless
-pub mod Moves
-pub mod Asked
+pub mod Calling
+pub mod Going
+pub mod Leaving
+pub mod Resuming
 pub mod Running
-pub mod Puts
+pub mod Stepping
+pub mod Weighing

@@ -1,8 +1,4 @@
-pub mod Values
-pub mod Tests
-pub mod TableLists
 pub mod Parts
-pub mod Operators
 pub mod SeveralGiven
 pub mod TopValues
 pub mod Paths

@@ -1,16 +1,16 @@
 //! `Do`: each operation by its function, and a pause before one that asks the host.
 ghost use Rattle.std.specs.Prelude.{◌≡◌, ◌<◌, ◌≤◌, length};
 ghost use Rattle.ang_code.specs.declared.instruction.Instruction.TheVariants.{Do};
-ghost use Rattle.ang_vm_steps.specs.declared.table.Table.{Table};
+ghost use Rattle.ang_vm_stack.specs.declared.table.Table.{Table};
 ghost use Rattle.ang_vm_steps.specs.Turns.{Turned, IsNext};
 
 use crate::doing::{do_compare, do_complement, do_convert, do_negate, do_not, do_work};
 use crate::globals::{change_global, get_global, set_global};
 use crate::handles::do_same;
 use crate::jumps::next;
-use crate::place::{Pause, Place};
 use crate::store::Store;
 use ang_meaning::{Operation, Routine, Slot};
+use ang_vm_stack::place::{Pause, Place};
 
 /// `Do`: an operation takes its operands from the stack, and puts its value there. Before one that asks the
 /// host the body pauses, and nothing has changed.

@@ -8,16 +8,16 @@ ghost use Rattle.ang_meaning.specs.Results.{drop_some};
 ghost use Rattle.ang_code.specs.declared.instruction.Frame.{Frame};
 ghost use Rattle.ang_code.specs.declared.instruction.Instruction.TheVariants.{Do};
 ghost use Rattle.ang_code.specs.Machine.{Texts, At, did};
-ghost use Rattle.ang_vm_steps.specs.Stacks.{values};
-ghost use Rattle.ang_vm_steps.specs.Arms.{Acts, done, went};
+ghost use Rattle.ang_vm_stack.specs.Stacks.{values};
+ghost use Rattle.ang_vm_stack.specs.Arms.{Acts, done, went};
 
 use crate::operations::{
     compare_slots, complement_slot, convert_slot, deny_slot, negate_slot, work_slots,
 };
-use crate::stack::{peek, push};
-use crate::stop::Stop;
 use ang_kinds::{Fault, Prim};
 use ang_meaning::{Arithmetic, Comparison, Slot};
+use ang_vm_stack::stack::{peek, push};
+use ang_vm_stack::stop::Stop;
 
 /// The answer of an operation that takes so many operands: its value takes their place, or they stay where
 /// it faults.

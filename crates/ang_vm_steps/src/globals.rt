@@ -7,15 +7,15 @@ ghost use Rattle.ang_meaning.specs.Perform.{perform};
 ghost use Rattle.ang_meaning.specs.Told.{Told};
 ghost use Rattle.ang_code.specs.declared.instruction.Instruction.TheVariants.{Do, SwapGlobal};
 ghost use Rattle.ang_code.specs.Machine.{Texts};
-ghost use Rattle.ang_vm_steps.specs.Arms.{ActsIn, done};
+ghost use Rattle.ang_vm_stack.specs.Arms.{ActsIn, done};
 
 use crate::arms::{bring, change_slot};
 use crate::doing::put_answer;
-use crate::stack::{peek, poke};
-use crate::stop::Stop;
 use crate::store::Store;
 use ang_kinds::{Fault, Prim};
 use ang_meaning::{Change, Routine, Slot};
+use ang_vm_stack::stack::{peek, poke};
+use ang_vm_stack::stop::Stop;
 
 /// The value of a global, which one more place holds.
 ///

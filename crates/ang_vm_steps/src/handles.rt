@@ -10,13 +10,13 @@ ghost use Rattle.ang_meaning.specs.Perform.{perform, is_same, name_one};
 ghost use Rattle.ang_meaning.specs.Told.{Told};
 ghost use Rattle.ang_code.specs.declared.instruction.Instruction.TheVariants.{Do};
 ghost use Rattle.ang_code.specs.Machine.{Texts};
-ghost use Rattle.ang_vm_steps.specs.Arms.{ActsIn};
+ghost use Rattle.ang_vm_stack.specs.Arms.{ActsIn};
 
 use crate::doing::put_answer;
-use crate::stack::peek;
-use crate::stop::Stop;
 use crate::store::Store;
 use ang_meaning::Slot;
+use ang_vm_stack::stack::peek;
+use ang_vm_stack::stop::Stop;
 
 /// Whether a handle is null; a number is not.
 #[tactic(auto, unfolding(ang_meaning::specs::Setting::is_null))]

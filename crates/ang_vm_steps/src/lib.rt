@@ -7,6 +7,7 @@
 #![tactic(auto)]
 
 pub mod arms;
+pub mod calls;
 pub mod dispatch;
 mod doing;
 pub mod globals;
@@ -14,8 +15,4 @@ pub mod handles;
 pub mod jumps;
 pub mod many;
 mod operations;
-pub mod place;
-pub mod stack;
-pub mod stop;
 pub mod store;
-pub mod table;

@@ -6,13 +6,13 @@ ghost use Rattle.ang_meaning.specs.Results.{give_some, give_back};
 ghost use Rattle.ang_meaning.specs.Told.{Told};
 ghost use Rattle.ang_code.specs.declared.instruction.Instruction.TheVariants.{Leave, DropUnder};
 ghost use Rattle.ang_code.specs.Machine.{Texts, take_some};
-ghost use Rattle.ang_vm_steps.specs.Stacks.{values};
-ghost use Rattle.ang_vm_steps.specs.Arms.{Acts};
+ghost use Rattle.ang_vm_stack.specs.Stacks.{values};
+ghost use Rattle.ang_vm_stack.specs.Arms.{Acts};
 
-use crate::stack::{peek, push};
-use crate::stop::Stop;
 use crate::store::Store;
 use ang_meaning::Slot;
+use ang_vm_stack::stack::{peek, push};
+use ang_vm_stack::stop::Stop;
 
 /// Gives up so many values from the top, the top one first.
 pub fn give_top<S: Store>(stack: &[Slot], store: &mut S, top: usize, count: usize)

@@ -1,6 +1,6 @@
 use Rattle.std.proofs.Common.{◌≤◌, length, ap, ◌∙◌, arith}
 use Rattle.ang_meaning.specs.Results.{local_at, local_set, brought}
-use Rattle.ang_vm_steps.specs.Stacks.{values}
+use Rattle.ang_vm_stack.specs.Stacks.{values}
 use Rattle.ang_vm_steps.proofs.Parts.{swap_outside, swap_beyond, swap_done}
 use Rattle.ang_vm_steps.proofs.arms.swap_local.Goals as goal
 

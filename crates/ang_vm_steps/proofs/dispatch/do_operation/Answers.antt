@@ -1,7 +1,7 @@
 use Rattle.std.proofs.Common.{subst, refl}
 use Rattle.ang_meaning.specs.declared.operation.Operation.TheVariants.{Work, Compare, Convert, Negate, Complement, Not, Same, GlobalGet, GlobalSet, GlobalChange}
 use Rattle.ang_code.specs.declared.instruction.Instruction.TheVariants.{Do}
-use Rattle.ang_vm_steps.specs.Tables.{setting_of, texts_of}
+use Rattle.ang_vm_stack.specs.Tables.{setting_of, texts_of}
 use Rattle.ang_vm_steps.specs.Turns.{IsNext}
 use Rattle.ang_vm_steps.proofs.Turning.{acts_in, turned}
 use Rattle.ang_vm_steps.proofs.dispatch.do_operation.Goals as goal

@@ -1,8 +1,8 @@
 use Rattle.std.proofs.Common.{◌+◌, ◌∷◌, ap, ◌∙◌, arith}
 use Rattle.ang_meaning.specs.Results.{drop_some}
 use Rattle.ang_code.specs.Machine.{At, did}
-use Rattle.ang_vm_steps.specs.Stacks.{values}
-use Rattle.ang_vm_steps.specs.Arms.{done}
+use Rattle.ang_vm_stack.specs.Stacks.{values}
+use Rattle.ang_vm_stack.specs.Arms.{done}
 use Rattle.ang_vm_steps.proofs.TopValues.{put_value}
 use Rattle.ang_vm_steps.proofs.doing.put_answer.Goals as goal
 

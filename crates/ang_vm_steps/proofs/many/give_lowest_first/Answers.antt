@@ -3,7 +3,7 @@ use Rattle.ang_meaning.specs.World.{with_inputs}
 use Rattle.ang_meaning.specs.Results.{give_back}
 use Rattle.ang_meaning.proofs.Telling.{told_same, told_then}
 use Rattle.ang_code.specs.Machine.{take_some}
-use Rattle.ang_vm_steps.specs.Stacks.{values}
+use Rattle.ang_vm_stack.specs.Stacks.{values}
 use Rattle.ang_vm_steps.proofs.SeveralGiven.{back_turn}
 use Rattle.ang_vm_steps.proofs.many.give_lowest_first.Goals as goal
 

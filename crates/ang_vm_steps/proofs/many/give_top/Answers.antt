@@ -2,7 +2,7 @@ use Rattle.std.proofs.Common.{◌≡◌, ◌-◌, ap, ◌∙◌, arith, refl}
 use Rattle.ang_meaning.specs.World.{with_inputs}
 use Rattle.ang_meaning.specs.Results.{give_some}
 use Rattle.ang_meaning.proofs.Telling.{told_same, told_then}
-use Rattle.ang_vm_steps.specs.Stacks.{values}
+use Rattle.ang_vm_stack.specs.Stacks.{values}
 use Rattle.ang_vm_steps.proofs.SeveralGiven.{give_turn, give_over}
 use Rattle.ang_vm_steps.proofs.many.give_top.Goals as goal
 

@@ -2,7 +2,7 @@ use Rattle.std.proofs.Common.{◌≡◌, ◌-◌}
 use Rattle.ang_meaning.specs.World.{with_inputs}
 use Rattle.ang_meaning.specs.Results.{give_some}
 use Rattle.ang_meaning.specs.Told.{Told}
-use Rattle.ang_vm_steps.specs.Stacks.{values}
+use Rattle.ang_vm_stack.specs.Stacks.{values}
 use Rattle.ang_vm_steps.proofs.many.give_top.Given as goal
 
 abbrev pub invariant-loop-given : goal.invariant-loop-given

@@ -1,0 +1,69 @@
+use Rattle.std.proofs.Common.{◌≤◌, ◌-◌, length, sym, ap, subst, refl, arith, ◌∙◌}
+use Rattle.std.specs.Prelude.{reverse}
+use Rattle.ang_meaning.specs.World.{with_inputs}
+use Rattle.ang_meaning.specs.Results.{local_at, outs_of}
+use Rattle.ang_meaning.proofs.Telling.{told_same, told_then}
+use Rattle.ang_vm_stack.specs.Stacks.{values}
+use Rattle.ang_vm_stack.specs.Tables.{setting_of, texts_of}
+use Rattle.ang_vm.specs.Legs.{AllFit}
+use Rattle.ang_vm.proofs.Going.{params_there}
+use Rattle.ang_vm.proofs.Leaving.{leaves_nothing, leaves_lost, leaves_on}
+use Rattle.ang_vm.proofs.returns.leave_body.Goals as goal
+
+pub returns-then-top-eq0 : goal.returns-then-top-eq0
+returns-then-top-eq0 g c =
+    let w = g.S.Store.world c.args.store.now in
+    let f = c.args.from in
+    let deep : f.place.top ≤ length c.args.stack.now = omega (arith, c.requires.fits.values, c.requires.fits.body) in
+    record {
+      told = λ nesting. told_same (λ is. leaves_nothing (setting_of c.args.table.now nesting) (texts_of c.args.table.now) f.body f.place.at f.room c.args.stack.now f.place.top c.args.count (reverse c.args.frames.now.items) f.place.ticks deep (omega arith) (with_inputs is w));
+      fits = tt;
+      quiet = refl;
+    }
+
+pub returns-then-count-top : goal.returns-then-count-top
+returns-then-count-top g c =
+    let w = g.S.Store.world c.args.store.now in
+    let f = c.args.from in
+    let deep : f.place.top ≤ length c.args.stack.now = omega (arith, c.requires.fits.values, c.requires.fits.body) in
+    record {
+      told = λ nesting. told_same (λ is. leaves_lost (setting_of c.args.table.now nesting) (texts_of c.args.table.now) f.body f.place.at f.room c.args.stack.now f.place.top c.args.count (reverse c.args.frames.now.items) f.place.ticks deep
+          (local_at (values c.args.stack.now f.place.top) 0) (omega arith) refl (omega arith) (with_inputs is w));
+      fits = tt;
+      quiet = refl;
+    }
+
+pub returns-then-params-base : goal.returns-then-params-base
+returns-then-params-base g c =
+    let w = g.S.Store.world c.args.store.now in
+    let f = c.args.from in
+    let deep : f.place.top ≤ length c.args.stack.now = omega (arith, c.requires.fits.values, c.requires.fits.body) in
+    record {
+      told = λ nesting. let count = ap length (c.params-params.ensures.exact ∙ params_there c.args.table.now f.body c.args.code.now nesting c.requires.there) in told_same (λ is. leaves_lost (setting_of c.args.table.now nesting) (texts_of c.args.table.now) f.body f.place.at f.room c.args.stack.now f.place.top c.args.count (reverse c.args.frames.now.items) f.place.ticks deep
+          (local_at (values c.args.stack.now f.place.top) 0) (omega arith) refl (omega (arith, count)) (with_inputs is w));
+      fits = tt;
+      quiet = refl;
+    }
+
+pub hand_back-requires : goal.hand_back-requires
+hand_back-requires g c = record {
+  below = omega (arith, c.requires.fits.values, c.requires.fits.body, c.leave_params-kept.ensures.fewer, c.leave_params-kept.auto.stack);
+  callers = subst (λ n. AllFit n (reverse c.args.frames.now.items)) (sym c.leave_params-kept.auto.stack) c.requires.fits.callers;
+}
+
+pub returns : goal.returns
+returns g c =
+    let f = c.args.from in
+    let deep : f.place.top ≤ length c.args.stack.now = omega (arith, c.requires.fits.values, c.requires.fits.body) in
+    let base = f.place.top - 1 - c.args.count in
+    let outs = outs_of c.params-params.result.now (values c.args.stack.now base) in
+    let rest = values c.args.stack.now (base - length c.params-params.result.now) in
+    record {
+      told = λ nesting. told_then
+          (leaves_on (setting_of c.args.table.now nesting) (texts_of c.args.table.now) f.body f.place.at f.room c.args.stack.now f.place.top c.args.count (reverse c.args.frames.now.items) f.place.ticks deep
+          c.peek-value.result (omega arith) c.peek-value.ensures.exact c.params-params.result.now (g.S.Store.world c.args.store.now) (g.S.Store.world c.give_top.new.store) (g.S.Store.world c.leave_params-kept.new.store) outs rest
+          (c.params-params.ensures.exact ∙ params_there c.args.table.now f.body c.args.code.now nesting c.requires.there) (omega arith) c.give_top.ensures.told c.leave_params-kept.ensures.told refl refl)
+          (c.hand_back.ensures.told outs rest c.leave_params-kept.ensures.kept);
+      fits = c.hand_back.ensures.fits;
+      quiet = c.hand_back.ensures.quiet ∙ c.leave_params-kept.ensures.quiet ∙ c.give_top.ensures.quiet;
+    }
