@@ -1,5 +1,5 @@
 -- What contracts see of an engine.
-use Rattle.std.specs.Prelude.{List, [], ◌∷◌, Option, option_map}
+use Rattle.std.specs.Prelude.{List, [], ◌∷◌, Option, None, option_map}
 use Rattle.std.specs.declared.alloc.Global.{Global}
 use Rattle.std.specs.declared.dyn_box.DynBox.{DynBox}
 use Rattle.ang_host.specs.Boxes.{members}
@@ -8,22 +8,31 @@ use Rattle.ang_registry.specs.Registration.{RegistrationList}
 use Rattle.ang_typed.specs.View.{view_typed}
 use Rattle.ang_heap.specs.Stores.{world_of}
 use Rattle.ang_engine_build.specs.Build.{Resolved}
-use Rattle.ang_engine_modules.specs.declared.modules.Built.{Built}
+use Rattle.ang_engine_modules.specs.declared.modules.LoadedModule.{LoadedModule}
 use Rattle.ang_engine.specs.declared.engine.Engine.{Engine}
 use Rattle.ang_engine.specs.declared.module.Module.{Module}
-use Rattle.ang_engine.specs.World.{ModuleState, World, left_to}
+use Rattle.ang_engine.specs.declared.module.ModuleList.{ModuleList}
+use Rattle.ang_engine.specs.World.{Program, ModuleState, World, left_to}
 
-abbrev pub resolved_in : Built → Resolved
-resolved_in b = record { names = b.names; tree = view_typed b.tree }
+-- what a module is built to
+abbrev pub resolved_in : LoadedModule → Resolved
+resolved_in l = record { names = l.names; tree = view_typed l.tree }
 
--- a module, with what it is built to, if it is
-abbrev pub state_of : Module → Option Built → ModuleState
-state_of m b = record { name = m.name; mask = m.mask.0; built_mask = m.built_mask.0; sections = m.sections.items; program = option_map resolved_in b }
+abbrev pub program_in : LoadedModule → Program
+program_in l = record { view = l.view; names = l.names; tree = view_typed l.tree; links = l.links }
 
-abbrev pub states_of : List Module → List (Option Built) → List ModuleState
-states_of [] bs = []
-states_of (m ∷ ms) [] = []
-states_of (m ∷ ms) (b ∷ bs) = state_of m b ∷ states_of ms bs
+-- a module, with its program where it is built
+abbrev pub state_of : Module → Option LoadedModule → ModuleState
+state_of m l = record { name = m.name; mask = m.mask.0; built_mask = m.built_mask.0; sections = m.sections.items; program = option_map program_in l }
+
+-- each module, with what is built of it, by number
+abbrev pub module_states : List Module → List (Option LoadedModule) → List ModuleState
+module_states [] ls = []
+module_states (m ∷ ms) [] = state_of m None ∷ module_states ms []
+module_states (m ∷ ms) (l ∷ ls) = state_of m l ∷ module_states ms ls
+
+abbrev pub states_in : ModuleList → List ModuleState
+states_in x = module_states x.modules.items x.code
 
 -- its registration list, which no command changes
 abbrev pub registrations : {V : Type 0} {P : V → Type 0} → Engine V P → RegistrationList
@@ -31,7 +40,7 @@ registrations e = e.registry.entries
 
 -- Its modules, and beside them what their runs leave: the counts of host objects are those of the drivers themselves.
 abbrev pub world_in : {V : Type 0} {P : V → Type 0} → ((v : V) → Meaning (P v)) → Engine V P → World
-world_in m e = left_to (states_of e.modules.items e.code) (world_of m e.machine.store)
+world_in m e = left_to (states_in e.modules) (world_of m e.machine.store)
 
 -- its boxed drivers, in their order
 abbrev pub drivers_in : {V : Type 0} {P : V → Type 0} → Engine V P → List (DynBox V Global P)

@@ -7,33 +7,38 @@ use Rattle.ang_registry.specs.Registration.{RegistrationList, entry_at, seen}
 use Rattle.ang_meaning.specs.Counting.{IsCounted}
 use Rattle.ang_heap.specs.Stores.{world_of, IsKept}
 use Rattle.ang_engine_build.specs.Build.{Compiled, build_of}
-use Rattle.ang_engine_modules.specs.declared.modules.Built.{Built}
+use Rattle.ang_engine_modules.specs.declared.modules.LoadedModule.{LoadedModule}
 use Rattle.ang_engine.specs.declared.engine.Engine.{Engine}
 use Rattle.ang_engine.specs.declared.module.Module.{Module}
+use Rattle.ang_engine.specs.declared.module.ModuleList.{ModuleList}
 use Rattle.ang_engine.specs.Engines.{registrations, drivers_in, resolved_in}
 use Rattle.ang_engine.specs.Step.{most_modules}
 
 -- What a module was built to, under its name and its built mask: some sections' program over what the mask sees.
-pub record IsBuiltBy (R : RegistrationList) (m : Module) (b : Built) : Type 0 where
-  pub name : b.name ≡ m.name
-  pub view : b.view ≡ seen R m.built_mask.0
+pub record IsBuiltBy (R : RegistrationList) (m : Module) (l : LoadedModule) : Type 0 where
+  pub name : l.name ≡ m.name
+  pub view : l.view ≡ seen R m.built_mask.0
   pub sections : List (List ℕ)
-  pub built : build_of (seen R m.built_mask.0) sections ≡ Compiled (resolved_in b)
+  pub built : build_of l.view sections ≡ Compiled (resolved_in l)
 
 -- a module is built, or it is not
-abbrev pub IsSoundModule : RegistrationList → Module → Option Built → Type 0
+abbrev pub IsSoundModule : RegistrationList → Module → Option LoadedModule → Type 0
 IsSoundModule R m None = Unit {0}
-IsSoundModule R m (Some b) = IsBuiltBy R m b
+IsSoundModule R m (Some l) = IsBuiltBy R m l
+
+-- Each built module has some sections' program. There is one module at most.
+pub record AreSoundModules (R : RegistrationList) (x : ModuleList) : Type 0 where
+  pub each : AllZip (IsSoundModule R) x.modules.items x.code
+  pub few : length x.modules.items ≤ most_modules
 
 -- each entry's driver is one of the list
 abbrev pub HaveDrivers : RegistrationList → ℕ → Type 0
 HaveDrivers R n = (number : ℕ) (x : Entry) → entry_at R number ≡ Some x → x.driver < n
 
--- Each built module has some sections' program, and there is one module at most; each entry's driver is in the list; the machine keeps what it needs to give
--- everything up; and nothing is held but by globals and fields.
+-- The modules are sound; each entry's driver is in the list; the machine keeps what it needs to give everything up; and nothing is held but by globals and
+-- fields.
 pub record IsSound {V : Type 0} {P : V → Type 0} (m : (v : V) → Meaning (P v)) (e : Engine V P) : Type 0 where
-  pub modules : AllZip (IsSoundModule (registrations e)) e.modules.items e.code
-  pub one : length e.modules.items ≤ most_modules
+  pub modules : AreSoundModules (registrations e) e.modules
   pub in_list : HaveDrivers (registrations e) (length (drivers_in e))
   pub kept : IsKept m e.machine.store
   pub counted : IsCounted [] (world_of m e.machine.store)

@@ -7,7 +7,6 @@ use Rattle.ang_host.specs.declared.event.HostEvent.{HostEvent}
 use Rattle.ang_host.specs.declared.event.HostEvent.TheVariants.{Called, Ended as ObjectEnded}
 use Rattle.ang_lex.specs.Spelling.{is_identifier}
 use Rattle.ang_registry.specs.Registration.{RegistrationList, seen, entry_at}
-use Rattle.ang_names.specs.declared.names.Names.{Names}
 use Rattle.ang_names.specs.declared.names.ScriptFunction.{ScriptFunction}
 use Rattle.ang_meaning.specs.declared.slot.Slot.{Slot}
 use Rattle.ang_meaning.specs.World.{Input, Room, World as RunWorld}
@@ -24,7 +23,7 @@ use Rattle.ang_engine.specs.declared.reply.Outcome.{Outcome}
 use Rattle.ang_engine.specs.declared.reply.Outcome.TheVariants.{Done, Failed, Refused}
 use Rattle.ang_engine.specs.declared.reply.Refusal.{Refusal}
 use Rattle.ang_engine.specs.declared.reply.Refusal.TheVariants.{BadName, ModuleExists, Limit, NoModule, NotBuilt, BadBudget, BuildMemory, BuildErrors, InitFailed, NoFunction, NotCallable, BadArguments, Memory}
-use Rattle.ang_engine.specs.World.{ModuleState, World, module_named, module_at, with_module, built_in, running, left_to, globals_ended}
+use Rattle.ang_engine.specs.World.{Program, ModuleState, World, module_named, module_at, placed, built_in, running, left_to, globals_ended}
 
 -- the modules of one engine: one, until a later version takes more
 abbrev pub most_modules : ℕ
@@ -62,7 +61,7 @@ after_run outcome errors modules r = record { reply = reply_of outcome r.events 
 
 -- ---- NewModule
 
--- a module without sections, unbuilt, whose built mask is its mask until it is built
+-- a module without sections, unbuilt, whose built mask is the mask that it was made with
 abbrev pub fresh_module : List ℕ → ℕ → ModuleState
 fresh_module name mask = record { name = name; mask = mask; built_mask = mask; sections = []; program = None }
 
@@ -93,7 +92,7 @@ section_added text m =
 -- one section too many is refused
 abbrev pub or_limit : Option ModuleState → World → ℕ → List Input → Option Stepped
 or_limit None w i inputs = refused Limit w inputs
-or_limit (Some m) w i inputs = answered (Done None) (with_module w i m) inputs
+or_limit (Some m) w i inputs = answered (Done None) (record w { modules = placed w i m }) inputs
 
 abbrev pub add_section : List ℕ → World → ℕ → ModuleState → List Input → Option Stepped
 add_section text w i m inputs = or_limit (section_added text m) w i inputs
@@ -104,35 +103,42 @@ add_section text w i m inputs = or_limit (section_added text m) w i inputs
 abbrev pub emptied : ModuleState → ModuleState
 emptied m = record m { built_mask = m.mask; sections = []; program = None }
 
-abbrev pub with_program : Resolved → ModuleState → ModuleState
+-- what scripts are resolved to, over what their module sees, with no import bound yet
+abbrev pub program_over : RegistrationList → Resolved → Program
+program_over V r = record { view = V; names = r.names; tree = r.tree; links = [] }
+
+abbrev pub with_program : Program → ModuleState → ModuleState
 with_program p m = record (emptied m) { program = Some p }
 
--- The initializers have ended: the module is built; or their fault leaves it emptied, and its globals end.
-abbrev pub initialized : Result Slot Fault → RunWorld → World → ℕ → ModuleState → Resolved → Stepped
-initialized (Ok v) r w i m p = after_run (Done None) [] (slice_set w.modules i (with_program p m)) r
-initialized (Err f) r w i m p = after_run (Refused (InitFailed f)) [] (slice_set w.modules i (emptied m)) (globals_ended i r)
-
-abbrev pub started : Ended → World → ℕ → ModuleState → Resolved → Stepped
-started e w i m p = initialized e.result e.world w i m p
-
 -- the module's globals begin
-abbrev pub globals_begun : ℕ → Resolved → RunWorld → RunWorld
+abbrev pub globals_begun : ℕ → Program → RunWorld → RunWorld
 globals_begun i p r = record r { globals = slice_set r.globals i (first_globals p.tree) }
 
--- what the module's initializers do, one after the other, within the budget, the module among the others as it is built now
-abbrev pub initializers_end : RegistrationList → World → ℕ → ModuleState → Resolved → ℕ → RunWorld → Ended
-initializers_end R w i m p budget r = end_of (initialization_of (built_in R (slice_set w.modules i (with_program p m))) budget i (globals_begun i p r))
+-- what the initializers of module i do, one after the other, within the budget, the module among the others as it is built now
+abbrev pub initializers_end : List ModuleState → ℕ → Program → ℕ → RunWorld → Ended
+initializers_end ms i p budget r = end_of (initialization_of (built_in ms) budget i (globals_begun i p r))
 
--- The sections have errors, which are listed, and the module is left emptied; or they are a program, whose initializers run.
-abbrev pub after_build : RegistrationList → Built → World → ℕ → ModuleState → ℕ → RunWorld → Option Stepped
-after_build R (Errors es) w i m budget r = Some (after_run (Refused BuildErrors) es (slice_set w.modules i (emptied m)) r)
-after_build R (Compiled p) w i m budget r = Some (started (initializers_end R w i m p budget r) w i m p)
+-- They have ended: the module is built; or their fault leaves it emptied, and its globals end.
+abbrev pub initialized : Result Slot Fault → RunWorld → World → ℕ → ModuleState → Program → Stepped
+initialized (Ok v) r w i m p = after_run (Done None) [] (placed w i (with_program p m)) r
+initialized (Err f) r w i m p = after_run (Refused (InitFailed f)) [] (placed w i (emptied m)) (globals_ended i r)
+
+-- what the end of its initializers leaves
+abbrev pub started : Ended → World → ℕ → ModuleState → Program → Stepped
+started e w i m p = initialized e.result e.world w i m p
+
+-- over a view the sections have errors, which are listed, and the module is left emptied; or they are a program, whose initializers run
+abbrev pub after_build : RegistrationList → Built → World → ℕ → ModuleState → ℕ → RunWorld → Stepped
+after_build V (Errors es) w i m budget r = after_run (Refused BuildErrors) es (placed w i (emptied m)) r
+after_build V (Compiled q) w i m budget r =
+    let p = program_over V q in
+    started (initializers_end (placed w i (with_program p m)) i p budget r) w i m p
 
 -- A build first ends the module's globals, and is over what the module's mask sees now. The first input says whether there is memory to build, the others
 -- are those of the initializers. Without memory no initializer runs, and the module is left emptied.
 abbrev pub build : RegistrationList → World → ℕ → ModuleState → ℕ → List Input → Option Stepped
-build R w i m budget (Room true ∷ inputs) = after_build R (build_of (seen R m.mask) m.sections) w i m budget (globals_ended i (running w inputs))
-build R w i m budget (Room false ∷ inputs) = Some (after_run (Refused BuildMemory) [] (slice_set w.modules i (emptied m)) (globals_ended i (running w inputs)))
+build R w i m budget (Room true ∷ inputs) = Some (after_build (seen R m.mask) (build_of (seen R m.mask) m.sections) w i m budget (globals_ended i (running w inputs)))
+build R w i m budget (Room false ∷ inputs) = Some (after_run (Refused BuildMemory) [] (placed w i (emptied m)) (globals_ended i (running w inputs)))
 build R w i m budget _ = None
 
 -- the budget is judged before anything is done
@@ -160,9 +166,9 @@ abbrev pub of_number : Option ℕ → List ScriptFunction → List Value → Cho
 of_number None fs args = Not NoFunction
 of_number (Some n) fs args = of_function n (slice_get fs n) args
 
--- of the functions of a module with these names, which sees this
-abbrev pub choice_of : RegistrationList → Names → List ℕ → List Value → Choice
-choice_of V names decl args = of_number (function_named_by V names decl) names.functions args
+-- of the functions that a module's program declares
+abbrev pub choice_of : Program → List ℕ → List Value → Choice
+choice_of p decl args = of_number (function_named_by p.view p.names decl) p.names.functions args
 
 -- The call has ended: with the function's value, or with a fault. What it changed stands either way.
 abbrev pub called : Result Slot Fault → RunWorld → World → ScriptFunction → Stepped
@@ -174,25 +180,23 @@ abbrev pub call_ended : Ended → World → ScriptFunction → Stepped
 call_ended e w f = called e.result e.world w f
 
 -- what function n of module i does within the budget, among all that are built
-abbrev pub call_end : RegistrationList → World → ℕ → ℕ → ℕ → List Slot → List Input → Ended
-call_end R w i budget n slots inputs = end_of (call_of (built_in R w.modules) budget i n slots (running w inputs))
+abbrev pub call_end : World → ℕ → ℕ → ℕ → List Slot → List Input → Ended
+call_end w i budget n slots inputs = end_of (call_of (built_in w.modules) budget i n slots (running w inputs))
 
 -- a call of the function that was chosen, or the reason why none was
-abbrev pub call_chosen : RegistrationList → Choice → World → ℕ → ℕ → List Input → Option Stepped
-call_chosen R (Not why) w i budget inputs = refused why w inputs
-call_chosen R (Chosen n f slots) w i budget inputs = Some (call_ended (call_end R w i budget n slots inputs) w f)
+abbrev pub call_chosen : Choice → World → ℕ → ℕ → List Input → Option Stepped
+call_chosen (Not why) w i budget inputs = refused why w inputs
+call_chosen (Chosen n f slots) w i budget inputs = Some (call_ended (call_end w i budget n slots inputs) w f)
 
--- A call of a function of a module's program, which sees what its built mask meets. That the module is built, that the budget is one, and the choice of the
--- function are judged in this order.
-abbrev pub call_program : RegistrationList → Option Resolved → List ℕ → List Value → ℕ → World → ℕ → ModuleState → List Input → Option Stepped
-call_program R None decl args budget w i m inputs = refused NotBuilt w inputs
-call_program R (Some p) decl args budget w i m inputs =
-    if is_budget budget then call_chosen R (choice_of (seen R m.built_mask) p.names decl args) w i budget inputs
-    else refused BadBudget w inputs
+-- A call of a function of a module's program. That the module is built, that the budget is one, and the choice of the function are judged in this order.
+abbrev pub call_program : Option Program → List ℕ → List Value → ℕ → World → ℕ → List Input → Option Stepped
+call_program None decl args budget w i inputs = refused NotBuilt w inputs
+call_program (Some p) decl args budget w i inputs =
+    if is_budget budget then call_chosen (choice_of p decl args) w i budget inputs else refused BadBudget w inputs
 
 -- a call of a module's function
-abbrev pub call : List ℕ → List Value → ℕ → RegistrationList → World → ℕ → ModuleState → List Input → Option Stepped
-call decl args budget R w i m inputs = call_program R m.program decl args budget w i m inputs
+abbrev pub call : List ℕ → List Value → ℕ → World → ℕ → ModuleState → List Input → Option Stepped
+call decl args budget w i m inputs = call_program m.program decl args budget w i inputs
 
 -- ---- a command
 
@@ -206,14 +210,24 @@ abbrev pub judged : RegistrationList → World → Command → List Input → Op
 judged R w (NewModule name mask) inputs = added_module name mask.0 w inputs
 judged R w (AddSection name text) inputs = on_module (module_named name w) w inputs (add_section text w)
 judged R w (Build name budget) inputs = on_module (module_named name w) w inputs (build_within budget R w)
-judged R w (Call name decl args budget) inputs = on_module (module_named name w) w inputs (call decl args budget R w)
+judged R w (Call name decl args budget) inputs = on_module (module_named name w) w inputs (call decl args budget w)
 
--- One command over a registration list: each of these may be refused for want of memory before it changes anything. There is no
--- step with other inputs than those that are asked for.
+-- whether a command may be refused for want of memory before it changes anything
+abbrev pub may_want_memory : Command → Bool
+may_want_memory (NewModule name mask) = true
+may_want_memory (AddSection name text) = true
+may_want_memory (Build name budget) = true
+may_want_memory (Call name decl args budget) = true
+
+-- such a command: the first input says whether there is memory to begin
+abbrev pub granted : RegistrationList → World → Command → List Input → Option Stepped
+granted R w c (Room true ∷ inputs) = judged R w c inputs
+granted R w c (Room false ∷ inputs) = refused Memory w inputs
+granted R w c _ = None
+
+-- One command over a registration list. There is no step with other inputs than those that are asked for.
 abbrev pub step : RegistrationList → World → Command → List Input → Option Stepped
-step R w c (Room true ∷ inputs) = judged R w c inputs
-step R w c (Room false ∷ inputs) = refused Memory w inputs
-step R w c _ = None
+step R w c inputs = if may_want_memory c then granted R w c inputs else judged R w c inputs
 
 -- ---- relations
 

@@ -1,34 +1,32 @@
 -- What the runs of built modules mean: a call from outside, and a module's initializers in turn (docs/MEANING.md, "A run of a built module").
-use Rattle.std.specs.Prelude.{ℕ, suc, List, [], ◌∷◌, length, reverse, map, option_map, Option, None, slice_get}
-use Rattle.ang_types.specs.declared.arg_type.ArgType.{ArgType}
-use Rattle.ang_types.specs.declared.arg_type.ArgType.TheVariants as type
+use Rattle.std.specs.Prelude.{ℕ, suc, List, [], ◌∷◌, length, reverse, map, slice_get}
+use Rattle.std.specs.Option.{option_flatten}
 use Rattle.ang_typed.specs.Typed as t
-use Rattle.ang_meaning.specs.declared.class.ValueKind.{ValueKind}
-use Rattle.ang_meaning.specs.declared.class.ValueKind.TheVariants.{Number, Handle}
 use Rattle.ang_meaning.specs.declared.slot.Slot.{Slot}
 use Rattle.ang_meaning.specs.declared.routine.Routine.{Routine}
 use Rattle.ang_meaning.specs.World.{World}
-use Rattle.ang_meaning.specs.Setting.{Setting, default_of}
+use Rattle.ang_meaning.specs.Setting.{Setting}
 use Rattle.ang_meaning.specs.Results.{Reply}
-use Rattle.ang_source.specs.Meaning.{Code, codes_in, called_with, initialized_all, initializers_from, passings_in}
-use Rattle.ang_lower.specs.Hosts.{use_of}
+use Rattle.ang_source.specs.Meaning.{Code, default_in, codes_in, called_with, initialized_all, initializers_from, passings_in}
+use Rattle.ang_lower.specs.Hosts.{use_in}
 use Rattle.ang_lower.specs.Same.{routine}
-use Rattle.ang_engine_modules.specs.Modules.{Module, module_at, trees_of, entry_in}
+use Rattle.ang_engine_modules.specs.Modules.{Module, module_at, trees_of}
+use Rattle.ang_engine_modules.specs.Trees.{imports_in, class_in, method_of, slots_in}
 
 -- ---- what stays the same while they run
 
--- Modules run in a setting of their own: each has its name, knows the host by its own view alone, and has its functions. No import is bound and no class
--- is made yet. So many functions may stand one inside the other.
+-- Modules run in a setting of their own: each has its name, may ask what its view has, and has its functions, its classes and its imports, each of which leads
+-- where it is bound. At most `nesting` functions may stand one inside the other.
 abbrev pub setting_for : List Module → ℕ → Setting
 setting_for ms nesting =
     record {
       name = λ m. (module_at ms m).name;
-      host = λ m e. option_map use_of (entry_in ms m e);
-      imported = λ m i. None;
-      linked = λ m i. None;
-      class = λ m c. None;
-      method = λ m c s. None;
-      slot = λ m s. None;
+      host = λ m e. use_in (module_at ms m).view e;
+      imported = λ m i. slice_get (imports_in (module_at ms m).tree) i;
+      linked = λ m i. option_flatten (slice_get (module_at ms m).links i);
+      class = λ m c. class_in (module_at ms m).tree c;
+      method = λ m c s. method_of (module_at ms m).tree c s;
+      slot = λ m s. slice_get (slots_in (module_at ms m).tree) s;
       params = λ g. slice_get (passings_in (module_at ms g.home).tree) g.number;
       nesting = nesting;
     }
@@ -58,13 +56,6 @@ initialization_of ms budget m w = initialized_in ms (initializers_of m (module_a
 
 -- ---- globals before their initializers
 
-abbrev pub kind_of : ArgType → ValueKind
-kind_of type.Void = Number
-kind_of type.Null = Handle
-kind_of (type.Plain p) = Number
-kind_of (type.Object n c) = Handle
-kind_of (type.Handle n c) = Handle
-
 -- a global is 0, false or null at first (the AngelScript manual, "Global variables")
 abbrev pub first_globals : t.Program → List Slot
-first_globals p = map (λ g. default_of (kind_of g.ty)) p.globals
+first_globals p = map (λ g. default_in g.ty) p.globals

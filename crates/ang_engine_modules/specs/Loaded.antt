@@ -1,46 +1,65 @@
 -- Built modules as an engine keeps them for the machine: what they resolve to, and the table of their code.
-use Rattle.std.specs.Prelude.{◌≡◌, ℕ, List, [], Option, Some, None, option_map, map as list_map}
+use Rattle.std.specs.Prelude.{◌≡◌, ◌<◌, ◌^◌, ℕ, List, [], length, slice_index_or, Option, Some, None, map as list_map}
 use Rattle.ang_registry.specs.Registration.{RegistrationList}
 use Rattle.ang_typed.specs.View.{view_typed}
 use Rattle.ang_meaning.specs.declared.host.HostUse.{HostUse}
+use Rattle.ang_code.specs.declared.instruction.RoutineCode.{RoutineCode}
 use Rattle.ang_source.specs.Meaning.{passings_in}
 use Rattle.ang_source.specs.Sound.{SoundProgram}
-use Rattle.ang_lower.specs.Hosts.{use_of}
+use Rattle.ang_lower.specs.Hosts.{asked_as}
 use Rattle.ang_gen.specs.Compiled.{IsCompiled}
+use Rattle.ang_vm_stack.specs.declared.table.ClassCode.{ClassCode}
 use Rattle.ang_vm_stack.specs.declared.table.ModuleCode.{ModuleCode}
 use Rattle.ang_vm_stack.specs.declared.table.Table.{Table}
 use Rattle.ang_vm_stack.specs.Tables.{module_at as code_at, list_in}
-use Rattle.ang_engine_modules.specs.declared.modules.Built.{Built}
+use Rattle.ang_engine_modules.specs.declared.modules.LoadedModule.{LoadedModule}
 use Rattle.ang_engine_modules.specs.Modules.{Module, unbuilt, module_at}
+use Rattle.ang_engine_modules.specs.Trees.{ScriptClass, imports_in, classes_in, slots_in}
+
+-- what stands in the place of a module
+abbrev pub loaded_at : List (Option LoadedModule) → ℕ → Option LoadedModule
+loaded_at xs m = slice_index_or xs m None
 
 -- what runs know of a place that a built module has, or none
-abbrev pub module_of : Option Built → Module
+abbrev pub module_of : Option LoadedModule → Module
 module_of None = unbuilt
-module_of (Some b) = record { name = b.name; view = b.view; tree = view_typed b.tree }
+module_of (Some x) = record { name = x.name; view = x.view; tree = view_typed x.tree; links = x.links }
 
-abbrev pub modules_of : List (Option Built) → List Module
-modules_of bs = list_map module_of bs
+abbrev pub modules_of : List (Option LoadedModule) → List Module
+modules_of xs = list_map module_of xs
 
 -- each entry of a view as code asks it, by its number
 abbrev pub uses_of : RegistrationList → List (Option HostUse)
-uses_of V = list_map (option_map use_of) V
+uses_of V = list_map asked_as V
 
-abbrev pub name_in : Option ModuleCode → List ℕ
-name_in None = []
-name_in (Some c) = c.name.items
+-- a class as the tree has it
+abbrev pub class_of : ClassCode → ScriptClass
+class_of y = record { class = y.class; methods = y.methods.items }
 
--- A table's code is that of a module: its name, its view, and what its tree is compiled to; the tree is sound over the view. It has no imports and no
--- classes yet.
+-- the code of a table's place
+abbrev pub codes_of : Option ModuleCode → List RoutineCode
+codes_of c = list_in (λ y. y.bodies.items) c
+
+-- A table's code is that of a module: its name, its view, what its tree declares, and what its tree is compiled to, so many bodies that a number has 32 bits;
+-- the tree is sound over the view. No import is bound yet.
 pub record IsCodeOf (c : Option ModuleCode) (x : Module) : Type 0 where
-  pub name : name_in c ≡ x.name
+  pub name : list_in (λ y. y.name.items) c ≡ x.name
   pub entities : list_in (λ y. y.entities.items) c ≡ uses_of x.view
-  pub passings : list_map (λ b. b.params.items) (list_in (λ y. y.bodies.items) c) ≡ passings_in x.tree
-  pub compiled : IsCompiled x.tree (list_in (λ y. y.bodies.items) c)
-  pub imports : list_in (λ y. y.imports.items) c ≡ []
-  pub classes : list_in (λ y. y.classes.items) c ≡ []
-  pub slots : list_in (λ y. y.slots.items) c ≡ []
+  pub passings : list_map (λ b. b.params.items) (codes_of c) ≡ passings_in x.tree
+  pub compiled : IsCompiled x.tree (codes_of c)
+  pub few : length (codes_of c) < 2 ^ 32
+  pub imports : list_map (λ y. y.params.items) (list_in (λ y. y.imports.items) c) ≡ imports_in x.tree
+  pub links : list_map (λ y. y.bound) (list_in (λ y. y.imports.items) c) ≡ x.links
+  pub unbound : x.links ≡ []
+  pub classes : list_map class_of (list_in (λ y. y.classes.items) c) ≡ classes_in x.tree
+  pub slots : list_map (λ y. y.items) (list_in (λ y. y.slots.items) c) ≡ slots_in x.tree
   pub sound : SoundProgram x.view x.tree
 
 -- the table is that of these modules, by number
 pub record IsTableOf (t : Table) (ms : List Module) : Type 0 where
   pub each : (m : ℕ) → IsCodeOf (code_at t m) (module_at ms m)
+
+-- the table has a place for each of these, which has its code
+pub record IsLoaded (t : Table) (xs : List (Option LoadedModule)) : Type 0 where
+  pub holds : IsTableOf t (modules_of xs)
+  pub same : length t.modules.items ≡ length xs

@@ -24,7 +24,7 @@ use Rattle.ang_lower.proofs.Values.{CalleesAgree, stored_same, value_same}
 use Rattle.ang_lower.proofs.Turns.{PassesAgree, block_same, statements_same, pass_same}
 
 pub passings_count : (ps : List Parameter) → length (passings_of ps) ≡ length ps
-passings_count ps = length-reverse (map (λ p. passing_of p.pass) ps) ∙ length-map ps (λ p. passing_of p.pass)
+passings_count ps = length-reverse (map (λ p. passing_of p) ps) ∙ length-map ps (λ p. passing_of p)
 
 -- what stands before a body, where the bodies do the same
 entered_same : (z : Setting) (b b' : Calls) (d : ℕ) (g : Routine) (vs : List Slot) (t : ℕ) (w : World) → ((t' : ℕ) (w' : World) → b g vs t' w' ≡ b' g vs t' w') → entered z b d g vs t w ≡ entered z b' d g vs t w

@@ -1,5 +1,5 @@
 -- Registered entities as code asks them (docs/MEANING.md, "Operations"; docs/EMBEDDING.md, "Drivers").
-use Rattle.std.specs.Prelude.{◌≡◌, ℕ, ◌&&◌, Bool, true, false, map, Option, Some, option_map}
+use Rattle.std.specs.Prelude.{◌≡◌, ℕ, ◌&&◌, Bool, true, false, map, Option, Some, None, if◌then◌else◌}
 use Rattle.ang_kinds.specs.declared.types.TypeRef.{TypeRef}
 use Rattle.ang_kinds.specs.declared.types.TypeRef.TheVariants.{Void, Plain as PlainType, Object}
 use Rattle.ang_registry.specs.declared.entry.Entry.{Entry}
@@ -7,7 +7,7 @@ use Rattle.ang_registry.specs.declared.entry.EntryKind.{EntryKind}
 use Rattle.ang_registry.specs.declared.entry.EntryKind.TheVariants.{HostType as TypeKind, Factory, Method, Property, Function, Global}
 use Rattle.ang_host.specs.declared.event.Role.{Role}
 use Rattle.ang_host.specs.declared.event.Role.TheVariants.{Making, Calling, Property as Reading}
-use Rattle.ang_registry.specs.Registration.{RegistrationList, entry_at}
+use Rattle.ang_registry.specs.Registration.{RegistrationList, entry_at, is_type}
 use Rattle.ang_meaning.specs.declared.host.HostType.{HostType}
 use Rattle.ang_meaning.specs.declared.host.HostType.TheVariants.{Nothing, Plain, Handle}
 use Rattle.ang_meaning.specs.declared.host.HostUse.{HostUse}
@@ -51,16 +51,22 @@ use_of x = record {
   read_only = is_constant x.kind x.f x.signature.read_only;
 }
 
--- what a module with this view sees under a number: the entry there, and nothing where the view is blank
-abbrev pub use_in : RegistrationList → ℕ → Option HostUse
-use_in V e = option_map use_of (entry_at V e)
+-- how an entry of a view is asked; a blank is none, and a type is asked by nobody
+abbrev pub asked_as : Option Entry → Option HostUse
+asked_as None = None
+asked_as (Some x) = if is_type x.kind then None else Some (use_of x)
 
--- In the setting, module m sees what its view has and nothing else.
+-- what a module with this view may ask under a number
+abbrev pub use_in : RegistrationList → ℕ → Option HostUse
+use_in V e = asked_as (entry_at V e)
+
+-- In the setting, module m sees what its view has to ask and nothing else.
 pub record HasView (z : Setting) (m : ℕ) (V : RegistrationList) : Type 0 where
   pub each : (e : ℕ) → z.host m e ≡ use_in V e
 
--- the view has an entry under the number, and this is how it is asked
+-- the view has an entry under the number, which is no type, and this is how it is asked
 pub record IsOfView (V : RegistrationList) (e : ℕ) (u : HostUse) : Type 0 where
   pub entry : Entry
   pub in_view : entry_at V e ≡ Some entry
+  pub no_type : is_type entry.kind ≡ false
   pub same : use_of entry ≡ u

@@ -68,7 +68,7 @@ pub fn codes_there()
     ensures there { (ps : List Program) (m : ℕ) (p : Program) → slice_get ps m ≡ Some p → AreCodes m p (codes_in ps) }
 {}
 
-/// What a module sees is an entry of its view, asked as that is declared.
+/// What a module asks is an entry of its view, which is no type, asked as that is declared.
 #[tactic(auto, using(crate::proofs::Views::seen_in))]
 pub fn each_use_is_of_the_view()
     ensures seen { (z : Setting) (m : ℕ) (V : RegistrationList) (e : ℕ) (u : HostUse)

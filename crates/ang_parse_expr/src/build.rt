@@ -1,5 +1,5 @@
 //! Expressions made of their parts.
-ghost use Rattle.std.specs.Prelude.{◌≡◌, IfOk};
+ghost use Rattle.std.specs.Prelude.{◌≡◌, IfOk, None};
 ghost use Rattle.ang_tree.specs.Tree as tree;
 ghost use Rattle.ang_tree.specs.View.{view_expr, view_items};
 
@@ -18,6 +18,14 @@ pub(crate) fn with_argument(
     let mut found = first;
     found.push(Argument { comma, value })?;
     Ok(found)
+}
+
+/// The list of one expression, with room for that one alone.
+pub(crate) fn only_argument(alloc: Global, value: Expression) -> Result<Vec<Argument>, AllocError>
+    ensures exact { IfOk result (λ v. view_items v.items ≡ tree.more None (view_expr value) tree.none) }
+{
+    let room = Vec::with_capacity(alloc, 1)?;
+    with_argument(room, None, value)
 }
 
 /// Two operands with an operator between them.

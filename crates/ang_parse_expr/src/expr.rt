@@ -8,7 +8,7 @@ ghost use Rattle.ang_parse_read.specs.Read.{repeat};
 ghost use Rattle.ang_tree.specs.View.{view_expr, view_args, view_items};
 ghost use Rattle.ang_parse_expr.specs.ReadExpr as read;
 
-use crate::build::{assignment, binary, conditional, with_argument};
+use crate::build::{assignment, binary, conditional, only_argument, with_argument};
 use crate::kinds::{binds, is_assignment, is_literal, is_prefix, is_step, precedence};
 use crate::types::type_name;
 use ang_lex::{Token, TokenKind};
@@ -93,7 +93,7 @@ pub fn expressions(
     ensures reads { Gives (λ x. (view_items x.0.items, x.1.now)) result (read.expressions (read.expr depth) depth tokens.now) }
 {
     let (value, rest) = expression(alloc, tokens, depth, 0)?;
-    let first = with_argument(Vec::new(alloc), None, value)?;
+    let first = only_argument(alloc, value)?;
     other_expressions(alloc, first, rest, depth)
 }
 

@@ -172,7 +172,8 @@ fn parameters_behind<'a>(
 ) -> Result<(Parameters, &'a [Token]), ReadError<'a>>
     ensures reads { Gives (λ x. (view_params x.0, x.1.now)) result (read.params_behind limit «open» first tokens.now) }
 {
-    let found = with_parameter(Vec::new(alloc), first)?;
+    let room = Vec::with_capacity(alloc, 1)?;
+    let found = with_parameter(room, first)?;
     let (items, rest) = other_parameters(found, tokens, limit)?;
     let (close, rest) = a_right_paren(rest)?;
     Ok((

@@ -25,6 +25,14 @@ fn with_variable(first: Vec<Variable>, next: Variable) -> Result<Vec<Variable>, 
     Ok(found)
 }
 
+/// The list of one variable, with room for that one alone.
+fn only_variable(alloc: Global, first: Variable) -> Result<Vec<Variable>, AllocError>
+    ensures exact { IfOk result (λ v. map view_var v.items ≡ view_var first ∷ []) }
+{
+    let room = Vec::with_capacity(alloc, 1)?;
+    with_variable(room, first)
+}
+
 /// Reads `[ "=" assign | args ]`: what a variable begins with. Where neither `=` nor `(` stands in front,
 /// that is nothing, and no error comes.
 ///
@@ -168,7 +176,7 @@ pub fn variables_behind(
 ) -> Result<(Variables, &[Token]), ReadError<'_>>
     ensures reads { Gives (λ x. (view_vars x.0, x.1.now)) result (read.variables_behind limit declared_type (view_var first) tokens.now) }
 {
-    let found = with_variable(Vec::new(alloc), first)?;
+    let found = only_variable(alloc, first)?;
     let (items, rest) = other_variables(alloc, found, tokens, limit)?;
     let (semicolon, rest) = a_semicolon(rest)?;
     Ok((

@@ -1,7 +1,8 @@
-pub mod Calling
-pub mod Going
-pub mod Leaving
-pub mod Resuming
-pub mod Running
+pub mod Moving
+pub mod Counting
 pub mod Stepping
+pub mod Going
 pub mod Weighing
+pub mod Calling
+pub mod Leaving
+pub mod Running

@@ -18,12 +18,12 @@ use ang_host::Driver;
 use ang_kinds::Fault;
 use ang_meaning::{Callee, Passing, Routine, Slot};
 use ang_vm_fuse::body::Body;
+use ang_vm_objects::handles::is_null;
 use ang_vm_stack::place::{Place, Standing};
 use ang_vm_stack::stack::peek;
 use ang_vm_stack::stop::Stop;
 use ang_vm_stack::table::{Table, body_at};
 use ang_vm_steps::calls::callee_of;
-use ang_vm_steps::handles::is_null;
 
 /// Whether a parameter misses its object.
 #[inline(always)]

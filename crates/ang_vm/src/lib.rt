@@ -6,12 +6,12 @@
 //! wanted as a body is entered, as an object is made and before the host is asked, and nowhere else.
 #![tactic(auto)]
 
+mod bodies;
 mod calls;
 mod crossing;
 mod lookups;
 mod machines;
 mod returns;
-mod run;
 mod start;
 mod turns;
 

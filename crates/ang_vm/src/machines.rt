@@ -4,16 +4,18 @@ ghost use Rattle.ang_kinds.specs.declared.fault.Fault.TheVariants.{Budget as Bud
 ghost use Rattle.ang_host.specs.declared.event.Role.{Role};
 ghost use Rattle.ang_host.specs.Boxes.{members};
 ghost use Rattle.ang_meaning.specs.World.{with_inputs};
-ghost use Rattle.ang_meaning.specs.Counting.{IsCounted};
-ghost use Rattle.ang_code.specs.Machine.{call_begins, initializer_begins};
+ghost use Rattle.ang_meaning.specs.declared.routine.Routine.{Routine};
+ghost use Rattle.ang_meaning.specs.Setting.{Setting};
+ghost use Rattle.ang_meaning.specs.Counting.{IsCounted, CanGive};
+ghost use Rattle.ang_code.specs.Machine.{Texts, call_begins, initializer_begins};
 ghost use Rattle.ang_heap.specs.Stores.{world_of, IsReady, StoreMoves};
 ghost use Rattle.ang_vm_stack.specs.Tables.{setting_of, texts_of};
-ghost use Rattle.ang_vm_steps.specs.Roles.{DriversThere, HaveRoles};
+ghost use Rattle.ang_vm_ask.specs.Entities.{DriversThere, HaveRoles};
 ghost use Rattle.ang_vm.specs.Legs.{Ends};
 ghost use Rattle.ang_vm.specs.Running.{MayRun, RunMoves, HeldAt, IsSettled};
-ghost use Rattle.ang_vm.specs.Machines.{lent, HasRun, HasInitialized};
+ghost use Rattle.ang_vm.specs.Machines.{lent, IsLost, HasRun, HasInitialized};
 
-use crate::run::{fail, run_from};
+use crate::bodies::run_from;
 use crate::start::{start_call, start_initializer};
 use ang_heap::{Store, give};
 use ang_host::{Driver, HostEvent};
@@ -21,6 +23,7 @@ use ang_kinds::Fault;
 use ang_meaning::{Routine, Slot};
 use ang_vm_stack::place::Ending;
 use ang_vm_stack::table::Table;
+use ang_vm_steps::many::give_all_in_use;
 use std::alloc::Global;
 use std::mem;
 
@@ -54,6 +57,19 @@ fn no_room(budget: u64) -> Fault
     }
 }
 
+/// A call ends for whose arguments there is no memory: they are given up.
+fn refuse(store: &mut Store, args: &[Slot], budget: u64) -> Ending
+    requires ready { IsReady (λ v. (⟦<dyn Driver as Driver>⟧ v).meaning) store.old }
+    requires held { CanGive (reverse args.now) (world_of (λ v. (⟦<dyn Driver as Driver>⟧ v).meaning) store.old) }
+    ensures ends { (z : Setting) (code : Texts) (entry : Routine)
+        → Ends z code (λ is. call_begins z code budget entry (reverse args.now) (with_inputs is (world_of (λ v. (⟦<dyn Driver as Driver>⟧ v).meaning) store.old))) result (world_of (λ v. (⟦<dyn Driver as Driver>⟧ v).meaning) store.new) }
+    ensures moves { (roles : List Role) → StoreMoves (λ v. (⟦<dyn Driver as Driver>⟧ v).meaning) roles store.old store.new }
+{
+    let count = args.len();
+    give_all_in_use(args, store, count);
+    Ending::Stops(no_room(budget))
+}
+
 /// A call of a function, from its beginning to its end.
 fn run_call(
     alloc: Global,
@@ -69,7 +85,7 @@ fn run_call(
     ensures moves { RunMoves (λ v. (⟦<dyn Driver as Driver>⟧ v).meaning) table.now store.old store.new }
 {
     let Ok(mut stack) = Vec::from_slice(alloc, args) else {
-        return fail(args, store, args.len(), no_room(budget));
+        return refuse(store, args, budget);
     };
     let mut frames = Vec::new(alloc);
     match start_call(table, &mut stack, &mut frames, store, entry, budget) {
@@ -79,13 +95,7 @@ fn run_call(
 }
 
 /// An initializer, from its beginning to its end.
-fn initialize(
-    alloc: Global,
-    table: &Table,
-    store: &mut Store,
-    entry: Routine,
-    ticks: u64,
-) -> Ending
+fn initialize(alloc: Global, table: &Table, store: &mut Store, entry: Routine, ticks: u64) -> Ending
     requires may_run { MayRun (λ v. (⟦<dyn Driver as Driver>⟧ v).meaning) table.now [] store.old }
     ensures ends { Ends (setting_of table.now 201) (texts_of table.now)
         (λ is. initializer_begins (setting_of table.now 201) (texts_of table.now) ticks entry (with_inputs is (world_of (λ v. (⟦<dyn Driver as Driver>⟧ v).meaning) store.old))) result (world_of (λ v. (⟦<dyn Driver as Driver>⟧ v).meaning) store.new) }
@@ -126,6 +136,71 @@ fn settle(store: &mut Store, ending: Ending) -> Result<(Slot, u64), Fault>
     }
 }
 
+/// A call of a function as it is told.
+///
+/// # Errors
+/// The fault of the script.
+fn call_told(
+    alloc: Global,
+    table: &Table,
+    store: &mut Store,
+    entry: Routine,
+    args: &[Slot],
+    budget: u64,
+) -> Result<Slot, Fault>
+    requires may_run { MayRun (λ v. (⟦<dyn Driver as Driver>⟧ v).meaning) table.now (reverse args.now) store.old }
+    ensures told { HasRun (setting_of table.now 200) (texts_of table.now)
+        (λ is. call_begins (setting_of table.now 200) (texts_of table.now) budget entry (reverse args.now) (with_inputs is (world_of (λ v. (⟦<dyn Driver as Driver>⟧ v).meaning) store.old))) result (world_of (λ v. (⟦<dyn Driver as Driver>⟧ v).meaning) store.new) }
+    ensures moves { RunMoves (λ v. (⟦<dyn Driver as Driver>⟧ v).meaning) table.now store.old store.new }
+    ensures counted { (IsLost (setting_of table.now 200) (texts_of table.now) (λ is. call_begins (setting_of table.now 200) (texts_of table.now) budget entry (reverse args.now) (with_inputs is (world_of (λ v. (⟦<dyn Driver as Driver>⟧ v).meaning) store.old))) → ⊥)
+        → IsCounted [] (world_of (λ v. (⟦<dyn Driver as Driver>⟧ v).meaning) store.new) }
+{
+    let ending = run_call(alloc, table, store, entry, args, budget);
+    match settle(store, ending) {
+        Ok((value, _)) => Ok(value),
+        Err(fault) => Err(fault),
+    }
+}
+
+/// An initializer as it is told: the ticks that it leaves.
+///
+/// # Errors
+/// The fault of the script.
+fn initializer_told(
+    alloc: Global,
+    table: &Table,
+    store: &mut Store,
+    entry: Routine,
+    ticks: u64,
+) -> Result<u64, Fault>
+    requires may_run { MayRun (λ v. (⟦<dyn Driver as Driver>⟧ v).meaning) table.now [] store.old }
+    ensures told { HasInitialized (setting_of table.now 201) (texts_of table.now)
+        (λ is. initializer_begins (setting_of table.now 201) (texts_of table.now) ticks entry (with_inputs is (world_of (λ v. (⟦<dyn Driver as Driver>⟧ v).meaning) store.old))) result (world_of (λ v. (⟦<dyn Driver as Driver>⟧ v).meaning) store.new) }
+    ensures moves { RunMoves (λ v. (⟦<dyn Driver as Driver>⟧ v).meaning) table.now store.old store.new }
+    ensures counted { (IsLost (setting_of table.now 201) (texts_of table.now) (λ is. initializer_begins (setting_of table.now 201) (texts_of table.now) ticks entry (with_inputs is (world_of (λ v. (⟦<dyn Driver as Driver>⟧ v).meaning) store.old))) → ⊥)
+        → IsCounted [] (world_of (λ v. (⟦<dyn Driver as Driver>⟧ v).meaning) store.new) }
+{
+    let ending = initialize(alloc, table, store, entry, ticks);
+    match settle(store, ending) {
+        Ok((_, left)) => Ok(left),
+        Err(fault) => Err(fault),
+    }
+}
+
+/// Puts a command's events into the machine's store.
+fn lend(machine: &mut Machine, events: &mut Vec<HostEvent>)
+    ensures lent { machine.new.store ≡ lent machine.old events.old }
+{
+    mem::swap(&mut machine.store.events, events);
+}
+
+/// Takes them out again.
+fn take_back(machine: &mut Machine, events: &mut Vec<HostEvent>)
+    ensures back { lent machine.new events.new ≡ machine.old.store }
+{
+    mem::swap(&mut machine.store.events, events);
+}
+
 /// Calls a function of a table's code with a budget of ticks, and answers its value. The last argument stands
 /// last; a `void` function's value is 0. What the value holds has been given up: it is of use where it is a
 /// number.
@@ -155,16 +230,15 @@ pub fn run(
         result (world_of (λ v. (⟦<dyn Driver as Driver>⟧ v).meaning) (lent machine.new events.new)) }
     ensures moves { (roles : List Role) → HaveRoles table.now roles → StoreMoves (λ v. (⟦<dyn Driver as Driver>⟧ v).meaning) roles (lent machine.old events.old) (lent machine.new events.new) }
     ensures ready { IsReady (λ v. (⟦<dyn Driver as Driver>⟧ v).meaning) (lent machine.new events.new) }
+    ensures count { length (members machine.new.store.drivers) ≡ length (members machine.old.store.drivers) }
+    ensures counted { (IsLost (setting_of table.now 200) (texts_of table.now) (λ is. call_begins (setting_of table.now 200) (texts_of table.now) budget entry (reverse args.now) (with_inputs is (world_of (λ v. (⟦<dyn Driver as Driver>⟧ v).meaning) (lent machine.old events.old)))) → ⊥)
+        → IsCounted [] (world_of (λ v. (⟦<dyn Driver as Driver>⟧ v).meaning) (lent machine.new events.new)) }
 {
     let alloc = *events.allocator();
-    mem::swap(&mut machine.store.events, events);
-    let ending = run_call(alloc, table, &mut machine.store, entry, args, budget);
-    let ended = settle(&mut machine.store, ending);
-    mem::swap(&mut machine.store.events, events);
-    match ended {
-        Ok((value, _)) => Ok(value),
-        Err(fault) => Err(fault),
-    }
+    lend(machine, events);
+    let ended = call_told(alloc, table, &mut machine.store, entry, args, budget);
+    take_back(machine, events);
+    ended
 }
 
 /// Runs the initializer of a global, and answers the ticks that are left. Its entry takes none, and it does not
@@ -187,14 +261,13 @@ pub fn run_initializer(
         result (world_of (λ v. (⟦<dyn Driver as Driver>⟧ v).meaning) (lent machine.new events.new)) }
     ensures moves { (roles : List Role) → HaveRoles table.now roles → StoreMoves (λ v. (⟦<dyn Driver as Driver>⟧ v).meaning) roles (lent machine.old events.old) (lent machine.new events.new) }
     ensures ready { IsReady (λ v. (⟦<dyn Driver as Driver>⟧ v).meaning) (lent machine.new events.new) }
+    ensures count { length (members machine.new.store.drivers) ≡ length (members machine.old.store.drivers) }
+    ensures counted { (IsLost (setting_of table.now 201) (texts_of table.now) (λ is. initializer_begins (setting_of table.now 201) (texts_of table.now) ticks entry (with_inputs is (world_of (λ v. (⟦<dyn Driver as Driver>⟧ v).meaning) (lent machine.old events.old)))) → ⊥)
+        → IsCounted [] (world_of (λ v. (⟦<dyn Driver as Driver>⟧ v).meaning) (lent machine.new events.new)) }
 {
     let alloc = *events.allocator();
-    mem::swap(&mut machine.store.events, events);
-    let ending = initialize(alloc, table, &mut machine.store, entry, ticks);
-    let ended = settle(&mut machine.store, ending);
-    mem::swap(&mut machine.store.events, events);
-    match ended {
-        Ok((_, left)) => Ok(left),
-        Err(fault) => Err(fault),
-    }
+    lend(machine, events);
+    let ended = initializer_told(alloc, table, &mut machine.store, entry, ticks);
+    take_back(machine, events);
+    ended
 }

@@ -9,8 +9,8 @@ ghost use Rattle.ang_vm_stack.specs.Tables.{setting_of, texts_of};
 ghost use Rattle.ang_vm_steps.specs.Turns.{Reaches};
 ghost use Rattle.ang_vm.specs.Legs.{Fits, left};
 
+use crate::bodies::{fail, give_up};
 use crate::calls::begin;
-use crate::run::{fail, give_up};
 use ang_code::Frame;
 use ang_heap::Store;
 use ang_host::Driver;
@@ -40,7 +40,7 @@ fn start(
     let top = stack.len();
     match begin(table, entry, stack, top, ticks) {
         Ok(standing) => Ok(standing),
-        Err(stop) => Err(give_up(stack.as_slice(), store, top, stop)),
+        Err(stop) => Err(give_up(stack, store, top, stop)),
     }
 }
 
@@ -67,7 +67,7 @@ pub fn start_call(
 {
     if budget == 0 {
         let held = stack.len();
-        return Err(fail(stack.as_slice(), store, held, Fault::Budget));
+        return Err(fail(stack, store, held, Fault::Budget));
     }
     start(table, stack, frames, store, entry, budget - 1)
 }

@@ -1,7 +1,10 @@
 pub mod Parts
 pub mod SeveralGiven
+pub mod Placed
 pub mod TopValues
 pub mod Paths
 pub mod Turning
 pub mod Trading
-pub mod StoreOperations
+pub mod Receivers
+pub mod Asked
+pub mod Operands

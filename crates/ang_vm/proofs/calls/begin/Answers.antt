@@ -5,5 +5,6 @@ pub returns : goal.returns
 returns c = record {
   told = λ fr w. c.begin_above.ensures.told (texts_of c.args.table.now) fr w c.params_and_height-height.ensures.height;
   in_room = c.begin_above.ensures.in_room;
+  same = c.begin_above.ensures.same;
   grows = c.begin_above.ensures.grows;
 }

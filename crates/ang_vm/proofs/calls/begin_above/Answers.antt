@@ -13,6 +13,7 @@ returns-in-Some c =
           begins_there code c.args.body c.args.stack.now.items c.args.top fr c.args.ticks w c.reserve.new.stack.items c.in-Some.room c.in-Some.ensures.same high;
       in_room = (omega (arith, c.in-Some.ensures.exact.0), c.in-Some.ensures.exact.1);
       body = refl;
+      same = c.in-Some.ensures.same;
       grows = c.in-Some.ensures.grows;
     }
 
@@ -21,5 +22,6 @@ returns-in-None c = record {
   told = λ code fr w h. begins_refused code c.args.body c.args.stack.now.items c.args.top fr c.args.ticks w c.reserve.new.stack.items c.in-None.ensures.same;
   in_room = tt;
   body = tt;
+  same = c.in-None.ensures.same;
   grows = c.in-None.ensures.grows;
 }

@@ -24,6 +24,7 @@ returns-then-params-top c =
       told = λ w. told_same (λ is. enters_lost z code c.args.body stack f.place.top frames (caller_at f) f.place.ticks deep (omega (arith, count)) (with_inputs is w));
       fits = tt;
       body = tt;
+      same = refl;
       grows = omega arith;
     }
 
@@ -42,6 +43,7 @@ returns-then-not-objects_there c =
       told = λ w. told_same (λ is. enters_null z code c.args.body stack f.place.top frames (caller_at f) f.place.ticks deep few objects (with_inputs is w));
       fits = tt;
       body = tt;
+      same = refl;
       grows = omega arith;
     }
 
@@ -61,6 +63,7 @@ returns-then-len-nesting c =
       told = λ w. told_same (λ is. enters_deep z code c.args.body stack f.place.top frames (caller_at f) f.place.ticks deep few objects (omega (arith, callers, c.len.ensures, c.args.frames.now.ok.0)) (with_inputs is w));
       fits = tt;
       body = tt;
+      same = refl;
       grows = omega arith;
     }
 
@@ -81,6 +84,7 @@ returns-then-from-eq0 c =
       told = λ w. told_same (λ is. enters_spent z code c.args.body stack f.place.top frames (caller_at f) f.place.ticks deep few objects nests (omega arith) (with_inputs is w));
       fits = tt;
       body = tt;
+      same = refl;
       grows = omega arith;
     }
 
@@ -101,6 +105,7 @@ returns-in-Err c =
       told = λ w. told_then (told_same (λ is. enters_begins z code c.args.body stack f.place.top frames (caller_at f) f.place.ticks deep few objects nests (omega arith) (with_inputs is w))) (begins_refused code c.args.body stack f.place.top (caller_at f ∷ frames) (f.place.ticks - 1) w stack refl);
       fits = tt;
       body = tt;
+      same = refl;
       grows = omega arith;
     }
 
@@ -122,5 +127,6 @@ returns-in-Ok c =
       told = λ w. told_then (told_same (λ is. enters_begins z code c.args.body stack f.place.top frames (caller_at f) f.place.ticks deep few objects nests (omega arith) (with_inputs is w) ∙ ap (λ fr. begins code c.args.body (values stack f.place.top) fr (f.place.ticks - 1) (with_inputs is w)) (sym pushed))) (c.begin_above.ensures.told code (reverse c.push.new.self.items) w c.params_and_height-height.ensures.height);
       fits = fits_begun c.begin_above.result c.begin_above.new.stack.items c.push.new.self.items c.begin_above.ensures.in_room (subst (AllFit (length c.begin_above.new.stack.items)) (sym pushed) (omega (arith, c.requires.fits.body, c.begin_above.ensures.grows), fit_more frames (length stack) (length c.begin_above.new.stack.items) c.begin_above.ensures.grows c.requires.fits.callers));
       body = c.begin_above.ensures.body;
+      same = c.begin_above.ensures.same;
       grows = c.begin_above.ensures.grows;
     }
