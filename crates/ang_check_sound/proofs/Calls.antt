@@ -63,7 +63,7 @@ module _ (M : Module) (n : ℕ) where
 
   out_sound : (place : Place) (x : Option NamedVariable) → IsNamed M n x → IfOk (out_by place x) (IsTarget M n)
   out_sound place None s = tt
-  out_sound place (Some x) s = written_there x (is_out x) place refl s
+  out_sound place (Some x) s = written_there x (is_out x) place refl s.0
 
   -- an argument for a parameter; what is no `&out` takes no object, since no argument is one
   abbrev FitsOne : Pass → ArgType → t.Arg → Type 0
@@ -142,7 +142,7 @@ module _ (s : Setting) (n : ℕ) where
   M = Here s
 
   called_named : (name : Token) (m : Meant) → IsMeant s n m → IfOk (named_by name m) (SoundOperand M n)
-  called_named name (meant.Variable x ty read_only) h = record { ty = h.1; tree = h.0; named = h.0 }
+  called_named name (meant.Variable x ty read_only) h = record { ty = h.2; tree = h.0; named = (h.0, h.1) }
   called_named name (meant.Call c) h = tt
   called_named name (meant.Type k) h = tt
   called_named name (meant.Refused why) h = tt

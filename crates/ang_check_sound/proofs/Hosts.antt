@@ -16,7 +16,7 @@ use Rattle.ang_names_written.specs.declared.host.HostGlobal.{HostGlobal}
 use Rattle.ang_names_written.specs.HostNames.{host_type, in_front, host_parameters, host_function, function_in, is_function_named, function_in_entry, functions_from, view_functions_named, is_global, is_global_named, global_with, global_in_entry, or_else, globals_from, view_global_named}
 use Rattle.ang_names_written.specs.NotYet.{is_object, is_object_function}
 use Rattle.ang_tree.specs.Stmt.{Every}
-use Rattle.ang_source.specs.Sound.{AreNoObjects, GivesNoObject, IsEntity, IsHostFunction}
+use Rattle.ang_source.specs.Sound.{AreNoObjects, GivesNoObject, IsEntity, IsWritable, IsHostFunction}
 use Rattle.ang_registry.specs.Values.{AreValues, IsProperty, IsOfKind, EntryTakesValues, TakesValues}
 use Rattle.ang_check_sound.specs.PlainNames.{IsPlainType}
 use Rattle.ang_check_sound.proofs.Items.{every_joined, every_option, tested, first_true, two_false, third_false}
@@ -140,9 +140,10 @@ hosts_named V name values none = from_hosts V name 0 V (all_rest V) values none
 
 -- ---- global properties
 
--- a global property of the view, of a primitive type
+-- a global property of the view, of a primitive type, which may be written where it is not `const`
 pub record IsHostProperty (V : RegistrationList) (g : HostGlobal) : Type 0 where
   pub entity : IsEntity V entry.Global (property_of g)
+  pub writable : g.read_only ≡ false → IsWritable V (property_of g)
   pub ty : IsPlainType g.ty
 
 global_kind : (k : EntryKind) → is_global k ≡ true → k ≡ entry.Global
@@ -156,20 +157,23 @@ global_kind entry.Global e = refl
 global_host : (V : RegistrationList) (n : ℕ) (x : Entry) (o : Option ArgType) → entry_at V n ≡ Some x → x.kind ≡ entry.Global
     → host_type V x.signature.result ≡ o → IsProperty x.signature → IfSome (global_with n x o) (IsHostProperty V)
 global_host V n x None at kind is property = tt
-global_host V n x (Some ty) at kind is property = record {
-  entity = record {
-    entry = x;
-    in_view = at;
-    same_kind = kind;
-    driver = refl;
-    number = refl;
-    no_object = record {
-      params = subst AreNoObjects (sym property.takes_nothing) tt;
-      result = subst (λ (k : EntryKind). GivesNoObject k x.signature.result) (sym kind) property.primitive;
-    };
-  };
-  ty = plain_meant V x.signature.result ty is (primitive_plain x.signature.result property.primitive);
-}
+global_host V n x (Some ty) at kind is property =
+    let entity : IsEntity V entry.Global (record { entity = record { 0 = n }; driver = x.driver; f = x.f }) = record {
+      entry = x;
+      in_view = at;
+      same_kind = kind;
+      driver = refl;
+      number = refl;
+      no_object = record {
+        params = subst AreNoObjects (sym property.takes_nothing) tt;
+        result = subst (λ (k : EntryKind). GivesNoObject k x.signature.result) (sym kind) property.primitive;
+      };
+    } in
+    record {
+      entity = entity;
+      writable = λ e. record { entity = entity; not_const = e };
+      ty = plain_meant V x.signature.result ty is (primitive_plain x.signature.result property.primitive);
+    }
 
 entry_global : (V : RegistrationList) (name : List ℕ) (n : ℕ) (x : Option Entry) → x ≡ entry_at V n → EntryTakesValues x
     → is_global_named name x ≡ true → IfSome (global_in_entry V n x) (IsHostProperty V)

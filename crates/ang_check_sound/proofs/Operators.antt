@@ -1,5 +1,7 @@
 -- The tree that an operator makes is sound where those of its operands are.
-use Rattle.std.specs.Prelude.{ℕ, zero, suc, List, Option, Some, None, Ok, IfOk}
+use Rattle.std.specs.Prelude.{◌≡◌, ℕ, zero, suc, Bool, true, false, if◌then◌else◌, List, Option, Some, None, Ok, Err, IfOk}
+use Rattle.std.proofs.Common.{refl}
+use Rattle.ang_kinds.specs.declared.error.ErrorKind.TheVariants as why
 use Rattle.ang_kinds.specs.declared.place.Place.{Place}
 use Rattle.ang_kinds.specs.declared.primitive.Primitive.{Primitive}
 use Rattle.ang_kinds.specs.declared.primitive.Primitive.TheVariants as p
@@ -22,20 +24,20 @@ use Rattle.ang_check_operators.specs.declared.forms.Form.{Form}
 use Rattle.ang_check_operators.specs.declared.forms.Form.TheVariants as form
 use Rattle.ang_check_operators.specs.declared.forms.Work.{Work}
 use Rattle.ang_check_operators.specs.declared.forms.Work.TheVariants as work
-use Rattle.ang_check_operators.specs.Refusals.{Judged, ◌>>=◌}
+use Rattle.ang_check_operators.specs.Refusals.{Judged, ◌>>=◌, refused_at}
 use Rattle.ang_check_operators.specs.Forms.{binary_form, compound_work}
 use Rattle.ang_check_operators.specs.Operands.{Operand, operand, conversion, fit_by, fit, integer, truth_in, truth, target_by, target}
 use Rattle.ang_check_operators.specs.Operations.{literal_by, literal_typing, raised_type, worked_in, arithmetic, shift, compared_in, order, equality_by, equality, conjunction, disjunction, exclusion, formed, binary_typing, negated, complemented, raised_operand, opposite, stepped, prefix_by, prefix_typing, postfix_by, postfix_typing, converted_by, convert_typing, inside, group_typing, chosen_in, choice_of_integers, choice_by, choice, conditional_typing, assign_in, assigned, compound_in, compound_arithmetic, compound_shift, assignment_by, assignment_typing}
-use Rattle.ang_source.specs.Sound.{Module, IsVariable, Sound}
+use Rattle.ang_source.specs.Sound.{Module, IsVariable, IsStored, Sound}
 use Rattle.ang_check_sound.specs.PlainNames.{IsPlainType}
-use Rattle.ang_check_sound.proofs.Judged.{holds, either_holds, any}
+use Rattle.ang_check_sound.proofs.Judged.{holds, any}
 
 -- In a module, where n locals are alive:
 module _ (M : Module) (n : ℕ) where
-  -- the variable whose name it is
+  -- the variable whose name it is, which may be stored into where it is not `const`
   abbrev pub IsNamed : Option NamedVariable → Type 0
   IsNamed None = Unit {0}
-  IsNamed (Some x) = IsVariable M n x.variable
+  IsNamed (Some x) = IsVariable M n x.variable × (x.read_only ≡ false → IsStored M n x.variable)
 
   pub record SoundOperand (a : Operand) : Type 0 where
     pub ty : IsPlainType a.ty
@@ -76,11 +78,16 @@ module _ (M : Module) (n : ℕ) where
   unfolding truth
   truth_sound a s = truth_in_sound a.ty a s
 
-  target_by_sound : (place : Place) (x : Option NamedVariable) → IsNamed x → IfOk (target_by place x) (IsVariable M n)
-  target_by_sound place None s = tt
-  target_by_sound place (Some x) s = either_holds (IsVariable M n) x.read_only _ _ tt s
+  stored_there : (x : NamedVariable) (b : Bool) → x.read_only ≡ b → IsNamed (Some x)
+      → IfOk (if b then Err (refused_at why.Const x.name) else Ok x.variable) (IsStored M n)
+  stored_there x true e s = tt
+  stored_there x false e s = s.1 e
 
-  pub target_sound : (a : Operand) → SoundOperand a → IfOk (target a) (IsVariable M n)
+  target_by_sound : (place : Place) (x : Option NamedVariable) → IsNamed x → IfOk (target_by place x) (IsStored M n)
+  target_by_sound place None s = tt
+  target_by_sound place (Some x) s = stored_there x x.read_only refl s
+
+  pub target_sound : (a : Operand) → SoundOperand a → IfOk (target a) (IsStored M n)
   unfolding target
   target_sound a s = target_by_sound a.place a.named s.named
 
@@ -209,7 +216,7 @@ module _ (M : Module) (n : ℕ) where
   stepped_sound : (kind : StepKind) (place : Place) (a : Operand) → SoundOperand a → IfOk (stepped kind place a) SoundOperand
   unfolding stepped
   stepped_sound kind place a sa =
-      holds (IsVariable M n) SoundOperand (target a) _ (target_sound a sa) (λ x sx. with_integer SoundOperand a _ (λ q. plain _ _ _ sa.ty sx))
+      holds (IsStored M n) SoundOperand (target a) _ (target_sound a sa) (λ x sx. with_integer SoundOperand a _ (λ q. plain _ _ _ sa.ty sx))
 
   prefix_by_sound : (lines : Lines) (op : Token) (kind : TokenKind) (a : Operand) → SoundOperand a → IfOk (prefix_by lines op kind a) SoundOperand
   prefix_by_sound lines op k.Not a sa = opposite_sound op.place a sa
@@ -281,7 +288,7 @@ module _ (M : Module) (n : ℕ) where
 
   -- ---- assignments
 
-  assign_in_sound : (lines : Lines) (x : Variable) (a b : Operand) (ty : ArgType) → IsVariable M n x → SoundOperand b
+  assign_in_sound : (lines : Lines) (x : Variable) (a b : Operand) (ty : ArgType) → IsStored M n x → SoundOperand b
       → IfOk (assign_in lines x a b ty) SoundOperand
   assign_in_sound lines x a b (type.Plain q) sx sb = fit_one lines (type.Plain q) b _ sb (λ y sy. plain _ _ _ tt (sx, sy))
   assign_in_sound lines x a b _ sx sb = tt
@@ -289,9 +296,9 @@ module _ (M : Module) (n : ℕ) where
   assigned_sound : (lines : Lines) (a b : Operand) → SoundOperand a → SoundOperand b → IfOk (assigned lines a b) SoundOperand
   unfolding assigned
   assigned_sound lines a b sa sb =
-      holds (IsVariable M n) SoundOperand (target a) _ (target_sound a sa) (λ x sx. assign_in_sound lines x a b a.ty sx sb)
+      holds (IsStored M n) SoundOperand (target a) _ (target_sound a sa) (λ x sx. assign_in_sound lines x a b a.ty sx sb)
 
-  compound_sound : (lines : Lines) (op : Operator) (x : Variable) (q r : Primitive) (a b : Operand) → IsVariable M n x → SoundOperand a → SoundOperand b
+  compound_sound : (lines : Lines) (op : Operator) (x : Variable) (q r : Primitive) (a b : Operand) → IsStored M n x → SoundOperand a → SoundOperand b
       → IfOk (compound_in lines op x q r a b) SoundOperand
   compound_sound lines op x q r a b sx sa sb = fit_one lines (type.Plain r) b _ sb (λ y sy. plain _ _ _ sa.ty (sx, sy))
 
@@ -299,14 +306,14 @@ module _ (M : Module) (n : ℕ) where
       → IfOk (compound_arithmetic lines op a b) SoundOperand
   unfolding compound_arithmetic
   compound_arithmetic_sound lines op a b sa sb =
-      holds (IsVariable M n) SoundOperand (target a) _ (target_sound a sa)
+      holds (IsStored M n) SoundOperand (target a) _ (target_sound a sa)
       (λ x sx. with_integer SoundOperand a _ (λ q. with_integer SoundOperand b _ (λ r. compound_sound lines op x q (common_type q r) a b sx sa sb)))
 
   compound_shift_sound : (lines : Lines) (op : Operator) (a b : Operand) → SoundOperand a → SoundOperand b
       → IfOk (compound_shift lines op a b) SoundOperand
   unfolding compound_shift
   compound_shift_sound lines op a b sa sb =
-      holds (IsVariable M n) SoundOperand (target a) _ (target_sound a sa)
+      holds (IsStored M n) SoundOperand (target a) _ (target_sound a sa)
       (λ x sx. with_integer SoundOperand a _ (λ q. with_integer SoundOperand b _ (λ r. compound_sound lines op x q (raised_type q) a b sx sa sb)))
 
   assignment_by_sound : (lines : Lines) (w : Option Work) (a b : Operand) → SoundOperand a → SoundOperand b

@@ -26,7 +26,7 @@ use Rattle.ang_check_typing.specs.declared.uses.Meant.TheVariants as meant
 use Rattle.ang_check_typing.specs.Scope.{Setting, last_named}
 use Rattle.ang_check_typing.specs.Uses.{host_meant, global_meant, global_by, local_meant, local_by, global_of_name, meaning_of_name, callable_with, host_callable, script_callable, script_callables, callables, called_at, picked, best_callable, meaning_of_call}
 use Rattle.ang_tree.specs.Stmt.{Every}
-use Rattle.ang_source.specs.Sound.{Module, IsVariable, IsHostFunction}
+use Rattle.ang_source.specs.Sound.{Module, IsVariable, IsStored, IsHostFunction}
 use Rattle.ang_names_written.specs.NotYet.{is_object_function}
 use Rattle.ang_check_sound.specs.Checked.{module_in}
 use Rattle.ang_check_sound.specs.PlainNames.{IsPlainType, IsPlainFunction, ArePlainPairs, IsPlainSetting}
@@ -43,20 +43,21 @@ module _ (s : Setting) where
 
   -- where n locals are alive
   abbrev pub IsMeant : ℕ → Meant → Type 0
-  IsMeant n (meant.Variable x ty read_only) = IsVariable Here n x × IsPlainType ty
+  IsMeant n (meant.Variable x ty read_only) = IsVariable Here n x × (read_only ≡ false → IsStored Here n x) × IsPlainType ty
   IsMeant n (meant.Call c) = Unit {0}
   IsMeant n (meant.Type k) = Unit {0}
   IsMeant n (meant.Refused why) = Unit {0}
 
   host_there : (n : ℕ) (g : Option HostGlobal) → IfSome g (IsHostProperty s.view) → IsMeant n (host_meant g)
   host_there n None h = tt
-  host_there n (Some g) h = (h.entity, h.ty)
+  host_there n (Some g) h = (h.entity, h.writable, h.ty)
 
   script_there : IsPlainSetting s → (n i : ℕ) (g : Option ScriptGlobal) (host : Option HostGlobal) → slice_get s.names.globals i ≡ g
       → IfSome host (IsHostProperty s.view) → IsMeant n (global_meant i g host)
   script_there plain n i None host e h = host_there n host h
   script_there plain n i (Some g) host e h =
-      (slice_get_within s.names.globals i g e, every_at (λ (g : ScriptGlobal). IsPlainType g.ty) s.names.globals i g plain.names.globals e)
+      let there = slice_get_within s.names.globals i g e in
+      (there, λ writable. there, every_at (λ (g : ScriptGlobal). IsPlainType g.ty) s.names.globals i g plain.names.globals e)
 
   global_there : IsPlainSetting s → (n : ℕ) (o : Option ℕ) (host : Option HostGlobal) → IfSome host (IsHostProperty s.view)
       → IsMeant n (global_by s.names.globals o host)
@@ -71,7 +72,9 @@ module _ (s : Setting) where
   pair_there : (ps : List Pair) (i : ℕ) (p : Option Pair) (m : Meant) → slice_get ps i ≡ p → ArePlainPairs ps → IsMeant (length ps) m
       → IsMeant (length ps) (local_meant i p m)
   pair_there ps i None m e all h = h
-  pair_there ps i (Some p) m e all h = (slice_get_within ps i p e, every_at (λ (p : Pair). IsPlainType p.ty) ps i p all e)
+  pair_there ps i (Some p) m e all h =
+      let there = slice_get_within ps i p e in
+      (there, λ writable. there, every_at (λ (p : Pair). IsPlainType p.ty) ps i p all e)
 
   local_there : (ps : List Pair) (o : Option ℕ) (m : Meant) → ArePlainPairs ps → IsMeant (length ps) m → IsMeant (length ps) (local_by ps o m)
   local_there ps None m all h = h

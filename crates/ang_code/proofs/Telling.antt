@@ -7,16 +7,16 @@ use Rattle.ang_meaning.specs.declared.slot.Slot.{Slot}
 use Rattle.ang_meaning.specs.declared.slot.Slot.TheVariants.{Bits, Script, Host}
 use Rattle.ang_meaning.specs.declared.routine.Routine.{Routine}
 use Rattle.ang_meaning.specs.Numbers.{Changed, Into, Never}
-use Rattle.ang_meaning.specs.World.{World, Tried, Yes, No, hold, give, give_all, memory_step}
-use Rattle.ang_meaning.specs.Told.{GoesOn, Stops}
+use Rattle.ang_meaning.specs.World.{World, Tried, Yes, No, hold, give, give_all, memory_step, or_else}
+use Rattle.ang_meaning.specs.Told.{GoesOn, Faults}
 use Rattle.ang_meaning.specs.Setting.{Setting, Found, Enters, Misses, target, has_objects, params_of, is_fit}
 use Rattle.ang_meaning.specs.Hosts.{Done, Fine, Fails}
-use Rattle.ang_meaning.specs.Perform.{perform, operands, change_of, global_put}
-use Rattle.ang_meaning.specs.Results.{local_at, drop_some, give_some, give_back, at_zero, on_test, ticked, or_else, brought, give_others, may_nest}
-use Rattle.ang_meaning.proofs.Moving.{goes_then, goes_stop, faulted, gives, stop_gives, nothing, give_moves, give_all_moves, give_some_moves, give_back_moves, give_others_moves, put_moves, TriedFrom, memory_goes, hold_goes, DoneFrom, perform_goes}
+use Rattle.ang_meaning.specs.Perform.{perform, operands, change_of, global_put, member_put}
+use Rattle.ang_meaning.specs.Results.{local_at, drop_some, give_some, give_back, at_zero, on_test, ticked, brought, give_others, may_nest}
+use Rattle.ang_meaning.proofs.Moving.{goes_then, goes_stop, faulted, gives, stop_gives, nothing, give_moves, give_all_moves, give_some_moves, give_back_moves, give_others_moves, put_moves, member_moves, TriedFrom, memory_goes, hold_goes, DoneFrom, perform_goes}
 use Rattle.ang_code.specs.declared.instruction.Frame.{Frame}
 use Rattle.ang_code.specs.declared.instruction.Instruction.{Instruction}
-use Rattle.ang_code.specs.declared.instruction.Instruction.TheVariants.{PushBits, PushNull, PushNoKey, Load, Store, Change, Do, Drop, Leave, SkipIfFalse, GoOn, Tick, Back, Enter, Swap, SwapGlobal, DropUnder, Return}
+use Rattle.ang_code.specs.declared.instruction.Instruction.TheVariants.{PushBits, PushNull, Load, Store, Change, Do, Drop, Leave, SkipIfFalse, GoOn, Tick, Back, Enter, Swap, SwapGlobal, SwapField, DropUnder, Return}
 use Rattle.ang_code.specs.Machine.{Texts, Config, At, Over, Stuck, fault, roomy, within, enough, on_top, did, changed_into, back, begins, found_enters, act, step, steps, take_some, call_begins, initializer_begins}
 use Rattle.ang_code.specs.Told.{ComesFrom, CallsComeFrom, InitializersComeFrom}
 
@@ -40,7 +40,7 @@ module _ (z : Setting) (code : Texts) (u : World) where
   top_from (v ∷ r) go h = h v r
 
   -- a fault gives up the stack
-  stop_from : (x : Fault) (s : List Slot) (w : World) → Stops x u w → ComesFrom u (fault x s w)
+  stop_from : (x : Fault) (s : List Slot) (w : World) → Faults x u w → ComesFrom u (fault x s w)
   stop_from x s w p = stop_gives x u w (give_all s w) p (give_all_moves s w)
 
   fault_from : (x : Fault) (s : List Slot) (w : World) → GoesOn u w → ComesFrom u (fault x s w)
@@ -91,7 +91,6 @@ module _ (z : Setting) (code : Texts) (u : World) where
   act_from : (i : Instruction) (f : Routine) (pc room : ℕ) (s : List Slot) (fr : List Frame) (t : ℕ) (w : World) → GoesOn u w → ComesFrom u (act z code (Some i) f pc room s fr t w)
   act_from (PushBits n) f pc room s fr t w p = roomy_from room s _ p
   act_from PushNull f pc room s fr t w p = roomy_from room s _ p
-  act_from (PushNoKey d) f pc room s fr t w p = roomy_from room s _ p
   act_from (Load d) f pc room s fr t w p =
       within_from d s _ (roomy_from room s _ (else_from Tally s w (hold (local_at s d) w) _ p (hold_goes (local_at s d) w) (λ w' q. q)))
   act_from (Store d) f pc room s fr t w p =
@@ -100,8 +99,8 @@ module _ (z : Setting) (code : Texts) (u : World) where
   act_from (Change by d) f pc room s fr t w p =
       top_from s _ (λ v r. within_from d r _ (changed_from (change_of by (local_at r d) v) (v ∷ r) w _ p (λ a b. p)))
   act_from (Do o) f pc room s fr t w p =
-      let vs = take_some (operands z o) s in
-      if_from (is_fit z o) _ (enough_from (operands z o) s _ (roomy_from room (drop_some (operands z o) s) _
+      let vs = take_some (operands z f.home o) s in
+      if_from (is_fit z f.home o) _ (enough_from (operands z f.home o) s _ (roomy_from room (drop_some (operands z f.home o) s) _
       (did_from w (perform z f.home o vs w) s _ p (perform_goes z f.home o vs w) (λ v w' q. q))))
   act_from Drop f pc room s fr t w p = top_from s _ (λ v r. goes_then u w (give v w) p (gives w _ (give_moves v w)))
   act_from (Leave n) f pc room s fr t w p = enough_from n s _ (goes_then u w (give_some n s w) p (gives w _ (give_some_moves n s w)))
@@ -114,6 +113,10 @@ module _ (z : Setting) (code : Texts) (u : World) where
   act_from (SwapGlobal to under g) f pc room s fr t w p =
       let v = brought to (local_at s under) in
       within_from under s _ (goes_then u w (global_put f.home g v w) p (gives w _ (put_moves f.home g v w)))
+  act_from (SwapField to under d i) f pc room s fr t w p =
+      let v = brought to (local_at s under) in
+      let o = local_at s d in
+      within_from under s _ (within_from d s _ (goes_then u w (member_put i o v w) p (gives w _ (member_moves i o v w))))
   act_from (DropUnder n) f pc room s fr t w p =
       top_from s _ (λ v r. enough_from n r _ (goes_then u w (give_back (take_some n r) w) p (gives w _ (give_back_moves (take_some n r) w))))
   act_from (Return n) f pc room s fr t w p =

@@ -3,7 +3,7 @@ use Rattle.std.specs.Prelude.{ℕ, List}
 use Rattle.ang_meaning.specs.declared.slot.Slot.{Slot}
 use Rattle.ang_meaning.specs.declared.routine.Routine.{Routine}
 use Rattle.ang_meaning.specs.World.{World}
-use Rattle.ang_meaning.specs.Told.{GoesOn, Stops}
+use Rattle.ang_meaning.specs.Told.{GoesOn, Faults}
 use Rattle.ang_meaning.specs.Setting.{Setting}
 use Rattle.ang_code.specs.Machine.{Texts, Config, At, Over, Finished, Faulted, Stuck, steps, call_begins, initializer_begins}
 
@@ -12,7 +12,7 @@ use Rattle.ang_code.specs.Machine.{Texts, Config, At, Over, Finished, Faulted, S
 abbrev pub ComesFrom : World → Config → Type 0
 ComesFrom w (At f pc room s fr t w') = GoesOn w w'
 ComesFrom w (Over (Finished v t w')) = GoesOn w w'
-ComesFrom w (Over (Faulted x w')) = Stops x w w'
+ComesFrom w (Over (Faulted x w')) = Faults x w w'
 ComesFrom w (Over Stuck) = Unit {0}
 
 -- each run of a command's call, as far as it has come

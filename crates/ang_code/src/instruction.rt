@@ -8,10 +8,8 @@ use ang_meaning::{Callee, Change, Operation, Passing, Routine};
 pub enum Instruction {
     /// Pushes a number or truth value.
     PushBits(u64),
-    /// Pushes the null handle to a script type.
+    /// Pushes null.
     PushNull,
-    /// Pushes the null handle to a type of that driver.
-    PushNoKey(u32),
     /// Pushes the value at that place.
     Load(usize),
     /// Stores the top value at that place, counted without the top, and leaves the top.
@@ -53,6 +51,18 @@ pub enum Instruction {
         under: u32,
         /// The global's number.
         global: u32,
+    },
+    /// The same with a field of the object at the place `object`, where it is there and the field may take
+    /// the value; else nothing changes.
+    SwapField {
+        /// The integer type.
+        to: Option<Prim>,
+        /// The place of the value that moves.
+        under: u32,
+        /// The object's place.
+        object: u32,
+        /// The field's number.
+        field: u32,
     },
     /// Gives up so many values below the top one, the lowest first.
     DropUnder(usize),

@@ -1,170 +1,161 @@
 -- Each step of a run asks for the module that runs alone.
-use Rattle.std.proofs.Common.{◌≡◌, ℕ, zero, suc, ◌+◌, List, [], ◌∷◌, ◌++◌, length, Option, Some, None, refl, subst}
+use Rattle.std.proofs.Common.{◌≡◌, ℕ, zero, suc, ◌+◌, ◌≤◌, List, [], ◌∷◌, ◌++◌, length, Option, Some, None, refl, ap, arith}
 use Rattle.std.specs.Prelude.{Bool, true, false, cond, ltb, leb, slice_get}
+use Rattle.std.proofs.lemmas.Bool.{leb-true}
 use Rattle.ang_kinds.specs.declared.fault.Fault.{Fault}
 use Rattle.ang_kinds.specs.declared.fault.Fault.TheVariants.{Null as NullFault, Budget, Depth, Memory, Tally}
 use Rattle.ang_meaning.specs.declared.slot.Slot.{Slot}
 use Rattle.ang_meaning.specs.declared.slot.Slot.TheVariants.{Bits, Script, Host}
 use Rattle.ang_meaning.specs.declared.routine.Routine.{Routine}
-use Rattle.ang_meaning.specs.declared.routine.Callee.{Callee}
-use Rattle.ang_meaning.specs.declared.routine.Callee.TheVariants.{Own, Import}
 use Rattle.ang_meaning.specs.Numbers.{Changed, Into, Never}
-use Rattle.ang_meaning.specs.World.{World, Tried, Yes, No, hold, give, give_all, memory_step}
+use Rattle.ang_meaning.specs.World.{World, Tried, Yes, No, hold, give, give_all, memory_step, or_else}
 use Rattle.ang_meaning.specs.Told.{Moves}
-use Rattle.ang_meaning.specs.Setting.{Setting, Found, Enters, Misses, bound, target, has_objects, params_of, is_fit}
+use Rattle.ang_meaning.specs.Setting.{Setting, Found, Enters, Misses, target, has_objects, params_of, is_fit}
 use Rattle.ang_meaning.specs.Hosts.{Done, Fine, Fails}
-use Rattle.ang_meaning.specs.Perform.{perform, operands, change_of, global_put}
-use Rattle.ang_meaning.specs.Results.{local_at, drop_some, give_some, give_back, at_zero, on_test, ticked, or_else, brought, give_others, may_nest}
-use Rattle.ang_meaning.proofs.Moving.{give_moves, give_all_moves, give_some_moves, give_back_moves, give_others_moves, put_moves}
+use Rattle.ang_meaning.specs.Perform.{perform, operands, change_of, global_put, member_put}
+use Rattle.ang_meaning.specs.Results.{local_at, drop_some, give_some, give_back, at_zero, on_test, ticked, brought, give_others, may_nest}
+use Rattle.ang_meaning.proofs.Moving.{give_moves, give_all_moves, give_some_moves, give_back_moves, give_others_moves, put_moves, member_moves}
 use Rattle.ang_code.specs.declared.instruction.Frame.{Frame}
 use Rattle.ang_code.specs.declared.instruction.Instruction.{Instruction}
-use Rattle.ang_code.specs.declared.instruction.Instruction.TheVariants.{PushBits, PushNull, PushNoKey, Load, Store, Change, Do, Drop, Leave, SkipIfFalse, GoOn, Tick, Back, Enter, Swap, SwapGlobal, DropUnder, Return}
+use Rattle.ang_code.specs.declared.instruction.Instruction.TheVariants.{PushBits, PushNull, Load, Store, Change, Do, Drop, Leave, SkipIfFalse, GoOn, Tick, Back, Enter, Swap, SwapGlobal, SwapField, DropUnder, Return}
 use Rattle.ang_code.specs.Machine.{Texts, Config, At, Over, Stuck, fault, roomy, within, enough, on_top, did, changed_into, back, begins, found_enters, act, step, steps, take_some, call_begins, initializer_begins}
-use Rattle.ang_code_laws.specs.Asked.{Asks, AreAtHome, AsksFrom, HasNoLinks, CallsAsk, InitializersAsk}
+use Rattle.ang_code_laws.specs.Asked.{Asks, AsksFrom, CallsAsk, InitializersAsk}
 use Rattle.ang_code_laws.proofs.Events.{asks_then, nothing, untold, TriedAsks, memory_asks, hold_asks}
 use Rattle.ang_code_laws.proofs.Performing.{DoneAsks, perform_asks}
 
--- a call stays in module m
-abbrev StaysIn : ℕ → Found → Type 0
-StaysIn m (Enters g) = g.home ≡ m
-StaysIn m (Misses x) = Unit {0}
+taken_length : (n : ℕ) (s : List Slot) → n ≤ length s → length (take_some n s) ≡ n
+taken_length zero s le = refl
+taken_length (suc n) [] le = absurd (omega (arith, le))
+taken_length (suc n) (v ∷ s) le = ap suc (taken_length n s (omega (arith, le)))
 
-unbound_stays : (m : ℕ) (o : Option Routine) → o ≡ None → StaysIn m (bound o)
-unbound_stays m None h = tt
-unbound_stays m (Some g) h = absurd (cc)
-
-target_stays : (z : Setting) (m home : ℕ) (c : Callee) (s : List Slot) (w : World) → HasNoLinks z → home ≡ m → StaysIn m (target z home c s w)
-unfolding target
-target_stays z m home (Own g) s w unbound h = h
-target_stays z m home (Import i) s w unbound h = unbound_stays m (z.linked home i) (unbound home i)
-
-module _ (z : Setting) (code : Texts) (m : ℕ) (u : World) where
+module _ (z : Setting) (code : Texts) (u : World) where
   -- a test before a step
-  if_from : (b : Bool) (c : Config) → AsksFrom z m u c → AsksFrom z m u (cond b c (Over Stuck))
+  if_from : (b : Bool) (c : Config) → AsksFrom z u c → AsksFrom z u (cond b c (Over Stuck))
   if_from true c h = h
   if_from false c h = tt
 
   -- a test whose outcome the step needs
-  fit_from : (b : Bool) (c : Config) → (b ≡ true → AsksFrom z m u c) → AsksFrom z m u (cond b c (Over Stuck))
+  fit_from : (b : Bool) (c : Config) → (b ≡ true → AsksFrom z u c) → AsksFrom z u (cond b c (Over Stuck))
   fit_from true c h = h refl
   fit_from false c h = tt
 
-  roomy_from : (room : ℕ) (s : List Slot) (c : Config) → AsksFrom z m u c → AsksFrom z m u (roomy room s c)
+  roomy_from : (room : ℕ) (s : List Slot) (c : Config) → AsksFrom z u c → AsksFrom z u (roomy room s c)
   roomy_from room s c h = if_from (ltb (length s) room) c h
 
-  within_from : (d : ℕ) (s : List Slot) (c : Config) → AsksFrom z m u c → AsksFrom z m u (within d s c)
+  within_from : (d : ℕ) (s : List Slot) (c : Config) → AsksFrom z u c → AsksFrom z u (within d s c)
   within_from d s c h = if_from (ltb d (length s)) c h
 
-  enough_from : (k : ℕ) (s : List Slot) (c : Config) → AsksFrom z m u c → AsksFrom z m u (enough k s c)
+  enough_from : (k : ℕ) (s : List Slot) (c : Config) → AsksFrom z u c → AsksFrom z u (enough k s c)
   enough_from k s c h = if_from (leb k (length s)) c h
 
-  top_from : (s : List Slot) (go : Slot → List Slot → Config) → ((v : Slot) (r : List Slot) → AsksFrom z m u (go v r)) → AsksFrom z m u (on_top s go)
+  top_from : (s : List Slot) (go : Slot → List Slot → Config) → ((v : Slot) (r : List Slot) → AsksFrom z u (go v r)) → AsksFrom z u (on_top s go)
   top_from [] go h = tt
   top_from (v ∷ r) go h = h v r
 
   -- what asks for nothing
-  then_gives : (w w' : World) → Asks z m u w → Moves w [] w' → Asks z m u w'
-  then_gives w w' p q = asks_then z m u w w' p (untold z m w w' q)
+  then_gives : (w w' : World) → Asks z u w → Moves w [] w' → Asks z u w'
+  then_gives w w' p q = asks_then z u w w' p (untold z w w' q)
 
   -- a fault gives up the stack
-  fault_from : (x : Fault) (s : List Slot) (w : World) → Asks z m u w → AsksFrom z m u (fault x s w)
+  fault_from : (x : Fault) (s : List Slot) (w : World) → Asks z u w → AsksFrom z u (fault x s w)
   fault_from x s w p = then_gives w (give_all s w) p (give_all_moves s w)
 
-  else_from : (x : Fault) (s : List Slot) (w : World) (o : Tried) (go : World → Config) → Asks z m u w → TriedAsks z m w o → ((w' : World) → Asks z m u w' → AsksFrom z m u (go w')) → AsksFrom z m u (or_else o (λ w'. fault x s w') go)
-  else_from x s w (No w') go p q h = fault_from x s w' (asks_then z m u w w' p q)
-  else_from x s w (Yes w') go p q h = h w' (asks_then z m u w w' p q)
+  else_from : (x : Fault) (s : List Slot) (w : World) (o : Tried) (go : World → Config) → Asks z u w → TriedAsks z w o → ((w' : World) → Asks z u w' → AsksFrom z u (go w')) → AsksFrom z u (or_else o (λ w'. fault x s w') go)
+  else_from x s w (No w') go p q h = fault_from x s w' (asks_then z u w w' p q)
+  else_from x s w (Yes w') go p q h = h w' (asks_then z u w w' p q)
 
-  did_from : (w : World) (o : Done) (s : List Slot) (go : Slot → World → Config) → Asks z m u w → DoneAsks z m w o → ((v : Slot) (w' : World) → Asks z m u w' → AsksFrom z m u (go v w')) → AsksFrom z m u (did o s go)
-  did_from w (Fine v w') s go p q h = h v w' (asks_then z m u w w' p q)
-  did_from w (Fails x w') s go p q h = fault_from x s w' (asks_then z m u w w' p q)
+  did_from : (m : ℕ) (w : World) (o : Done) (s : List Slot) (go : Slot → World → Config) → Asks z u w → DoneAsks z m w o → ((v : Slot) (w' : World) → Asks z u w' → AsksFrom z u (go v w')) → AsksFrom z u (did o s go)
+  did_from m w (Fine v w') s go p q h = h v w' (asks_then z u w w' p q)
+  did_from m w (Fails x w') s go p q h = fault_from x s w' (asks_then z u w w' p q)
 
-  changed_from : (o : Changed) (s : List Slot) (w : World) (go : ℕ → ℕ → Config) → Asks z m u w → ((a b : ℕ) → AsksFrom z m u (go a b)) → AsksFrom z m u (changed_into o s w go)
+  changed_from : (o : Changed) (s : List Slot) (w : World) (go : ℕ → ℕ → Config) → Asks z u w → ((a b : ℕ) → AsksFrom z u (go a b)) → AsksFrom z u (changed_into o s w go)
   changed_from (Into a b) s w go p h = h a b
   changed_from (Never x) s w go p h = fault_from x s w p
 
-  zero_from : (n : ℕ) (a b : Config) → AsksFrom z m u a → AsksFrom z m u b → AsksFrom z m u (at_zero n a b)
+  zero_from : (n : ℕ) (a b : Config) → AsksFrom z u a → AsksFrom z u b → AsksFrom z u (at_zero n a b)
   zero_from zero a b ha hb = ha
   zero_from (suc n) a b ha hb = hb
 
-  test_from : (v : Slot) (bad off on : Config) → AsksFrom z m u bad → AsksFrom z m u off → AsksFrom z m u on → AsksFrom z m u (on_test v bad off on)
+  test_from : (v : Slot) (bad off on : Config) → AsksFrom z u bad → AsksFrom z u off → AsksFrom z u on → AsksFrom z u (on_test v bad off on)
   test_from (Bits n) bad off on hb hf ho = zero_from n off on hf ho
   test_from (Script k) bad off on hb hf ho = hb
   test_from (Host d k) bad off on hb hf ho = hb
 
-  tick_from : (t : ℕ) (s : List Slot) (w : World) (go : ℕ → Config) → Asks z m u w → ((t' : ℕ) → AsksFrom z m u (go t')) → AsksFrom z m u (ticked t (fault Budget s w) go)
+  tick_from : (t : ℕ) (s : List Slot) (w : World) (go : ℕ → Config) → Asks z u w → ((t' : ℕ) → AsksFrom z u (go t')) → AsksFrom z u (ticked t (fault Budget s w) go)
   tick_from zero s w go p h = fault_from Budget s w p
   tick_from (suc t) s w go p h = h t
 
-  begins_from : (g : Routine) (s : List Slot) (fr : List Frame) (t : ℕ) (w : World) → g.home ≡ m → AreAtHome m fr → Asks z m u w → AsksFrom z m u (begins code g s fr t w)
-  begins_from g s fr t w e hs p = else_from Memory s w (memory_step w) _ p (memory_asks z m w) (λ w' q. (e, hs, q))
+  begins_from : (g : Routine) (s : List Slot) (fr : List Frame) (t : ℕ) (w : World) → Asks z u w → AsksFrom z u (begins code g s fr t w)
+  begins_from g s fr t w p = else_from Memory s w (memory_step w) _ p (memory_asks z w) (λ w' q. q)
 
-  nests_from : (g : Routine) (s : List Slot) (fr : List Frame) (here : Frame) (t : ℕ) (w : World) (objects nest : Bool) → g.home ≡ m → here.of.home ≡ m → AreAtHome m fr → Asks z m u w → AsksFrom z m u (cond objects (cond nest (ticked t (fault Budget s w) (λ t'. begins code g s (here ∷ fr) t' w)) (fault Depth s w)) (fault NullFault s w))
-  nests_from g s fr here t w false nest e i hs p = fault_from NullFault s w p
-  nests_from g s fr here t w true false e i hs p = fault_from Depth s w p
-  nests_from g s fr here t w true true e i hs p = tick_from t s w _ p (λ t'. begins_from g s (here ∷ fr) t' w e (i, hs) p)
+  nests_from : (g : Routine) (s : List Slot) (fr : List Frame) (here : Frame) (t : ℕ) (w : World) (objects nest : Bool) → Asks z u w → AsksFrom z u (cond objects (cond nest (ticked t (fault Budget s w) (λ t'. begins code g s (here ∷ fr) t' w)) (fault Depth s w)) (fault NullFault s w))
+  nests_from g s fr here t w false nest p = fault_from NullFault s w p
+  nests_from g s fr here t w true false p = fault_from Depth s w p
+  nests_from g s fr here t w true true p = tick_from t s w _ p (λ t'. begins_from g s (here ∷ fr) t' w p)
 
-  found_from : (o : Found) (s : List Slot) (fr : List Frame) (here : Frame) (t : ℕ) (w : World) → StaysIn m o → here.of.home ≡ m → AreAtHome m fr → Asks z m u w → AsksFrom z m u (found_enters z code o s fr here t w)
-  found_from (Misses x) s fr here t w e i hs p = fault_from x s w p
-  found_from (Enters g) s fr here t w e i hs p =
-      enough_from (length (params_of z g)) s _ (nests_from g s fr here t w (has_objects (params_of z g) s) (may_nest z (length fr)) e i hs p)
+  found_from : (o : Found) (s : List Slot) (fr : List Frame) (here : Frame) (t : ℕ) (w : World) → Asks z u w → AsksFrom z u (found_enters z code o s fr here t w)
+  found_from (Misses x) s fr here t w p = fault_from x s w p
+  found_from (Enters g) s fr here t w p =
+      enough_from (length (params_of z g)) s _ (nests_from g s fr here t w (has_objects (params_of z g) s) (may_nest z (length fr)) p)
 
-  back_from : (fr : List Frame) (v : Slot) (outs s : List Slot) (t : ℕ) (w : World) → AreAtHome m fr → Asks z m u w → AsksFrom z m u (back fr v outs s t w)
-  back_from [] v outs s t w hs p = then_gives w (give_all (outs ++ s) w) p (give_all_moves (outs ++ s) w)
-  back_from (c ∷ fr) v outs s t w hs p = roomy_from c.room (outs ++ s) _ (hs.0, hs.1, p)
+  back_from : (fr : List Frame) (v : Slot) (outs s : List Slot) (t : ℕ) (w : World) → Asks z u w → AsksFrom z u (back fr v outs s t w)
+  back_from [] v outs s t w p = then_gives w (give_all (outs ++ s) w) p (give_all_moves (outs ++ s) w)
+  back_from (c ∷ fr) v outs s t w p = roomy_from c.room (outs ++ s) _ p
 
-  module _ (unbound : HasNoLinks z) where
-    act_from : (i : Instruction) (f : Routine) (pc room : ℕ) (s : List Slot) (fr : List Frame) (t : ℕ) (w : World) → f.home ≡ m → AreAtHome m fr → Asks z m u w → AsksFrom z m u (act z code (Some i) f pc room s fr t w)
-    act_from (PushBits n) f pc room s fr t w e hs p = roomy_from room s _ (e, hs, p)
-    act_from PushNull f pc room s fr t w e hs p = roomy_from room s _ (e, hs, p)
-    act_from (PushNoKey d) f pc room s fr t w e hs p = roomy_from room s _ (e, hs, p)
-    act_from (Load d) f pc room s fr t w e hs p =
-        within_from d s _ (roomy_from room s _ (else_from Tally s w (hold (local_at s d) w) _ p (hold_asks z m (local_at s d) w) (λ w' q. (e, hs, q))))
-    act_from (Store d) f pc room s fr t w e hs p =
-        top_from s _ (λ v r. within_from d r _ (else_from Tally (v ∷ r) w (hold v w) _ p (hold_asks z m v w)
-        (λ w' q. (e, hs, then_gives w' (give (local_at r d) w') q (give_moves (local_at r d) w')))))
-    act_from (Change by d) f pc room s fr t w e hs p =
-        top_from s _ (λ v r. within_from d r _ (changed_from (change_of by (local_at r d) v) (v ∷ r) w _ p (λ a b. (e, hs, p))))
-    act_from (Do o) f pc room s fr t w e hs p =
-        let vs = take_some (operands z o) s in
-        fit_from (is_fit z o) _ (λ fit. enough_from (operands z o) s _ (roomy_from room (drop_some (operands z o) s) _
-        (did_from w (perform z f.home o vs w) s _ p
-        (subst (λ k. DoneAsks z k w (perform z f.home o vs w)) e (perform_asks z f.home o vs w fit)) (λ v w' q. (e, hs, q)))))
-    act_from Drop f pc room s fr t w e hs p = top_from s _ (λ v r. (e, hs, then_gives w (give v w) p (give_moves v w)))
-    act_from (Leave n) f pc room s fr t w e hs p = enough_from n s _ (e, hs, then_gives w (give_some n s w) p (give_some_moves n s w))
-    act_from (SkipIfFalse n) f pc room s fr t w e hs p = top_from s _ (λ v r. test_from v _ _ _ (fault_from NullFault (v ∷ r) w p) (e, hs, p) (e, hs, p))
-    act_from (GoOn n) f pc room s fr t w e hs p = (e, hs, p)
-    act_from Tick f pc room s fr t w e hs p = tick_from t s w _ p (λ t'. (e, hs, p))
-    act_from (Back n) f pc room s fr t w e hs p = tick_from t s w _ p (λ t'. (e, hs, p))
-    act_from (Enter c) f pc room s fr t w e hs p = found_from (target z f.home c s w) s fr _ t w (target_stays z m f.home c s w unbound e) e hs p
-    act_from (Swap to under d) f pc room s fr t w e hs p = within_from under s _ (within_from d s _ (e, hs, p))
-    act_from (SwapGlobal to under g) f pc room s fr t w e hs p =
-        let v = brought to (local_at s under) in
-        within_from under s _ (e, hs, then_gives w (global_put f.home g v w) p (put_moves f.home g v w))
-    act_from (DropUnder n) f pc room s fr t w e hs p =
-        top_from s _ (λ v r. enough_from n r _ (e, hs, then_gives w (give_back (take_some n r) w) p (give_back_moves (take_some n r) w)))
-    act_from (Return n) f pc room s fr t w e hs p =
-        let ps = params_of z f in
-        top_from s _ (λ v r. enough_from (n + length ps) r _
-        (let w1 = give_some n r w in let w2 = give_others ps (drop_some n r) w1 in
-        back_from fr v _ _ t w2 hs (then_gives w1 w2 (then_gives w w1 p (give_some_moves n r w)) (give_others_moves ps (drop_some n r) w1))))
+  act_from : (i : Instruction) (f : Routine) (pc room : ℕ) (s : List Slot) (fr : List Frame) (t : ℕ) (w : World) → Asks z u w → AsksFrom z u (act z code (Some i) f pc room s fr t w)
+  act_from (PushBits n) f pc room s fr t w p = roomy_from room s _ p
+  act_from PushNull f pc room s fr t w p = roomy_from room s _ p
+  act_from (Load d) f pc room s fr t w p =
+      within_from d s _ (roomy_from room s _ (else_from Tally s w (hold (local_at s d) w) _ p (hold_asks z (local_at s d) w) (λ w' q. q)))
+  act_from (Store d) f pc room s fr t w p =
+      top_from s _ (λ v r. within_from d r _ (else_from Tally (v ∷ r) w (hold v w) _ p (hold_asks z v w)
+      (λ w' q. (then_gives w' (give (local_at r d) w') q (give_moves (local_at r d) w')))))
+  act_from (Change by d) f pc room s fr t w p =
+      top_from s _ (λ v r. within_from d r _ (changed_from (change_of by (local_at r d) v) (v ∷ r) w _ p (λ a b. p)))
+  act_from (Do o) f pc room s fr t w p =
+      let n = operands z f.home o in
+      let vs = take_some n s in
+      fit_from (is_fit z f.home o) _ (λ fit. fit_from (leb n (length s)) _ (λ le. roomy_from room (drop_some n s) _
+      (did_from f.home w (perform z f.home o vs w) s _ p
+      (perform_asks z f.home o vs w fit (taken_length n s (leb-true n (length s) le))) (λ v w' q. q))))
+  act_from Drop f pc room s fr t w p = top_from s _ (λ v r. (then_gives w (give v w) p (give_moves v w)))
+  act_from (Leave n) f pc room s fr t w p = enough_from n s _ (then_gives w (give_some n s w) p (give_some_moves n s w))
+  act_from (SkipIfFalse n) f pc room s fr t w p = top_from s _ (λ v r. test_from v _ _ _ (fault_from NullFault (v ∷ r) w p) p p)
+  act_from (GoOn n) f pc room s fr t w p = p
+  act_from Tick f pc room s fr t w p = tick_from t s w _ p (λ t'. p)
+  act_from (Back n) f pc room s fr t w p = tick_from t s w _ p (λ t'. p)
+  act_from (Enter c) f pc room s fr t w p = found_from (target z f.home c s w) s fr _ t w p
+  act_from (Swap to under d) f pc room s fr t w p = within_from under s _ (within_from d s _ p)
+  act_from (SwapGlobal to under g) f pc room s fr t w p =
+      let v = brought to (local_at s under) in
+      within_from under s _ (then_gives w (global_put f.home g v w) p (put_moves f.home g v w))
+  act_from (SwapField to under d i) f pc room s fr t w p =
+      let v = brought to (local_at s under) in
+      let o = local_at s d in
+      within_from under s _ (within_from d s _ (then_gives w (member_put i o v w) p (member_moves i o v w)))
+  act_from (DropUnder n) f pc room s fr t w p =
+      top_from s _ (λ v r. enough_from n r _ (then_gives w (give_back (take_some n r) w) p (give_back_moves (take_some n r) w)))
+  act_from (Return n) f pc room s fr t w p =
+      let ps = params_of z f in
+      top_from s _ (λ v r. enough_from (n + length ps) r _
+      (let w1 = give_some n r w in let w2 = give_others ps (drop_some n r) w1 in
+      back_from fr v _ _ t w2 (then_gives w1 w2 (then_gives w w1 p (give_some_moves n r w)) (give_others_moves ps (drop_some n r) w1))))
 
-    fetched_from : (o : Option Instruction) (f : Routine) (pc room : ℕ) (s : List Slot) (fr : List Frame) (t : ℕ) (w : World) → f.home ≡ m → AreAtHome m fr → Asks z m u w → AsksFrom z m u (act z code o f pc room s fr t w)
-    fetched_from None f pc room s fr t w e hs p = tt
-    fetched_from (Some i) f pc room s fr t w e hs p = act_from i f pc room s fr t w e hs p
+  fetched_from : (o : Option Instruction) (f : Routine) (pc room : ℕ) (s : List Slot) (fr : List Frame) (t : ℕ) (w : World) → Asks z u w → AsksFrom z u (act z code o f pc room s fr t w)
+  fetched_from None f pc room s fr t w p = tt
+  fetched_from (Some i) f pc room s fr t w p = act_from i f pc room s fr t w p
 
-    step_from : (c : Config) → AsksFrom z m u c → AsksFrom z m u (step z code c)
-    step_from (At f pc room s fr t w) p = fetched_from (slice_get (code.text f) pc) f pc room s fr t w p.0 p.1 p.2
-    step_from (Over o) p = p
+  step_from : (c : Config) → AsksFrom z u c → AsksFrom z u (step z code c)
+  step_from (At f pc room s fr t w) p = fetched_from (slice_get (code.text f) pc) f pc room s fr t w p
+  step_from (Over o) p = p
 
-    steps_from : (n : ℕ) (c : Config) → AsksFrom z m u c → AsksFrom z m u (steps z code n c)
-    steps_from zero c p = p
-    steps_from (suc n) c p = steps_from n (step z code c) (step_from c p)
+  steps_from : (n : ℕ) (c : Config) → AsksFrom z u c → AsksFrom z u (steps z code n c)
+  steps_from zero c p = p
+  steps_from (suc n) c p = steps_from n (step z code c) (step_from c p)
 
 pub calls_ask : CallsAsk
-calls_ask z code n budget g vs w unbound =
-    steps_from z code g.home w unbound n (call_begins z code budget g vs w)
-    (tick_from z code g.home w budget vs w _ (nothing z g.home w) (λ t. begins_from z code g.home w g vs [] t w refl tt (nothing z g.home w)))
+calls_ask z code n budget g vs w =
+    steps_from z code w n (call_begins z code budget g vs w) (tick_from z code w budget vs w _ (nothing z w) (λ t. begins_from z code w g vs [] t w (nothing z w)))
 
 pub initializers_ask : InitializersAsk
-initializers_ask z code n t g w unbound =
-    steps_from z code g.home w unbound n (initializer_begins z code t g w) (begins_from z code g.home w g [] [] t w refl tt (nothing z g.home w))
+initializers_ask z code n t g w = steps_from z code w n (initializer_begins z code t g w) (begins_from z code w g [] [] t w (nothing z w))

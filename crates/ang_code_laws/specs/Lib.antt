@@ -1,2 +1,4 @@
 pub mod Asked
 pub mod Determined
+pub mod Counting
+pub mod Alike

@@ -1,5 +1,6 @@
-//! Who asks: each event of a run of code is an asking by the module that runs, of an entity that is asked in
-//! the way of its role (docs/MEANING.md, "Code").
+//! What holds of every run of code: each asking is by the module that runs, of an entity that it sees, as that
+//! entity is declared; counts of objects are those of the places that hold them; a run has one end; and the
+//! numbers of objects do not show (docs/MEANING.md, "Code").
 //!
 //! `specs/` says what that means; `laws` says that it holds.
 #![tactic(auto)]

@@ -2,7 +2,7 @@
 use Rattle.std.specs.Prelude.{◌≡◌, ℕ, suc, ◌+◌, ◌<◌, Bool, true, false, IsTrue, List, [], ◌∷◌, length, Some}
 use Rattle.ang_meaning.specs.declared.routine.Routine.{Routine}
 use Rattle.ang_meaning.specs.declared.routine.Callee.{Callee}
-use Rattle.ang_meaning.specs.declared.routine.Callee.TheVariants.{Own, Import}
+use Rattle.ang_meaning.specs.declared.routine.Callee.TheVariants.{Own, Import, Virtual}
 use Rattle.ang_meaning.specs.declared.routine.Passing.{Passing}
 use Rattle.ang_meaning.specs.declared.routine.Passing.TheVariants.{In, Out, Object}
 use Rattle.ang_meaning.specs.declared.routine.Spot.{Spot}
@@ -11,7 +11,7 @@ use Rattle.ang_meaning.specs.declared.routine.Target.{Target}
 use Rattle.ang_meaning.specs.Setting.{Setting, is_fit}
 use Rattle.ang_meaning.specs.Perform.{operands}
 use Rattle.ang_core.specs.declared.tree.Expression.{Expression, Row_of-Expression, end_of-Expression, more_of-Expression}
-use Rattle.ang_core.specs.declared.tree.Expression.TheVariants.{Number, Null as Nothing, NoKey, Local, Assign', Change', Apply', Call', Choose'}
+use Rattle.ang_core.specs.declared.tree.Expression.TheVariants.{Number, Null as Nothing, Local, Assign', Change', Apply', Call', Choose'}
 use Rattle.ang_core.specs.declared.tree.Statement.{Statement, Row_of-Statement, end_of-Statement, more_of-Statement}
 use Rattle.ang_core.specs.declared.tree.Statement.TheVariants.{Skip, Evaluate, Declare, Block', If', While', DoWhile', Return, Break, Continue}
 use Rattle.ang_core.specs.Meaning.{Bodies}
@@ -35,19 +35,22 @@ pub record Takes (z : Setting) (g : Routine) (args outs : ℕ) : Type 0 where
   pub count : length params ≡ args
   pub given : out_count params ≡ outs
 
--- a call gives so many arguments and takes so many `&out` values, as the function or the import is declared
+-- a call gives so many arguments and takes so many `&out` values, as the function or the import is declared, or the methods in a slot
 abbrev pub Fits : Setting → ℕ → Callee → ℕ → ℕ → Type 0
 Fits z m (Own g) args outs = Takes z (record { home = m; number = g }) args outs
 Fits z m (Import i) args outs = (params : List Passing) × (z.imported m i ≡ Some params) × (length params ≡ args) × (out_count params ≡ outs)
+Fits z m (Virtual s) args outs = (params : List Passing) × (z.slot m s ≡ Some params) × (length params ≡ args) × (out_count params ≡ outs)
 
--- an import leads to a function with the parameters that it declares
+-- an import leads to a function with the parameters that it declares, and a method has those of its slot
 pub record LinksFit (z : Setting) : Type 0 where
   pub same : (m i : ℕ) (g : Routine) → z.linked m i ≡ Some g → z.params g ≡ z.imported m i
+  pub methods : (m c s : ℕ) (g : Routine) → z.method m c s ≡ Some g → z.params g ≡ z.slot m s
 
--- targets that are locals are among the n that are alive
+-- a target's local, or the one that holds the target's object, is among the n that are alive
 abbrev pub IsSpot : ℕ → Spot → Type 0
 IsSpot n (spot.Local i) = i < n
 IsSpot n (spot.Global g) = Unit {0}
+IsSpot n (spot.Field o i) = o < n
 
 abbrev pub AreSpots : ℕ → List Target → Type 0
 AreSpots n [] = Unit {0}
@@ -58,11 +61,10 @@ abbrev mutual
   pub Sound : Setting → ℕ → ℕ → Expression → Type 0
   Sound z m n (Number x) = Unit {0}
   Sound z m n Nothing = Unit {0}
-  Sound z m n (NoKey d) = Unit {0}
   Sound z m n (Local i) = i < n
   Sound z m n (Assign' i p e) = (i < n) × Sound z m n e
   Sound z m n (Change' i by p e) = (i < n) × Sound z m n e
-  Sound z m n (Apply' o shape args) = (row_count args ≡ operands z o) × (is_fit z o ≡ true) × SoundArgs z m n args
+  Sound z m n (Apply' o shape args) = (row_count args ≡ operands z m o) × (is_fit z m o ≡ true) × SoundArgs z m n args
   Sound z m n (Call' f shape args outs) = Fits z m f (row_count args) (length outs.items) × AreSpots n outs.items × SoundArgs z m n args
   Sound z m n (Choose' p a q b s c) = Sound z m n a × Sound z m n b × Sound z m n c
 

@@ -6,10 +6,8 @@ use ang_meaning::{Callee, Change, Operation, Passing, Target};
 pub enum Expression {
     /// A number or truth value in its canonical form.
     Number(u64),
-    /// The null handle to a script type.
+    /// Null.
     Null,
-    /// The null handle to a type of that driver.
-    NoKey(u32),
     /// The value of a local.
     Local(usize),
     /// Stores the value into a local; its value is what was stored.

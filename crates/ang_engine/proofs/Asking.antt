@@ -1,78 +1,96 @@
 -- What commands ask of the drivers.
-use Rattle.std.proofs.Common.{◌≡◌, ◌<◌, refl, ap, sym, ◌∙◌, subst, ℕ, List, [], length, map, Some}
-use Rattle.std.specs.Prelude.{IsSome, slice_index_or, slice_set}
+use Rattle.std.proofs.Common.{◌≡◌, ◌≤◌, refl, ap, sym, ◌∙◌, subst, ℕ, List, [], ◌++◌, length, Option}
+use Rattle.std.specs.Prelude.{All, Vec}
+use Rattle.std.specs.List.{AllByRecursion, AllZip}
 use Rattle.std.specs.declared.alloc.Global.{Global}
 use Rattle.std.specs.declared.dyn_box.DynBox.{DynBox}
 use Rattle.std.proofs.lemmas.List.Elements.{All-nil}
 use Rattle.ang_host.specs.declared.event.HostEvent.{HostEvent}
-use Rattle.ang_host.specs.declared.event.HostEvent.TheVariants.{Called, Ended}
+use Rattle.ang_host.specs.declared.event.Role.{Role}
+use Rattle.ang_host.specs.Boxes.{members}
 use Rattle.ang_host.specs.Laws.{Meaning}
+use Rattle.ang_host.specs.Events.{DriversFollow}
 use Rattle.ang_host.proofs.Events.{AllFollow-none}
-use Rattle.ang_registry.specs.Registration.{RegistrationList, entry_at, seen}
+use Rattle.ang_registry.specs.Registration.{RegistrationList}
 use Rattle.ang_registry.specs.Roles.{roles_of}
-use Rattle.ang_meaning.specs.declared.slot.Slot.{Slot}
-use Rattle.ang_plain.specs.Plainness.{plain_part}
-use Rattle.ang_engine_means.specs.Modules.{IsAskedIn}
+use Rattle.ang_meaning.specs.World.{World as RunWorld}
+use Rattle.ang_meaning.specs.Counting.{IsCounted}
+use Rattle.ang_heap.specs.declared.store.Store.{Store}
+use Rattle.ang_heap.specs.Stores.{world_of, IsKept, IsReady, StoreMoves}
+use Rattle.ang_heap.proofs.Storing.{moves_none, moves_join}
+use Rattle.ang_engine_modules.specs.declared.modules.LoadedModule.{LoadedModule}
+use Rattle.ang_engine_modules.specs.Loaded.{modules_of}
+use Rattle.ang_engine_modules.specs.Modules.{Module as RunModule, AgreesWith, IsAskedIn}
 use Rattle.ang_engine.specs.declared.command.Command.{Command}
 use Rattle.ang_engine.specs.declared.module.Module.{Module}
 use Rattle.ang_engine.specs.declared.reply.Reply.{Reply}
-use Rattle.ang_engine.specs.World.{ModuleState, World, module_named, module_at, state_of, world_of}
+use Rattle.ang_engine.specs.World.{World, left_to, globals_ended}
+use Rattle.ang_engine.specs.Engines.{module_states}
 use Rattle.ang_engine.specs.Step.{Takes, IsEntitled}
+use Rattle.ang_engine.specs.Sound.{IsSoundModule}
 use Rattle.ang_engine.specs.Asked.{HasRunOn, HasAsked}
 use Rattle.ang_engine.specs.Applied.{Applied}
-use Rattle.ang_engine.proofs.Worlds.{map_set, module_at-world}
-use Rattle.ang_engine.proofs.Finding.{module_named-found, module_named-kept}
-use Rattle.ang_engine.proofs.Entries.{roles_agree, seen_there, all_of}
+use Rattle.ang_engine.proofs.Entries.{roles_agree, all_entitled, ends_entitled, agrees_none}
+use Rattle.ang_engine.proofs.GlobalsEnd.{ListsEnds, globals_ends, ends_all, ended_counted}
 
--- nothing was asked
-pub run-nothing : {V : Type 0} {P : V → Type 0} (m : (v : V) → Meaning (P v)) (name : List ℕ) (view : RegistrationList) (xs : List (DynBox V Global P)) → HasRunOn m name view [] xs xs
-run-nothing m name view xs = record { asked = tt; follow = λ roles h. AllFollow-none _ _ _ roles xs; same = refl; idle = λ h. h }
+module _ {V : Type 0} {P : V → Type 0} (m : (v : V) → Meaning (P v)) where
+  -- ---- pieces of a command
 
-pub asked-nothing : {V : Type 0} {P : V → Type 0} (m : (v : V) → Meaning (P v)) (R : RegistrationList) (after : World) (xs : List (DynBox V Global P)) → HasAsked m R after [] xs xs
-asked-nothing m R after xs = record { entitled = All-nil (IsEntitled R after); follow = AllFollow-none _ _ _ (roles_of R) xs; same = refl; idle = λ h. h }
+  -- nothing was done
+  pub run-nothing : (ms : List RunModule) (s : Store V P) → HasRunOn m ms s s
+  run-nothing ms s = record { asked = λ h. h; moves = λ roles h. moves_none m roles s; ready = λ h. h; counted = λ h. h }
 
--- what a run of that name and view asked, seen by another name of the same
-pub run-same : {V : Type 0} {P : V → Type 0} (m : (v : V) → Meaning (P v)) (name other : List ℕ) (view seen : RegistrationList) (es : List HostEvent) (xs ys : List (DynBox V Global P))
-    → name ≡ other → view ≡ seen → HasRunOn m name view es xs ys → HasRunOn m other seen es xs ys
-run-same m name other view seen es xs ys e f h = subst (λ n. HasRunOn m n seen es xs ys) e (subst (λ v. HasRunOn m name v es xs ys) f h)
+  pub run-join : (ms : List RunModule) (s t u : Store V P) → HasRunOn m ms s t → HasRunOn m ms t u → HasRunOn m ms s u
+  run-join ms s t u p q = record {
+    asked = λ h. q.asked (p.asked h);
+    moves = λ roles h. moves_join m roles s t u (p.moves roles h) (q.moves roles h);
+    ready = λ h. q.ready (p.ready h);
+    counted = λ h. q.counted (p.counted h);
+  }
 
--- an event of a module is entitled
-entitled_one : (R : RegistrationList) (w : World) (name : List ℕ) (mask i : ℕ) → module_named name w ≡ Some i → (module_at w i).built_mask ≡ mask
-    → (e : HostEvent) → IsAskedIn name (plain_part (seen R mask)) e → IsEntitled R w e
-entitled_one R w name mask i found built (Called caller entity driver object args reply) h = (
-  i,
-  ap (λ n. module_named n w) h.0 ∙ found,
-  subst (λ k. IsSome (entry_at (seen R k) entity.0)) (sym built) (seen_there (seen R mask) entity.0 h.1),
-)
-entitled_one R w name mask i found built (Ended driver key) h = tt
+  -- the globals of a module end
+  pub run-ended : (ms : List RunModule) (i : ℕ) (s t : Store V P) → globals_ended i (world_of m s) ≡ world_of m t → ((roles : List Role) → StoreMoves m roles s t) → HasRunOn m ms s t
+  run-ended ms i s t e moves = record {
+    asked = λ h. subst (λ (w : RunWorld). AllByRecursion (IsAskedIn ms) w.events) e (ends_all (IsAskedIn ms) (λ d k. tt) (world_of m s) (globals_ended i (world_of m s)) (globals_ends i (world_of m s)) h);
+    moves = λ roles h. moves roles;
+    ready = (moves []).ready;
+    counted = λ h. subst (λ w. IsCounted [] w) e (ended_counted i (world_of m s) h);
+  }
 
--- a run of a module that is there under that name, built under that mask
-pub asked-by : {V : Type 0} {P : V → Type 0} (m : (v : V) → Meaning (P v)) (R : RegistrationList) (w : World) (name : List ℕ) (mask i : ℕ) (es : List HostEvent)
-    (xs ys : List (DynBox V Global P)) → module_named name w ≡ Some i → (module_at w i).built_mask ≡ mask → HasRunOn m name (seen R mask) es xs ys → HasAsked m R w es xs ys
-asked-by m R w name mask i es xs ys found built h = record {
-  entitled = all_of (IsAskedIn name (plain_part (seen R mask))) (IsEntitled R w) es (entitled_one R w name mask i found built) h.asked;
-  follow = h.follow (roles_of R) (roles_agree R mask);
-  same = h.same;
-  idle = h.idle;
-}
+  -- ---- a whole command
 
--- a whole command
-pub applied-asked : {V : Type 0} {P : V → Type 0} (m : (v : V) → Meaning (P v)) (R : RegistrationList) (w v : World) (c : Command) (reply : Reply) (xs ys : List (DynBox V Global P))
-    → Takes R w c reply v → HasAsked m R v reply.events xs ys → Applied m R w xs c reply v ys
-applied-asked m R w v c reply xs ys takes asked = record { takes = takes; entitled = asked.entitled; follow = asked.follow }
+  -- what is kept does not look at the events
+  pub kept-same : (s : Store V P) (es : Vec HostEvent Global) → IsKept m (record s { events = es }) → IsKept m s
+  kept-same s es k = record { drivers = k.drivers; alive = k.alive; none = k.none }
 
--- a run of a module that stands there under its name, whose state was put there
-pub asked-module : {V : Type 0} {P : V → Type 0} (m : (v : V) → Meaning (P v)) (R : RegistrationList) (ms : List Module) (gs hs : List (List Slot)) (name : List ℕ) (i mask : ℕ) (d n : Module)
-    (es : List HostEvent) (xs ys : List (DynBox V Global P)) → Some i ≡ module_named name (world_of ms gs) → i < length ms → n.name ≡ (slice_index_or ms i d).name → n.built_mask.0 ≡ mask
-    → HasRunOn m (slice_index_or ms i d).name (seen R mask) es xs ys → HasAsked m R (world_of (slice_set ms i n) hs) es xs ys
-asked-module m R ms gs hs name i mask d n es xs ys found lt same built h =
-    let there = module_at-world ms gs i d lt in
-    let here = module_named-found name (world_of ms gs) i (sym found) in
-    let own : (slice_index_or ms i d).name ≡ name = ap (λ (s : ModuleState). s.name) (sym there) ∙ here.1 in
-    let kept = module_named-kept name (world_of ms gs) hs i (state_of n) (sym found) (same ∙ ap (λ (s : ModuleState). s.name) (sym there)) in
-    let w : record { modules = slice_set (map state_of ms) i (state_of n); globals = hs } ≡ world_of (slice_set ms i n) hs =
-    ap (λ xs. record { modules = xs; globals = hs }) (sym (map_set state_of ms i n)) in
-    asked-by m R (world_of (slice_set ms i n) hs) name mask i es xs ys
-    (ap (module_named name) (sym w) ∙ kept.0)
-    (ap (λ x. (module_at x i).built_mask) (sym w) ∙ ap (λ (s : ModuleState). s.built_mask) kept.1 ∙ built)
-    (subst (λ x. HasRunOn m x (seen R mask) es xs ys) own h)
+  -- nothing was asked
+  pub asked-nothing : (R : RegistrationList) (after : World) (s : Store V P) → IsKept m s → IsCounted [] (world_of m s) → HasAsked m R after [] s s
+  asked-nothing R after s kept counted = record { entitled = All-nil (IsEntitled R after); follow = AllFollow-none _ _ _ (roles_of R) (members s.drivers); kept = kept; counted = counted }
+
+  module _ (R : RegistrationList) (s t : Store V P) (before after : Vec HostEvent Global) (first : before.items ≡ []) (ready : IsReady m (record s { events = before }))
+      (counted : IsCounted [] (world_of m s)) where
+    asked-by : (ms : List RunModule) (w : World) → HasRunOn m ms (record s { events = before }) (record t { events = after }) → AgreesWith (roles_of R) ms
+        → (AllByRecursion (IsAskedIn ms) after.items → All (IsEntitled R w) after.items) → HasAsked m R w after.items s t
+    asked-by ms w h agrees entitled =
+        let p = (h.moves (roles_of R) agrees).parts in
+        let more : after.items ≡ p.more = p.events ∙ ap (λ es. es ++ p.more) first in
+        record {
+          entitled = entitled (h.asked (subst (λ es. AllByRecursion (IsAskedIn ms) es) (sym first) tt));
+          follow = subst (λ es. DriversFollow m (roles_of R) (members s.drivers) es (members t.drivers)) (sym more) p.follow;
+          kept = kept-same t after (h.ready ready).kept;
+          counted = h.counted counted;
+        }
+
+    -- modules have run, whatever is built of them now
+    pub asked-run : (xs : List Module) (ls ks : List (Option LoadedModule)) (r : RunWorld) → AllZip (IsSoundModule R) xs ls → length xs ≤ 1
+        → HasRunOn m (modules_of ls) (record s { events = before }) (record t { events = after }) → HasAsked m R (left_to (module_states xs ks) r) after.items s t
+    asked-run xs ls ks r zip few h =
+        asked-by (modules_of ls) (left_to (module_states xs ks) r) h (roles_agree R xs ls zip) (λ es. all_entitled R xs ls ks r zip few after.items es)
+
+    -- none has run
+    pub asked-ends : (w : World) → HasRunOn m [] (record s { events = before }) (record t { events = after }) → HasAsked m R w after.items s t
+    asked-ends w h = asked-by [] w h (agrees_none (roles_of R)) (λ es. ends_entitled R w after.items es)
+
+  pub applied-asked : (R : RegistrationList) (w v : World) (c : Command) (reply : Reply) (s t : Store V P)
+      → Takes R w c reply v → HasAsked m R v reply.events s t → Applied m R w (members s.drivers) c reply v (members t.drivers)
+  applied-asked R w v c reply s t takes asked = record { takes = takes; entitled = asked.entitled; follow = asked.follow }

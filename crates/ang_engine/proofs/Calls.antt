@@ -1,11 +1,12 @@
 -- How a call leads to its reply.
-use Rattle.std.proofs.Common.{◌≡◌, refl, ap, sym, ◌∙◌, subst, ℕ, zero, suc, Bool, true, false, List, [], ◌∷◌, ◌++◌, length, Option, Some, None, map}
-use Rattle.std.specs.Prelude.{Result, Ok, Err, slice_get, if◌then◌else◌}
-use Rattle.std.proofs.lemmas.List.{length-map}
+use Rattle.std.proofs.Common.{◌≡◌, refl, ap, sym, ◌∙◌, subst, ℕ, zero, suc, ◌+◌, Bool, true, false, List, [], ◌∷◌, ◌++◌, length, arith, Option, Some, None, map}
+use Rattle.std.specs.Prelude.{Result, Ok, Err, reverse, slice_get, if◌then◌else◌}
+use Rattle.std.proofs.lemmas.List.{length-map, reverse-append}
 use Rattle.ang_kinds.specs.declared.fault.Fault.{Fault}
+use Rattle.ang_kinds.specs.declared.primitive.Primitive.{Primitive}
+use Rattle.ang_kinds.specs.declared.primitive.Primitive.TheVariants.{I8, I16, I32, I64, U8, U16, U32, U64, Bool as TruthType}
 use Rattle.ang_kinds.specs.declared.value.Value.{Value}
-use Rattle.ang_host.specs.declared.event.HostEvent.{HostEvent}
-use Rattle.ang_registry.specs.Registration.{RegistrationList}
+use Rattle.ang_kinds.specs.declared.value.Value.TheVariants.{Int, Uint, Bool as Truth, Key}
 use Rattle.ang_typed.specs.Typed as t
 use Rattle.ang_names.specs.declared.names.Names.{Names}
 use Rattle.ang_names.specs.declared.names.ScriptFunction.{ScriptFunction}
@@ -13,21 +14,24 @@ use Rattle.ang_names.specs.declared.names.ScriptParameter.{ScriptParameter}
 use Rattle.ang_check.specs.Bodies.{parameter_of}
 use Rattle.ang_check_sound.specs.Checked.{HasNames}
 use Rattle.ang_meaning.specs.declared.slot.Slot.{Slot}
-use Rattle.ang_meaning.specs.World.{Input, with_inputs}
-use Rattle.ang_vm.specs.Worlds.{world_of as run_world}
-use Rattle.ang_engine_call.specs.Calls.{is_callable, arguments_of, arguments_for, argument_of, in_front}
+use Rattle.ang_meaning.specs.declared.slot.Slot.TheVariants.{Bits}
+use Rattle.ang_meaning.specs.declared.host.HostType.TheVariants.{Plain as PlainType}
+use Rattle.ang_meaning.specs.Hosts.{if_within, slot_of}
+use Rattle.ang_meaning.specs.Counting.{Thing, names as names_in, how_many}
+use Rattle.ang_meaning.specs.World.{Input, World as RunWorld, with_inputs}
+use Rattle.ang_meaning.specs.Told.{answers_told, answers_listed}
+use Rattle.ang_meaning.proofs.Counting.{many_append, bits_name_none}
+use Rattle.ang_engine_call.specs.Calls.{is_callable, primitive_of, plain_slot, arguments_of, arguments_for, argument_of, in_front}
 use Rattle.ang_engine_call.specs.Named.{function_named_by}
-use Rattle.ang_engine_means.specs.Modules.{TakesSoMany}
-use Rattle.ang_engine_means.specs.Executed.{call_of}
-use Rattle.ang_engine_means.specs.Ends.{end_of}
-use Rattle.ang_engine_modules.specs.Loaded.{tree_of}
-use Rattle.ang_engine.specs.declared.calling.Called.{Called}
+use Rattle.ang_engine_modules.specs.Modules.{Module, module_at, TakesSoMany}
+use Rattle.ang_engine_modules.specs.Executed.{call_of}
+use Rattle.ang_engine_modules.specs.Ends.{end_of}
 use Rattle.ang_engine.specs.declared.calling.ChosenCall.{ChosenCall}
-use Rattle.ang_engine.specs.declared.module.Loaded.{Loaded}
+use Rattle.ang_engine.specs.declared.reply.Outcome.{Outcome}
 use Rattle.ang_engine.specs.declared.reply.Refusal.TheVariants.{NotCallable}
-use Rattle.ang_engine.specs.World.{ModuleState, resolved_in}
-use Rattle.ang_engine.specs.Step.{Chosen, Not, choice_of, of_number, of_function, with_arguments, Leads, reply_of, call_chosen, call_ended, called}
-use Rattle.ang_engine.specs.Outcomes.{HasCalled, outcome_by}
+use Rattle.ang_engine.specs.World.{Program, ModuleState, World, built_in, running, left_to}
+use Rattle.ang_engine.specs.Step.{Stepped, Chosen, Not, choice_of, of_number, of_function, with_arguments, Leads, reply_of, call_chosen, call_ended, called}
+use Rattle.ang_engine.specs.Outcomes.{NameNothing, HasCalled, outcome_by}
 use Rattle.ang_engine.proofs.Leading.{told_by}
 
 -- ---- the function of a call
@@ -96,9 +100,65 @@ of_number-one : (o : Option ℕ) (fs : List ScriptFunction) (vs : List Value) (n
 of_number-one None fs vs n f slots e = cc
 of_number-one (Some m) fs vs n f slots e = of_function-one fs m (slice_get fs m) vs n f slots refl e
 
-pub choice-one : (V : RegistrationList) (names : Names) (decl : List ℕ) (vs : List Value) (n : ℕ) (f : ScriptFunction) (slots : List Slot)
-    → choice_of V names decl vs ≡ Chosen n f slots → IsOneOf names.functions n f slots
-choice-one V names decl vs n f slots e = of_number-one (function_named_by V names decl) names.functions vs n f slots e
+pub choice-one : (p : Program) (decl : List ℕ) (vs : List Value) (n : ℕ) (f : ScriptFunction) (slots : List Slot)
+    → choice_of p decl vs ≡ Chosen n f slots → IsOneOf p.names.functions n f slots
+choice-one p decl vs n f slots e = of_number-one (function_named_by p.view p.names decl) p.names.functions vs n f slots e
+
+-- ---- its arguments, which name no object
+
+bits_plain : (n : ℕ) (s : Slot) (x : Thing) → Some (Bits n) ≡ Some s → names_in x s ≡ 0
+bits_plain n s x e =
+    let same : Bits n ≡ s = cc in
+    ap (names_in x) (sym same) ∙ bits_name_none n x
+
+within_plain : (b : Bool) (n : ℕ) (s : Slot) (x : Thing) → if_within b n ≡ Some s → names_in x s ≡ 0
+within_plain true n s x e = bits_plain n s x e
+within_plain false n s x e = cc
+
+slot_plain : (p : Primitive) (v : Value) (s : Slot) (x : Thing) → slot_of 0 (PlainType p) v ≡ Some s → names_in x s ≡ 0
+unfolding slot_of
+slot_plain p (Int z) s x e = within_plain _ _ s x e
+slot_plain p (Uint n) s x e = within_plain _ _ s x e
+slot_plain I8 (Truth b) s x e = cc
+slot_plain I16 (Truth b) s x e = cc
+slot_plain I32 (Truth b) s x e = cc
+slot_plain I64 (Truth b) s x e = cc
+slot_plain U8 (Truth b) s x e = cc
+slot_plain U16 (Truth b) s x e = cc
+slot_plain U32 (Truth b) s x e = cc
+slot_plain U64 (Truth b) s x e = cc
+slot_plain TruthType (Truth b) s x e = bits_plain _ s x e
+slot_plain p (Key k) s x e = cc
+
+plain_plain : (o : Option Primitive) (v : Value) (s : Slot) (x : Thing) → plain_slot o v ≡ Some s → names_in x s ≡ 0
+plain_plain None v s x e = cc
+plain_plain (Some p) v s x e = slot_plain p v s x e
+
+in_front-plain : (o : Option Slot) (rest : Option (List Slot)) (slots : List Slot) (x : Thing) → ((s : Slot) → o ≡ Some s → names_in x s ≡ 0)
+    → ((xs : List Slot) → rest ≡ Some xs → how_many x xs ≡ 0) → in_front o rest ≡ Some slots → how_many x slots ≡ 0
+in_front-plain None rest slots x h k e = cc
+in_front-plain (Some s) None slots x h k e = cc
+in_front-plain (Some s) (Some xs) slots x h k e =
+    let same : s ∷ xs ≡ slots = cc in
+    omega (arith, ap (how_many x) (sym same), h s refl, k xs refl)
+
+arguments_for-plain : (ps : List ScriptParameter) (vs : List Value) (slots : List Slot) (x : Thing) → arguments_for ps vs ≡ Some slots → how_many x slots ≡ 0
+arguments_for-plain [] [] slots x e = let same : [] ≡ slots = cc in ap (how_many x) (sym same)
+arguments_for-plain [] (v ∷ vs) slots x e = cc
+arguments_for-plain (p ∷ ps) [] slots x e = cc
+arguments_for-plain (p ∷ ps) (v ∷ vs) slots x e =
+    in_front-plain (argument_of p v) (arguments_for ps vs) slots x (λ s h. plain_plain (primitive_of p.ty) v s x h) (λ xs h. arguments_for-plain ps vs xs x h) e
+
+pub arguments-plain : (f : ScriptFunction) (vs : List Value) (slots : List Slot) → arguments_of f vs ≡ Some slots → NameNothing slots
+unfolding arguments_of
+arguments-plain f vs slots e = λ x. arguments_for-plain f.params vs slots x e
+
+many_reverse : (x : Thing) (vs : List Slot) → how_many x (reverse vs) ≡ how_many x vs
+many_reverse x [] = refl
+many_reverse x (v ∷ vs) = omega (arith, ap (how_many x) (reverse-append (v ∷ []) vs), many_append x (reverse vs) (v ∷ []), many_reverse x vs)
+
+pub reverse-plain : (vs : List Slot) → NameNothing vs → NameNothing (reverse vs)
+reverse-plain vs h = λ x. many_reverse x vs ∙ h x
 
 -- ---- its parameters in the tree
 
@@ -118,10 +178,11 @@ map-get h (x ∷ xs) zero y e = record { item = x; at = refl; same = cc }
 map-get h (x ∷ xs) (suc n) y e = let r = map-get h xs n y e in record { item = r.item; at = r.at; same = r.same }
 
 -- a function of the names takes as many arguments in the tree
-pub takes-named : (names : Names) (p : t.Program) (n : ℕ) (f : ScriptFunction) (slots : List Slot) → HasNames names p → IsOneOf names.functions n f slots → TakesSoMany p n (length slots)
-takes-named names p n f slots has one =
+pub takes-named : (names : Names) (ms : List Module) (m n : ℕ) (f : ScriptFunction) (slots : List Slot) → HasNames names (module_at ms m).tree → IsOneOf names.functions n f slots
+    → TakesSoMany ms m n (length slots)
+takes-named names ms m n f slots has one =
     let named = get-map (λ (g : ScriptFunction). map parameter_of g.params) names.functions n f one.at in
-    let here = map-get (λ (g : t.Function). g.parameters) p.functions n (map parameter_of f.params) (ap (λ xs. slice_get xs n) has.parameters ∙ named) in
+    let here = map-get (λ (g : t.Function). g.parameters) (module_at ms m).tree.functions n (map parameter_of f.params) (ap (λ xs. slice_get xs n) has.parameters ∙ named) in
     record {
       function = here.item;
       at = here.at;
@@ -130,29 +191,30 @@ takes-named names p n f slots has one =
 
 -- ---- its run
 
-called-so : (f : ScriptFunction) (r : Result Slot Fault) (es : List HostEvent) (gs ks : List (List Slot)) (ms : List ModuleState) (rest : List Input)
-    → called r (with_inputs rest (run_world ks es)) (record { modules = ms; globals = gs }) f
-    ≡ record { reply = reply_of (outcome_by f r) es []; world = record { modules = ms; globals = ks }; left = rest }
-called-so f (Ok v) es gs ks ms rest = refl
-called-so f (Err fault) es gs ks ms rest = refl
+called-so : (f : ScriptFunction) (r : Result Slot Fault) (x : RunWorld) (w : World) (rest : List Input)
+    → called r (with_inputs rest x) w f ≡ record { reply = reply_of (outcome_by f r) x.events []; world = left_to w.modules x; left = rest }
+called-so f (Ok v) x w rest = refl
+called-so f (Err fault) x w rest = refl
 
 same_function : (o : Option ScriptFunction) (f g : ScriptFunction) → o ≡ Some f → o ≡ Some g → f ≡ g
 same_function o f g e h = cc
 
-pub call-run : (l : Loaded) (decl : List ℕ) (vs : List Value) (budget : ℕ) (c : ChosenCall) (ended : Called) (gs ks : List (List Slot)) (ms : List ModuleState) (m : ModuleState) (f : ScriptFunction)
-    → m.name ≡ l.run.name → choice_of l.run.view l.names decl vs ≡ Chosen c.number f c.args.items → HasCalled l budget c gs ended ks
-    → Leads (call_chosen l.run.view (choice_of l.run.view l.names decl vs) (record { modules = ms; globals = gs }) m (resolved_in l) budget)
-    (reply_of ended.outcome ended.events.items []) (record { modules = ms; globals = ks })
-call-run l decl vs budget c ended gs ks ms m f name choice h =
-    let same : h.function ≡ f = same_function (slice_get l.names.functions c.number) h.function f h.at (choice-one l.run.view l.names decl vs c.number f c.args.items choice).at in
-    let outcome : outcome_by f h.value ≡ ended.outcome = ap (λ g. outcome_by g h.value) (sym same) ∙ sym h.outcome in
+pub call-run : (p : Program) (ms : List Module) (decl : List ℕ) (vs : List Value) (home budget : ℕ) (c : ChosenCall) (f : ScriptFunction) (outcome : Outcome) (ss : List ModuleState) (u x : RunWorld)
+    → built_in ss ≡ ms → u.events ≡ [] → choice_of p decl vs ≡ Chosen c.number f c.args.items → HasCalled ms p.names home budget c u outcome x
+    → Leads (call_chosen (choice_of p decl vs) (left_to ss u) home budget) (reply_of outcome x.events []) (left_to ss x)
+call-run p ms decl vs home budget c f outcome ss u x built first choice h =
+    let w = left_to ss u in
+    let same : h.function ≡ f = same_function (slice_get p.names.functions c.number) h.function f h.at (choice-one p decl vs c.number f c.args.items choice).at in
+    let ended : outcome_by f h.value ≡ outcome = ap (λ g. outcome_by g h.value) (sym same) ∙ sym h.ended in
     record {
       used = h.ends.used;
       tells = λ rest.
-          ap (λ x. call_chosen l.run.view x (record { modules = ms; globals = gs }) m (resolved_in l) budget (h.ends.used ++ rest)) choice
-          ∙ ap (λ x. Some (call_ended (end_of (call_of x l.run.view (tree_of l.run) budget c.number c.args.items gs (h.ends.used ++ rest))) (record { modules = ms; globals = gs }) f)) name
-          ∙ ap (λ x. Some (call_ended x (record { modules = ms; globals = gs }) f)) (h.ends.ends rest)
-          ∙ ap (λ x. Some x) (called-so f h.value ended.events.items gs ks ms rest)
-          ∙ ap (λ x. Some (record { reply = reply_of x ended.events.items []; world = record { modules = ms; globals = ks }; left = rest })) outcome;
+          ap (λ q. call_chosen q w home budget (h.ends.used ++ rest)) choice
+          ∙ ap (λ q. Some (call_ended (end_of (call_of q budget home c.number c.args.items (running w (h.ends.used ++ rest)))) w f)) built
+          ∙ ap (λ es. Some (call_ended (end_of (call_of ms budget home c.number c.args.items (record (running w (h.ends.used ++ rest)) { events = es }))) w f)) (sym first)
+          ∙ ap (λ e. Some (call_ended e w f)) (h.ends.ends rest)
+          ∙ ap Some (called-so f h.value x w rest)
+          ∙ ap (λ o. Some (record { reply = reply_of o x.events []; world = left_to ss x; left = rest })) ended;
       told = told_by h.value h.ends.used h.ends.told;
+      answers = sym (ap (λ es. answers_listed es ++ answers_told h.ends.used) first) ∙ sym h.ends.answers;
     }

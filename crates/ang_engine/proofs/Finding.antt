@@ -1,20 +1,21 @@
 -- The module of a name.
-use Rattle.std.proofs.Common.{◌≡◌, ◌<◌, ◌≤◌, ◌+◌, refl, ap, sym, ◌∙◌, subst, inl, inr, arith, ℕ, zero, suc, Bool, true, false, List, [], ◌∷◌, length, Option, Some, None, map}
+use Rattle.std.proofs.Common.{◌≡◌, ◌<◌, ◌≤◌, ◌+◌, refl, ap, sym, ◌∙◌, subst, inl, inr, arith, ℕ, zero, suc, Bool, true, false, List, [], ◌∷◌, ◌++◌, length, drop, Option, Some, None}
 use Rattle.std.specs.Prelude.{Result, Ok, Err, bytes_eq, nat_le, if◌then◌else◌, slice_index_or, slice_set}
 use Rattle.std.proofs.lemmas.Bool.{le-leb}
-use Rattle.std.proofs.lemmas.List.{length-map}
 use Rattle.std.proofs.lemmas.Slice.Eq.{bytes_eq-Decides}
 use Rattle.ang_lex.specs.Spelling.{is_identifier}
-use Rattle.ang_meaning.specs.declared.slot.Slot.{Slot}
-use Rattle.ang_meaning.specs.World.{Input}
+use Rattle.ang_meaning.specs.World.{Input, World as RunWorld}
+use Rattle.ang_engine_modules.specs.declared.modules.LoadedModule.{LoadedModule}
 use Rattle.ang_engine.specs.declared.module.Module.{Module}
 use Rattle.ang_engine.specs.declared.reply.Outcome.TheVariants.{Done}
 use Rattle.ang_engine.specs.declared.reply.Refusal.{Refusal}
-use Rattle.ang_engine.specs.declared.reply.Refusal.TheVariants.{NoModule, ModuleExists, BadName, Limit, BadBudget}
-use Rattle.ang_engine.specs.World.{ModuleState, World, index_from, module_named, module_at, no_module, state_of, world_of}
-use Rattle.ang_engine.specs.Step.{Stepped, on_module, answered, refused, add_section, or_limit, added_module, where_free, with_new_module, is_budget}
+use Rattle.ang_engine.specs.declared.reply.Refusal.TheVariants.{NoModule, ModuleExists, BadName, Limit}
+use Rattle.ang_engine.specs.World.{ModuleState, World, index_from, module_named, module_at, no_module, left_to}
+use Rattle.ang_engine.specs.Engines.{state_of, module_states}
+use Rattle.ang_engine.specs.Step.{Stepped, on_module, answered, refused, add_section, or_limit, added_module, where_free, fresh_module, with_new_module}
 use Rattle.ang_engine.specs.Outcomes.{IsDone, IsAdded}
-use Rattle.ang_engine.proofs.Worlds.{map_set, map_put, module_at-world}
+use Rattle.ang_engine.proofs.Lists.{set_same}
+use Rattle.ang_engine.proofs.Worlds.{states_length, states_at, states_put, states_push}
 
 -- ---- where it stands
 
@@ -45,26 +46,29 @@ module_named-found name w i h =
     let e : r.offset ≡ i = omega (arith, r.index) in
     (subst (λ n. n < length w.modules) e r.within, subst (λ n. (module_at w n).name ≡ name) e r.named)
 
--- it stands there still where a module keeps its name
-index_from-kept : (k : ℕ) (name : List ℕ) (ms : List ModuleState) (i : ℕ) (m : ModuleState) → m.name ≡ (slice_index_or ms i no_module).name → i < length ms
-    → index_from k name (slice_set ms i m) ≡ index_from k name ms
-index_from-kept k name [] i m e lt = refl
-index_from-kept k name (n ∷ ms) zero m e lt = ap (λ x. if bytes_eq x name then Some k else (index_from (k + 1) name ms)) e
-index_from-kept k name (n ∷ ms) (suc i) m e lt =
-    ap (λ o. if bytes_eq n.name name then Some k else o) (index_from-kept (k + 1) name ms i m e (omega arith))
+-- ---- looking for it
 
--- a list keeps its length
-set-at : {A : Type 0} (xs : List A) (i : ℕ) (x d : A) → i < length xs → slice_index_or (slice_set xs i x) i d ≡ x
-set-at [] i x d lt = absurd (omega arith)
-set-at (y ∷ ys) zero x d lt = refl
-set-at (y ∷ ys) (suc i) x d lt = set-at ys i x d (omega arith)
+drop_none : {A : Type 0} (i : ℕ) → drop {A = A} i [] ≡ []
+drop_none zero = refl
+drop_none (suc i) = refl
 
--- where a module keeps its name it is found, and it stands there
-pub module_named-kept : (name : List ℕ) (w : World) (globals : List (List Slot)) (i : ℕ) (m : ModuleState) → module_named name w ≡ Some i → m.name ≡ (module_at w i).name
-    → (module_named name (record { modules = slice_set w.modules i m; globals = globals }) ≡ Some i) × (slice_index_or (slice_set w.modules i m) i no_module ≡ m)
-module_named-kept name w globals i m found e =
-    let here = module_named-found name w i found in
-    (index_from-kept 0 name w.modules i m e here.0 ∙ found, set-at w.modules i m no_module here.0)
+turn_from : (k : ℕ) (name : List ℕ) (ms : List Module) (ls : List (Option LoadedModule)) (i : ℕ) (d : Module) → i < length ms → bytes_eq (slice_index_or ms i d).name name ≡ false
+    → index_from k name (module_states (drop i ms) (drop i ls)) ≡ index_from (k + 1) name (module_states (drop (suc i) ms) (drop (suc i) ls))
+turn_from k name [] ls i d lt e = absurd (omega (arith, lt))
+turn_from k name (m ∷ ms) [] zero d lt e =
+    ap (λ b. if b then Some k else (index_from (k + 1) name (module_states ms []))) e
+turn_from k name (m ∷ ms) (l ∷ ls) zero d lt e =
+    ap (λ b. if b then Some k else (index_from (k + 1) name (module_states ms ls))) e
+turn_from k name (m ∷ ms) [] (suc i) d lt e =
+    ap (λ c. index_from k name (module_states (drop i ms) c)) (sym (drop_none i)) ∙ turn_from k name ms [] i d (omega (arith, lt)) e
+turn_from k name (m ∷ ms) (l ∷ ls) (suc i) d lt e = turn_from k name ms ls i d (omega (arith, lt)) e
+
+-- a module of another name is passed
+pub find-turn : (name : List ℕ) (ms : List Module) (ls : List (Option LoadedModule)) (i : ℕ) (d : Module) → i < length ms → bytes_eq (slice_index_or ms i d).name name ≡ false
+    → index_from i name (module_states (drop i ms) (drop i ls)) ≡ index_from (i + 1) name (module_states (drop (i + 1) ms) (drop (i + 1) ls))
+find-turn name ms ls i d lt e =
+    let next : suc i ≡ i + 1 = omega arith in
+    turn_from i name ms ls i d lt e ∙ ap (λ k. index_from (i + 1) name (module_states (drop k ms) (drop k ls))) next
 
 -- ---- a command on it
 
@@ -72,30 +76,45 @@ pub on_module-none : (name : List ℕ) (w : World) (rest : List Input) (go : ℕ
     → None ≡ module_named name w → on_module (module_named name w) w rest go ≡ refused NoModule w rest
 on_module-none name w rest go h = ap (λ o. on_module o w rest go) (sym h)
 
--- a command on a module of a name is one on the module of its index
-pub on_module-found : (ms : List Module) (gs : List (List Slot)) (name : List ℕ) (i : ℕ) (d : Module) (go : ℕ → ModuleState → List Input → Option Stepped)
-    (rest : List Input) → Some i ≡ module_named name (world_of ms gs) → i < length ms
-    → on_module (module_named name (world_of ms gs)) (world_of ms gs) rest go ≡ go i (state_of (slice_index_or ms i d)) rest
-on_module-found ms gs name i d go rest found lt =
-    ap (λ o. on_module o (world_of ms gs) rest go) (sym found) ∙ ap (λ m. go i m rest) (module_at-world ms gs i d lt)
+-- a command on the module of a name is one on the module of its index
+pub on_module-found : (name : List ℕ) (w : World) (i : ℕ) (rest : List Input) (go : ℕ → ModuleState → List Input → Option Stepped)
+    → Some i ≡ module_named name w → on_module (module_named name w) w rest go ≡ go i (module_at w i) rest
+on_module-found name w i rest go found = ap (λ o. on_module o w rest go) (sym found)
 
--- a section that was added, or not
-pub section-pushed : {U : Type 0} (r : Result U Refusal) (ms : List Module) (gs : List (List Slot)) (name text : List ℕ) (i : ℕ) (d m : Module)
-    → Some i ≡ module_named name (world_of ms gs) → i < length ms → IsAdded r text (state_of (slice_index_or ms i d)) (state_of m)
-    → IsDone r (λ inputs. on_module (module_named name (world_of ms gs)) (world_of ms gs) inputs (add_section text (world_of ms gs))) (world_of ms gs) (world_of (slice_set ms i m) gs)
-section-pushed (Ok u) ms gs name text i d m found lt h = λ rest.
-    on_module-found ms gs name i d (add_section text (world_of ms gs)) rest found lt
-    ∙ ap (λ o. or_limit o (world_of ms gs) i rest) h
-    ∙ ap (λ xs. answered (Done None) (record { modules = xs; globals = gs }) rest) (sym (map_set state_of ms i m))
-section-pushed (Err why) ms gs name text i d m found lt (inl memory, same) =
-    (inl memory, ap (λ xs. record { modules = xs; globals = gs }) (map_put state_of ms i d m lt same))
-section-pushed (Err why) ms gs name text i d m found lt (inr p, same) = (
-  inr (λ rest.
-      on_module-found ms gs name i d (add_section text (world_of ms gs)) rest found lt
-      ∙ ap (λ o. or_limit o (world_of ms gs) i rest) p.1
-      ∙ ap (λ r. refused r (world_of ms gs) rest) (sym p.0)),
-  ap (λ xs. record { modules = xs; globals = gs }) (map_put state_of ms i d m lt same),
-)
+module _ (ms : List Module) (ls : List (Option LoadedModule)) (r : RunWorld) where
+  section-same : (i : ℕ) (d m : Module) → i < length ms → state_of m (slice_index_or ls i None) ≡ state_of (slice_index_or ms i d) (slice_index_or ls i None)
+      → left_to (module_states (slice_set ms i m) ls) r ≡ left_to (module_states ms ls) r
+  section-same i d m lt same =
+      ap (λ xs. left_to xs r) (states_put ms ls i m ∙ set_same (module_states ms ls) i no_module (state_of m (slice_index_or ls i None)) (omega (arith, lt, states_length ms ls)) (same ∙ sym (states_at ms ls i d lt)))
+
+  section-refused : {U : Type 0} (why : Refusal) (name text : List ℕ) (i : ℕ) (d m : Module)
+      → Some i ≡ index_from 0 name (module_states ms ls) → i < length ms
+      → IsAdded {U = U} (Err why) text (state_of (slice_index_or ms i d) (slice_index_or ls i None)) (state_of m (slice_index_or ls i None))
+      → IsDone {U = U} (Err why) (λ inputs. on_module (module_named name (left_to (module_states ms ls) r)) (left_to (module_states ms ls) r) inputs (add_section text (left_to (module_states ms ls) r)))
+      (left_to (module_states ms ls) r) (left_to (module_states (slice_set ms i m) ls) r)
+  section-refused why name text i d m found lt (inl memory, same) = (inl memory, section-same i d m lt same)
+  section-refused why name text i d m found lt (inr p, same) =
+      let w = left_to (module_states ms ls) r in (
+        inr (λ rest.
+            on_module-found name w i rest (add_section text w) found
+            ∙ ap (λ s. add_section text w i s rest) (states_at ms ls i d lt)
+            ∙ ap (λ o. or_limit o w i rest) p.1
+            ∙ ap (λ q. refused q w rest) (sym p.0)),
+        section-same i d m lt same,
+      )
+
+  -- a section that was added, or not
+  pub section-pushed : {U : Type 0} (x : Result U Refusal) (name text : List ℕ) (i : ℕ) (d m : Module)
+      → Some i ≡ index_from 0 name (module_states ms ls) → i < length ms → ((l : Option LoadedModule) → IsAdded x text (state_of (slice_index_or ms i d) l) (state_of m l))
+      → IsDone x (λ inputs. on_module (module_named name (left_to (module_states ms ls) r)) (left_to (module_states ms ls) r) inputs (add_section text (left_to (module_states ms ls) r)))
+      (left_to (module_states ms ls) r) (left_to (module_states (slice_set ms i m) ls) r)
+  section-pushed (Ok u) name text i d m found lt h = λ rest.
+      let w = left_to (module_states ms ls) r in
+      on_module-found name w i rest (add_section text w) found
+      ∙ ap (λ s. add_section text w i s rest) (states_at ms ls i d lt)
+      ∙ ap (λ o. or_limit o w i rest) (h (slice_index_or ls i None))
+      ∙ ap (λ xs. answered (Done None) (left_to xs r) rest) (sym (states_put ms ls i m))
+  section-pushed (Err why) name text i d m found lt h = section-refused why name text i d m found lt (h (slice_index_or ls i None))
 
 -- ---- a new module
 
@@ -104,25 +123,32 @@ pub added-exists : (name : List ℕ) (mask i : ℕ) (w : World) (rest : List Inp
 added-exists name mask i w rest named found =
     ap (λ b. if b then (where_free (module_named name w) name mask w rest) else (refused BadName w rest)) named ∙ ap (λ o. where_free o name mask w rest) (sym found)
 
-pub added-limit : (name : List ℕ) (mask : ℕ) (ms : List Module) (gs : List (List Slot)) (rest : List Input) → is_identifier name ≡ true → None ≡ module_named name (world_of ms gs)
-    → 1 ≤ length ms → added_module name mask (world_of ms gs) rest ≡ refused Limit (world_of ms gs) rest
-added-limit name mask ms gs rest named none many =
-    let full : nat_le 1 (length (map state_of ms)) ≡ true = ap (nat_le 1) (length-map ms state_of) ∙ le-leb 1 (length ms) many in
-    ap (λ b. if b then (where_free (module_named name (world_of ms gs)) name mask (world_of ms gs) rest) else (refused BadName (world_of ms gs) rest)) named
-    ∙ ap (λ o. where_free o name mask (world_of ms gs) rest) (sym none)
-    ∙ ap (λ b. if b then (refused Limit (world_of ms gs) rest) else (answered (Done None) (with_new_module name mask (world_of ms gs)) rest)) full
+added-free : (name : List ℕ) (mask : ℕ) (w : World) (rest : List Input) (b : Bool) → is_identifier name ≡ true → None ≡ module_named name w → nat_le 1 (length w.modules) ≡ b
+    → added_module name mask w rest ≡ (if b then (refused Limit w rest) else (answered (Done None) (with_new_module name mask w) rest))
+added-free name mask w rest b named none many =
+    ap (λ b. if b then (where_free (module_named name w) name mask w rest) else (refused BadName w rest)) named
+    ∙ ap (λ o. where_free o name mask w rest) (sym none)
+    ∙ ap (λ b. if b then (refused Limit w rest) else (answered (Done None) (with_new_module name mask w) rest)) many
 
--- ---- a budget that is none
+pub added-limit : (name : List ℕ) (mask : ℕ) (w : World) (rest : List Input) → is_identifier name ≡ true → None ≡ module_named name w
+    → 1 ≤ length w.modules → added_module name mask w rest ≡ refused Limit w rest
+added-limit name mask w rest named none many = added-free name mask w rest true named none (le-leb 1 (length w.modules) many)
 
-pub on_module-unbudgeted : (budget : ℕ) (go : List Input → Option Stepped) (w : World) (rest : List Input) → is_budget budget ≡ false
-    → (if is_budget budget then (go rest) else (refused BadBudget w rest)) ≡ refused BadBudget w rest
-on_module-unbudgeted budget go w rest h = ap (λ b. if b then (go rest) else (refused BadBudget w rest)) h
-
-pub on_module-budgeted : (budget : ℕ) (go : List Input → Option Stepped) (w : World) (rest : List Input) → is_budget budget ≡ true
-    → (if is_budget budget then (go rest) else (refused BadBudget w rest)) ≡ go rest
-on_module-budgeted budget go w rest h = ap (λ b. if b then (go rest) else (refused BadBudget w rest)) h
+pub added-new : (name : List ℕ) (mask : ℕ) (w : World) (rest : List Input) → is_identifier name ≡ true → None ≡ module_named name w → w.modules ≡ []
+    → added_module name mask w rest ≡ answered (Done None) (with_new_module name mask w) rest
+added-new name mask w rest named none few = added-free name mask w rest false named none (ap (λ xs. nat_le 1 (length xs)) few)
 
 -- the same module by other words
-pub found-same : (o : Option ℕ) (ms ns : List Module) (gs : List (List Slot)) (name other : List ℕ) → o ≡ module_named name (world_of ms gs) → ms ≡ ns → name ≡ other
-    → o ≡ module_named other (world_of ns gs)
-found-same o ms ns gs name other found e f = found ∙ ap (λ xs. module_named name (world_of xs gs)) e ∙ ap (λ n. module_named n (world_of ns gs)) f
+pub found-same : (o : Option ℕ) (ms ns : List Module) (ls : List (Option LoadedModule)) (name other : List ℕ) → o ≡ index_from 0 name (module_states ms ls) → ms ≡ ns → name ≡ other
+    → o ≡ index_from 0 other (module_states ns ls)
+found-same o ms ns ls name other found e f = found ∙ ap (λ xs. index_from 0 name (module_states xs ls)) e ∙ ap (λ n. index_from 0 n (module_states ns ls)) f
+
+-- the modules with one more
+pub added-states : (ms ns : List Module) (ls ks : List (Option LoadedModule)) (x : Module) (name : List ℕ) (mask : ℕ) → length ls ≡ length ms → ns ≡ ms ++ x ∷ [] → ks ≡ ls ++ None ∷ []
+    → state_of x None ≡ fresh_module name mask → module_states ns ks ≡ module_states ms ls ++ fresh_module name mask ∷ []
+added-states ms ns ls ks x name mask zip modules code fresh =
+    ap (λ l. module_states l ks) modules ∙ ap (λ l. module_states (ms ++ x ∷ []) l) code ∙ states_push ms ls x None zip ∙ ap (λ s. module_states ms ls ++ s ∷ []) fresh
+
+pub states-none : (ms : List Module) (ls : List (Option LoadedModule)) → length ms ≤ 0 → module_states ms ls ≡ []
+states-none [] ls few = refl
+states-none (m ∷ ms) ls few = absurd (omega (arith, few))

@@ -1,10 +1,16 @@
+pub mod Lists
 pub mod Worlds
 pub mod States
 pub mod Entries
 pub mod Finding
 pub mod Leading
 pub mod Builds
+pub mod Starting
+pub mod Emptied
 pub mod Calls
-pub mod Asking
 pub mod Named
+pub mod Asking
 pub mod Whole
+pub mod GlobalsEnd
+pub mod Discarding
+pub mod Backwards

@@ -1,18 +1,21 @@
 -- Whole commands on an engine.
-use Rattle.std.proofs.Common.{◌≡◌, sym, ap, ◌∙◌, subst, ℕ, List, []}
-use Rattle.std.specs.Prelude.{Result, Vec}
-use Rattle.std.specs.declared.alloc.Global.{Global}
-use Rattle.std.specs.declared.dyn_box.DynBox.{DynBox}
+use Rattle.std.proofs.Common.{◌≡◌, refl, sym, ap, ◌∙◌, subst, ℕ, List, []}
+use Rattle.std.specs.Prelude.{Result}
 use Rattle.ang_kinds.specs.declared.value.Value.{Value}
 use Rattle.ang_host.specs.declared.event.HostEvent.{HostEvent}
+use Rattle.ang_host.specs.Boxes.{members}
 use Rattle.ang_host.specs.Laws.{Meaning}
 use Rattle.ang_registry.specs.Registration.{RegistrationList}
+use Rattle.ang_meaning.specs.Counting.{IsCounted}
+use Rattle.ang_heap.specs.declared.store.Store.{Store}
+use Rattle.ang_heap.specs.Stores.{world_of, IsKept}
 use Rattle.ang_engine.specs.declared.building.BuildRefused.{BuildRefused}
-use Rattle.ang_engine.specs.declared.calling.Called.{Called}
 use Rattle.ang_engine.specs.declared.command.Command.{Command}
 use Rattle.ang_engine.specs.declared.command.Command.TheVariants.{Build, Call}
 use Rattle.ang_engine.specs.declared.reply.Outcome.{Outcome}
+use Rattle.ang_engine.specs.declared.reply.Outcome.TheVariants.{Refused}
 use Rattle.ang_engine.specs.declared.reply.Refusal.{Refusal}
+use Rattle.ang_engine.specs.declared.reply.Refusal.TheVariants.{Memory}
 use Rattle.ang_engine.specs.declared.reply.Reply.{Reply}
 use Rattle.ang_engine.specs.World.{World}
 use Rattle.ang_engine.specs.Step.{Leads, judged, reply_of}
@@ -20,30 +23,41 @@ use Rattle.ang_engine.specs.Outcomes.{IsDone, IsCalled, outcome_of, building, ca
 use Rattle.ang_engine.specs.Asked.{HasAsked}
 use Rattle.ang_engine.specs.Applied.{Applied}
 use Rattle.ang_engine.proofs.Asking.{asked-nothing, applied-asked}
-use Rattle.ang_engine.proofs.Leading.{takes-done, takes-judged, takes-called}
+use Rattle.ang_engine.proofs.Leading.{takes-done, takes-judged, takes-memory, takes-called}
 
--- one that asks nothing
-pub applied-done : {U V : Type 0} {P : V → Type 0} (mean : (v : V) → Meaning (P v)) (R : RegistrationList) (w v : World) (xs : List (DynBox V Global P)) (c : Command) (reply : Reply)
-    (r : Result U Refusal) (o : Outcome) → o ≡ outcome_of r → reply ≡ reply_of o [] [] → IsDone r (judged R w c) w v → Applied mean R w xs c reply v xs
-applied-done mean R w v xs c reply r o ended answered done =
-    subst (λ x. Applied mean R w xs c x v xs) (sym (answered ∙ ap (λ y. reply_of y [] []) ended))
-    (applied-asked mean R w v c (reply_of (outcome_of r) [] []) xs xs (takes-done R w v c r done) (asked-nothing mean R v xs))
+module _ {V : Type 0} {P : V → Type 0} (m : (v : V) → Meaning (P v)) (R : RegistrationList) where
+  -- one that asks nothing
+  pub applied-done : {U : Type 0} (w v : World) (s t : Store V P) (c : Command) (reply : Reply) (r : Result U Refusal) (o : Outcome)
+      → o ≡ outcome_of r → reply ≡ reply_of o [] [] → IsDone r (judged R w c) w v → IsKept m t → IsCounted [] (world_of m t) → members s.drivers ≡ members t.drivers
+      → Applied m R w (members s.drivers) c reply v (members t.drivers)
+  applied-done w v s t c reply r o ended answered done kept counted same =
+      subst (λ xs. Applied m R w xs c reply v (members t.drivers)) (sym same)
+      (subst (λ x. Applied m R w (members t.drivers) c x v (members t.drivers)) (sym (answered ∙ ap (λ y. reply_of y [] []) ended))
+      (applied-asked m R w v c (reply_of (outcome_of r) [] []) t t (takes-done R w v c r done) (asked-nothing m R v t kept counted)))
 
--- a build
-pub applied-build : {V : Type 0} {P : V → Type 0} (mean : (v : V) → Meaning (P v)) (R : RegistrationList) (w v : World) (xs ys : List (DynBox V Global P)) (name : List ℕ) (budget : ℕ) (reply : Reply)
-    (r : Result (Vec HostEvent Global) BuildRefused) → reply ≡ reply_to_build r → Leads (building R name budget w) (reply_to_build r) v → HasAsked mean R v (reply_to_build r).events xs ys
-    → Applied mean R w xs (Build name budget) reply v ys
-applied-build mean R w v xs ys name budget reply r replied done asked =
-    subst (λ x. Applied mean R w xs (Build name budget) x v ys) (sym replied)
-    (applied-asked mean R w v (Build name budget) (reply_to_build r) xs ys (takes-judged R w v (Build name budget) (reply_to_build r) done) asked)
+  -- one that is refused for want of memory
+  pub applied-memory : (w : World) (s : Store V P) (c : Command) (reply : Reply) → reply ≡ reply_of (Refused Memory) [] [] → IsKept m s → IsCounted [] (world_of m s)
+      → Applied m R w (members s.drivers) c reply w (members s.drivers)
+  applied-memory w s c reply answered kept counted =
+      subst (λ x. Applied m R w (members s.drivers) c x w (members s.drivers)) (sym answered)
+      (applied-asked m R w w c (reply_of (Refused Memory) [] []) s s (takes-memory R w w c refl) (asked-nothing m R w s kept counted))
 
--- a call
-pub applied-call : {V : Type 0} {P : V → Type 0} (mean : (v : V) → Meaning (P v)) (R : RegistrationList) (w v : World) (xs ys : List (DynBox V Global P)) (name n decl d : List ℕ) (args vs : List Value)
-    (budget : ℕ) (reply : Reply) (r : Result Called Refusal) → n ≡ name → d ≡ decl → vs ≡ args → reply ≡ reply_to_call r → IsCalled r (calling R n d vs budget w) w v
-    → HasAsked mean R v (reply_to_call r).events xs ys → Applied mean R w xs (Call name decl args budget) reply v ys
-applied-call mean R w v xs ys name n decl d args vs budget reply r en ed ea replied done asked =
-    let so : IsCalled r (calling R name decl args budget w) w v =
-    subst (λ x. IsCalled r (calling R x decl args budget w) w v) en
-    (subst (λ x. IsCalled r (calling R n x args budget w) w v) ed (subst (λ x. IsCalled r (calling R n d x budget w) w v) ea done)) in
-    subst (λ x. Applied mean R w xs (Call name decl args budget) x v ys) (sym replied)
-    (applied-asked mean R w v (Call name decl args budget) (reply_to_call r) xs ys (takes-called R w v (Call name decl args budget) r so) asked)
+  -- a build
+  pub applied-build : {U : Type 0} (w v : World) (s t : Store V P) (n name : List ℕ) (budget : ℕ) (reply : Reply) (r : Result U BuildRefused) (es : List HostEvent)
+      → n ≡ name → reply ≡ reply_to_build r es → Leads (building R n budget w) (reply_to_build r es) v → HasAsked m R v (reply_to_build r es).events s t
+      → Applied m R w (members s.drivers) (Build name budget) reply v (members t.drivers)
+  applied-build w v s t n name budget reply r es en replied done asked =
+      subst (λ x. Applied m R w (members s.drivers) (Build name budget) x v (members t.drivers)) (sym replied)
+      (applied-asked m R w v (Build name budget) (reply_to_build r es) s t
+      (takes-judged R w v (Build name budget) (reply_to_build r es) (subst (λ x. Leads (building R x budget w) (reply_to_build r es) v) en done)) asked)
+
+  -- a call
+  pub applied-call : (w v : World) (s t : Store V P) (n name d decl : List ℕ) (vs args : List Value) (budget : ℕ) (reply : Reply) (r : Result Outcome Refusal) (es : List HostEvent)
+      → n ≡ name → d ≡ decl → vs ≡ args → reply ≡ reply_to_call r es → IsCalled r es (calling n d vs budget w) w v → HasAsked m R v (reply_to_call r es).events s t
+      → Applied m R w (members s.drivers) (Call name decl args budget) reply v (members t.drivers)
+  applied-call w v s t n name d decl vs args budget reply r es en ed ea replied done asked =
+      let so : IsCalled r es (calling name decl args budget w) w v =
+      subst (λ x. IsCalled r es (calling x decl args budget w) w v) en
+      (subst (λ x. IsCalled r es (calling n x args budget w) w v) ed (subst (λ x. IsCalled r es (calling n d x budget w) w v) ea done)) in
+      subst (λ x. Applied m R w (members s.drivers) (Call name decl args budget) x v (members t.drivers)) (sym replied)
+      (applied-asked m R w v (Call name decl args budget) (reply_to_call r es) s t (takes-called R w v (Call name decl args budget) r es so) asked)

@@ -1,33 +1,31 @@
--- What a command asks the drivers.
-use Rattle.std.specs.Prelude.{◌≡◌, ℕ, List, All, length}
+-- What a command, or a piece of it, asks the drivers.
+use Rattle.std.specs.Prelude.{List, [], All}
 use Rattle.std.specs.List.{AllByRecursion}
-use Rattle.std.specs.declared.alloc.Global.{Global}
-use Rattle.std.specs.declared.dyn_box.DynBox.{DynBox}
 use Rattle.ang_host.specs.declared.event.HostEvent.{HostEvent}
 use Rattle.ang_host.specs.declared.event.Role.{Role}
+use Rattle.ang_host.specs.Boxes.{members}
 use Rattle.ang_host.specs.Laws.{Meaning}
-use Rattle.ang_host.specs.Members.{states_of, AreFresh}
 use Rattle.ang_host.specs.Events.{DriversFollow}
 use Rattle.ang_registry.specs.Registration.{RegistrationList}
 use Rattle.ang_registry.specs.Roles.{roles_of}
-use Rattle.ang_plain.specs.Plainness.{plain_part}
-use Rattle.ang_engine_means.specs.Modules.{AgreesWith, IsAskedIn}
+use Rattle.ang_meaning.specs.Counting.{IsCounted}
+use Rattle.ang_heap.specs.declared.store.Store.{Store}
+use Rattle.ang_heap.specs.Stores.{world_of, IsKept, IsReady, StoreMoves}
+use Rattle.ang_engine_modules.specs.Modules.{Module, AgreesWith, IsAskedIn}
 use Rattle.ang_engine.specs.World.{World}
 use Rattle.ang_engine.specs.Step.{IsEntitled}
 
--- A run of the module of that name and view has asked these: entities of its view; the drivers follow them, they stay as many, and none that was idle has
--- a live object.
-pub record HasRunOn {V : Type 0} {P : V → Type 0} (m : (v : V) → Meaning (P v)) (name : List ℕ) (view : RegistrationList) (events : List HostEvent)
-    (xs ys : List (DynBox V Global P)) : Type 0 where
-  pub asked : AllByRecursion (IsAskedIn name (plain_part view)) events
-  pub follow : (roles : List Role) → AgreesWith roles (plain_part view) → DriversFollow m roles xs events ys
-  pub same : length ys ≡ length xs
-  pub idle : AreFresh (states_of m xs) → AreFresh (states_of m ys)
+-- A piece of a command, in which these modules may run, has asked what they see; the drivers follow it; all can be given up again, and nothing is held but
+-- by globals and fields.
+pub record HasRunOn {V : Type 0} {P : V → Type 0} (m : (v : V) → Meaning (P v)) (ms : List Module) (s t : Store V P) : Type 0 where
+  pub asked : AllByRecursion (IsAskedIn ms) s.events.items → AllByRecursion (IsAskedIn ms) t.events.items
+  pub moves : (roles : List Role) → AgreesWith roles ms → StoreMoves m roles s t
+  pub ready : IsReady m s → IsReady m t
+  pub counted : IsCounted [] (world_of m s) → IsCounted [] (world_of m t)
 
--- With these modules after it, its host calls are entitled; the drivers follow them, they stay as many, and none that was idle has a live object.
-pub record HasAsked {V : Type 0} {P : V → Type 0} (m : (v : V) → Meaning (P v)) (R : RegistrationList) (after : World) (events : List HostEvent)
-    (xs ys : List (DynBox V Global P)) : Type 0 where
+-- With these modules after it, the command's host calls are entitled; the drivers follow its events; and what holds between commands holds again.
+pub record HasAsked {V : Type 0} {P : V → Type 0} (m : (v : V) → Meaning (P v)) (R : RegistrationList) (after : World) (events : List HostEvent) (s t : Store V P) : Type 0 where
   pub entitled : All (IsEntitled R after) events
-  pub follow : DriversFollow m (roles_of R) xs events ys
-  pub same : length ys ≡ length xs
-  pub idle : AreFresh (states_of m xs) → AreFresh (states_of m ys)
+  pub follow : DriversFollow m (roles_of R) (members s.drivers) events (members t.drivers)
+  pub kept : IsKept m t
+  pub counted : IsCounted [] (world_of m t)

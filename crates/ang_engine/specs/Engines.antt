@@ -1,21 +1,47 @@
 -- What contracts see of an engine.
-use Rattle.std.specs.Prelude.{List}
+use Rattle.std.specs.Prelude.{List, [], ◌∷◌, Option, None, option_map}
 use Rattle.std.specs.declared.alloc.Global.{Global}
 use Rattle.std.specs.declared.dyn_box.DynBox.{DynBox}
 use Rattle.ang_host.specs.Boxes.{members}
+use Rattle.ang_host.specs.Laws.{Meaning}
 use Rattle.ang_registry.specs.Registration.{RegistrationList}
-use Rattle.ang_vm.specs.Worlds.{values_in}
+use Rattle.ang_typed.specs.View.{view_typed}
+use Rattle.ang_heap.specs.Stores.{world_of}
+use Rattle.ang_engine_build.specs.Build.{Resolved}
+use Rattle.ang_engine_modules.specs.declared.modules.LoadedModule.{LoadedModule}
 use Rattle.ang_engine.specs.declared.engine.Engine.{Engine}
-use Rattle.ang_engine.specs.World.{World, world_of}
+use Rattle.ang_engine.specs.declared.module.Module.{Module}
+use Rattle.ang_engine.specs.declared.module.ModuleList.{ModuleList}
+use Rattle.ang_engine.specs.World.{Program, ModuleState, World, left_to}
+
+-- what a module is built to
+abbrev pub resolved_in : LoadedModule → Resolved
+resolved_in l = record { names = l.names; tree = view_typed l.tree }
+
+abbrev pub program_in : LoadedModule → Program
+program_in l = record { view = l.view; names = l.names; tree = view_typed l.tree; links = l.links }
+
+-- a module, with its program where it is built
+abbrev pub state_of : Module → Option LoadedModule → ModuleState
+state_of m l = record { name = m.name; mask = m.mask.0; built_mask = m.built_mask.0; sections = m.sections.items; program = option_map program_in l }
+
+-- each module, with what is built of it, by number
+abbrev pub module_states : List Module → List (Option LoadedModule) → List ModuleState
+module_states [] ls = []
+module_states (m ∷ ms) [] = state_of m None ∷ module_states ms []
+module_states (m ∷ ms) (l ∷ ls) = state_of m l ∷ module_states ms ls
+
+abbrev pub states_in : ModuleList → List ModuleState
+states_in x = module_states x.modules.items x.code
 
 -- its registration list, which no command changes
 abbrev pub registrations : {V : Type 0} {P : V → Type 0} → Engine V P → RegistrationList
 registrations e = e.registry.entries
 
--- its modules, with the values of their globals
-abbrev pub world_in : {V : Type 0} {P : V → Type 0} → Engine V P → World
-world_in e = world_of e.modules.items (values_in e.machine.globals)
+-- Its modules, and beside them what their runs leave: the counts of host objects are those of the drivers themselves.
+abbrev pub world_in : {V : Type 0} {P : V → Type 0} → ((v : V) → Meaning (P v)) → Engine V P → World
+world_in m e = left_to (states_in e.modules) (world_of m e.machine.store)
 
 -- its boxed drivers, in their order
 abbrev pub drivers_in : {V : Type 0} {P : V → Type 0} → Engine V P → List (DynBox V Global P)
-drivers_in e = members e.machine.drivers
+drivers_in e = members e.machine.store.drivers

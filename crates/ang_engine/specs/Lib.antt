@@ -5,3 +5,4 @@ pub mod Engines
 pub mod Sound
 pub mod Asked
 pub mod Applied
+pub mod Ending

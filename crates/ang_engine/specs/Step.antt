@@ -1,4 +1,4 @@
--- What one command does: the reply, and the modules after it (docs/MEANING.md, "A command").
+-- What one command does: the reply, and the world after it (docs/MEANING.md, "A command").
 use Rattle.std.specs.Prelude.{ℕ, ◌≡◌, ◌⊎◌, Bool, true, false, ◌&&◌, nat_le, if◌then◌else◌, List, [], ◌∷◌, ◌++◌, length, slice_get, slice_set, Option, Some, None, IsSome, Result, Ok, Err}
 use Rattle.ang_kinds.specs.declared.error.Error.{Error}
 use Rattle.ang_kinds.specs.declared.fault.Fault.{Fault}
@@ -7,16 +7,15 @@ use Rattle.ang_host.specs.declared.event.HostEvent.{HostEvent}
 use Rattle.ang_host.specs.declared.event.HostEvent.TheVariants.{Called, Ended as ObjectEnded}
 use Rattle.ang_lex.specs.Spelling.{is_identifier}
 use Rattle.ang_registry.specs.Registration.{RegistrationList, seen, entry_at}
-use Rattle.ang_names.specs.declared.names.Names.{Names}
 use Rattle.ang_names.specs.declared.names.ScriptFunction.{ScriptFunction}
 use Rattle.ang_meaning.specs.declared.slot.Slot.{Slot}
 use Rattle.ang_meaning.specs.World.{Input, Room, World as RunWorld}
-use Rattle.ang_meaning.specs.Told.{has_room, stopped_by}
+use Rattle.ang_meaning.specs.Told.{has_room, stopped_by, answers_told, answers_listed}
 use Rattle.ang_engine_build.specs.Build.{Resolved, Built, Errors, Compiled, build_of}
 use Rattle.ang_engine_call.specs.Named.{function_named_by}
 use Rattle.ang_engine_call.specs.Calls.{is_callable, arguments_of, result_of}
-use Rattle.ang_engine_means.specs.Executed.{first_globals, call_of, initialization_of}
-use Rattle.ang_engine_means.specs.Ends.{Ended, end_of}
+use Rattle.ang_engine_modules.specs.Executed.{first_globals, call_of, initialization_of}
+use Rattle.ang_engine_modules.specs.Ends.{Ended, end_of}
 use Rattle.ang_engine.specs.declared.command.Command.{Command}
 use Rattle.ang_engine.specs.declared.command.Command.TheVariants.{NewModule, AddSection, Build, Call}
 use Rattle.ang_engine.specs.declared.reply.Reply.{Reply}
@@ -24,7 +23,7 @@ use Rattle.ang_engine.specs.declared.reply.Outcome.{Outcome}
 use Rattle.ang_engine.specs.declared.reply.Outcome.TheVariants.{Done, Failed, Refused}
 use Rattle.ang_engine.specs.declared.reply.Refusal.{Refusal}
 use Rattle.ang_engine.specs.declared.reply.Refusal.TheVariants.{BadName, ModuleExists, Limit, NoModule, NotBuilt, BadBudget, BuildMemory, BuildErrors, InitFailed, NoFunction, NotCallable, BadArguments, Memory}
-use Rattle.ang_engine.specs.World.{ModuleState, World, module_named, module_at, with_module}
+use Rattle.ang_engine.specs.World.{Program, ModuleState, World, module_named, module_at, placed, built_in, running, left_to, globals_ended}
 
 -- the modules of one engine: one, until a later version takes more
 abbrev pub most_modules : ℕ
@@ -38,7 +37,7 @@ most_sections = 64
 abbrev pub is_budget : ℕ → Bool
 is_budget n = nat_le 1 n && nat_le n 2147483647
 
--- the reply, the modules after it, and the inputs that were not asked for
+-- the reply, the world after it, and the inputs that were not asked for
 pub record Stepped : Type 0 where
   pub reply : Reply
   pub world : World
@@ -52,23 +51,23 @@ reply_of outcome events errors = record { outcome = outcome; events = events; er
 abbrev pub answered : Outcome → World → List Input → Option Stepped
 answered outcome world left = Some (record { reply = reply_of outcome [] []; world = world; left = left })
 
--- after a refusal the modules are as they were
+-- after a refusal the world is as it was
 abbrev pub refused : Refusal → World → List Input → Option Stepped
 refused why = answered (Refused why)
 
--- the reply after a run, with these modules and globals
-abbrev pub after_run : Outcome → List ModuleState → List (List Slot) → RunWorld → Stepped
-after_run outcome modules globals after = record { reply = reply_of outcome after.events []; world = record { modules = modules; globals = globals }; left = after.inputs }
+-- the reply lists what a run has listed, and what it left stands, beside these modules
+abbrev pub after_run : Outcome → List Error → List ModuleState → RunWorld → Stepped
+after_run outcome errors modules r = record { reply = reply_of outcome r.events errors; world = left_to modules r; left = r.inputs }
 
 -- ---- NewModule
 
--- a module without sections, unbuilt, whose built mask is its mask until it is built
+-- a module without sections, unbuilt, whose built mask is the mask that it was made with
 abbrev pub fresh_module : List ℕ → ℕ → ModuleState
 fresh_module name mask = record { name = name; mask = mask; built_mask = mask; sections = []; program = None }
 
 -- the module stands last, without globals
 abbrev pub with_new_module : List ℕ → ℕ → World → World
-with_new_module name mask w = record { modules = w.modules ++ fresh_module name mask ∷ []; globals = w.globals ++ [] ∷ [] }
+with_new_module name mask w = record w { modules = w.modules ++ fresh_module name mask ∷ []; globals = w.globals ++ [] ∷ [] }
 
 -- the name is an identifier: it is to be free, and there is to be room for a module
 abbrev pub where_free : Option ℕ → List ℕ → ℕ → World → List Input → Option Stepped
@@ -93,7 +92,7 @@ section_added text m =
 -- one section too many is refused
 abbrev pub or_limit : Option ModuleState → World → ℕ → List Input → Option Stepped
 or_limit None w i inputs = refused Limit w inputs
-or_limit (Some m) w i inputs = answered (Done None) (with_module w i m) inputs
+or_limit (Some m) w i inputs = answered (Done None) (record w { modules = placed w i m }) inputs
 
 abbrev pub add_section : List ℕ → World → ℕ → ModuleState → List Input → Option Stepped
 add_section text w i m inputs = or_limit (section_added text m) w i inputs
@@ -104,33 +103,42 @@ add_section text w i m inputs = or_limit (section_added text m) w i inputs
 abbrev pub emptied : ModuleState → ModuleState
 emptied m = record m { built_mask = m.mask; sections = []; program = None }
 
--- its globals are gone too
-abbrev pub world_emptied : World → ℕ → ModuleState → World
-world_emptied w i m = record { modules = slice_set w.modules i (emptied m); globals = slice_set w.globals i [] }
+-- what scripts are resolved to, over what their module sees, with no import bound yet
+abbrev pub program_over : RegistrationList → Resolved → Program
+program_over V r = record { view = V; names = r.names; tree = r.tree; links = [] }
 
--- The initializers have ended: the module is built, with the globals that they left; or their fault leaves it unbuilt, without globals.
-abbrev pub initialized : Result Slot Fault → RunWorld → World → ℕ → ModuleState → Resolved → Stepped
-initialized (Ok v) after w i m r = after_run (Done None) (slice_set w.modules i (record (emptied m) { program = Some r })) after.globals after
-initialized (Err f) after w i m r = after_run (Refused (InitFailed f)) (slice_set w.modules i (emptied m)) (slice_set after.globals i []) after
+abbrev pub with_program : Program → ModuleState → ModuleState
+with_program p m = record (emptied m) { program = Some p }
 
--- what the end of the initializers leaves
-abbrev pub started : Ended → World → ℕ → ModuleState → Resolved → Stepped
-started e w i m r = initialized e.result e.world w i m r
+-- the module's globals begin
+abbrev pub globals_begun : ℕ → Program → RunWorld → RunWorld
+globals_begun i p r = record r { globals = slice_set r.globals i (first_globals p.tree) }
 
--- what the module's initializers do, one after the other, within the budget
-abbrev pub initializers_end : RegistrationList → World → ℕ → ModuleState → Resolved → ℕ → List Input → Ended
-initializers_end V w i m r budget inputs = end_of (initialization_of m.name V r.tree budget (slice_set w.globals i (first_globals r.tree)) inputs)
+-- what the initializers of module i do, one after the other, within the budget, the module among the others as it is built now
+abbrev pub initializers_end : List ModuleState → ℕ → Program → ℕ → RunWorld → Ended
+initializers_end ms i p budget r = end_of (initialization_of (built_in ms) budget i (globals_begun i p r))
 
--- The sections have errors, which are listed, and the module is left emptied; or they are a program, whose initializers run.
-abbrev pub after_build : RegistrationList → Built → World → ℕ → ModuleState → ℕ → List Input → Option Stepped
-after_build V (Errors es) w i m budget inputs = Some (record { reply = reply_of (Refused BuildErrors) [] es; world = world_emptied w i m; left = inputs })
-after_build V (Compiled r) w i m budget inputs = Some (started (initializers_end V w i m r budget inputs) w i m r)
+-- They have ended: the module is built; or their fault leaves it emptied, and its globals end.
+abbrev pub initialized : Result Slot Fault → RunWorld → World → ℕ → ModuleState → Program → Stepped
+initialized (Ok v) r w i m p = after_run (Done None) [] (placed w i (with_program p m)) r
+initialized (Err f) r w i m p = after_run (Refused (InitFailed f)) [] (placed w i (emptied m)) (globals_ended i r)
 
--- A build over what the module's mask sees now. The first input says whether there is memory to build, the others are those of the initializers. Without
--- memory no initializer runs, and the module is left emptied.
+-- what the end of its initializers leaves
+abbrev pub started : Ended → World → ℕ → ModuleState → Program → Stepped
+started e w i m p = initialized e.result e.world w i m p
+
+-- over a view the sections have errors, which are listed, and the module is left emptied; or they are a program, whose initializers run
+abbrev pub after_build : RegistrationList → Built → World → ℕ → ModuleState → ℕ → RunWorld → Stepped
+after_build V (Errors es) w i m budget r = after_run (Refused BuildErrors) es (placed w i (emptied m)) r
+after_build V (Compiled q) w i m budget r =
+    let p = program_over V q in
+    started (initializers_end (placed w i (with_program p m)) i p budget r) w i m p
+
+-- A build first ends the module's globals, and is over what the module's mask sees now. The first input says whether there is memory to build, the others
+-- are those of the initializers. Without memory no initializer runs, and the module is left emptied.
 abbrev pub build : RegistrationList → World → ℕ → ModuleState → ℕ → List Input → Option Stepped
-build R w i m budget (Room true ∷ inputs) = after_build (seen R m.mask) (build_of (seen R m.mask) m.sections) w i m budget inputs
-build R w i m budget (Room false ∷ inputs) = answered (Refused BuildMemory) (world_emptied w i m) inputs
+build R w i m budget (Room true ∷ inputs) = Some (after_build (seen R m.mask) (build_of (seen R m.mask) m.sections) w i m budget (globals_ended i (running w inputs)))
+build R w i m budget (Room false ∷ inputs) = Some (after_run (Refused BuildMemory) [] (placed w i (emptied m)) (globals_ended i (running w inputs)))
 build R w i m budget _ = None
 
 -- the budget is judged before anything is done
@@ -158,39 +166,37 @@ abbrev pub of_number : Option ℕ → List ScriptFunction → List Value → Cho
 of_number None fs args = Not NoFunction
 of_number (Some n) fs args = of_function n (slice_get fs n) args
 
--- of the functions of a module with these names, which sees this
-abbrev pub choice_of : RegistrationList → Names → List ℕ → List Value → Choice
-choice_of V names decl args = of_number (function_named_by V names decl) names.functions args
+-- of the functions that a module's program declares
+abbrev pub choice_of : Program → List ℕ → List Value → Choice
+choice_of p decl args = of_number (function_named_by p.view p.names decl) p.names.functions args
 
 -- The call has ended: with the function's value, or with a fault. What it changed stands either way.
 abbrev pub called : Result Slot Fault → RunWorld → World → ScriptFunction → Stepped
-called (Ok v) after w f = after_run (Done (result_of f v)) w.modules after.globals after
-called (Err fault) after w f = after_run (Failed fault) w.modules after.globals after
+called (Ok v) r w f = after_run (Done (result_of f v)) [] w.modules r
+called (Err fault) r w f = after_run (Failed fault) [] w.modules r
 
 -- what the end of a call leaves
 abbrev pub call_ended : Ended → World → ScriptFunction → Stepped
 call_ended e w f = called e.result e.world w f
 
--- what the function of a module does that sees this, within the budget
-abbrev pub call_end : RegistrationList → World → ModuleState → Resolved → ℕ → ℕ → List Slot → List Input → Ended
-call_end V w m r budget n slots inputs = end_of (call_of m.name V r.tree budget n slots w.globals inputs)
+-- what function n of module i does within the budget, among all that are built
+abbrev pub call_end : World → ℕ → ℕ → ℕ → List Slot → List Input → Ended
+call_end w i budget n slots inputs = end_of (call_of (built_in w.modules) budget i n slots (running w inputs))
 
 -- a call of the function that was chosen, or the reason why none was
-abbrev pub call_chosen : RegistrationList → Choice → World → ModuleState → Resolved → ℕ → List Input → Option Stepped
-call_chosen V (Not why) w m r budget inputs = refused why w inputs
-call_chosen V (Chosen n f slots) w m r budget inputs = Some (call_ended (call_end V w m r budget n slots inputs) w f)
+abbrev pub call_chosen : Choice → World → ℕ → ℕ → List Input → Option Stepped
+call_chosen (Not why) w i budget inputs = refused why w inputs
+call_chosen (Chosen n f slots) w i budget inputs = Some (call_ended (call_end w i budget n slots inputs) w f)
 
--- A call of a function of a module's program, which sees what its built mask meets. That the module is built, that the budget is one, and the choice of the
--- function are judged in this order.
-abbrev pub call_program : RegistrationList → Option Resolved → List ℕ → List Value → ℕ → World → ModuleState → List Input → Option Stepped
-call_program R None decl args budget w m inputs = refused NotBuilt w inputs
-call_program R (Some r) decl args budget w m inputs =
-    if is_budget budget then call_chosen (seen R m.built_mask) (choice_of (seen R m.built_mask) r.names decl args) w m r budget inputs
-    else refused BadBudget w inputs
+-- A call of a function of a module's program. That the module is built, that the budget is one, and the choice of the function are judged in this order.
+abbrev pub call_program : Option Program → List ℕ → List Value → ℕ → World → ℕ → List Input → Option Stepped
+call_program None decl args budget w i inputs = refused NotBuilt w inputs
+call_program (Some p) decl args budget w i inputs =
+    if is_budget budget then call_chosen (choice_of p decl args) w i budget inputs else refused BadBudget w inputs
 
 -- a call of a module's function
-abbrev pub call : List ℕ → List Value → ℕ → RegistrationList → World → ℕ → ModuleState → List Input → Option Stepped
-call decl args budget R w i m inputs = call_program R m.program decl args budget w m inputs
+abbrev pub call : List ℕ → List Value → ℕ → World → ℕ → ModuleState → List Input → Option Stepped
+call decl args budget w i m inputs = call_program m.program decl args budget w i inputs
 
 -- ---- a command
 
@@ -204,25 +210,36 @@ abbrev pub judged : RegistrationList → World → Command → List Input → Op
 judged R w (NewModule name mask) inputs = added_module name mask.0 w inputs
 judged R w (AddSection name text) inputs = on_module (module_named name w) w inputs (add_section text w)
 judged R w (Build name budget) inputs = on_module (module_named name w) w inputs (build_within budget R w)
-judged R w (Call name decl args budget) inputs = on_module (module_named name w) w inputs (call decl args budget R w)
+judged R w (Call name decl args budget) inputs = on_module (module_named name w) w inputs (call decl args budget w)
 
--- One command over a registration list: each of these may be refused for want of memory before it changes anything. There is no
--- step with other inputs than those that are asked for.
+-- whether a command may be refused for want of memory before it changes anything
+abbrev pub may_want_memory : Command → Bool
+may_want_memory (NewModule name mask) = true
+may_want_memory (AddSection name text) = true
+may_want_memory (Build name budget) = true
+may_want_memory (Call name decl args budget) = true
+
+-- such a command: the first input says whether there is memory to begin
+abbrev pub granted : RegistrationList → World → Command → List Input → Option Stepped
+granted R w c (Room true ∷ inputs) = judged R w c inputs
+granted R w c (Room false ∷ inputs) = refused Memory w inputs
+granted R w c _ = None
+
+-- One command over a registration list. There is no step with other inputs than those that are asked for.
 abbrev pub step : RegistrationList → World → Command → List Input → Option Stepped
-step R w c (Room true ∷ inputs) = judged R w c inputs
-step R w c (Room false ∷ inputs) = refused Memory w inputs
-step R w c _ = None
+step R w c inputs = if may_want_memory c then granted R w c inputs else judged R w c inputs
 
 -- ---- relations
 
--- Told these inputs, and whatever further ones it leaves, it gives this reply and leaves these modules. There was memory and room each time, or the last
--- input alone refused it.
+-- Told these inputs, and whatever further ones it leaves, it gives this reply and leaves this world. There was memory and room each time, or the last
+-- input alone refused it; and drivers answered just what the reply's events list.
 pub record Leads (go : List Input → Option Stepped) (reply : Reply) (after : World) : Type 0 where
   pub used : List Input
   pub tells : (rest : List Input) → go (used ++ rest) ≡ Some (record { reply = reply; world = after; left = rest })
   pub told : (has_room used ≡ true) ⊎ IsSome (stopped_by used)
+  pub answers : answers_told used ≡ answers_listed reply.events
 
--- The command takes the modules from `before` to `after` with this reply, told what it asked for and nothing else.
+-- The command takes the world from `before` to `after` with this reply, told what it asked for and nothing else.
 abbrev pub Takes : RegistrationList → World → Command → Reply → World → Type 0
 Takes R before c reply after = Leads (step R before c) reply after
 

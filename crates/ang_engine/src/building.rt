@@ -1,32 +1,36 @@
 //! Builds.
-ghost use Rattle.std.specs.Prelude.{◌≡◌, ◌<◌, ◌≤◌, ◌^◌, [], List, All, None, length, IfOk, IfErr, OnErr, slice_set};
+ghost use Rattle.std.specs.Prelude.{◌≡◌, ◌<◌, ◌≤◌, ◌^◌, [], Option, Some, None, length, IfOk, OnOk, OnErr, slice_set, slice_index_or};
 ghost use Rattle.ang_host.specs.Boxes.{members};
-ghost use Rattle.ang_registry.specs.Registration.{RegistrationList, seen};
+ghost use Rattle.ang_registry.specs.Registration.{seen};
 ghost use Rattle.ang_source.specs.Sound.{SoundProgram};
 ghost use Rattle.ang_typed.specs.View.{view_typed};
-ghost use Rattle.ang_plain.specs.Plainness.{plain_part};
-ghost use Rattle.ang_vm.specs.Worlds.{values_in};
-ghost use Rattle.ang_engine_means.specs.Executed.{first_globals, initialization_of};
-ghost use Rattle.ang_engine_means.specs.Ends.{Ends, completed};
-ghost use Rattle.ang_engine_means.specs.Modules.{DriversThere};
-ghost use Rattle.ang_engine_build.specs.Build.{resolved_of, build_of};
-ghost use Rattle.ang_engine_modules.specs.Loaded.{tree_of};
+ghost use Rattle.ang_meaning.specs.Counting.{IsCounted};
+ghost use Rattle.ang_heap.specs.Globals.{values_in};
+ghost use Rattle.ang_heap.specs.Stores.{world_of, IsReady};
+ghost use Rattle.ang_vm.specs.Machines.{lent};
+ghost use Rattle.ang_engine_build.specs.Build.{build_of, resolved_of};
+ghost use Rattle.ang_engine_modules.specs.Executed.{first_globals};
+ghost use Rattle.ang_engine_modules.specs.Loaded.{modules_of};
+ghost use Rattle.ang_engine_modules.specs.Modules.{module_at as built_module_at, AreDriversThere};
+ghost use Rattle.ang_engine_modules.specs.declared.modules.LoadedModule.{LoadedModule};
 ghost use Rattle.ang_engine.specs.Asked.{HasRunOn, HasAsked};
-ghost use Rattle.ang_engine.specs.Outcomes.{IsCompiled, refused_by, building, reply_to_build};
-ghost use Rattle.ang_engine.specs.Sound.{HaveDrivers, IsLoaded, IsSoundModule};
-ghost use Rattle.ang_engine.specs.Step.{Leads};
-ghost use Rattle.ang_engine.specs.Step as spec;
-ghost use Rattle.ang_engine.specs.World.{ModuleState, state_of, world_of, resolved_in};
+ghost use Rattle.ang_engine.specs.Engines.{states_in, state_of, resolved_in, program_in};
+ghost use Rattle.ang_engine.specs.Outcomes.{IsCompiled, HasStarted, refused_by, building, reply_to_build};
+ghost use Rattle.ang_engine.specs.Sound.{IsBuiltBy, HaveDrivers, AreSoundModules};
+ghost use Rattle.ang_engine.specs.Step.{Leads, emptied, build};
+ghost use Rattle.ang_engine.specs.World.{module_at, left_to};
 
-use crate::module::{Loaded, Module};
+use crate::ending::end_globals;
+use crate::module::{Module, ModuleList};
 use crate::modules::{find, may_run, put_globals};
 use crate::reply::Refusal;
 use ang_engine_build::{Program, build_sections};
-use ang_engine_modules::{Executable, Initialized};
+use ang_engine_modules::{LoadedModule, Modules};
 use ang_host::{Driver, HostEvent};
 use ang_kinds::{Error, Fault, List, Mask, Unbuilt};
+use ang_meaning::Slot;
 use ang_registry::{Registry, View};
-use ang_vm::{Globals, Machine};
+use ang_vm::Machine;
 use std::alloc::{AllocError, Global};
 use std::mem;
 
@@ -39,8 +43,8 @@ pub enum BuildRefused {
     Memory,
     /// The sections have these errors.
     Errors(List<Error>),
-    /// An initializer failed, after these askings.
-    Initializer(Fault, Vec<HostEvent>),
+    /// An initializer failed.
+    Initializer(Fault),
 }
 
 /// What a build is refused by that comes to no program.
@@ -53,44 +57,50 @@ fn refused_by(unbuilt: Unbuilt) -> BuildRefused
     }
 }
 
-/// Takes the sections that waited; what the module had is gone, and its mask becomes the mask of the last build.
+/// Takes the sections that waited, and the mask becomes the mask of the last build.
 fn take_sections(alloc: Global, from: &mut Module) -> Vec<List<u8>>
     ensures sections { result.items ≡ from.old.sections.items }
     ensures few { length result.items ≤ 64 }
-    ensures emptied { state_of from.new ≡ spec.emptied (state_of from.old) }
-    ensures unbuilt { from.new.program ≡ None }
+    ensures emptied { (l : Option LoadedModule) → state_of from.new None ≡ emptied (state_of from.old l) }
     ensures name { from.new.name ≡ from.old.name }
-    ensures mask { from.new.mask ≡ from.old.mask }
     ensures built_mask { from.new.built_mask ≡ from.old.mask }
 {
     from.built_mask = from.mask;
-    from.program = None;
     mem::replace(&mut from.sections, Vec::new(alloc))
 }
 
-/// The program, loaded for the machine.
-fn load(alloc: Global, name: &[u8], view: View, program: Program) -> Result<Loaded, AllocError>
-    requires sound { SoundProgram (plain_part view) (view_typed program.tree) }
-    ensures name { IfOk result (λ l. l.run.name ≡ name.now) }
-    ensures view { IfOk result (λ l. l.run.view ≡ view) }
+/// A program with its name and its view.
+fn with_view(alloc: Global, name: &[u8], view: View, program: Program) -> Result<LoadedModule, AllocError>
+    ensures name { IfOk result (λ l. l.name ≡ name.now) }
+    ensures view { IfOk result (λ l. l.view ≡ view) }
     ensures program { IfOk result (λ l. resolved_in l ≡ resolved_of program) }
+    ensures unbound { IfOk result (λ l. l.links ≡ []) }
 {
+    let name = List::from_vec(Vec::from_slice(alloc, name)?);
     let Program { names, tree } = program;
-    let run = Executable::load(alloc, name, view, tree)?;
-    Ok(Loaded { names, run })
+    Ok(LoadedModule {
+        name,
+        names,
+        view,
+        tree,
+        links: List::from_vec(Vec::new(alloc)),
+    })
 }
 
-/// What the sections build to over what the mask sees, loaded for the machine.
+/// What the sections build to over what the mask sees.
 fn compile(
     alloc: Global,
     registry: &Registry,
     name: &[u8],
     mask: Mask,
     sections: &[List<u8>],
-) -> Result<Loaded, Unbuilt>
+) -> Result<LoadedModule, Unbuilt>
     requires few { length sections.now < 2 ^ 32 }
     ensures compiled { IsCompiled result (build_of (seen registry.now.entries mask.0) sections.now) }
-    ensures loaded { IfOk result (λ l. IsLoaded registry.now.entries name.now mask.0 l) }
+    ensures name { IfOk result (λ l. l.name ≡ name.now) }
+    ensures view { IfOk result (λ l. l.view ≡ seen registry.now.entries mask.0) }
+    ensures unbound { IfOk result (λ l. l.links ≡ []) }
+    ensures sound { IfOk result (λ l. SoundProgram l.view (view_typed l.tree)) }
 {
     let Ok(view) = registry.seen(alloc, mask) else {
         return Err(Unbuilt::Memory);
@@ -99,105 +109,165 @@ fn compile(
         Ok(program) => program,
         Err(unbuilt) => return Err(unbuilt),
     };
-    match load(alloc, name, view, program) {
+    match with_view(alloc, name, view, program) {
         Ok(loaded) => Ok(loaded),
         Err(_) => Err(Unbuilt::Memory),
     }
 }
 
-/// Sets the module's globals to their first values, and runs its initializers.
-fn initialize(
-    alloc: Global,
-    machine: &mut Machine,
-    i: usize,
-    loaded: &Loaded,
-    budget: u64,
-) -> Result<Initialized, AllocError>
-    requires drivers { DriversThere (plain_part loaded.now.run.view) (length (members machine.old.drivers)) }
-    ensures means { IfOk result (λ x. Ends (initialization_of loaded.now.run.name loaded.now.run.view (tree_of loaded.now.run) budget (slice_set (values_in machine.old.globals) i (first_globals (tree_of loaded.now.run)))) (completed x.result) (values_in machine.new.globals) x.events.items) }
-    ensures asked { IfOk result (λ x. HasRunOn (λ v. (⟦<dyn Driver as Driver>⟧ v).meaning) loaded.now.run.name loaded.now.run.view x.events.items (members machine.old.drivers) (members machine.new.drivers)) }
-    ensures unchanged { OnErr result (machine.new ≡ machine.old) }
-    ensures globals { OnErr result (values_in machine.new.globals ≡ values_in machine.old.globals) }
-{
-    let globals = loaded.run.first_globals(alloc)?;
-    put_globals(&mut machine.globals, i, globals);
-    Ok(loaded.run.initialize(alloc, machine, budget))
-}
-
-/// Builds a module, whose globals stand at that index.
-fn build_module(
+/// Takes the sections that waited, and builds them over what the module's mask sees now.
+fn compile_waiting(
     alloc: Global,
     registry: &Registry,
-    into: &mut Module,
-    machine: &mut Machine,
-    i: usize,
-    budget: u64,
-) -> Result<Vec<HostEvent>, BuildRefused>
-    requires drivers { DriversThere (plain_part (seen registry.now.entries into.old.mask.0)) (length (members machine.old.drivers)) }
-    ensures done { (modules : List ModuleState) → Leads (spec.build registry.now.entries (record { modules = modules; globals = values_in machine.old.globals }) i (state_of into.old) budget) (reply_to_build result) (record { modules = slice_set modules i (state_of into.new); globals = values_in machine.new.globals }) }
-    ensures asked { HasRunOn (λ v. (⟦<dyn Driver as Driver>⟧ v).meaning) into.old.name (seen registry.now.entries into.old.mask.0) (reply_to_build result).events (members machine.old.drivers) (members machine.new.drivers) }
-    ensures sound { IsSoundModule registry.now.entries into.new }
-    ensures name { into.new.name ≡ into.old.name }
-    ensures mask { into.new.built_mask ≡ into.old.mask }
+    from: &mut Module,
+) -> Result<LoadedModule, Unbuilt>
+    ensures compiled { IsCompiled result (build_of (seen registry.now.entries from.old.mask.0) from.old.sections.items) }
+    ensures built { IfOk result (λ l. IsBuiltBy registry.now.entries from.new l) }
+    ensures unbound { IfOk result (λ l. l.links ≡ []) }
+    ensures sound { IfOk result (λ l. SoundProgram l.view (view_typed l.tree)) }
+    ensures emptied { (l : Option LoadedModule) → state_of from.new None ≡ emptied (state_of from.old l) }
+    ensures name { from.new.name ≡ from.old.name }
+    ensures built_mask { from.new.built_mask ≡ from.old.mask }
 {
-    put_globals(&mut machine.globals, i, Vec::new(alloc));
-    let sections = take_sections(alloc, into);
-    let loaded = match compile(alloc, registry, into.name.as_slice(), into.mask, &sections) {
-        Ok(loaded) => loaded,
-        Err(unbuilt) => return Err(refused_by(unbuilt)),
-    };
-    let Ok(ran) = initialize(alloc, machine, i, &loaded, budget) else {
-        return Err(BuildRefused::Memory);
-    };
-    match ran.result {
-        Ok(()) => {
-            into.program = Some(loaded);
-            Ok(ran.events)
+    let sections = take_sections(alloc, from);
+    compile(
+        alloc,
+        registry,
+        from.name.as_slice(),
+        from.built_mask,
+        &sections,
+    )
+}
+
+/// Loads a module, and gives the first values of its globals.
+///
+/// # Errors
+/// Want of memory, before or after the module was loaded.
+fn load(
+    alloc: Global,
+    code: &mut Modules,
+    home: u32,
+    loaded: LoadedModule,
+) -> Result<Vec<Slot>, AllocError>
+    requires sound { SoundProgram loaded.view (view_typed loaded.tree) }
+    requires unbound { loaded.links ≡ [] }
+    ensures loaded { OnOk result (code.new ≡ slice_set code.old home (Some loaded)) }
+    ensures values { IfOk result (λ values. values.items ≡ first_globals (built_module_at (modules_of code.new) home).tree) }
+    ensures cleared { slice_set code.new home None ≡ slice_set code.old home None }
+{
+    code.load(alloc, home, loaded)?;
+    code.first_globals(alloc, home)
+}
+
+/// Loads a module that has no globals, and runs the initializers of its globals. Where one fails its globals
+/// end.
+///
+/// # Errors
+/// `Memory` or `Initializer`. Then the module is not built.
+fn start(
+    alloc: Global,
+    code: &mut Modules,
+    machine: &mut Machine,
+    events: &mut Vec<HostEvent>,
+    home: u32,
+    loaded: LoadedModule,
+    budget: u64,
+) -> Result<(), BuildRefused>
+    requires sound { SoundProgram loaded.view (view_typed loaded.tree) }
+    requires unbound { loaded.links ≡ [] }
+    requires drivers { AreDriversThere (modules_of (slice_set code.old home (Some loaded))) (length (members machine.old.store.drivers)) }
+    requires ready { IsReady (λ v. (⟦<dyn Driver as Driver>⟧ v).meaning) (lent machine.old events.old) }
+    requires counted { IsCounted [] (world_of (λ v. (⟦<dyn Driver as Driver>⟧ v).meaning) (lent machine.old events.old)) }
+    requires none { slice_index_or (values_in machine.old.store.globals) home [] ≡ [] }
+    requires within { home < length code.old }
+    ensures started { HasStarted (modules_of (slice_set code.old home (Some loaded))) home budget (program_in loaded)
+        (world_of (λ v. (⟦<dyn Driver as Driver>⟧ v).meaning) (lent machine.old events.old)) result (world_of (λ v. (⟦<dyn Driver as Driver>⟧ v).meaning) (lent machine.new events.new)) }
+    ensures asked { HasRunOn (λ v. (⟦<dyn Driver as Driver>⟧ v).meaning) (modules_of (slice_set code.old home (Some loaded))) (lent machine.old events.old) (lent machine.new events.new) }
+    ensures built { OnOk result (code.new ≡ slice_set code.old home (Some loaded)) }
+    ensures cleared { OnErr result (code.new ≡ slice_set code.old home None) }
+{
+    match load(alloc, code, home, loaded) {
+        Ok(values) => put_globals(&mut machine.store.globals, home, values),
+        Err(_) => {
+            code.clear(alloc, home);
+            return Err(BuildRefused::Memory);
         }
+    }
+    match code.initialize(machine, home, budget, events) {
+        Ok(()) => Ok(()),
         Err(fault) => {
-            put_globals(&mut machine.globals, i, Vec::new(alloc));
-            Err(BuildRefused::Initializer(fault, ran.events))
+            end_globals(alloc, machine, events, home as usize);
+            code.clear(alloc, home);
+            Err(BuildRefused::Initializer(fault))
         }
     }
 }
 
-/// Builds the module of that name.
-fn build_named(
+/// Builds a module, after its globals have ended.
+fn build_module(
     alloc: Global,
     registry: &Registry,
-    modules: &mut [Module],
+    list: &mut ModuleList,
     machine: &mut Machine,
+    events: &mut Vec<HostEvent>,
+    home: u32,
+    budget: u64,
+) -> Result<(), BuildRefused>
+    requires within { home < length list.old.modules.items }
+    requires modules { AreSoundModules registry.now.entries list.old }
+    requires drivers { HaveDrivers registry.now.entries (length (members machine.old.store.drivers)) }
+    requires ready { IsReady (λ v. (⟦<dyn Driver as Driver>⟧ v).meaning) (lent machine.old events.old) }
+    requires counted { IsCounted [] (world_of (λ v. (⟦<dyn Driver as Driver>⟧ v).meaning) (lent machine.old events.old)) }
+    requires first { events.old.items ≡ [] }
+    ensures done { Leads (build registry.now.entries (left_to (states_in list.old) (world_of (λ v. (⟦<dyn Driver as Driver>⟧ v).meaning) (lent machine.old events.old))) home
+        (module_at (left_to (states_in list.old) (world_of (λ v. (⟦<dyn Driver as Driver>⟧ v).meaning) (lent machine.old events.old))) home) budget)
+        (reply_to_build result events.new.items) (left_to (states_in list.new) (world_of (λ v. (⟦<dyn Driver as Driver>⟧ v).meaning) (lent machine.new events.new))) }
+    ensures asked { HasAsked (λ v. (⟦<dyn Driver as Driver>⟧ v).meaning) registry.now.entries (left_to (states_in list.new) (world_of (λ v. (⟦<dyn Driver as Driver>⟧ v).meaning) machine.new.store))
+        (reply_to_build result events.new.items).events machine.old.store machine.new.store }
+    ensures sound { AreSoundModules registry.now.entries list.new }
+{
+    end_globals(alloc, machine, events, home as usize);
+    list.code.clear(alloc, home);
+    match compile_waiting(alloc, registry, &mut list.modules[home as usize]) {
+        Ok(loaded) => start(
+            alloc,
+            &mut list.code,
+            machine,
+            events,
+            home,
+            loaded,
+            budget,
+        ),
+        Err(unbuilt) => Err(refused_by(unbuilt)),
+    }
+}
+
+/// Builds the module of that name: `Command::Build`. The events need room for the end of each live host object.
+pub fn build(
+    alloc: Global,
+    registry: &Registry,
+    list: &mut ModuleList,
+    machine: &mut Machine,
+    events: &mut Vec<HostEvent>,
     name: &[u8],
     budget: u64,
-) -> Result<Vec<HostEvent>, BuildRefused>
-    requires drivers { HaveDrivers registry.now.entries (length (members machine.old.drivers)) }
-    ensures done { Leads (building registry.now.entries name.now budget (world_of modules.old (values_in machine.old.globals))) (reply_to_build result) (world_of modules.new (values_in machine.new.globals)) }
-    ensures asked { HasAsked (λ v. (⟦<dyn Driver as Driver>⟧ v).meaning) registry.now.entries (world_of modules.new (values_in machine.new.globals)) (reply_to_build result).events (members machine.old.drivers) (members machine.new.drivers) }
-    ensures sound { All (IsSoundModule registry.now.entries) modules.old → All (IsSoundModule registry.now.entries) modules.new }
+) -> Result<(), BuildRefused>
+    requires modules { AreSoundModules registry.now.entries list.old }
+    requires drivers { HaveDrivers registry.now.entries (length (members machine.old.store.drivers)) }
+    requires ready { IsReady (λ v. (⟦<dyn Driver as Driver>⟧ v).meaning) (lent machine.old events.old) }
+    requires counted { IsCounted [] (world_of (λ v. (⟦<dyn Driver as Driver>⟧ v).meaning) (lent machine.old events.old)) }
+    requires first { events.old.items ≡ [] }
+    ensures done { Leads (building registry.now.entries name.now budget (left_to (states_in list.old) (world_of (λ v. (⟦<dyn Driver as Driver>⟧ v).meaning) (lent machine.old events.old))))
+        (reply_to_build result events.new.items) (left_to (states_in list.new) (world_of (λ v. (⟦<dyn Driver as Driver>⟧ v).meaning) (lent machine.new events.new))) }
+    ensures asked { HasAsked (λ v. (⟦<dyn Driver as Driver>⟧ v).meaning) registry.now.entries (left_to (states_in list.new) (world_of (λ v. (⟦<dyn Driver as Driver>⟧ v).meaning) machine.new.store))
+        (reply_to_build result events.new.items).events machine.old.store machine.new.store }
+    ensures sound { AreSoundModules registry.now.entries list.new }
 {
-    let Some(i) = find(modules, name) else {
+    let Some(home) = find(&list.modules, name) else {
         return Err(BuildRefused::Before(Refusal::NoModule));
     };
     if !may_run(budget) {
         return Err(BuildRefused::Before(Refusal::BadBudget));
     }
-    build_module(alloc, registry, &mut modules[i], machine, i, budget)
-}
-
-/// `Command::Build`.
-pub fn build(
-    alloc: Global,
-    registry: &Registry,
-    modules: &mut Vec<Module>,
-    machine: &mut Machine,
-    name: List<u8>,
-    budget: u64,
-) -> Result<Vec<HostEvent>, BuildRefused>
-    requires drivers { HaveDrivers registry.now.entries (length (members machine.old.drivers)) }
-    ensures done { Leads (building registry.now.entries name budget (world_of modules.old.items (values_in machine.old.globals))) (reply_to_build result) (world_of modules.new.items (values_in machine.new.globals)) }
-    ensures asked { HasAsked (λ v. (⟦<dyn Driver as Driver>⟧ v).meaning) registry.now.entries (world_of modules.new.items (values_in machine.new.globals)) (reply_to_build result).events (members machine.old.drivers) (members machine.new.drivers) }
-    ensures sound { All (IsSoundModule registry.now.entries) modules.old.items → All (IsSoundModule registry.now.entries) modules.new.items }
-    ensures count { length modules.new.items ≡ length modules.old.items }
-{
-    build_named(alloc, registry, modules, machine, name.as_slice(), budget)
+    build_module(alloc, registry, list, machine, events, home, budget)
 }

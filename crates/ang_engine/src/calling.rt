@@ -1,24 +1,23 @@
 //! Calls from outside.
-ghost use Rattle.std.specs.Prelude.{◌≡◌, ◌<◌, List, Some, length, IfOk};
+ghost use Rattle.std.specs.Prelude.{◌≡◌, ◌<◌, [], Some, length, IfOk};
 ghost use Rattle.ang_host.specs.Boxes.{members};
-ghost use Rattle.ang_plain.specs.Plainness.{plain_part};
-ghost use Rattle.ang_check_sound.specs.Checked.{HasNames};
-ghost use Rattle.ang_vm.specs.Worlds.{values_in};
-ghost use Rattle.ang_engine_means.specs.Modules.{TakesSoMany, DriversThere};
-ghost use Rattle.ang_engine_modules.specs.Loaded.{tree_of};
+ghost use Rattle.ang_meaning.specs.Counting.{IsCounted};
+ghost use Rattle.ang_heap.specs.Stores.{world_of, IsReady};
+ghost use Rattle.ang_vm.specs.Machines.{lent};
+ghost use Rattle.ang_engine_modules.specs.Loaded.{modules_of};
+ghost use Rattle.ang_engine_modules.specs.Modules.{TakesSoMany, AreDriversThere};
 ghost use Rattle.ang_engine.specs.Asked.{HasRunOn};
-ghost use Rattle.ang_engine.specs.Outcomes.{IsChosen, IsCalled, HasCalled, reply_to_call, outcome_by};
-ghost use Rattle.ang_engine.specs.Step.{choice_of, of_function, call_chosen};
-ghost use Rattle.ang_engine.specs.World.{ModuleState, resolved_in};
+ghost use Rattle.ang_engine.specs.Engines.{program_in};
+ghost use Rattle.ang_engine.specs.Outcomes.{IsChosen, NameNothing, HasCalled, outcome_by};
+ghost use Rattle.ang_engine.specs.Step.{choice_of, of_function};
 
-use crate::module::Loaded;
 use crate::reply::{Outcome, Refusal};
 use ang_engine_call::{arguments, find_function, is_callable, result_value};
+use ang_engine_modules::{LoadedModule, Modules};
 use ang_host::{Driver, HostEvent};
 use ang_kinds::{Fault, Value};
 use ang_meaning::Slot;
-use ang_names::{Names, ScriptFunction};
-use ang_registry::View;
+use ang_names::ScriptFunction;
 use ang_vm::Machine;
 use std::alloc::Global;
 
@@ -31,15 +30,6 @@ pub struct ChosenCall {
     pub args: Vec<Slot>,
 }
 
-/// How a call ended, and what it asked.
-#[derive(Drop)]
-pub struct Called {
-    /// `Done` with the value of the function, or `Failed` with the fault that cut it short.
-    pub outcome: Outcome,
-    /// What the drivers were asked meanwhile, in order.
-    pub events: Vec<HostEvent>,
-}
-
 /// A call of this function with these values, if it can be called with them.
 fn choose_arguments(
     alloc: Global,
@@ -49,6 +39,7 @@ fn choose_arguments(
 ) -> Result<ChosenCall, Refusal>
     ensures chosen { IsChosen result (of_function number (Some function.now) args.now) }
     ensures number { IfOk result (λ c. c.number ≡ number) }
+    ensures plain { IfOk result (λ c. NameNothing c.args.items) }
 {
     if !is_callable(function) {
         return Err(Refusal::NotCallable);
@@ -60,23 +51,23 @@ fn choose_arguments(
     }
 }
 
-/// The call that a declaration and values name, of a function of these names.
-fn choose(
+/// The call that a declaration and values name, of a function of this module.
+pub fn choose(
     alloc: Global,
-    view: &View,
-    names: &Names,
+    loaded: &LoadedModule,
     decl: &[u8],
     args: &[Value],
 ) -> Result<ChosenCall, Refusal>
-    ensures chosen { IsChosen result (choice_of view.now names.now decl.now args.now) }
-    ensures within { IfOk result (λ c. c.number < length names.now.functions) }
+    ensures chosen { IsChosen result (choice_of (program_in loaded.now) decl.now args.now) }
+    ensures within { IfOk result (λ c. c.number < length loaded.now.names.functions) }
+    ensures plain { IfOk result (λ c. NameNothing c.args.items) }
 {
-    let number = match find_function(alloc, view, names, decl) {
+    let number = match find_function(alloc, &loaded.view, &loaded.names, decl) {
         Ok(Some(number)) => number,
         Ok(None) => return Err(Refusal::NoFunction),
         Err(_) => return Err(Refusal::Memory),
     };
-    choose_arguments(alloc, number, &names.functions.as_slice()[number], args)
+    choose_arguments(alloc, number, &loaded.names.functions.as_slice()[number], args)
 }
 
 /// How a call of the function ended.
@@ -90,49 +81,26 @@ fn call_outcome(function: &ScriptFunction, ended: Result<Slot, Fault>) -> Outcom
 }
 
 /// Runs a function of a module that was chosen for a call.
-fn run_chosen(
-    alloc: Global,
+pub fn run_chosen(
+    code: &Modules,
     machine: &mut Machine,
-    program: &Loaded,
+    events: &mut Vec<HostEvent>,
+    home: u32,
+    loaded: &LoadedModule,
     chosen: &ChosenCall,
     budget: u64,
-) -> Called
-    requires drivers { DriversThere (plain_part program.now.run.view) (length (members machine.old.drivers)) }
-    requires within { chosen.now.number < length program.now.names.functions }
-    requires takes { TakesSoMany (tree_of program.now.run) chosen.now.number (length chosen.now.args.items) }
-    ensures means { HasCalled program.now budget chosen.now (values_in machine.old.globals) result (values_in machine.new.globals) }
-    ensures asked { HasRunOn (λ v. (⟦<dyn Driver as Driver>⟧ v).meaning) program.now.run.name program.now.run.view result.events.items (members machine.old.drivers) (members machine.new.drivers) }
+) -> Outcome
+    requires drivers { AreDriversThere (modules_of code.now) (length (members machine.old.store.drivers)) }
+    requires ready { IsReady (λ v. (⟦<dyn Driver as Driver>⟧ v).meaning) (lent machine.old events.old) }
+    requires plain { NameNothing chosen.now.args.items }
+    requires counted { IsCounted [] (world_of (λ v. (⟦<dyn Driver as Driver>⟧ v).meaning) (lent machine.old events.old)) }
+    requires within { chosen.now.number < length loaded.now.names.functions }
+    requires takes { TakesSoMany (modules_of code.now) home chosen.now.number (length chosen.now.args.items) }
+    ensures means { HasCalled (modules_of code.now) loaded.now.names home budget chosen.now (world_of (λ v. (⟦<dyn Driver as Driver>⟧ v).meaning) (lent machine.old events.old))
+        result (world_of (λ v. (⟦<dyn Driver as Driver>⟧ v).meaning) (lent machine.new events.new)) }
+    ensures asked { HasRunOn (λ v. (⟦<dyn Driver as Driver>⟧ v).meaning) (modules_of code.now) (lent machine.old events.old) (lent machine.new events.new) }
 {
-    let function = &program.names.functions.as_slice()[chosen.number];
-    let ran = program
-        .run
-        .call(alloc, machine, chosen.number, &chosen.args, budget);
-    Called {
-        outcome: call_outcome(function, ran.result),
-        events: ran.events,
-    }
-}
-
-/// Calls the function of a built module that a declaration names, with these values.
-pub fn call_program(
-    alloc: Global,
-    machine: &mut Machine,
-    program: &Loaded,
-    decl: &[u8],
-    args: &[Value],
-    budget: u64,
-) -> Result<Called, Refusal>
-    requires drivers { DriversThere (plain_part program.now.run.view) (length (members machine.old.drivers)) }
-    requires named { HasNames program.now.names (tree_of program.now.run) }
-    ensures done { (modules : List ModuleState) (m : ModuleState) → m.name ≡ program.now.run.name
-        → IsCalled result (call_chosen program.now.run.view (choice_of program.now.run.view program.now.names decl.now args.now)
-        (record { modules = modules; globals = values_in machine.old.globals }) m (resolved_in program.now) budget)
-        (record { modules = modules; globals = values_in machine.old.globals }) (record { modules = modules; globals = values_in machine.new.globals }) }
-    ensures asked { HasRunOn (λ v. (⟦<dyn Driver as Driver>⟧ v).meaning) program.now.run.name program.now.run.view (reply_to_call result).events (members machine.old.drivers) (members machine.new.drivers) }
-{
-    let view = program.run.view();
-    match choose(alloc, view, &program.names, decl, args) {
-        Ok(chosen) => Ok(run_chosen(alloc, machine, program, &chosen, budget)),
-        Err(refusal) => Err(refusal),
-    }
+    let function = &loaded.names.functions.as_slice()[chosen.number];
+    let ended = code.call(machine, home, chosen.number, &chosen.args, budget, events);
+    call_outcome(function, ended)
 }

@@ -6,23 +6,29 @@ ghost use Rattle.ang_host.specs.Members.{state_at, states_of, AreFresh};
 ghost use Rattle.ang_host.specs.Counts.{IsBalanced};
 ghost use Rattle.ang_host.specs.Events.{DriversFollow};
 ghost use Rattle.ang_registry.specs.Roles.{roles_of};
+ghost use Rattle.ang_meaning.specs.Counting.{IsCounted};
+ghost use Rattle.ang_heap.specs.Stores.{world_of, IsKept, IsReady};
+ghost use Rattle.ang_vm.specs.Machines.{lent};
 ghost use Rattle.ang_engine.specs.declared.command.Command.TheVariants.{NewModule, AddSection, Build, Call};
-ghost use Rattle.ang_engine.specs.World.{no_modules};
+ghost use Rattle.ang_engine.specs.World.{no_modules, running, engine_ended};
 ghost use Rattle.ang_engine.specs.Step.{Takes, IsEntitled};
 ghost use Rattle.ang_engine.specs.Sound.{IsSound, HaveDrivers};
 
 use crate::building::build;
-use crate::calling::{Called, call_program};
+use crate::calling::{choose, run_chosen};
 use crate::command::Command;
-use crate::module::{MOST_MODULES, Module};
+use crate::ending::end_all;
+use crate::module::{MOST_MODULES, ModuleList};
 use crate::modules::{add_module, add_section, find, may_run};
 use crate::replies::{answer, build_reply, call_reply, ended};
-use crate::reply::{NewError, NewRefused, Refusal, Reply};
-use ang_host::{Driver, Drivers};
+use crate::reply::{NewError, NewRefused, Outcome, Refusal, Reply};
+use ang_engine_modules::Modules;
+use ang_heap::{Globals, Heap, Store};
+use ang_host::{Driver, Drivers, HostEvent};
 use ang_kinds::{EntityNo, List, Mask, Value};
 use ang_registry::Registry;
-use ang_vm::{Globals, Machine};
-use std::alloc::Global;
+use ang_vm::Machine;
+use std::alloc::{AllocError, Global};
 
 /// Modules of scripts over one registration list and the drivers that answer for it
 /// (docs/EMBEDDING.md).
@@ -32,7 +38,7 @@ pub struct Engine {
     alloc: Global,
     registry: Registry,
     machine: Machine,
-    modules: Vec<Module>,
+    modules: ModuleList,
 }
 
 /// Whether each entry's driver is in a list of so many.
@@ -49,23 +55,45 @@ fn have_drivers(registry: &Registry, count: usize) -> bool
     true
 }
 
-/// A machine without globals.
+/// A machine without script objects and globals. It takes no memory.
 fn machine_of(alloc: Global, drivers: Drivers) -> Machine
-    ensures drivers { result.drivers ≡ drivers }
-    ensures globals { result.globals.modules.items ≡ [] }
+    requires fresh { AreFresh (states_of (λ v. (⟦<dyn Driver as Driver>⟧ v).meaning) (members drivers)) }
+    ensures drivers { members result.store.drivers ≡ members drivers }
+    ensures world { world_of (λ v. (⟦<dyn Driver as Driver>⟧ v).meaning) result.store ≡ running no_modules [] }
+    ensures kept { IsKept (λ v. (⟦<dyn Driver as Driver>⟧ v).meaning) result.store }
+    ensures counted { IsCounted [] (world_of (λ v. (⟦<dyn Driver as Driver>⟧ v).meaning) result.store) }
 {
     Machine {
-        drivers,
-        globals: Globals {
-            modules: Vec::new(alloc),
+        store: Store {
+            heap: Heap::new(alloc),
+            globals: Globals {
+                modules: Vec::new(alloc),
+            },
+            drivers,
+            events: Vec::new(alloc),
+            ends: Vec::new(alloc),
+            live: 0,
         },
     }
+}
+
+/// A list of events for a command, with room for the end of each live host object.
+///
+/// # Errors
+/// Want of memory.
+fn room_for_ends(alloc: Global, machine: &Machine) -> Result<Vec<HostEvent>, AllocError>
+    requires kept { IsKept (λ v. (⟦<dyn Driver as Driver>⟧ v).meaning) machine.now.store }
+    ensures empty { IfOk result (λ events. events.items ≡ []) }
+    ensures ready { IfOk result (λ events. IsReady (λ v. (⟦<dyn Driver as Driver>⟧ v).meaning) (lent machine.now events)) }
+{
+    Vec::with_capacity(alloc, machine.store.live)
 }
 
 impl Engine {
     ghost use Rattle.ang_engine.specs.Applied.{Applied};
     ghost use Rattle.ang_engine.specs.Asked.{HasAsked};
     ghost use Rattle.ang_engine.specs.Outcomes.{IsCalled, calling, reply_to_call};
+    ghost use Rattle.ang_engine.specs.Sound.{AreSoundModules};
     ghost use Rattle.ang_engine.specs.Engines.{registrations, world_in, drivers_in};
 
     /// An engine without modules.
@@ -76,7 +104,7 @@ impl Engine {
     pub fn new(alloc: Global, registry: Registry, drivers: Drivers) -> Result<Engine, NewRefused>
         requires fresh { AreFresh (states_of (λ v. (⟦<dyn Driver as Driver>⟧ v).meaning) (members drivers)) }
         ensures registrations { IfOk result (λ e. registrations e ≡ registry.entries) }
-        ensures world { IfOk result (λ e. world_in e ≡ no_modules) }
+        ensures world { IfOk result (λ e. world_in (λ v. (⟦<dyn Driver as Driver>⟧ v).meaning) e ≡ no_modules) }
         ensures drivers { IfOk result (λ e. drivers_in e ≡ members drivers) }
         ensures sound { IfOk result (λ e. IsSound (λ v. (⟦<dyn Driver as Driver>⟧ v).meaning) e) }
         ensures registry_back { IfErr result (λ r. r.registry ≡ registry) }
@@ -95,7 +123,10 @@ impl Engine {
                 alloc,
                 registry,
                 machine: machine_of(alloc, drivers),
-                modules,
+                modules: ModuleList {
+                    modules,
+                    code: Modules::new(alloc),
+                },
             }),
             Err(_) => Err(NewRefused {
                 why: NewError::Memory,
@@ -113,8 +144,8 @@ impl Engine {
     /// call is of an entity that its caller saw when it was built, and the drivers follow the events.
     pub fn apply(&mut self, command: Command) -> Reply
         requires sound { IsSound (λ v. (⟦<dyn Driver as Driver>⟧ v).meaning) self.old }
-        ensures takes { Takes (registrations self.old) (world_in self.old) command result (world_in self.new) }
-        ensures entitled { All (IsEntitled (registrations self.new) (world_in self.new)) result.events }
+        ensures takes { Takes (registrations self.old) (world_in (λ v. (⟦<dyn Driver as Driver>⟧ v).meaning) self.old) command result (world_in (λ v. (⟦<dyn Driver as Driver>⟧ v).meaning) self.new) }
+        ensures entitled { All (IsEntitled (registrations self.new) (world_in (λ v. (⟦<dyn Driver as Driver>⟧ v).meaning) self.new)) result.events }
         ensures follow { DriversFollow (λ v. (⟦<dyn Driver as Driver>⟧ v).meaning) (roles_of (registrations self.old)) (drivers_in self.old) result.events (drivers_in self.new) }
         ensures sound { IsSound (λ v. (⟦<dyn Driver as Driver>⟧ v).meaning) self.new }
         ensures registrations { registrations self.new ≡ registrations self.old }
@@ -134,19 +165,19 @@ impl Engine {
 
     fn new_module(&mut self, name: List<u8>, mask: Mask) -> Reply
         requires sound { IsSound (λ v. (⟦<dyn Driver as Driver>⟧ v).meaning) self.old }
-        ensures applied { Applied (λ v. (⟦<dyn Driver as Driver>⟧ v).meaning) (registrations self.old) (world_in self.old) (drivers_in self.old) (NewModule name mask) result (world_in self.new) (drivers_in self.new) }
+        ensures applied { Applied (λ v. (⟦<dyn Driver as Driver>⟧ v).meaning) (registrations self.old) (world_in (λ v. (⟦<dyn Driver as Driver>⟧ v).meaning) self.old) (drivers_in self.old) (NewModule name mask) result (world_in (λ v. (⟦<dyn Driver as Driver>⟧ v).meaning) self.new) (drivers_in self.new) }
         ensures sound { IsSound (λ v. (⟦<dyn Driver as Driver>⟧ v).meaning) self.new }
         ensures registrations { registrations self.new ≡ registrations self.old }
     {
         let alloc = self.alloc;
-        let globals = &mut self.machine.globals;
+        let globals = &mut self.machine.store.globals;
         let done = add_module(alloc, &mut self.modules, globals, name, mask);
         answer(alloc, ended(done))
     }
 
     fn add_section(&mut self, name: List<u8>, text: List<u8>) -> Reply
         requires sound { IsSound (λ v. (⟦<dyn Driver as Driver>⟧ v).meaning) self.old }
-        ensures applied { Applied (λ v. (⟦<dyn Driver as Driver>⟧ v).meaning) (registrations self.old) (world_in self.old) (drivers_in self.old) (AddSection name text) result (world_in self.new) (drivers_in self.new) }
+        ensures applied { Applied (λ v. (⟦<dyn Driver as Driver>⟧ v).meaning) (registrations self.old) (world_in (λ v. (⟦<dyn Driver as Driver>⟧ v).meaning) self.old) (drivers_in self.old) (AddSection name text) result (world_in (λ v. (⟦<dyn Driver as Driver>⟧ v).meaning) self.new) (drivers_in self.new) }
         ensures sound { IsSound (λ v. (⟦<dyn Driver as Driver>⟧ v).meaning) self.new }
         ensures registrations { registrations self.new ≡ registrations self.old }
     {
@@ -156,76 +187,112 @@ impl Engine {
 
     fn build(&mut self, name: List<u8>, budget: u64) -> Reply
         requires sound { IsSound (λ v. (⟦<dyn Driver as Driver>⟧ v).meaning) self.old }
-        ensures applied { Applied (λ v. (⟦<dyn Driver as Driver>⟧ v).meaning) (registrations self.old) (world_in self.old) (drivers_in self.old) (Build name budget) result (world_in self.new) (drivers_in self.new) }
+        ensures applied { Applied (λ v. (⟦<dyn Driver as Driver>⟧ v).meaning) (registrations self.old) (world_in (λ v. (⟦<dyn Driver as Driver>⟧ v).meaning) self.old) (drivers_in self.old) (Build name budget) result (world_in (λ v. (⟦<dyn Driver as Driver>⟧ v).meaning) self.new) (drivers_in self.new) }
         ensures sound { IsSound (λ v. (⟦<dyn Driver as Driver>⟧ v).meaning) self.new }
         ensures registrations { registrations self.new ≡ registrations self.old }
     {
+        let Ok(mut events) = room_for_ends(self.alloc, &self.machine) else {
+            return answer(self.alloc, Outcome::Refused(Refusal::Memory));
+        };
         let done = build(
             self.alloc,
             &self.registry,
             &mut self.modules,
             &mut self.machine,
-            name,
+            &mut events,
+            name.as_slice(),
             budget,
         );
-        build_reply(self.alloc, done)
+        build_reply(self.alloc, done, events)
     }
 
     /// Calls a function of the module of that name.
     fn call_named(
         &mut self,
+        events: &mut Vec<HostEvent>,
         name: &[u8],
         decl: &[u8],
         args: &[Value],
         budget: u64,
-    ) -> Result<Called, Refusal>
+    ) -> Result<Outcome, Refusal>
         requires sound { IsSound (λ v. (⟦<dyn Driver as Driver>⟧ v).meaning) self.old }
-        ensures done { IsCalled result (calling (registrations self.old) name.now decl.now args.now budget (world_in self.old)) (world_in self.old) (world_in self.new) }
-        ensures asked { HasAsked (λ v. (⟦<dyn Driver as Driver>⟧ v).meaning) (registrations self.old) (world_in self.new) (reply_to_call result).events (drivers_in self.old) (drivers_in self.new) }
+        requires ready { IsReady (λ v. (⟦<dyn Driver as Driver>⟧ v).meaning) (lent self.old.machine events.old) }
+        requires first { events.old.items ≡ [] }
+        ensures done { IsCalled result events.new.items (calling name.now decl.now args.now budget (world_in (λ v. (⟦<dyn Driver as Driver>⟧ v).meaning) self.old))
+            (world_in (λ v. (⟦<dyn Driver as Driver>⟧ v).meaning) self.old) (world_in (λ v. (⟦<dyn Driver as Driver>⟧ v).meaning) self.new) }
+        ensures asked { HasAsked (λ v. (⟦<dyn Driver as Driver>⟧ v).meaning) (registrations self.old) (world_in (λ v. (⟦<dyn Driver as Driver>⟧ v).meaning) self.new)
+            (reply_to_call result events.new.items).events self.old.machine.store self.new.machine.store }
         ensures modules { self.new.modules ≡ self.old.modules }
         ensures registrations { registrations self.new ≡ registrations self.old }
     {
-        let Some(i) = find(&self.modules, name) else {
+        let Some(home) = find(&self.modules.modules, name) else {
             return Err(Refusal::NoModule);
         };
-        let Some(program) = &self.modules[i].program else {
+        let Some(loaded) = self.modules.code.loaded(home) else {
             return Err(Refusal::NotBuilt);
         };
         if !may_run(budget) {
             return Err(Refusal::BadBudget);
         }
-        call_program(self.alloc, &mut self.machine, program, decl, args, budget)
+        match choose(self.alloc, loaded, decl, args) {
+            Ok(chosen) => Ok(run_chosen(
+                &self.modules.code,
+                &mut self.machine,
+                events,
+                home,
+                loaded,
+                &chosen,
+                budget,
+            )),
+            Err(refusal) => Err(refusal),
+        }
     }
 
     fn call(&mut self, name: List<u8>, decl: List<u8>, args: List<Value>, budget: u64) -> Reply
         requires sound { IsSound (λ v. (⟦<dyn Driver as Driver>⟧ v).meaning) self.old }
-        ensures applied { Applied (λ v. (⟦<dyn Driver as Driver>⟧ v).meaning) (registrations self.old) (world_in self.old) (drivers_in self.old) (Call name decl args budget) result (world_in self.new) (drivers_in self.new) }
+        ensures applied { Applied (λ v. (⟦<dyn Driver as Driver>⟧ v).meaning) (registrations self.old) (world_in (λ v. (⟦<dyn Driver as Driver>⟧ v).meaning) self.old) (drivers_in self.old) (Call name decl args budget) result (world_in (λ v. (⟦<dyn Driver as Driver>⟧ v).meaning) self.new) (drivers_in self.new) }
         ensures sound { IsSound (λ v. (⟦<dyn Driver as Driver>⟧ v).meaning) self.new }
         ensures registrations { registrations self.new ≡ registrations self.old }
     {
         let alloc = self.alloc;
-        let done = self.call_named(name.as_slice(), decl.as_slice(), args.as_slice(), budget);
-        call_reply(alloc, done)
+        let Ok(mut events) = room_for_ends(alloc, &self.machine) else {
+            return answer(alloc, Outcome::Refused(Refusal::Memory));
+        };
+        let done = self.call_named(
+            &mut events,
+            name.as_slice(),
+            decl.as_slice(),
+            args.as_slice(),
+            budget,
+        );
+        call_reply(alloc, done, events)
     }
 
     /// Ends the engine, and gives its drivers back in their order, with no object of theirs alive: another
-    /// engine can have them. It takes no memory, asks no driver anything, and always succeeds.
+    /// engine can have them. The globals of its modules are given up, those of the module last made first. It
+    /// takes no memory, asks no driver anything, and always succeeds.
     pub fn discard(self) -> Vec<Box<dyn Driver>>
         requires sound { IsSound (λ v. (⟦<dyn Driver as Driver>⟧ v).meaning) self }
-        ensures same { result.items ≡ drivers_in self }
+        ensures ended { (roles : List Role) → DriversFollow (λ v. (⟦<dyn Driver as Driver>⟧ v).meaning) roles (drivers_in self) (engine_ended (world_in (λ v. (⟦<dyn Driver as Driver>⟧ v).meaning) self)).events result.items }
         ensures balanced { All IsBalanced (states_of (λ v. (⟦<dyn Driver as Driver>⟧ v).meaning) result.items) }
         ensures fresh { AreFresh (states_of (λ v. (⟦<dyn Driver as Driver>⟧ v).meaning) result.items) }
     {
         let Engine {
-            alloc: _,
+            alloc,
             registry: _,
             machine,
             modules: _,
         } = self;
-        let Machine {
-            drivers,
-            globals: _,
-        } = machine;
+        let Machine { store } = machine;
+        let Store {
+            mut heap,
+            mut globals,
+            mut drivers,
+            events: _,
+            mut ends,
+            live: _,
+        } = store;
+        end_all(alloc, &mut heap, &mut globals, &mut drivers, &mut ends);
         drivers.into_boxes()
     }
 }

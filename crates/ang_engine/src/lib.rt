@@ -4,7 +4,9 @@
 mod building;
 mod calling;
 mod command;
+mod ending;
 mod engine;
+pub mod laws;
 mod module;
 mod modules;
 mod replies;

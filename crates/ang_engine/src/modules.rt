@@ -1,20 +1,24 @@
 //! The modules of an engine, by name, and their waiting sections.
-ghost use Rattle.std.specs.Prelude.{◌≡◌, ◌<◌, ◌≤◌, ◌++◌, ◌∷◌, [], List, All, length, IfSome, OnOk, OnErr, slice_set};
+ghost use Rattle.std.specs.Prelude.{◌≡◌, ◌<◌, ◌≤◌, ◌^◌, ◌++◌, ◌∷◌, [], List, Option, None, length, IfSome, OnOk, OnErr, slice_set};
+ghost use Rattle.std.specs.List.{AllZip};
 ghost use Rattle.ang_registry.specs.Registration.{RegistrationList};
-ghost use Rattle.ang_meaning.specs.declared.slot.Slot.{Slot};
-ghost use Rattle.ang_vm.specs.Worlds.{values_in};
+ghost use Rattle.ang_meaning.specs.World.{World as RunWorld};
+ghost use Rattle.ang_meaning.specs.Counting.{IsCounted};
+ghost use Rattle.ang_heap.specs.Globals.{values_in};
+ghost use Rattle.ang_engine.specs.Engines.{module_states, states_in, state_of};
 ghost use Rattle.ang_engine.specs.Outcomes.{IsDone, IsAdded};
-ghost use Rattle.ang_engine.specs.Sound.{IsSoundModule};
+ghost use Rattle.ang_engine_modules.specs.declared.modules.LoadedModule.{LoadedModule};
+ghost use Rattle.ang_engine.specs.Sound.{AreSoundModules, IsSoundModule};
 ghost use Rattle.ang_engine.specs.Step.{is_budget, added_module, on_module};
 ghost use Rattle.ang_engine.specs.Step as spec;
-ghost use Rattle.ang_engine.specs.World.{state_of, world_of, module_named};
+ghost use Rattle.ang_engine.specs.World.{module_named, index_from, left_to};
 
-use crate::module::{MOST_MODULES, MOST_SECTIONS, Module};
+use crate::module::{MOST_MODULES, MOST_SECTIONS, Module, ModuleList};
 use crate::reply::Refusal;
+use ang_heap::Globals;
 use ang_kinds::{List, Mask};
 use ang_lex::is_name;
 use ang_meaning::Slot;
-use ang_vm::Globals;
 use std::alloc::{AllocError, Global};
 
 /// The greatest budget, in ticks.
@@ -27,66 +31,76 @@ pub fn may_run(budget: u64) -> bool
     1 <= budget && budget <= MOST_TICKS
 }
 
-/// The index of the module of that name.
-pub fn find(modules: &[Module], name: &[u8]) -> Option<usize>
-    ensures exact { (globals : List (List Slot)) → result ≡ module_named name.now (world_of modules.now globals) }
+/// The number of the module of that name.
+pub fn find(modules: &[Module], name: &[u8]) -> Option<u32>
+    requires few { length modules.now < 2 ^ 32 }
+    ensures exact { (code : List (Option LoadedModule)) → result ≡ index_from 0 name.now (module_states modules.now code) }
     ensures within { IfSome result (λ i. i < length modules.now) }
 {
     for (i, module) in modules.iter().enumerate() {
         if module.name.as_slice() == name {
-            return Some(i);
+            return Some(i as u32);
         }
     }
     None
 }
 
 /// Puts these values in the place of a module's globals.
-#[tactic(auto, using(crate::proofs::Worlds::map_set))]
-pub fn put_globals(globals: &mut Globals, i: usize, values: Vec<Slot>)
-    ensures set { values_in globals.new ≡ slice_set (values_in globals.old) i values.items }
+#[tactic(auto, using(crate::proofs::Lists::map_set))]
+pub fn put_globals(globals: &mut Globals, home: u32, values: Vec<Slot>)
+    ensures set { values_in globals.new ≡ slice_set (values_in globals.old) home values.items }
 {
-    if i < globals.modules.len() {
-        globals.modules[i] = values;
+    let home = home as usize;
+    if home < globals.modules.len() {
+        globals.modules[home] = values;
     }
 }
 
-/// Adds a module, which has no globals yet.
+/// Adds a module, which has no globals yet and is not built.
 fn push_module(
     alloc: Global,
-    modules: &mut Vec<Module>,
+    list: &mut ModuleList,
     globals: &mut Globals,
     new_module: Module,
 ) -> Result<(), AllocError>
-    ensures modules { OnOk result (modules.new.items ≡ modules.old.items ++ new_module ∷ []) }
+    ensures modules { OnOk result (list.new.modules.items ≡ list.old.modules.items ++ new_module ∷ []) }
+    ensures code { OnOk result (list.new.code ≡ list.old.code ++ None ∷ []) }
     ensures globals { OnOk result (values_in globals.new ≡ values_in globals.old ++ [] ∷ []) }
-    ensures no_module { OnErr result (modules.new.items ≡ modules.old.items) }
+    ensures no_module { OnErr result (list.new.modules.items ≡ list.old.modules.items) }
+    ensures no_code { OnErr result (list.new.code ≡ list.old.code) }
     ensures no_globals { OnErr result (values_in globals.new ≡ values_in globals.old) }
 {
-    modules.reserve(1)?;
-    globals.modules.push(Vec::new(alloc))?;
-    modules.push_reserved(new_module);
+    list.modules.reserve(1)?;
+    globals.modules.reserve(1)?;
+    list.code.add(alloc)?;
+    list.modules.push_reserved(new_module);
+    globals.modules.push_reserved(Vec::new(alloc));
     Ok(())
 }
 
 /// Adds a module without sections, unbuilt: `Command::NewModule`.
 pub fn add_module(
     alloc: Global,
-    modules: &mut Vec<Module>,
+    list: &mut ModuleList,
     globals: &mut Globals,
     name: List<u8>,
     mask: Mask,
 ) -> Result<(), Refusal>
-    ensures done { IsDone result (added_module name mask.0 (world_of modules.old.items (values_in globals.old))) (world_of modules.old.items (values_in globals.old)) (world_of modules.new.items (values_in globals.new)) }
-    ensures sound { (R : RegistrationList) → All (IsSoundModule R) modules.old.items → All (IsSoundModule R) modules.new.items }
-    ensures one { length modules.old.items ≤ 1 → length modules.new.items ≤ 1 }
+    requires few { length list.old.modules.items < 2 ^ 32 }
+    requires zipped { length list.old.code ≡ length list.old.modules.items }
+    ensures done { (r : RunWorld) → IsDone result
+        (added_module name mask.0 (left_to (states_in list.old) (record r { globals = values_in globals.old })))
+        (left_to (states_in list.old) (record r { globals = values_in globals.old })) (left_to (states_in list.new) (record r { globals = values_in globals.new })) }
+    ensures sound { (R : RegistrationList) → AreSoundModules R list.old → AreSoundModules R list.new }
+    ensures counted { (r : RunWorld) → IsCounted [] (record r { globals = values_in globals.old }) → IsCounted [] (record r { globals = values_in globals.new }) }
 {
     if !is_name(name.as_slice()) {
         return Err(Refusal::BadName);
     }
-    if let Some(_) = find(modules, name.as_slice()) {
+    if let Some(_) = find(&list.modules, name.as_slice()) {
         return Err(Refusal::ModuleExists);
     }
-    if modules.len() >= MOST_MODULES {
+    if list.modules.len() >= MOST_MODULES {
         return Err(Refusal::Limit);
     }
     let module = Module {
@@ -94,17 +108,17 @@ pub fn add_module(
         mask,
         built_mask: mask,
         sections: Vec::new(alloc),
-        program: None,
     };
-    if push_module(alloc, modules, globals, module).is_err() {
+    if push_module(alloc, list, globals, module).is_err() {
         return Err(Refusal::Memory);
     }
     Ok(())
 }
 
 fn push_section(into: &mut Module, text: List<u8>) -> Result<(), Refusal>
-    ensures added { IsAdded result text (state_of into.old) (state_of into.new) }
-    ensures sound { (R : RegistrationList) → IsSoundModule R into.old → IsSoundModule R into.new }
+    ensures added { (l : Option LoadedModule) → IsAdded result text (state_of into.old l) (state_of into.new l) }
+    ensures name { into.new.name ≡ into.old.name }
+    ensures built_mask { into.new.built_mask ≡ into.old.built_mask }
 {
     if into.sections.len() >= MOST_SECTIONS {
         return Err(Refusal::Limit);
@@ -117,20 +131,25 @@ fn push_section(into: &mut Module, text: List<u8>) -> Result<(), Refusal>
 
 /// Adds a section to those that wait in the module of that name.
 fn add_text(modules: &mut [Module], name: &[u8], text: List<u8>) -> Result<(), Refusal>
-    ensures done { (globals : List (List Slot)) → IsDone result (λ inputs. on_module (module_named name.now (world_of modules.old globals)) (world_of modules.old globals) inputs (spec.add_section text (world_of modules.old globals))) (world_of modules.old globals) (world_of modules.new globals) }
-    ensures sound { (R : RegistrationList) → All (IsSoundModule R) modules.old → All (IsSoundModule R) modules.new }
+    requires few { length modules.old < 2 ^ 32 }
+    ensures done { (code : List (Option LoadedModule)) (r : RunWorld)
+        → IsDone result (λ inputs. on_module (module_named name.now (left_to (module_states modules.old code) r)) (left_to (module_states modules.old code) r) inputs
+        (spec.add_section text (left_to (module_states modules.old code) r))) (left_to (module_states modules.old code) r) (left_to (module_states modules.new code) r) }
+    ensures sound { (R : RegistrationList) (code : List (Option LoadedModule)) → AllZip (IsSoundModule R) modules.old code → AllZip (IsSoundModule R) modules.new code }
+    ensures count { length modules.new ≡ length modules.old }
 {
     let Some(i) = find(modules, name) else {
         return Err(Refusal::NoModule);
     };
-    push_section(&mut modules[i], text)
+    push_section(&mut modules[i as usize], text)
 }
 
 /// `Command::AddSection`.
-pub fn add_section(modules: &mut Vec<Module>, name: List<u8>, text: List<u8>) -> Result<(), Refusal>
-    ensures done { (globals : List (List Slot)) → IsDone result (λ inputs. on_module (module_named name (world_of modules.old.items globals)) (world_of modules.old.items globals) inputs (spec.add_section text (world_of modules.old.items globals))) (world_of modules.old.items globals) (world_of modules.new.items globals) }
-    ensures sound { (R : RegistrationList) → All (IsSoundModule R) modules.old.items → All (IsSoundModule R) modules.new.items }
-    ensures count { length modules.new.items ≡ length modules.old.items }
+pub fn add_section(list: &mut ModuleList, name: List<u8>, text: List<u8>) -> Result<(), Refusal>
+    requires few { length list.old.modules.items < 2 ^ 32 }
+    ensures done { (r : RunWorld) → IsDone result (λ inputs. on_module (module_named name (left_to (states_in list.old) r)) (left_to (states_in list.old) r) inputs
+        (spec.add_section text (left_to (states_in list.old) r))) (left_to (states_in list.old) r) (left_to (states_in list.new) r) }
+    ensures sound { (R : RegistrationList) → AreSoundModules R list.old → AreSoundModules R list.new }
 {
-    add_text(modules, name.as_slice(), text)
+    add_text(&mut list.modules, name.as_slice(), text)
 }

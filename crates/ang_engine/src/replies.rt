@@ -4,7 +4,6 @@ ghost use Rattle.ang_engine.specs.Step.{reply_of};
 ghost use Rattle.ang_engine.specs.Outcomes.{outcome_of, reply_to_build, reply_to_call};
 
 use crate::building::BuildRefused;
-use crate::calling::Called;
 use crate::reply::{Outcome, Refusal, Reply};
 use ang_host::HostEvent;
 use ang_kinds::{Error, List};
@@ -46,31 +45,39 @@ pub fn ended(done: Result<(), Refusal>) -> Outcome
     }
 }
 
-/// The reply to a build.
-pub fn build_reply(alloc: Global, done: Result<Vec<HostEvent>, BuildRefused>) -> Reply
-    ensures exact { result ≡ reply_to_build done }
+/// The reply to a build, with what it has listed.
+pub fn build_reply(
+    alloc: Global,
+    done: Result<(), BuildRefused>,
+    events: Vec<HostEvent>,
+) -> Reply
+    ensures exact { result ≡ reply_to_build done events.items }
 {
     match done {
-        Ok(events) => with_events(alloc, Outcome::Done(None), events),
+        Ok(()) => with_events(alloc, Outcome::Done(None), events),
         Err(BuildRefused::Before(refusal)) => answer(alloc, Outcome::Refused(refusal)),
-        Err(BuildRefused::Memory) => answer(alloc, Outcome::Refused(Refusal::BuildMemory)),
-        Err(BuildRefused::Errors(errors)) => {
-            let outcome = Outcome::Refused(Refusal::BuildErrors);
-            reply(alloc, outcome, Vec::new(alloc), errors)
+        Err(BuildRefused::Memory) => {
+            with_events(alloc, Outcome::Refused(Refusal::BuildMemory), events)
         }
-        Err(BuildRefused::Initializer(fault, events)) => {
-            let outcome = Outcome::Refused(Refusal::InitFailed(fault));
-            with_events(alloc, outcome, events)
+        Err(BuildRefused::Errors(errors)) => {
+            reply(alloc, Outcome::Refused(Refusal::BuildErrors), events, errors)
+        }
+        Err(BuildRefused::Initializer(fault)) => {
+            with_events(alloc, Outcome::Refused(Refusal::InitFailed(fault)), events)
         }
     }
 }
 
-/// The reply to a call.
-pub fn call_reply(alloc: Global, done: Result<Called, Refusal>) -> Reply
-    ensures exact { result ≡ reply_to_call done }
+/// The reply to a call, with what it has listed.
+pub fn call_reply(
+    alloc: Global,
+    done: Result<Outcome, Refusal>,
+    events: Vec<HostEvent>,
+) -> Reply
+    ensures exact { result ≡ reply_to_call done events.items }
 {
     match done {
-        Ok(called) => with_events(alloc, called.outcome, called.events),
+        Ok(outcome) => with_events(alloc, outcome, events),
         Err(refusal) => answer(alloc, Outcome::Refused(refusal)),
     }
 }

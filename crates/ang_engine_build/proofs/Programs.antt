@@ -11,8 +11,6 @@ use Rattle.ang_names.specs.Declarations.{declarations_of}
 use Rattle.ang_names.specs.Phases.{errors_of, errors_or}
 use Rattle.ang_names.specs.Resolved.{names_of}
 use Rattle.ang_check.specs.Bodies.{body_errors, program_of}
-use Rattle.ang_plain.specs.Plainness.{plain_part}
-use Rattle.ang_plain.proofs.Sounds.{program_stays}
 use Rattle.ang_check_sound.specs.Checked.{HasNames}
 use Rattle.ang_check_sound.proofs.Program.{has_names, program_is_sound}
 use Rattle.ang_engine_build.specs.Script.{sources_of}
@@ -46,11 +44,11 @@ scripts_resolve V ss r is =
 
 -- ---- the laws, of scripts
 
-sound_scripts : (V : RegistrationList) (ss : List Source) (r : Resolved) → TakesValues V → IsResolution V ss r → SoundProgram (plain_part V) r.tree
+sound_scripts : (V : RegistrationList) (ss : List Source) (r : Resolved) → TakesValues V → IsResolution V ss r → SoundProgram V r.tree
 sound_scripts V ss r values h =
     let names = names_of V (declarations_of ss) in
     let sound : SoundProgram V (program_of V names ss) = program_is_sound V names ss values refl h.within h.accepted in
-    subst (λ (q : Resolved). SoundProgram (plain_part V) q.tree) h.is (program_stays V (program_of V names ss) sound)
+    subst (λ (q : Resolved). SoundProgram V q.tree) h.is sound
 
 named_scripts : (V : RegistrationList) (ss : List Source) (r : Resolved) → IsResolution V ss r → HasNames r.names r.tree
 named_scripts V ss r h =
@@ -59,7 +57,7 @@ named_scripts V ss r h =
 -- ---- the laws, of sections
 
 sound_read : (V : RegistrationList) (read : Result (List Source) Error) (r : Resolved) → TakesValues V → after_reading V read ≡ Compiled r
-    → SoundProgram (plain_part V) r.tree
+    → SoundProgram V r.tree
 sound_read V (Ok ss) r values is = sound_scripts V ss r values (scripts_resolve V ss r is)
 sound_read V (Err e) r values is = cc
 
@@ -67,9 +65,9 @@ named_read : (V : RegistrationList) (read : Result (List Source) Error) (r : Res
 named_read V (Ok ss) r is = named_scripts V ss r (scripts_resolve V ss r is)
 named_read V (Err e) r is = cc
 
--- the tree is sound over the plain part of the view
+-- the tree is sound over the view
 pub program-sound : (V : RegistrationList) (sections : List (List ℕ)) (r : Resolved) → TakesValues V → build_of V sections ≡ Compiled r
-    → SoundProgram (plain_part V) r.tree
+    → SoundProgram V r.tree
 program-sound V sections r values is = sound_read V (sources_of 0 sections) r values is
 
 -- the functions and globals of the tree are those of the names

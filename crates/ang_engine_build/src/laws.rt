@@ -3,19 +3,18 @@ ghost use Rattle.std.specs.Prelude.{◌≡◌, ℕ, List};
 ghost use Rattle.ang_registry.specs.Registration.{RegistrationList};
 ghost use Rattle.ang_registry.specs.Values.{TakesValues};
 ghost use Rattle.ang_source.specs.Sound.{SoundProgram};
-ghost use Rattle.ang_plain.specs.Plainness.{plain_part};
 ghost use Rattle.ang_check_sound.specs.Checked.{HasNames};
 ghost use Rattle.ang_engine_build.specs.Build.{Resolved, Compiled, build_of};
 
-/// The tree of a built program is sound over the plain part of its view: its locals are alive, its functions and
-/// globals are there, each call has an argument for each parameter, and each host function and host property
-/// that it names is a plain one of the view, asked for by its driver and number. What a registry shows takes
-/// values alone (`Registry::seen`).
+/// The tree of a built program is sound over its view: its locals are alive, its functions and globals are
+/// there, each call has an argument for each parameter, and each host function and host property that it names
+/// is one of the view, asked for by its driver and number. What a registry shows takes values alone
+/// (`Registry::seen`).
 pub fn programs_are_sound()
     ensures sound { (V : RegistrationList) (sections : List (List ℕ)) (r : Resolved)
         → TakesValues V
         → build_of V sections ≡ Compiled r
-        → SoundProgram (plain_part V) r.tree }
+        → SoundProgram V r.tree }
 {}
 
 /// The functions and globals of its tree are those of its names, each at its number, with the parameters,

@@ -1,4 +1,14 @@
-pub mod Uses
+pub mod Inputs
+pub mod Settings
+pub mod Behaving
+pub mod Outcomes
+pub mod Asking
+pub mod Bodies
+pub mod Askable
+pub mod Calls
+pub mod Initializers
 pub mod Numbers
-pub mod Running
 pub mod Loading
+pub mod Uses
+pub mod Running
+pub mod Serving

@@ -1,111 +1,155 @@
--- What runs of a table mean, whichever module it holds.
-use Rattle.std.proofs.Common.{◌≡◌, ◌+◌, ◌-◌, ◌<◌, ◌≤◌, ℕ, List, [], ◌∷◌, ◌++◌, refl, sym, ap, subst, ◌∙◌}
-use Rattle.std.specs.Prelude.{reverse, Result, Ok, Err}
+-- What the machine's runs of a table mean, whichever modules it holds.
+use Rattle.std.proofs.Common.{◌≡◌, ◌+◌, ◌-◌, ◌<◌, ◌≤◌, ℕ, List, [], ◌∷◌, ◌++◌, Some, inl, inr, refl, sym, ap, subst, ◌∙◌}
+use Rattle.std.specs.Prelude.{length, reverse, slice_get, Result, Ok, Err}
 use Rattle.std.specs.List.{AllByRecursion}
 use Rattle.std.proofs.lemmas.List.{append_assoc}
 use Rattle.ang_kinds.specs.declared.fault.Fault.{Fault}
-use Rattle.std.specs.declared.alloc.Global.{Global}
-use Rattle.std.specs.declared.dyn_box.DynBox.{DynBox}
-use Rattle.ang_host.specs.declared.event.HostEvent.{HostEvent}
-use Rattle.ang_host.specs.declared.event.Role.{Role}
-use Rattle.ang_host.specs.Laws.{Meaning}
-use Rattle.ang_host.specs.Events.{DriversFollow}
-use Rattle.ang_registry.specs.Registration.{RegistrationList}
-use Rattle.ang_typed.specs.Typed as tree
 use Rattle.ang_meaning.specs.declared.slot.Slot.{Slot}
 use Rattle.ang_meaning.specs.declared.slot.Slot.TheVariants.{Bits}
 use Rattle.ang_meaning.specs.declared.routine.Routine.{Routine}
-use Rattle.ang_meaning.specs.World.{with_inputs}
-use Rattle.ang_code.specs.Machine.{call_begins, initializer_begins}
+use Rattle.ang_meaning.specs.World.{World, Input, with_inputs}
+use Rattle.ang_meaning.specs.Counting.{IsCounted}
+use Rattle.ang_meaning.specs.Setting.{Setting}
+use Rattle.ang_code.specs.Machine.{Config, call_begins, initializer_begins}
+use Rattle.ang_code.specs.Runs.{Stops}
+use Rattle.ang_source.specs.Meaning.{passings_in}
 use Rattle.ang_lower.specs.Same.{routine}
-use Rattle.ang_plain.specs.Plainness.{plain_part}
-use Rattle.ang_vm_steps.specs.declared.table.Table.{Table}
-use Rattle.ang_vm_steps.specs.Tables.{setting_of, texts_of}
-use Rattle.ang_vm.specs.Worlds.{world_of}
-use Rattle.ang_vm.specs.Machines.{HasRun, HasInitialized, HaveRoles, DriversMove}
-use Rattle.ang_engine_means.specs.Executed.{initializers_of}
-use Rattle.ang_engine_means.specs.Initializing.{HaveComeTo}
-use Rattle.ang_engine_means.specs.Modules.{IsTableOf, IsAskedIn}
-use Rattle.ang_engine_means.proofs.Calls.{calls-mean, calls-ask}
-use Rattle.ang_engine_means.proofs.Initializers.{initializers-begin, initializers-end, initializer-goes-on, initializer-faults, initializers-ask}
+use Rattle.ang_vm_stack.specs.declared.table.Table.{Table}
+use Rattle.ang_vm_stack.specs.Tables.{setting_of, texts_of}
+use Rattle.ang_vm.specs.Machines.{HasRun, HasInitialized}
+use Rattle.ang_engine_modules.specs.Modules.{Module, module_at, TakesSoMany, IsAskedIn}
+use Rattle.ang_engine_modules.specs.Executed.{setting_for, call_of, initializers_of, initialization_of}
+use Rattle.ang_engine_modules.specs.Initializing.{HaveComeTo}
+use Rattle.ang_engine_modules.specs.Loaded.{IsTableOf}
 use Rattle.ang_engine_modules.specs.Numbers.{routines_at}
-use Rattle.ang_engine_modules.specs.Started.{HasCalled, HasBegun}
+use Rattle.ang_engine_modules.specs.Started.{HasEnded, HasCalled, HasBegun}
+use Rattle.ang_engine_modules.proofs.Settings.{setting_same}
+use Rattle.ang_engine_modules.proofs.Bodies.{takes_nothing}
 use Rattle.ang_engine_modules.proofs.Numbers.{next_routine, no_routine}
+use Rattle.ang_engine_modules.proofs.Calls.{call_gives, call_stops, call_stands}
+use Rattle.ang_engine_modules.proofs.Initializers.{initializer_asks, initializer_gives_asks, initializer_stands, leaves, stops, counted_given, counted_stopped, come_first, come_last}
 
 module _ (t : Table) where
-  -- a call, where no event was there before it
-  pub has_called : (budget n : ℕ) (args : List Slot) (before after : List (List Slot)) (none events : List HostEvent) (result : Result Slot Fault) → none ≡ []
-      → HasRun (setting_of t 200) (texts_of t)
-      (λ is. call_begins (setting_of t 200) (texts_of t) budget (routine 0 n) (reverse args) (with_inputs is (world_of before none))) result (world_of after events)
-      → HasCalled t budget n args before result after events
-  has_called budget n args before after none events result empty run = λ name V p is takes.
-      let first = subst (λ es. HasRun (setting_of t 200) (texts_of t)
-      (λ is. call_begins (setting_of t 200) (texts_of t) budget (routine 0 n) (reverse args) (with_inputs is (world_of before es))) result (world_of after events)) empty run in
-      (calls-mean t name V p is budget n args takes before after events result first, calls-ask t name V p is budget n args takes before after events result first)
+  -- ---- calls
 
--- The initializers from the first number to the end have come to a number, whichever module the table holds.
-pub record HaveComeAt (t : Table) (first end budget : ℕ) (before : List (List Slot)) (n ticks : ℕ) (globals : List (List Slot)) (events : List HostEvent) : Type 0 where
+  -- the first configuration of a call, and of an initializer, in a setting
+  abbrev calling : Setting → ℕ → ℕ → ℕ → List Slot → World → List Input → Config
+  calling z budget m n args w is = call_begins z (texts_of t) budget (routine m n) (reverse args) (with_inputs is w)
+
+  abbrev beginning : Setting → ℕ → ℕ → ℕ → World → List Input → Config
+  beginning z ticks m n w is = initializer_begins z (texts_of t) ticks (routine m n) (with_inputs is w)
+
+  module _ (ms : List Module) (is : IsTableOf t ms) (budget m n : ℕ) (args : List Slot) (takes : TakesSoMany ms m n (length args)) (before after : World) (count : IsCounted (reverse args) before) where
+    called : (result : Result Slot Fault) → HasRun (setting_for ms 200) (texts_of t) (calling (setting_for ms 200) budget m n args before) result after
+        → HasEnded ms (call_of ms budget m n args) before result after
+    called (Ok v) (left, given) =
+        subst (HasEnded ms (call_of ms budget m n args) before (Ok v)) (sym given.given) (call_gives t ms is budget m n args takes before v left given.end count given.runs)
+    called (Err x) (inl run) = call_stops t ms is budget m n args takes before x after count run
+    called (Err x) (inr (null, lost)) = absurd (call_stands t ms is budget m n args takes before lost.count (lost.told.used ++ []) (lost.told.tells []))
+
+  pub has_called : (budget m n : ℕ) (args : List Slot) (before after : World) (result : Result Slot Fault) → IsCounted (reverse args) before
+      → HasRun (setting_of t 200) (texts_of t) (calling (setting_of t 200) budget m n args before) result after
+      → HasCalled t budget m n args before result after
+  has_called budget m n args before after result count run = λ ms is takes.
+      called ms is budget m n args takes before after count result
+      (subst (λ z. HasRun z (texts_of t) (calling z budget m n args before) result after) (setting_same t ms is 200) run)
+
+-- ---- initializers
+
+-- The initializers of module m from the first number to the end have come to a number, whichever modules the table holds.
+pub record HaveComeAt (t : Table) (budget m first end : ℕ) (before : World) (n ticks : ℕ) (now : World) : Type 0 where
   pub gone : List Routine
-  pub listed : routines_at first (end - first) ≡ gone ++ routines_at n (end - n)
-  pub come : (name : List ℕ) (V : RegistrationList) (p : tree.Program) → IsTableOf t name V p → initializers_of p ≡ routines_at first (end - first)
-      → HaveComeTo name V p budget before (routines_at n (end - n)) ticks globals events × AllByRecursion (IsAskedIn name (plain_part V)) events
+  pub listed : routines_at m first (end - first) ≡ gone ++ routines_at m n (end - n)
+  pub come : (ms : List Module) → IsTableOf t ms → initializers_of m (module_at ms m).tree ≡ routines_at m first (end - first)
+      → HaveComeTo ms budget m before (routines_at m n (end - n)) ticks now
+  pub asked : (ms : List Module) → IsTableOf t ms → initializers_of m (module_at ms m).tree ≡ routines_at m first (end - first)
+      → AllByRecursion (IsAskedIn ms) before.events → AllByRecursion (IsAskedIn ms) now.events
+  pub counted : IsCounted [] now
 
-module _ (t : Table) (first end budget : ℕ) (before : List (List Slot)) where
-  pub come_first : (none : List HostEvent) → none ≡ [] → HaveComeAt t first end budget before first budget before none
-  come_first none empty = record {
+module _ (t : Table) (budget m first end : ℕ) (before : World) where
+  -- these are the initializers of its module m
+  abbrev Numbered : List Module → Type 0
+  Numbered ms = initializers_of m (module_at ms m).tree ≡ routines_at m first (end - first)
+
+  pub begins_at : IsCounted [] before → HaveComeAt t budget m first end before first budget before
+  begins_at count = record {
     gone = [];
     listed = refl;
-    come = λ name V p is all.
-        subst (λ es. HaveComeTo name V p budget before (routines_at first (end - first)) budget before es × AllByRecursion (IsAskedIn name (plain_part V)) es) (sym empty)
-        (subst (λ gs. HaveComeTo name V p budget before gs budget before []) all (initializers-begin name V p budget before), tt);
+    come = λ ms is all. subst (λ gs. HaveComeTo ms budget m before gs budget before) all (come_first ms budget m before);
+    asked = λ ms is all asked. asked;
+    counted = count;
   }
 
-  module _ (n ticks : ℕ) (globals : List (List Slot)) (events : List HostEvent) (at : HaveComeAt t first end budget before n ticks globals events) where
+  module _ (n ticks : ℕ) (now : World) (at : HaveComeAt t budget m first end before n ticks now) where
+    abbrev rest : List Routine
+    rest = routines_at m (n + 1) (end - (n + 1))
+
     -- the routines are those that are gone, this one, and those behind it
-    there : n < end → (gs : List Routine) → gs ≡ routines_at first (end - first) → gs ≡ at.gone ++ routine 0 n ∷ routines_at (n + 1) (end - (n + 1))
-    there lt gs all = all ∙ at.listed ∙ ap (λ rest. at.gone ++ rest) (next_routine n end lt)
+    there : n < end → (gs : List Routine) → gs ≡ routines_at m first (end - first) → gs ≡ at.gone ++ routine m n ∷ rest
+    there lt gs all = all ∙ at.listed ∙ ap (λ l. at.gone ++ l) (next_routine m n end lt)
 
     -- those that are left begin with this one
-    comes : n < end → (name : List ℕ) (V : RegistrationList) (p : tree.Program) → IsTableOf t name V p → initializers_of p ≡ routines_at first (end - first)
-        → HaveComeTo name V p budget before (routine 0 n ∷ routines_at (n + 1) (end - (n + 1))) ticks globals events
-    comes lt name V p is all = subst (λ gs. HaveComeTo name V p budget before gs ticks globals events) (next_routine n end lt) (at.come name V p is all).0
+    comes : n < end → (ms : List Module) → IsTableOf t ms → Numbered ms → HaveComeTo ms budget m before (routine m n ∷ rest) ticks now
+    comes lt ms is all = subst (λ gs. HaveComeTo ms budget m before gs ticks now) (next_routine m n end lt) (at.come ms is all)
 
-    pub come_on : (left : ℕ) (after : List (List Slot)) (events' : List HostEvent) → n < end
-        → HasInitialized (setting_of t 201) (texts_of t)
-        (λ is. initializer_begins (setting_of t 201) (texts_of t) ticks (routine 0 n) (with_inputs is (world_of globals events))) (Ok left) (world_of after events')
-        → HaveComeAt t first end budget before (n + 1) left after events'
-    come_on left after events' lt run = record {
-      gone = at.gone ++ routine 0 n ∷ [];
-      listed = there lt (routines_at first (end - first)) refl ∙ sym (append_assoc at.gone (routine 0 n ∷ []) (routines_at (n + 1) (end - (n + 1))));
-      come = λ name V p is all. (
-        initializer-goes-on t name V p is budget ticks left n (routines_at (n + 1) (end - (n + 1))) at.gone before globals after events events'
-            (there lt (initializers_of p) all) (comes lt name V p is all) run,
-        initializers-ask t name V p is ticks n (Ok left) (routines_at (n + 1) (end - (n + 1))) at.gone globals after events events'
-            (there lt (initializers_of p) all) (at.come name V p is all).1 run,
-      );
+    module _ (ms : List Module) (is : IsTableOf t ms) (all : Numbered ms) (lt : n < end) where
+      abbrev begun : Setting → List Input → Config
+      begun z = beginning t z ticks m n now
+      known : slice_get (passings_in (module_at ms m).tree) n ≡ Some []
+      known = takes_nothing m (module_at ms m).tree at.gone rest n (there lt (initializers_of m (module_at ms m).tree) all)
+
+      here : (result : Result ℕ Fault) (after : World) → HasInitialized (setting_of t 201) (texts_of t) (begun (setting_of t 201)) result after
+          → HasInitialized (setting_for ms 201) (texts_of t) (begun (setting_for ms 201)) result after
+      here result after run = subst (λ z. HasInitialized z (texts_of t) (begun z) result after) (setting_same t ms is 201) run
+
+      come_next : (left : ℕ) (after : World) → HasInitialized (setting_for ms 201) (texts_of t) (begun (setting_for ms 201)) (Ok left) after
+          → HaveComeTo ms budget m before rest left after
+      come_next left after (v, given) =
+          subst (HaveComeTo ms budget m before rest left) (sym given.given)
+          (leaves t ms is ticks m n known now budget left rest before given.end (comes lt ms is all) v given.runs)
+
+      asks_next : (left : ℕ) (after : World) → HasInitialized (setting_for ms 201) (texts_of t) (begun (setting_for ms 201)) (Ok left) after
+          → AllByRecursion (IsAskedIn ms) now.events → AllByRecursion (IsAskedIn ms) after.events
+      asks_next left after (v, given) asked =
+          subst (λ w. AllByRecursion (IsAskedIn ms) w.events) (sym given.given)
+          (initializer_gives_asks t ms is ticks m n known now v left given.end given.runs asked)
+
+      ends_by : (fault : Fault) (after : World) → HasInitialized (setting_for ms 201) (texts_of t) (begun (setting_for ms 201)) (Err fault) after
+          → HasEnded ms (initialization_of ms budget m) before (Err fault) after
+      ends_by fault after (inl run) = record {
+        means = stops t ms is ticks m n known now budget rest before after (comes lt ms is all) fault run;
+        asked = λ asked. initializer_asks t ms is ticks m n known now (Stops fault) after run (at.asked ms is all asked);
+        counted = counted_stopped (setting_for ms 201) (texts_of t) ticks (routine m n) now after at.counted fault run;
+      }
+      ends_by fault after (inr (null, lost)) = absurd (initializer_stands t ms is ticks m n known now lost.count (lost.told.used ++ []) (lost.told.tells []))
+
+    -- what is counted behind one that ended
+    count_next : (left : ℕ) (after : World) → HasInitialized (setting_of t 201) (texts_of t) (beginning t (setting_of t 201) ticks m n now) (Ok left) after → IsCounted [] after
+    count_next left after (v, given) =
+        subst (IsCounted []) (sym given.given) (counted_given (setting_of t 201) (texts_of t) ticks (routine m n) now given.end at.counted v left given.runs)
+
+    -- this one ended, and those behind it are left
+    pub goes_on_at : (left : ℕ) (after : World) → n < end
+        → HasInitialized (setting_of t 201) (texts_of t) (beginning t (setting_of t 201) ticks m n now) (Ok left) after
+        → HaveComeAt t budget m first end before (n + 1) left after
+    goes_on_at left after lt run = record {
+      gone = at.gone ++ routine m n ∷ [];
+      listed = there lt (routines_at m first (end - first)) refl ∙ sym (append_assoc at.gone (routine m n ∷ []) rest);
+      come = λ ms is all. come_next ms is all lt left after (here ms is all lt (Ok left) after run);
+      asked = λ ms is all asked. asks_next ms is all lt left after (here ms is all lt (Ok left) after run) (at.asked ms is all asked);
+      counted = count_next left after run;
     }
 
-    pub come_fault : (fault : Fault) (after : List (List Slot)) (events' : List HostEvent) → n < end
-        → HasInitialized (setting_of t 201) (texts_of t)
-        (λ is. initializer_begins (setting_of t 201) (texts_of t) ticks (routine 0 n) (with_inputs is (world_of globals events))) (Err fault) (world_of after events')
-        → HasBegun t first end budget before (Err fault) after events'
-    come_fault fault after events' lt run = λ name V p is all. (
-      initializer-faults t name V p is budget ticks n fault (routines_at (n + 1) (end - (n + 1))) at.gone before globals after events events'
-          (there lt (initializers_of p) all) (comes lt name V p is all) run,
-      initializers-ask t name V p is ticks n (Err fault) (routines_at (n + 1) (end - (n + 1))) at.gone globals after events events'
-          (there lt (initializers_of p) all) (at.come name V p is all).1 run,
-    )
+    -- it faulted, and with it all of them
+    pub faults_at : (fault : Fault) (after : World) → n < end
+        → HasInitialized (setting_of t 201) (texts_of t) (beginning t (setting_of t 201) ticks m n now) (Err fault) after
+        → HasBegun t budget m first end before (Err fault) after
+    faults_at fault after lt run = λ ms is all. ends_by ms is all lt fault after (here ms is all lt (Err fault) after run)
 
-    pub come_end : end ≤ n → HasBegun t first end budget before (Ok (Bits 0)) globals events
-    come_end le = λ name V p is all. (
-      initializers-end name V p budget ticks before globals events
-          (subst (λ gs. HaveComeTo name V p budget before gs ticks globals events) (no_routine n end le) (at.come name V p is all).0),
-      (at.come name V p is all).1,
-    )
-
--- the drivers followed what was asked, where no event was there before
-pub followed : {V : Type 0} {P : V → Type 0} (m : (v : V) → Meaning (P v)) (t : Table) (events : List HostEvent) (xs ys : List (DynBox V Global P)) (roles : List Role)
-    → DriversMove m t [] events xs ys → HaveRoles t roles → DriversFollow m roles xs events ys
-followed m t events xs ys roles moved agree =
-    let f = moved.follow roles agree in
-    subst (λ es. DriversFollow m roles xs es ys) (sym f.1) f.2
+    -- none is left
+    pub ends_at : end ≤ n → HasBegun t budget m first end before (Ok (Bits 0)) now
+    ends_at le = λ ms is all. record {
+      means = come_last ms budget m ticks before now (subst (λ gs. HaveComeTo ms budget m before gs ticks now) (no_routine m n end le) (at.come ms is all));
+      asked = at.asked ms is all;
+      counted = at.counted;
+    }

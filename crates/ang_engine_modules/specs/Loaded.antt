@@ -1,30 +1,65 @@
--- A built module as the machine runs it.
-use Rattle.std.specs.Prelude.{◌≡◌, ◌<◌, ◌^◌, ℕ, List, [], length, slice_index_or}
+-- Built modules as an engine keeps them for the machine: what they resolve to, and the table of their code.
+use Rattle.std.specs.Prelude.{◌≡◌, ◌<◌, ◌^◌, ℕ, List, [], length, slice_index_or, Option, Some, None, map as list_map}
 use Rattle.ang_registry.specs.Registration.{RegistrationList}
-use Rattle.ang_typed.specs.declared.program.Typed.{Typed}
-use Rattle.ang_typed.specs.Typed as tree
 use Rattle.ang_typed.specs.View.{view_typed}
-use Rattle.ang_vm_steps.specs.declared.table.Table.{Table}
-use Rattle.ang_vm_steps.specs.Tables.{names_of, module_at, bodies_in}
-use Rattle.ang_engine_means.specs.Modules.{IsTableOf}
+use Rattle.ang_meaning.specs.declared.host.HostUse.{HostUse}
+use Rattle.ang_code.specs.declared.instruction.RoutineCode.{RoutineCode}
+use Rattle.ang_source.specs.Meaning.{passings_in}
+use Rattle.ang_source.specs.Sound.{SoundProgram}
+use Rattle.ang_lower.specs.Hosts.{asked_as}
+use Rattle.ang_gen.specs.Compiled.{IsCompiled}
+use Rattle.ang_vm_stack.specs.declared.table.ClassCode.{ClassCode}
+use Rattle.ang_vm_stack.specs.declared.table.ModuleCode.{ModuleCode}
+use Rattle.ang_vm_stack.specs.declared.table.Table.{Table}
+use Rattle.ang_vm_stack.specs.Tables.{module_at as code_at, list_in}
+use Rattle.ang_engine_modules.specs.declared.modules.LoadedModule.{LoadedModule}
+use Rattle.ang_engine_modules.specs.Modules.{Module, unbuilt, module_at}
+use Rattle.ang_engine_modules.specs.Trees.{ScriptClass, imports_in, classes_in, slots_in}
 
--- the module's name, what it sees of the host, and its tree as it was built
-pub record Loaded : Type 0 where
-  pub name : List ℕ
-  pub view : RegistrationList
-  pub typed : Typed
+-- what stands in the place of a module
+abbrev pub loaded_at : List (Option LoadedModule) → ℕ → Option LoadedModule
+loaded_at xs m = slice_index_or xs m None
 
--- the module's tree
-abbrev pub tree_of : Loaded → tree.Program
-tree_of e = view_typed e.typed
+-- what runs know of a place that a built module has, or none
+abbrev pub module_of : Option LoadedModule → Module
+module_of None = unbuilt
+module_of (Some x) = record { name = x.name; view = x.view; tree = view_typed x.tree; links = x.links }
 
--- the name of a table's first module
-abbrev pub name_in : Table → List ℕ
-name_in t = slice_index_or (names_of t) 0 []
+abbrev pub modules_of : List (Option LoadedModule) → List Module
+modules_of xs = list_map module_of xs
 
--- The table holds the one module, whose initializers have the numbers from the first one to the end.
-pub record IsLoaded (t : Table) (first end : ℕ) (V : RegistrationList) (p : tree.Program) : Type 0 where
-  pub holds : IsTableOf t (name_in t) V p
-  pub functions : first ≡ length p.functions
-  pub bodies : end ≡ length (bodies_in (module_at t 0))
-  pub few : end < 2 ^ 32
+-- each entry of a view as code asks it, by its number
+abbrev pub uses_of : RegistrationList → List (Option HostUse)
+uses_of V = list_map asked_as V
+
+-- a class as the tree has it
+abbrev pub class_of : ClassCode → ScriptClass
+class_of y = record { class = y.class; methods = y.methods.items }
+
+-- the code of a table's place
+abbrev pub codes_of : Option ModuleCode → List RoutineCode
+codes_of c = list_in (λ y. y.bodies.items) c
+
+-- A table's code is that of a module: its name, its view, what its tree declares, and what its tree is compiled to, so many bodies that a number has 32 bits;
+-- the tree is sound over the view. No import is bound yet.
+pub record IsCodeOf (c : Option ModuleCode) (x : Module) : Type 0 where
+  pub name : list_in (λ y. y.name.items) c ≡ x.name
+  pub entities : list_in (λ y. y.entities.items) c ≡ uses_of x.view
+  pub passings : list_map (λ b. b.params.items) (codes_of c) ≡ passings_in x.tree
+  pub compiled : IsCompiled x.tree (codes_of c)
+  pub few : length (codes_of c) < 2 ^ 32
+  pub imports : list_map (λ y. y.params.items) (list_in (λ y. y.imports.items) c) ≡ imports_in x.tree
+  pub links : list_map (λ y. y.bound) (list_in (λ y. y.imports.items) c) ≡ x.links
+  pub unbound : x.links ≡ []
+  pub classes : list_map class_of (list_in (λ y. y.classes.items) c) ≡ classes_in x.tree
+  pub slots : list_map (λ y. y.items) (list_in (λ y. y.slots.items) c) ≡ slots_in x.tree
+  pub sound : SoundProgram x.view x.tree
+
+-- the table is that of these modules, by number
+pub record IsTableOf (t : Table) (ms : List Module) : Type 0 where
+  pub each : (m : ℕ) → IsCodeOf (code_at t m) (module_at ms m)
+
+-- the table has a place for each of these, which has its code
+pub record IsLoaded (t : Table) (xs : List (Option LoadedModule)) : Type 0 where
+  pub holds : IsTableOf t (modules_of xs)
+  pub same : length t.modules.items ≡ length xs

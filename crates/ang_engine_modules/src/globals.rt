@@ -1,17 +1,35 @@
 //! Globals before their initializers.
 ghost use Rattle.std.specs.Prelude.{◌≡◌, IfOk, map as list_map};
-ghost use Rattle.ang_meaning.specs.declared.slot.Slot.TheVariants.{Bits};
+ghost use Rattle.ang_source.specs.Meaning.{default_in};
 
 use ang_meaning::Slot;
 use ang_typed::Global as GlobalVariable;
+use ang_types::ArgType;
 use std::alloc::{AllocError, Global};
 
-/// 0 or `false` for each global.
+/// What a variable of a type holds while nothing was stored in it: 0, `false` or null.
+fn default_in(ty: ArgType) -> Slot
+    ensures exact { result ≡ default_in ty }
+{
+    match ty {
+        ArgType::Void => Slot::Bits(0),
+        ArgType::Null => Slot::Script(None),
+        ArgType::Plain(_) => Slot::Bits(0),
+        ArgType::Object { .. } => Slot::Script(None),
+        ArgType::Handle { .. } => Slot::Script(None),
+    }
+}
+
+/// 0, `false` or null for each global.
 ///
 /// # Errors
 /// Want of memory.
-pub fn zeros(alloc: Global, globals: &[GlobalVariable]) -> Result<Vec<Slot>, AllocError>
-    ensures exact { IfOk result (λ values. values.items ≡ list_map (λ g. Bits 0) globals.now) }
+pub fn defaults(alloc: Global, globals: &[GlobalVariable]) -> Result<Vec<Slot>, AllocError>
+    ensures exact { IfOk result (λ values. values.items ≡ list_map (λ g. default_in g.ty) globals.now) }
 {
-    Ok(vec![in alloc; Slot::Bits(0); globals.len()]?)
+    let mut values = Vec::with_capacity(alloc, globals.len())?;
+    for global in globals {
+        values.push(default_in(global.ty))?;
+    }
+    Ok(values)
 }

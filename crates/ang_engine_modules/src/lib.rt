@@ -1,11 +1,12 @@
-//! A built module as the machine runs it: its code and the entities of its view in a table, calls of its
-//! functions, and the run of its initializers (docs/MEANING.md, "A run of a built module").
+//! The built modules of an engine as the machine runs them: their code and the entities of their views in one
+//! table, by number, calls of their functions, and the runs of their initializers (docs/MEANING.md, "A run of a
+//! built module").
 #![tactic(auto)]
 
 mod entities;
-mod executable;
 mod globals;
+mod modules;
 mod runs;
 mod tables;
 
-pub use executable::{Executable, Initialized, Ran};
+pub use modules::{LoadedModule, Modules};

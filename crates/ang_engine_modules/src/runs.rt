@@ -1,38 +1,30 @@
-//! Runs of a table that holds one module.
-ghost use Rattle.std.specs.Prelude.{◌≡◌, ◌≤◌, [], length};
+//! Runs of a table's code of one module after another.
+ghost use Rattle.std.specs.Prelude.{◌≡◌, ◌<◌, ◌^◌, List, [], length};
 ghost use Rattle.ang_host.specs.Boxes.{members};
-ghost use Rattle.ang_vm.specs.Worlds.{values_in};
-ghost use Rattle.ang_vm.specs.Machines.{HasPlainEntities, DriversMove};
-ghost use Rattle.ang_engine_means.specs.Ends.{completed};
-ghost use Rattle.ang_engine_modules.specs.Started.{HasCalled, HasBegun};
+ghost use Rattle.ang_host.specs.declared.event.Role.{Role};
+ghost use Rattle.ang_meaning.specs.Counting.{IsCounted};
+ghost use Rattle.ang_heap.specs.Stores.{world_of, IsReady, StoreMoves};
+ghost use Rattle.ang_vm_stack.specs.Tables.{module_at as code_at};
+ghost use Rattle.ang_vm_ask.specs.Entities.{DriversThere, HaveRoles};
+ghost use Rattle.ang_vm.specs.Machines.{lent};
+ghost use Rattle.ang_engine_modules.specs.Ends.{completed};
+ghost use Rattle.ang_engine_modules.specs.Loaded.{codes_of};
+ghost use Rattle.ang_engine_modules.specs.Started.{HasBegun};
 
 use ang_host::{Driver, HostEvent};
 use ang_kinds::Fault;
-use ang_meaning::{Routine, Slot};
-use ang_vm::{Machine, run, run_initializer};
-use ang_vm_steps::table::Table;
+use ang_meaning::Routine;
+use ang_vm::{Machine, run_initializer};
+use ang_vm_stack::table::Table;
 
-/// Calls the function of that number.
-///
-/// # Errors
-/// The fault of the script.
-pub fn run_function(
-    table: &Table,
-    machine: &mut Machine,
-    number: u32,
-    args: &[Slot],
-    budget: u64,
-    events: &mut Vec<HostEvent>,
-) -> Result<Slot, Fault>
-    requires plain { HasPlainEntities table.now (length (members machine.old.drivers)) }
-    requires first { events.old.items ≡ [] }
-    ensures called { HasCalled table.now budget number args.now (values_in machine.old.globals) result (values_in machine.new.globals) events.new.items }
-    ensures moved { DriversMove (λ v. (⟦<dyn Driver as Driver>⟧ v).meaning) table.now
-        [] events.new.items (members machine.old.drivers) (members machine.new.drivers) }
-    ensures same { length (members machine.new.drivers) ≡ length (members machine.old.drivers) }
+/// How many bodies a module has.
+pub fn body_count(table: &Table, home: u32) -> usize
+    ensures exact { result ≡ length (codes_of (code_at table.now home)) }
 {
-    let entry = Routine { home: 0, number };
-    run(table, machine, entry, args, budget, events)
+    match table.modules.get(home as usize) {
+        Some(code) => code.bodies.len(),
+        None => 0,
+    }
 }
 
 /// Runs the initializers of the numbers from `first` on and below `end`, one after the other, on one budget.
@@ -42,23 +34,29 @@ pub fn run_function(
 pub fn run_initializers(
     table: &Table,
     machine: &mut Machine,
-    first: u32,
-    end: u32,
+    home: u32,
+    first: usize,
+    end: usize,
     budget: u64,
     events: &mut Vec<HostEvent>,
 ) -> Result<(), Fault>
-    requires plain { HasPlainEntities table.now (length (members machine.old.drivers)) }
-    requires first { events.old.items ≡ [] }
-    requires order { first ≤ end }
-    ensures begun { HasBegun table.now first end budget (values_in machine.old.globals) (completed result) (values_in machine.new.globals) events.new.items }
-    ensures moved { DriversMove (λ v. (⟦<dyn Driver as Driver>⟧ v).meaning) table.now
-        [] events.new.items (members machine.old.drivers) (members machine.new.drivers) }
-    ensures same { length (members machine.new.drivers) ≡ length (members machine.old.drivers) }
+    requires drivers { DriversThere table.now (length (members machine.old.store.drivers)) }
+    requires ready { IsReady (λ v. (⟦<dyn Driver as Driver>⟧ v).meaning) (lent machine.old events.old) }
+    requires counted { IsCounted [] (world_of (λ v. (⟦<dyn Driver as Driver>⟧ v).meaning) (lent machine.old events.old)) }
+    requires few { end < 2 ^ 32 }
+    ensures begun { HasBegun table.now budget home first end (world_of (λ v. (⟦<dyn Driver as Driver>⟧ v).meaning) (lent machine.old events.old))
+        (completed result) (world_of (λ v. (⟦<dyn Driver as Driver>⟧ v).meaning) (lent machine.new events.new)) }
+    ensures moves { (roles : List Role) → HaveRoles table.now roles → StoreMoves (λ v. (⟦<dyn Driver as Driver>⟧ v).meaning) roles (lent machine.old events.old) (lent machine.new events.new) }
+    ensures ready { IsReady (λ v. (⟦<dyn Driver as Driver>⟧ v).meaning) (lent machine.new events.new) }
+    ensures count { length (members machine.new.store.drivers) ≡ length (members machine.old.store.drivers) }
 {
     let mut ticks = budget;
     let mut number = first;
     while number < end {
-        let entry = Routine { home: 0, number };
+        let entry = Routine {
+            home,
+            number: number as u32,
+        };
         ticks = run_initializer(table, machine, entry, ticks, events)?;
         number += 1;
     }

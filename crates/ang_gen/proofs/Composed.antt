@@ -121,10 +121,13 @@ module _ (z : Setting) (V : ℕ → RegistrationList) (program : ℕ → tree.Pr
             (p.0, p.1 ∙ ap (λ r. Over (outcome_of r)) ((means g).initializers ticks w known));
       }
 
--- ---- where no import is bound
+-- ---- where no import is bound and no class has a method
 
-pub unbound_fit : (z : Setting) → ((m i : ℕ) → z.linked m i ≡ None) → LinksFit z
-unbound_fit z none = record { same = λ m i g there. let e : None ≡ Some g = sym (none m i) ∙ there in absurd (cc) }
+pub unbound_fit : (z : Setting) → ((m i : ℕ) → z.linked m i ≡ None) → ((m c s : ℕ) → z.method m c s ≡ None) → LinksFit z
+unbound_fit z none bare = record {
+  same = λ m i g there. let e : None ≡ Some g = sym (none m i) ∙ there in absurd (cc);
+  methods = λ m c s g there. let e : None ≡ Some g = sym (bare m c s) ∙ there in absurd (cc);
+}
 
 -- ---- never stuck
 

@@ -26,7 +26,7 @@ pub record HasCodes (m : ℕ) (codes : List RoutineCode) (code : Texts) : Type 0
 -- Module m of a run: its tree is sound over what it sees of the host, which the setting has, its functions are the setting's, and its texts are codes of it.
 pub record IsModule (z : Setting) (m : ℕ) (V : RegistrationList) (p : t.Program) (code : Texts) : Type 0 where
   pub sound : SoundProgram V p
-  pub view : HasView z V
+  pub view : HasView z m V
   pub functions : HasProgram z m p
   pub codes : List RoutineCode
   pub compiled : IsCompiled p codes

@@ -12,9 +12,9 @@ ghost use Rattle.ang_gen_body.specs.Programs.{texts_of};
 ghost use Rattle.ang_source.specs.Meaning.{Codes, codes_in, nothing};
 ghost use Rattle.ang_gen.specs.Behaves.{HasCodes, IsModule, sources_of, BehavesAsSource, NeverStuck};
 
-/// Where each module is sound over what it sees of the host and runs its own compiled code, and imports lead
-/// where they may, the machine ends as the source means: for every function, budget, arguments and inputs,
-/// and for every initializer. The modules are given by their numbers, or as a list.
+/// Where each module is sound over what it sees of the host and runs its own compiled code, and imports and
+/// methods lead where they may, the machine ends as the source means: for every function, budget, arguments
+/// and inputs, and for every initializer. The modules are given by their numbers, or as a list.
 pub fn behaves()
     ensures same { (z : Setting) (view : ℕ → RegistrationList) (program : ℕ → Program) (code : Texts)
         → ((m : ℕ) → IsModule z m (view m) (program m) code)
@@ -33,9 +33,12 @@ pub fn texts_there()
         → HasCodes m codes.items (texts_of modules) }
 {}
 
-/// Where no import is bound, imports lead where they may.
+/// Where no import is bound and no class has a method, imports and methods lead where they may.
 pub fn unbound_imports_fit()
-    ensures fit { (z : Setting) → ((m i : ℕ) → z.linked m i ≡ None) → LinksFit z }
+    ensures fit { (z : Setting)
+        → ((m i : ℕ) → z.linked m i ≡ None)
+        → ((m c s : ℕ) → z.method m c s ≡ None)
+        → LinksFit z }
 {}
 
 /// Code that behaves as its source is never stuck: no instruction of a run finds less on the stack than it

@@ -7,9 +7,9 @@ use Rattle.ang_meaning.specs.declared.slot.Slot.TheVariants.{Bits}
 use Rattle.ang_meaning.specs.declared.routine.Routine.{Routine}
 use Rattle.ang_meaning.specs.declared.routine.Callee.{Callee}
 use Rattle.ang_meaning.specs.declared.routine.Passing.{Passing}
-use Rattle.ang_meaning.specs.World.{World, Tried, Yes, No, give, give_all, memory_step}
+use Rattle.ang_meaning.specs.World.{World, Tried, Yes, No, give, give_all, memory_step, or_else}
 use Rattle.ang_meaning.specs.Setting.{Setting, params_in, params_of}
-use Rattle.ang_meaning.specs.Results.{Ran, Went, Returned, Halted, Broken, Continued, Reply, Yields, Raises, Calls, drop_some, on_test, ticked, or_else, leave, then_run, yielded, finished, enter}
+use Rattle.ang_meaning.specs.Results.{Ran, Went, Returned, Halted, Broken, Continued, Reply, Yields, Raises, Calls, drop_some, on_test, ticked, leave, then_run, yielded, finished, enter}
 use Rattle.ang_core.specs.declared.tree.Expression.{Expression}
 use Rattle.ang_core.specs.declared.tree.Statement.{Statement, Row_of-Statement, end_of-Statement, more_of-Statement}
 use Rattle.ang_core.specs.declared.tree.Statement.TheVariants.{Skip, Evaluate, Declare, Block', If', While', DoWhile', Return as ReturnOf, Break, Continue}

@@ -11,17 +11,17 @@ use Rattle.ang_meaning.specs.declared.routine.Callee.{Callee}
 use Rattle.ang_meaning.specs.declared.routine.Passing.{Passing}
 use Rattle.ang_meaning.specs.declared.routine.Target.{Target}
 use Rattle.ang_meaning.specs.Numbers.{Changed, Into, Never}
-use Rattle.ang_meaning.specs.World.{World, Tried, Yes, No, hold, give, give_all, memory_step}
+use Rattle.ang_meaning.specs.World.{World, Tried, Yes, No, hold, give, give_all, memory_step, or_else}
 use Rattle.ang_meaning.specs.Setting.{Setting, Found, Enters, Misses, target, has_objects, params_in, params_of, is_fit}
 use Rattle.ang_meaning.specs.Hosts.{Done, Fine, Fails}
 use Rattle.ang_meaning.specs.Perform.{perform, operands, change_of}
-use Rattle.ang_meaning.specs.Results.{Evaluated, Gave, Failed, Gathered, Ready, Broke, Reply, Yields, Raises, Calls, local_at, local_set, drop_some, at_zero, on_test, ticked, or_else, performed, applied, assigned, altered_by, altered, chosen, then_rest, settled, with_outs, replied, called, may_nest, found_entered, enter}
+use Rattle.ang_meaning.specs.Results.{Evaluated, Gave, Failed, Gathered, Ready, Broke, Reply, Yields, Raises, Calls, local_at, local_set, drop_some, at_zero, on_test, ticked, performed, applied, assigned, altered_by, altered, chosen, then_rest, settled, with_outs, replied, called, may_nest, found_entered, enter}
 use Rattle.ang_core.specs.declared.tree.Expression.{Expression, Row_of-Expression, end_of-Expression, more_of-Expression}
-use Rattle.ang_core.specs.declared.tree.Expression.TheVariants.{Number, Null as Nothing, NoKey, Local, Assign', Change', Apply', Call', Choose'}
+use Rattle.ang_core.specs.declared.tree.Expression.TheVariants.{Number, Null as Nothing, Local, Assign', Change', Apply', Call', Choose'}
 use Rattle.ang_core.specs.Meaning.{eval, eval_args}
 use Rattle.ang_core.specs.Sound.{row_count, out_count, Takes, Fits, LinksFit, AreSpots, Sound, SoundArgs}
 use Rattle.ang_code.specs.declared.instruction.Frame.{Frame}
-use Rattle.ang_code.specs.declared.instruction.Instruction.TheVariants.{PushBits, PushNull, PushNoKey, Load, Store, Change, Do, SkipIfFalse, GoOn, Enter}
+use Rattle.ang_code.specs.declared.instruction.Instruction.TheVariants.{PushBits, PushNull, Load, Store, Change, Do, SkipIfFalse, GoOn, Enter}
 use Rattle.ang_code.specs.Machine.{Texts, Config, At, Over, Faulted, fault, roomy, did, changed_into, begins, found_enters, take_some}
 use Rattle.ang_code.proofs.Steps.{HasAt, has_front, has_back, Comes, here, comes_on, comes_to, one_step, then_step, roomy_on, within_on, enough_on, fitting_on}
 use Rattle.ang_gen_body.specs.Code.{if_code, outs_code, expr_code, args_code}
@@ -118,10 +118,10 @@ module _ (z : Setting) (code : Texts) (r : Running) where
     fits : (s ls : List Slot) → length s + length ls < h → length (s ++ (ls ++ r.below)) < r.room
     fits s ls lt = omega (arith, room_is, length-append s (ls ++ r.below), length-append ls r.below)
 
-    apply_goes : (start : Config) (pc : ℕ) (o : Operation) (s : List Slot) (n m t : ℕ) (a : Gathered) → slice_get (code.text r.of) pc ≡ Some (Do o) → m ≡ operands z o → is_fit z o ≡ true → length s + n < h → ArgsGo z code r start pc s n m t a → EvalGoes z code r start (pc + 1) s n t (applied (perform z r.of.home o) a)
+    apply_goes : (start : Config) (pc : ℕ) (o : Operation) (s : List Slot) (n m t : ℕ) (a : Gathered) → slice_get (code.text r.of) pc ≡ Some (Do o) → m ≡ operands z r.of.home o → is_fit z r.of.home o ≡ true → length s + n < h → ArgsGo z code r start pc s n m t a → EvalGoes z code r start (pc + 1) s n t (applied (perform z r.of.home o) a)
     apply_goes start pc o s n m t (Broke x ls w) has e fit lt q = q
     apply_goes start pc o s n m t (Ready vs ls t' w) has e fit lt q =
-        let k = operands z o in
+        let k = operands z r.of.home o in
         let rest = s ++ (ls ++ r.below) in
         let top = (vs ++ s) ++ (ls ++ r.below) in
         let flat : top ≡ vs ++ rest = append_assoc vs s (ls ++ r.below) in
@@ -133,7 +133,7 @@ module _ (z : Setting) (code : Texts) (r : Running) where
         let roomy_dropped : length (drop_some k top) < r.room = omega (arith, ap length dropped) in
         let p = then_step z code start r.of pc r.room top r.callers t' w (Do o) has q.0 in
         let p' = comes_to z code start _ (did (perform z r.of.home o vs w) top (λ v w'. at r (pc + 1) (v ∷ rest) t' w')) p
-        (fitting_on z o _ fit
+        (fitting_on z r.of.home o _ fit
         ∙ enough_on k top _ there ∙ roomy_on r.room (drop_some k top) _ roomy_dropped
         ∙ ap (λ l. did (perform z r.of.home o l w) top (λ v w'. at r (pc + 1) (v ∷ drop_some k top) t' w')) taken
         ∙ ap (λ l. did (perform z r.of.home o vs w) top (λ v w'. at r (pc + 1) (v ∷ l) t' w')) dropped) in
@@ -191,7 +191,7 @@ module _ (z : Setting) (code : Texts) (r : Running) where
           let top = (vs ++ s) ++ (ls ++ r.below) in
           let frame : Frame = record { of = r.of; at = pc + 1; room = r.room } in
           let to_here : target z r.of.home f top w ≡ target z r.of.home f vs w =
-          ap (λ l. target z r.of.home f l w) (append_assoc vs s (ls ++ r.below)) ∙ target_front z r.of.home f vs (s ++ (ls ++ r.below)) w in
+          ap (λ l. target z r.of.home f l w) (append_assoc vs s (ls ++ r.below)) ∙ target_front z r.of.home f (length xs) vs (s ++ (ls ++ r.below)) w (subst (λ j. Fits z r.of.home f j (length xs)) (sym q.2) fit) in
           let p = comes_to z code start _ (found_enters z code (target z r.of.home f vs w) top r.callers frame t' w)
           (then_step z code start r.of pc r.room top r.callers t' w (Enter f) has.0 q.0) (ap (λ o. found_enters z code o top r.callers frame t' w) to_here) in
           after_eval start start (pc + 1 + length (outs_code (length s) xs)) s n (length ls) t t' (replied r.of.home xs (found_entered z body (length r.callers) (target z r.of.home f vs w) vs t' w) ls) (here z code start) q.1 q.3
@@ -204,7 +204,6 @@ module _ (z : Setting) (code : Texts) (r : Running) where
         pub eval_runs : (e : Expression) (pc : ℕ) (s ls : List Slot) (t : ℕ) (w : World) → HasAt (code.text r.of) pc (expr_code (length s) e) → Sound z r.of.home (length ls) e → Below h (length s + length ls) e → t ≤ fuel → EvalGoes z code r (at r pc (s ++ (ls ++ r.below)) t w) (pc + length (expr_code (length s) e)) s (length ls) t (eval z r.of.home (enter z body (length r.callers) r.of.home) e ls t w)
         eval_runs (Number n) pc s ls t w has ok low le = (comes_to z code _ _ _ (one_step z code r.of pc r.room (s ++ (ls ++ r.below)) r.callers t w (PushBits n) has.0) (roomy_on r.room (s ++ (ls ++ r.below)) _ (fits s ls low)), refl, omega arith)
         eval_runs Nothing pc s ls t w has ok low le = (comes_to z code _ _ _ (one_step z code r.of pc r.room (s ++ (ls ++ r.below)) r.callers t w PushNull has.0) (roomy_on r.room (s ++ (ls ++ r.below)) _ (fits s ls low)), refl, omega arith)
-        eval_runs (NoKey d) pc s ls t w has ok low le = (comes_to z code _ _ _ (one_step z code r.of pc r.room (s ++ (ls ++ r.below)) r.callers t w (PushNoKey d) has.0) (roomy_on r.room (s ++ (ls ++ r.below)) _ (fits s ls low)), refl, omega arith)
         eval_runs (Local i) pc s ls t w has ok low le =
             let stack = s ++ (ls ++ r.below) in
             let d = length s + i in

@@ -8,10 +8,10 @@ use Rattle.ang_meaning.specs.declared.routine.Spot.TheVariants as spot
 use Rattle.ang_meaning.specs.declared.routine.Target.{Target}
 use Rattle.ang_meaning.specs.World.{World}
 use Rattle.ang_meaning.specs.Setting.{Setting}
-use Rattle.ang_meaning.specs.Perform.{global_or, global_put}
+use Rattle.ang_meaning.specs.Perform.{global_or, global_put, member_or, member_put}
 use Rattle.ang_meaning.specs.Results.{local_at, local_set, drop_some, give_back, brought, trade, Settled, settled, with_outs}
 use Rattle.ang_core.specs.Sound.{IsSpot, AreSpots}
-use Rattle.ang_code.specs.declared.instruction.Instruction.TheVariants.{Swap, SwapGlobal, DropUnder}
+use Rattle.ang_code.specs.declared.instruction.Instruction.TheVariants.{Swap, SwapGlobal, SwapField, DropUnder}
 use Rattle.ang_code.specs.Machine.{Texts, Config, At, take_some, within}
 use Rattle.ang_code.proofs.Steps.{HasAt, has_front, has_back, Comes, comes_to, then_step, within_on, enough_on}
 use Rattle.ang_gen_body.specs.Code.{swap_at, swaps_code, outs_code}
@@ -80,6 +80,35 @@ module _ (z : Setting) (code : Texts) (r : Running) where
         comes_to z code start _ _ step1
             (within_on u stack (go (local_at stack u)) under_in ∙ ap (λ y. go y) at_u
             ∙ ap (λ l. At r.of (pc + 1) r.room l r.callers t (global_put m g v q.world)) set_u),
+        p.1,
+        ap suc p.2,
+      )
+  swap_by to (spot.Field x i) start pc u base n k t o pre s q has ok eu eb p =
+      let d = base + x in
+      let ls = q.locals in
+      let v = brought to o in
+      let rest = q.olds ++ (s ++ (ls ++ r.below)) in
+      let stack = pre ++ (o ∷ rest) in
+      let object = local_at ls x in
+      let p0 = comes_to z code start _ (at r pc stack t q.world) p.0 (ap (λ l. at r pc l t q.world) (sym (one_more pre o rest))) in
+      let long1 = length-append pre (o ∷ rest) in
+      let long2 = length-append q.olds (s ++ (ls ++ r.below)) in
+      let long3 = length-append s (ls ++ r.below) in
+      let long4 = length-append ls r.below in
+      let deep : d < length stack = omega (arith, long1, long2, long3, long4, p.1, p.2) in
+      let under_in : u < length stack = omega (arith, long1) in
+      let inside : x < length ls = omega (arith, p.1) in
+      let at_u : local_at stack u ≡ o = ap (λ j. local_at stack j) eu ∙ local_seam pre o rest in
+      let far : d ≡ length (pre ++ (o ∷ (q.olds ++ s))) + x = omega (arith, length-append pre (o ∷ (q.olds ++ s)), length-append q.olds s, p.2) in
+      let at_d : local_at stack d ≡ object = ap (λ l. local_at l d) (flat pre o q.olds s (ls ++ r.below)) ∙ local_under (pre ++ (o ∷ (q.olds ++ s))) ls r.below x d inside far in
+      let old = member_or i object v q.world in
+      let set_u : local_set stack u old ≡ pre ++ (old ∷ rest) = ap (λ j. local_set stack j old) eu ∙ set_seam pre o rest old in
+      let go = λ (a b : Slot). At r.of (pc + 1) r.room (local_set stack u (member_or i a (brought to b) q.world)) r.callers t (member_put i a (brought to b) q.world) in
+      let step1 = then_step z code start r.of pc r.room stack r.callers t q.world (SwapField to u d i) has p0 in (
+        comes_to z code start _ _ step1
+            (within_on u stack (within d stack (go (local_at stack d) (local_at stack u))) under_in ∙ within_on d stack (go (local_at stack d) (local_at stack u)) deep
+            ∙ ap (λ a. go a (local_at stack u)) at_d ∙ ap (λ b. go object b) at_u
+            ∙ ap (λ l. At r.of (pc + 1) r.room l r.callers t (member_put i object v q.world)) set_u),
         p.1,
         ap suc p.2,
       )

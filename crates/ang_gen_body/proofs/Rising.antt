@@ -2,7 +2,7 @@
 use Rattle.std.proofs.Common.{◌≡◌, ℕ, suc, ◌+◌, ◌-◌, ◌≤◌, arith}
 use Rattle.ang_core.specs.declared.tree.Body.{Body}
 use Rattle.ang_core.specs.declared.tree.Expression.{Expression, Row_of-Expression, end_of-Expression, more_of-Expression}
-use Rattle.ang_core.specs.declared.tree.Expression.TheVariants.{Number, Null as Nothing, NoKey, Local, Assign', Change', Apply', Call', Choose'}
+use Rattle.ang_core.specs.declared.tree.Expression.TheVariants.{Number, Null as Nothing, Local, Assign', Change', Apply', Call', Choose'}
 use Rattle.ang_core.specs.declared.tree.Statement.{Statement, Row_of-Statement, end_of-Statement, more_of-Statement}
 use Rattle.ang_core.specs.declared.tree.Statement.TheVariants.{Skip, Evaluate, Declare, Block', If', While', DoWhile', Return, Break, Continue}
 use Rattle.ang_core.specs.Sound.{declared}
@@ -14,7 +14,6 @@ mutual
   below : (h d : ℕ) (e : Expression) → peak d e ≤ h → Below h d e
   below h d (Number n) le = omega arith
   below h d Nothing le = omega arith
-  below h d (NoKey k) le = omega arith
   below h d (Local i) le = omega arith
   below h d (Assign' i p e) le = below h d e le
   below h d (Change' i by p e) le = below h d e le
@@ -30,7 +29,6 @@ mutual
   peaks : (h d : ℕ) (e : Expression) → Below h d e → peak d e ≤ h
   peaks h d (Number n) b = omega arith
   peaks h d Nothing b = omega arith
-  peaks h d (NoKey k) b = omega arith
   peaks h d (Local i) b = omega arith
   peaks h d (Assign' i p e) b = peaks h d e b
   peaks h d (Change' i by p e) b = peaks h d e b

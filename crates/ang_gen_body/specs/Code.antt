@@ -5,12 +5,12 @@ use Rattle.ang_meaning.specs.declared.routine.Spot.{Spot}
 use Rattle.ang_meaning.specs.declared.routine.Spot.TheVariants as spot
 use Rattle.ang_meaning.specs.declared.routine.Target.{Target}
 use Rattle.ang_core.specs.declared.tree.Expression.{Expression, Row_of-Expression, end_of-Expression, more_of-Expression}
-use Rattle.ang_core.specs.declared.tree.Expression.TheVariants.{Number, Null as Nothing, NoKey, Local, Assign', Change', Apply', Call', Choose'}
+use Rattle.ang_core.specs.declared.tree.Expression.TheVariants.{Number, Null as Nothing, Local, Assign', Change', Apply', Call', Choose'}
 use Rattle.ang_core.specs.declared.tree.Statement.{Statement, Row_of-Statement, end_of-Statement, more_of-Statement}
 use Rattle.ang_core.specs.declared.tree.Statement.TheVariants.{Skip, Evaluate, Declare, Block', If', While', DoWhile', Return as ReturnOf, Break, Continue}
 use Rattle.ang_core.specs.Sound.{declared, row_declared}
 use Rattle.ang_code.specs.declared.instruction.Instruction.{Instruction}
-use Rattle.ang_code.specs.declared.instruction.Instruction.TheVariants.{PushBits, PushNull, PushNoKey, Load, Store, Change, Do, Drop, Leave, SkipIfFalse, GoOn, Tick, Back, Enter, Swap, SwapGlobal, DropUnder, Return}
+use Rattle.ang_code.specs.declared.instruction.Instruction.TheVariants.{PushBits, PushNull, Load, Store, Change, Do, Drop, Leave, SkipIfFalse, GoOn, Tick, Back, Enter, Swap, SwapGlobal, SwapField, DropUnder, Return}
 
 -- a choice of values: the test, the first side with a jump past the second, and the second side
 abbrev pub if_code : List Instruction → List Instruction → List Instruction → List Instruction
@@ -34,6 +34,7 @@ while_code test body step =
 abbrev pub swap_at : Option Primitive → ℕ → ℕ → Spot → Instruction
 swap_at to u base (spot.Local i) = Swap to u (base + i)
 swap_at to u base (spot.Global g) = SwapGlobal to u g
+swap_at to u base (spot.Field o i) = SwapField to u (base + o) i
 
 -- the first target first; the list has the last one first, and its value lies at the place u
 abbrev pub swaps_code : ℕ → ℕ → List Target → List Instruction
@@ -50,7 +51,6 @@ abbrev mutual
   pub expr_code : ℕ → Expression → List Instruction
   expr_code d (Number n) = PushBits n ∷ []
   expr_code d Nothing = PushNull ∷ []
-  expr_code d (NoKey k) = PushNoKey k ∷ []
   expr_code d (Local i) = Load (d + i) ∷ []
   expr_code d (Assign' i p e) = expr_code d e ++ Store (d + i) ∷ []
   expr_code d (Change' i by p e) = expr_code d e ++ Change by (d + i) ∷ []

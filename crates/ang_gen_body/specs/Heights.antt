@@ -1,7 +1,7 @@
 -- How many values a body has on the stack at once.
 use Rattle.std.specs.Prelude.{ℕ, suc, ◌+◌, ◌<◌, length}
 use Rattle.ang_core.specs.declared.tree.Expression.{Expression, Row_of-Expression, end_of-Expression, more_of-Expression}
-use Rattle.ang_core.specs.declared.tree.Expression.TheVariants.{Number, Null as Nothing, NoKey, Local, Assign', Change', Apply', Call', Choose'}
+use Rattle.ang_core.specs.declared.tree.Expression.TheVariants.{Number, Null as Nothing, Local, Assign', Change', Apply', Call', Choose'}
 use Rattle.ang_core.specs.declared.tree.Statement.{Statement, Row_of-Statement, end_of-Statement, more_of-Statement}
 use Rattle.ang_core.specs.declared.tree.Statement.TheVariants.{Skip, Evaluate, Declare, Block', If', While', DoWhile', Return, Break, Continue}
 use Rattle.ang_core.specs.Sound.{declared}
@@ -11,7 +11,6 @@ abbrev mutual
   pub Below : ℕ → ℕ → Expression → Type 0
   Below h d (Number n) = d < h
   Below h d Nothing = d < h
-  Below h d (NoKey k) = d < h
   Below h d (Local i) = d < h
   Below h d (Assign' i p e) = Below h d e
   Below h d (Change' i by p e) = Below h d e

@@ -1,7 +1,7 @@
 -- The greatest number of values in a body's frame.
 use Rattle.std.specs.Prelude.{ℕ, suc, ◌+◌, max, List, [], ◌∷◌, length}
 use Rattle.ang_core.specs.declared.tree.Expression.{Expression, Row_of-Expression, end_of-Expression, more_of-Expression}
-use Rattle.ang_core.specs.declared.tree.Expression.TheVariants.{Number, Null as Nothing, NoKey, Local, Assign', Change', Apply', Call', Choose'}
+use Rattle.ang_core.specs.declared.tree.Expression.TheVariants.{Number, Null as Nothing, Local, Assign', Change', Apply', Call', Choose'}
 use Rattle.ang_core.specs.declared.tree.Statement.{Statement, Row_of-Statement, end_of-Statement, more_of-Statement}
 use Rattle.ang_core.specs.declared.tree.Statement.TheVariants.{Skip, Evaluate, Declare, Block', If', While', DoWhile', Return, Break, Continue}
 use Rattle.ang_core.specs.Sound.{declared}
@@ -11,7 +11,6 @@ abbrev mutual
   pub peak : ℕ → Expression → ℕ
   peak d (Number n) = d + 1
   peak d Nothing = d + 1
-  peak d (NoKey k) = d + 1
   peak d (Local i) = d + 1
   peak d (Assign' i p e) = peak d e
   peak d (Change' i by p e) = peak d e

@@ -38,6 +38,26 @@ fn swap(target: &Target, under: u32, base: usize) -> Result<Instruction, AllocEr
             under,
             global,
         }),
+        Spot::Field { object, field } => {
+            let place = sum(base, object)?;
+            let object = narrow(place)?;
+            Ok(Instruction::SwapField {
+                to: target.to,
+                under,
+                object,
+                field,
+            })
+        }
+    }
+}
+
+// A place as an instruction has it, or want of memory where no stack could have it.
+fn narrow(place: usize) -> Result<u32, AllocError>
+    ensures exact { IfOk result (λ n. n ≡ place) }
+{
+    match u32::try_from(place) {
+        Ok(n) => Ok(n),
+        Err(_) => Err(AllocError),
     }
 }
 
@@ -85,7 +105,6 @@ pub fn write_expression(text: &mut Text, above: usize, e: &Expression) -> Result
     match e {
         Expression::Number(n) => text.put(Instruction::PushBits(*n)),
         Expression::Null => text.put(Instruction::PushNull),
-        Expression::NoKey(driver) => text.put(Instruction::PushNoKey(*driver)),
         Expression::Local(i) => {
             let place = sum(above, *i)?;
             text.put(Instruction::Load(place))

@@ -16,7 +16,6 @@ pub fn expression_peak(below: usize, e: &Expression) -> Result<usize, AllocError
     match e {
         Expression::Number(_) => sum(below, 1),
         Expression::Null => sum(below, 1),
-        Expression::NoKey(_) => sum(below, 1),
         Expression::Local(_) => sum(below, 1),
         Expression::Assign(_, value) => expression_peak(below, value),
         Expression::Change(_, _, value) => expression_peak(below, value),

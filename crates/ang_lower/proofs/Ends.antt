@@ -8,10 +8,10 @@ use Rattle.ang_meaning.specs.declared.routine.Spot.{Spot}
 use Rattle.ang_meaning.specs.declared.routine.Spot.TheVariants as spot
 use Rattle.ang_meaning.specs.declared.routine.Target.{Target}
 use Rattle.ang_meaning.specs.Numbers.{Changed, Into, Never}
-use Rattle.ang_meaning.specs.World.{World, Tried, Yes, No, hold, give}
+use Rattle.ang_meaning.specs.World.{World, Tried, Yes, No, or_else, hold, give}
 use Rattle.ang_meaning.specs.Hosts.{Done, Fine, Fails}
 use Rattle.ang_meaning.specs.Perform.{change_of}
-use Rattle.ang_meaning.specs.Results.{Evaluated, Gave, Failed, Gathered, Ready, Broke, Ran, Went, Returned, Halted, Broken, Continued, Reply, Yields, Raises, local_at, local_set, give_some, drop_some, on_test, ticked, or_else, loaded, performed, applied, assigned, altered_by, altered, chosen, then_rest, brought, trade, settled, replied, called, leave, with_value, then_run, caught}
+use Rattle.ang_meaning.specs.Results.{Evaluated, Gave, Failed, Gathered, Ready, Broke, Ran, Went, Returned, Halted, Broken, Continued, Reply, Yields, Raises, local_at, local_set, give_some, drop_some, on_test, ticked, loaded, performed, applied, assigned, altered_by, altered, chosen, then_rest, brought, trade, settled, replied, called, leave, with_value, then_run, caught}
 
 -- ---- lists of locals
 
@@ -121,6 +121,7 @@ then_rest_same n m vs x y go go' h a =
 traded : (m : ℕ) (s : Spot) (v : Slot) (ls : List Slot) (w : World) → length (trade m s v ls w).locals ≡ length ls
 traded m (spot.Local i) v ls w = length_set ls i v
 traded m (spot.Global g) v ls w = refl
+traded m (spot.Field o i) v ls w = refl
 
 settled_keeps : (m : ℕ) (xs : List Target) (outs ls : List Slot) (w : World) → length (settled m xs outs ls w).locals ≡ length ls
 settled_keeps m [] outs ls w = refl

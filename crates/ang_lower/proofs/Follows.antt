@@ -8,9 +8,9 @@ use Rattle.ang_typed.specs.declared.program.Parameter.{Parameter}
 use Rattle.ang_meaning.specs.declared.slot.Slot.{Slot}
 use Rattle.ang_meaning.specs.declared.routine.Routine.{Routine}
 use Rattle.ang_meaning.specs.declared.routine.Passing.{Passing}
-use Rattle.ang_meaning.specs.World.{World, give, give_all, memory_step}
+use Rattle.ang_meaning.specs.World.{World, or_else, give, give_all, memory_step}
 use Rattle.ang_meaning.specs.Setting.{Setting, target, has_objects, params_of}
-use Rattle.ang_meaning.specs.Results.{Went, Reply, Yields, Raises, Calls, ticked, or_else, with_value, finished, may_nest, entered, enter}
+use Rattle.ang_meaning.specs.Results.{Went, Reply, Yields, Raises, Calls, ticked, with_value, finished, may_nest, entered, enter}
 use Rattle.ang_core.specs.Meaning.{Bodies}
 use Rattle.ang_core.specs.Meaning as core
 use Rattle.ang_source.specs.Meaning.{Code, of_function, of_global, Codes, Callees, evaluate, run_code, passing_of, passings_of}
@@ -24,7 +24,7 @@ use Rattle.ang_lower.proofs.Values.{CalleesAgree, stored_same, value_same}
 use Rattle.ang_lower.proofs.Turns.{PassesAgree, block_same, statements_same, pass_same}
 
 pub passings_count : (ps : List Parameter) → length (passings_of ps) ≡ length ps
-passings_count ps = length-reverse (map (λ p. passing_of p.pass) ps) ∙ length-map ps (λ p. passing_of p.pass)
+passings_count ps = length-reverse (map (λ p. passing_of p) ps) ∙ length-map ps (λ p. passing_of p)
 
 -- what stands before a body, where the bodies do the same
 entered_same : (z : Setting) (b b' : Calls) (d : ℕ) (g : Routine) (vs : List Slot) (t : ℕ) (w : World) → ((t' : ℕ) (w' : World) → b g vs t' w' ≡ b' g vs t' w') → entered z b d g vs t w ≡ entered z b' d g vs t w

@@ -6,4 +6,5 @@ pub mod Turns
 pub mod Follows
 pub mod PlainSound
 pub mod Sounds
+pub mod Views
 pub mod Modules

@@ -114,7 +114,7 @@ module _ (p : tree.Program) (bs : List Body) (exact : map plain_body bs ≡ lowe
   means_program = record { means = λ V z m bodies codes sound has are code k. means_same z m (module_of V p) bodies codes (are_lowered V z m bodies codes sound has are code) k }
 
 -- the bodies of a module that are lowered from sound code
-pub sound_in : (z : Setting) (m : ℕ) (M : Module) (bodies : Bodies) (codes : Codes) → AreLowered z m M bodies codes → HasView z M.view → AreSoundIn z m bodies
+pub sound_in : (z : Setting) (m : ℕ) (M : Module) (bodies : Bodies) (codes : Codes) → AreLowered z m M bodies codes → HasView z m M.view → AreSoundIn z m bodies
 sound_in z m M bodies codes are view = record {
   each = λ k ps known.
       statement_is z m false (length ps) (bodies (routine m k))

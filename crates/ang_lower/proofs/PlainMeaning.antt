@@ -2,14 +2,14 @@
 use Rattle.std.proofs.Common.{◌≡◌, ℕ, zero, suc, List, [], ◌∷◌, length, None, refl, ◌∙◌}
 use Rattle.ang_kinds.specs.declared.fault.Fault.TheVariants.{Null, Budget}
 use Rattle.ang_meaning.specs.declared.slot.Slot.{Slot}
-use Rattle.ang_meaning.specs.declared.slot.Slot.TheVariants.{Bits, Script, Host}
+use Rattle.ang_meaning.specs.declared.slot.Slot.TheVariants.{Bits, Script}
 use Rattle.ang_meaning.specs.declared.routine.Routine.{Routine}
 use Rattle.ang_meaning.specs.World.{World, give}
 use Rattle.ang_meaning.specs.Setting.{Setting, params_of}
 use Rattle.ang_meaning.specs.Perform.{perform}
 use Rattle.ang_meaning.specs.Results.{Evaluated, Gave, Gathered, Ready, Ran, Went, Returned, Halted, Broken, Continued, Raises, Calls, local_at, on_test, ticked, loaded, applied, assigned, altered, chosen, then_rest, called, leave, with_value, then_run, finished, enter}
 use Rattle.ang_core.specs.declared.tree.Expression.{Expression, Row_of-Expression, end_of-Expression, more_of-Expression}
-use Rattle.ang_core.specs.declared.tree.Expression.TheVariants.{Number, Null as Nothing, NoKey, Local, Assign', Change', Apply', Call', Choose'}
+use Rattle.ang_core.specs.declared.tree.Expression.TheVariants.{Number, Null as Nothing, Local, Assign', Change', Apply', Call', Choose'}
 use Rattle.ang_core.specs.declared.tree.Statement.{Statement, Row_of-Statement, end_of-Statement, more_of-Statement}
 use Rattle.ang_core.specs.declared.tree.Statement.TheVariants.{Skip, Evaluate, Declare, Block', If', While', DoWhile', Return, Break, Continue}
 use Rattle.ang_core.specs.Meaning.{Callees, Bodies, turned}
@@ -21,7 +21,6 @@ abbrev mutual
   pub eval : Setting → ℕ → Callees → c.Expr → List Slot → ℕ → World → Evaluated
   eval z m k (c.number n) ls t w = Gave (Bits n) ls t w
   eval z m k c.null ls t w = Gave (Script None) ls t w
-  eval z m k (c.no_key d) ls t w = Gave (Host d None) ls t w
   eval z m k (c.local i) ls t w = loaded (local_at ls i) ls t w
   eval z m k (c.assign i e) ls t w = assigned i (eval z m k e ls t w)
   eval z m k (c.change i by e) ls t w = altered i by (eval z m k e ls t w)
@@ -81,7 +80,6 @@ mutual
   pub eval_is : (z : Setting) (m : ℕ) (k : Callees) (e : Expression) (ls : List Slot) (t : ℕ) (w : World) → core.eval z m k e ls t w ≡ eval z m k (plain_expr e) ls t w
   eval_is z m k (Number n) ls t w = refl
   eval_is z m k Nothing ls t w = refl
-  eval_is z m k (NoKey d) ls t w = refl
   eval_is z m k (Local i) ls t w = refl
   eval_is z m k (Assign' i p e) ls t w = λ j. assigned i (eval_is z m k e ls t w j)
   eval_is z m k (Change' i by p e) ls t w = λ j. altered i by (eval_is z m k e ls t w j)

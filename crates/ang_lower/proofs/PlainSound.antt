@@ -4,7 +4,7 @@ use Rattle.std.specs.Prelude.{Bool, true, false, IsTrue}
 use Rattle.ang_meaning.specs.Setting.{Setting, is_fit}
 use Rattle.ang_meaning.specs.Perform.{operands}
 use Rattle.ang_core.specs.declared.tree.Expression.{Expression, Row_of-Expression, end_of-Expression, more_of-Expression}
-use Rattle.ang_core.specs.declared.tree.Expression.TheVariants.{Number, Null as Nothing, NoKey, Local, Assign', Change', Apply', Call', Choose'}
+use Rattle.ang_core.specs.declared.tree.Expression.TheVariants.{Number, Null as Nothing, Local, Assign', Change', Apply', Call', Choose'}
 use Rattle.ang_core.specs.declared.tree.Statement.{Statement, Row_of-Statement, end_of-Statement, more_of-Statement}
 use Rattle.ang_core.specs.declared.tree.Statement.TheVariants.{Skip, Evaluate, Declare, Block', If', While', DoWhile', Return, Break, Continue}
 use Rattle.ang_core.specs.Sound.{row_count, Fits, AreSpots, Sound, SoundArgs, declared, SoundStatement, SoundRow}
@@ -19,11 +19,10 @@ abbrev mutual
   pub IsSound : Setting → ℕ → ℕ → c.Expr → Type 0
   IsSound z m n (c.number x) = Unit {0}
   IsSound z m n c.null = Unit {0}
-  IsSound z m n (c.no_key d) = Unit {0}
   IsSound z m n (c.local i) = i < n
   IsSound z m n (c.assign i e) = (i < n) × IsSound z m n e
   IsSound z m n (c.change i by e) = (i < n) × IsSound z m n e
-  IsSound z m n (c.apply o args) = (operand_count args ≡ operands z o) × (is_fit z o ≡ true) × AreSoundArgs z m n args
+  IsSound z m n (c.apply o args) = (operand_count args ≡ operands z m o) × (is_fit z m o ≡ true) × AreSoundArgs z m n args
   IsSound z m n (c.call f args outs) = Fits z m f (operand_count args) (length outs) × AreSpots n outs × AreSoundArgs z m n args
   IsSound z m n (c.choose a b d) = IsSound z m n a × IsSound z m n b × IsSound z m n d
 
@@ -75,7 +74,6 @@ module _ (z : Setting) (m : ℕ) where
     sound_is : (n : ℕ) (e : Expression) → IsSound z m n (plain_expr e) → Sound z m n e
     sound_is n (Number x) h = tt
     sound_is n Nothing h = tt
-    sound_is n (NoKey d) h = tt
     sound_is n (Local i) h = h
     sound_is n (Assign' i p e) h = (h.0, sound_is n e h.1)
     sound_is n (Change' i by p e) h = (h.0, sound_is n e h.1)

@@ -1,17 +1,22 @@
 -- Lowered code of a sound tree keeps what the generator wants of it.
 use Rattle.std.proofs.Common.{◌≡◌, ◌≢◌, ℕ, suc, ◌+◌, ◌<◌, List, [], ◌∷◌, ◌++◌, length, refl, sym, ap, ◌∙◌, subst, arith, Option, Some, None, map}
-use Rattle.std.specs.Prelude.{Bool, true, false, slice_get, reverse}
+use Rattle.std.specs.Prelude.{Bool, true, false, not, ◌&&◌, if◌then◌else◌, slice_get, reverse}
 use Rattle.std.proofs.lemmas.List.{length-map}
 use Rattle.std.proofs.lemmas.Grind.{reverse_onto}
 use Rattle.ang_kinds.specs.declared.types.Pass.{Pass}
 use Rattle.ang_kinds.specs.declared.types.Pass.TheVariants as pass
+use Rattle.ang_types.specs.declared.arg_type.ArgType.{ArgType}
+use Rattle.ang_types.specs.declared.arg_type.ArgType.TheVariants as type
 use Rattle.ang_registry.specs.declared.entry.EntryKind.{EntryKind}
 use Rattle.ang_registry.specs.declared.entry.EntryKind.TheVariants as kind
+use Rattle.ang_registry.specs.Registration.{is_type}
 use Rattle.ang_typed.specs.declared.expression.HostEntity.{HostEntity}
 use Rattle.ang_typed.specs.declared.expression.Variable.{Variable}
 use Rattle.ang_typed.specs.declared.expression.Variable.TheVariants as variable
 use Rattle.ang_typed.specs.declared.program.Parameter.{Parameter}
 use Rattle.ang_typed.specs.Typed as tree
+use Rattle.ang_meaning.specs.declared.class.ValueKind.{ValueKind}
+use Rattle.ang_meaning.specs.declared.class.ValueKind.TheVariants.{Number, Handle}
 use Rattle.ang_meaning.specs.declared.operation.Change.{Change}
 use Rattle.ang_meaning.specs.declared.operation.Operation.{Operation}
 use Rattle.ang_meaning.specs.declared.operation.Operation.TheVariants.{Work, Compare, Convert, Negate, Complement, Not, GlobalGet, GlobalSet, GlobalChange, Ask, Read, Write, Alter}
@@ -20,14 +25,14 @@ use Rattle.ang_meaning.specs.declared.routine.Passing.{Passing}
 use Rattle.ang_meaning.specs.declared.routine.Passing.TheVariants.{In, Out, Object}
 use Rattle.ang_meaning.specs.declared.routine.Target.{Target}
 use Rattle.ang_meaning.specs.Numbers.{is_signed, converted, negated, complemented, denied}
-use Rattle.ang_meaning.specs.Setting.{Setting, host_in, is_fit, is_called_by, is_property, may_call, may_access}
+use Rattle.ang_meaning.specs.Setting.{Setting, host_in, is_fit, is_called_by, is_property, may_call, may_access, may_write}
 use Rattle.ang_meaning.specs.Perform.{operands, member_count}
 use Rattle.ang_core.specs.Sound.{out_count, Fits, AreSpots}
-use Rattle.ang_source.specs.Meaning.{Code, of_function, of_global, passing_of, passings_of, work_of, test_of, compound_of, step_of}
-use Rattle.ang_source.specs.Sound.{Module, IsEntity, IsHostFunction, IsVariable, Sound, SoundArguments, SoundOption, SoundEach, SoundLocals, SoundStatement, SoundStatements, argument_count, declared, declared_by}
+use Rattle.ang_source.specs.Meaning.{Code, of_function, of_global, referred, passing_by, passing_of, passings_of, kind_of, work_of, test_of, compound_of, step_of}
+use Rattle.ang_source.specs.Sound.{Module, IsEntity, IsHostFunction, IsWritable, IsVariable, IsStored, Sound, SoundArguments, SoundOption, SoundEach, SoundLocals, SoundStatement, SoundStatements, argument_count, declared, declared_by}
 use Rattle.ang_lower.specs.Tree as c
 use Rattle.ang_lower.specs.Lowered as low
-use Rattle.ang_lower.specs.Hosts.{host_type_of, is_member, role_in, use_of, HasView}
+use Rattle.ang_lower.specs.Hosts.{host_type_of, is_member, role_in, is_constant, use_of, asked_as, HasView}
 use Rattle.ang_lower.specs.Same.{SoundCode, HasFunctions}
 use Rattle.ang_lower.proofs.PlainSound.{operand_count, IsSound, AreSoundArgs, leaves, leaves_all, IsSoundStmt, AreSoundStmts}
 use Rattle.ang_lower.proofs.Values.{EachSound, each_argument, each_value, as_many}
@@ -60,18 +65,25 @@ target_count n tree.none found = omega arith
 target_count n (tree.more (tree.by_value ty e) args) found = target_count n args found
 target_count n (tree.more (tree.out x from to) args) found = let rest = target_count n args (low.with_target n (tree.out x from to) found) in omega (arith, rest)
 
-takes_in : (p : Pass) → (p ≢ pass.RefOut) → passing_of p ≡ In
-takes_in pass.Value h = refl
-takes_in pass.RefIn h = refl
-takes_in pass.RefOut h = absurd (h refl)
-takes_in pass.RefInOut h = refl
+referred_none : (ty : ArgType) (ps : List Passing) → out_count (referred ty ∷ ps) ≡ out_count ps
+referred_none type.Void ps = refl
+referred_none type.Null ps = refl
+referred_none (type.Plain p) ps = refl
+referred_none (type.Object n c) ps = refl
+referred_none (type.Handle n c) ps = refl
 
-outs_are : (M : Module) (n : ℕ) (ps : List Parameter) (args : tree.Args) → SoundArguments M n ps args → out_count (map (λ p. passing_of p.pass) ps) ≡ outs_in args
+takes_none : (p : Pass) (ty : ArgType) (ps : List Passing) → (p ≢ pass.RefOut) → out_count (passing_by p ty ∷ ps) ≡ out_count ps
+takes_none pass.Value ty ps h = refl
+takes_none pass.RefIn ty ps h = referred_none ty ps
+takes_none pass.RefOut ty ps h = absurd (h refl)
+takes_none pass.RefInOut ty ps h = referred_none ty ps
+
+outs_are : (M : Module) (n : ℕ) (ps : List Parameter) (args : tree.Args) → SoundArguments M n ps args → out_count (map (λ p. passing_of p) ps) ≡ outs_in args
 outs_are M n [] tree.none h = refl
 outs_are M n [] (tree.more a args) h = absurd h
 outs_are M n (p ∷ ps) tree.none h = absurd h
-outs_are M n (p ∷ ps) (tree.more (tree.by_value ty e) args) h = ap (λ q. out_count (q ∷ map (λ x. passing_of x.pass) ps)) (takes_in p.pass h.0.0) ∙ outs_are M n ps args h.1
-outs_are M n (p ∷ ps) (tree.more (tree.out x from to) args) h = ap (λ q. out_count (passing_of q ∷ map (λ y. passing_of y.pass) ps)) h.0.0 ∙ ap suc (outs_are M n ps args h.1)
+outs_are M n (p ∷ ps) (tree.more (tree.by_value ty e) args) h = takes_none p.pass p.ty (map (λ x. passing_of x) ps) h.0.0 ∙ outs_are M n ps args h.1
+outs_are M n (p ∷ ps) (tree.more (tree.out x from to) args) h = ap (λ q. out_count (passing_by q p.ty ∷ map (λ y. passing_of y) ps)) h.0.0 ∙ ap suc (outs_are M n ps args h.1)
 
 spots_are : (M : Module) (n : ℕ) (ps : List Parameter) (args : tree.Args) (found : List Target) → SoundArguments M n ps args → AreSpots n found → AreSpots n (low.targets_behind n args found)
 spots_are M n [] tree.none found h ok = ok
@@ -90,50 +102,57 @@ lowered_count : (n : ℕ) (args : tree.Args) → operand_count (c.exprs (low.low
 lowered_count n tree.none = refl
 lowered_count n (tree.more a args) = ap suc (lowered_count n args)
 
-module _ (z : Setting) (m : ℕ) (M : Module) (functions : HasFunctions z m M) (view : HasView z M.view) where
+module _ (z : Setting) (m : ℕ) (M : Module) (functions : HasFunctions z m M) (view : HasView z m M.view) where
   -- the host's entity is what the view has
-  found : (kind : EntryKind) (h : HostEntity) (e : IsEntity M.view kind h) → z.host h.entity.0 ≡ Some (use_of e.entry)
-  found kind h e = view.each h.entity.0 e.entry e.in_view
+  found : (kind : EntryKind) (h : HostEntity) (e : IsEntity M.view kind h) → is_type kind ≡ false → z.host m h.entity.0 ≡ Some (use_of e.entry)
+  found kind h e no_type =
+      view.each h.entity.0 ∙ ap asked_as e.in_view ∙ ap (λ b. if b then None else Some (use_of e.entry)) (ap is_type e.same_kind ∙ no_type)
 
-  may_read : (h : HostEntity) → IsEntity M.view kind.Global h → may_access (z.host h.entity.0) ≡ true
-  may_read h e = ap may_access (found kind.Global h e) ∙ ap (λ kd. is_property (role_in kd e.entry.f)) e.same_kind
+  may_read : (h : HostEntity) → IsEntity M.view kind.Global h → may_access (z.host m h.entity.0) ≡ true
+  may_read h e = ap may_access (found kind.Global h e refl) ∙ ap (λ kd. is_property (role_in kd e.entry.f)) e.same_kind
 
-  no_member : (k : EntryKind) (h : HostEntity) (e : IsEntity M.view k h) → is_member k ≡ false → member_count (host_in (z.host h.entity.0)).member ≡ 0
-  no_member k h e away = ap (λ o. member_count (host_in o).member) (found k h e) ∙ ap (λ kd. member_count (is_member kd)) e.same_kind ∙ ap member_count away
+  no_member : (k : EntryKind) (h : HostEntity) (e : IsEntity M.view k h) → is_type k ≡ false → is_member k ≡ false → member_count (host_in (z.host m h.entity.0)).member ≡ 0
+  no_member k h e no_type away = ap (λ o. member_count (host_in o).member) (found k h e no_type) ∙ ap (λ kd. member_count (is_member kd)) e.same_kind ∙ ap member_count away
 
-  read_fits : (h : HostEntity) → IsEntity M.view kind.Global h → (0 ≡ operands z (Read h.entity)) × (is_fit z (Read h.entity) ≡ true)
+  read_fits : (h : HostEntity) → IsEntity M.view kind.Global h → (0 ≡ operands z m (Read h.entity)) × (is_fit z m (Read h.entity) ≡ true)
   unfolding operands is_fit
-  read_fits h e = (sym (no_member kind.Global h e refl), may_read h e)
+  read_fits h e = (sym (no_member kind.Global h e refl refl), may_read h e)
 
-  write_fits : (h : HostEntity) → IsEntity M.view kind.Global h → (1 ≡ operands z (Write h.entity)) × (is_fit z (Write h.entity) ≡ true)
+  may_store : (h : HostEntity) → IsWritable M.view h → may_write (z.host m h.entity.0) ≡ true
+  may_store h w =
+      let e = w.entity in
+      let x = e.entry in
+      ap may_write (found kind.Global h e refl)
+      ∙ ap (λ kd. is_property (role_in kd x.f) && not (is_constant kd x.f x.signature.read_only)) e.same_kind ∙ ap not w.not_const
+
+  write_fits : (h : HostEntity) → IsWritable M.view h → (1 ≡ operands z m (Write h.entity)) × (is_fit z m (Write h.entity) ≡ true)
   unfolding operands is_fit
-  write_fits h e = let alone = no_member kind.Global h e refl in (omega (arith, alone), may_read h e)
+  write_fits h w = let alone = no_member kind.Global h w.entity refl refl in (omega (arith, alone), may_store h w)
 
-  alter_fits : (h : HostEntity) (by : Change) → IsEntity M.view kind.Global h → (1 ≡ operands z (Alter h.entity by)) × (is_fit z (Alter h.entity by) ≡ true)
+  alter_fits : (h : HostEntity) (by : Change) → IsWritable M.view h → (1 ≡ operands z m (Alter h.entity by)) × (is_fit z m (Alter h.entity by) ≡ true)
   unfolding operands is_fit
-  alter_fits h by e = let alone = no_member kind.Global h e refl in (omega (arith, alone), may_read h e)
+  alter_fits h by w = let alone = no_member kind.Global h w.entity refl refl in (omega (arith, alone), may_store h w)
 
-  ask_fits : (h : HostEntity) (count : ℕ) → IsHostFunction M.view h count → (count ≡ operands z (Ask h.entity)) × (is_fit z (Ask h.entity) ≡ true)
+  ask_fits : (h : HostEntity) (count : ℕ) → IsHostFunction M.view h count → (count ≡ operands z m (Ask h.entity)) × (is_fit z m (Ask h.entity) ≡ true)
   unfolding operands is_fit
   ask_fits h count f =
       let e = f.entity in
       let x = e.entry in
-      let alone = no_member kind.Function h e refl in
-      let many : length (host_in (z.host h.entity.0)).params ≡ count = ap (λ o. length (host_in o).params) (found kind.Function h e) ∙ length-map x.signature.params (λ p. host_type_of p.ty) ∙ f.params in
-      (omega (arith, alone, many), ap may_call (found kind.Function h e) ∙ ap (λ kd. is_called_by (role_in kd x.f) (is_member kd) (host_type_of x.signature.result)) e.same_kind)
+      let alone = no_member kind.Function h e refl refl in
+      let many : length (host_in (z.host m h.entity.0)).params ≡ count = ap (λ o. length (host_in o).params) (found kind.Function h e refl) ∙ length-map x.signature.params (λ p. host_type_of p.ty) ∙ f.params in
+      (omega (arith, alone, many), ap may_call (found kind.Function h e refl) ∙ ap (λ kd. is_called_by (role_in kd x.f) (is_member kd) (host_type_of x.signature.result)) e.same_kind)
 
   -- ---- expressions
 
-  nullary_sound : (n : ℕ) (o : Operation) → (0 ≡ operands z o) × (is_fit z o ≡ true) → IsSound z m n (c.apply o c.none)
+  nullary_sound : (n : ℕ) (o : Operation) → (0 ≡ operands z m o) × (is_fit z m o ≡ true) → IsSound z m n (c.apply o c.none)
   nullary_sound n o f = (f.0, f.1, tt)
 
-  unary_sound : (n : ℕ) (o : Operation) (e : c.Expr) → (1 ≡ operands z o) × (is_fit z o ≡ true) → IsSound z m n e → IsSound z m n (low.unary o e)
+  unary_sound : (n : ℕ) (o : Operation) (e : c.Expr) → (1 ≡ operands z m o) × (is_fit z m o ≡ true) → IsSound z m n e → IsSound z m n (low.unary o e)
   unary_sound n o e f h = (f.0, f.1, (h, tt))
 
-  folded_sound : (n : ℕ) (f : ℕ → ℕ) (o : Operation) (e : c.Expr) → (1 ≡ operands z o) × (is_fit z o ≡ true) → IsSound z m n e → IsSound z m n (low.folded f o e)
+  folded_sound : (n : ℕ) (f : ℕ → ℕ) (o : Operation) (e : c.Expr) → (1 ≡ operands z m o) × (is_fit z m o ≡ true) → IsSound z m n e → IsSound z m n (low.folded f o e)
   folded_sound n f o (c.number x) fit h = tt
   folded_sound n f o c.null fit h = unary_sound n o c.null fit h
-  folded_sound n f o (c.no_key d) fit h = unary_sound n o (c.no_key d) fit h
   folded_sound n f o (c.local i) fit h = unary_sound n o (c.local i) fit h
   folded_sound n f o (c.assign i a) fit h = unary_sound n o (c.assign i a) fit h
   folded_sound n f o (c.change i by a) fit h = unary_sound n o (c.change i by a) fit h
@@ -141,7 +160,11 @@ module _ (z : Setting) (m : ℕ) (M : Module) (functions : HasFunctions z m M) (
   folded_sound n f o (c.call q args outs) fit h = unary_sound n o (c.call q args outs) fit h
   folded_sound n f o (c.choose a b d) fit h = unary_sound n o (c.choose a b d) fit h
 
-  binary_sound : (n : ℕ) (o : Operation) (a b : c.Expr) → (2 ≡ operands z o) × (is_fit z o ≡ true) → IsSound z m n a → IsSound z m n b → IsSound z m n (low.binary o a b)
+  initial_sound : (n : ℕ) (kd : ValueKind) → IsSound z m n (low.initial_by kd)
+  initial_sound n Number = tt
+  initial_sound n Handle = tt
+
+  binary_sound : (n : ℕ) (o : Operation) (a b : c.Expr) → (2 ≡ operands z m o) × (is_fit z m o ≡ true) → IsSound z m n a → IsSound z m n b → IsSound z m n (low.binary o a b)
   binary_sound n o a b f h i = (f.0, f.1, (h, (i, tt)))
 
   read_sound : (n : ℕ) (x : Variable) → IsVariable M n x → IsSound z m n (low.read n x)
@@ -150,13 +173,13 @@ module _ (z : Setting) (m : ℕ) (M : Module) (functions : HasFunctions z m M) (
   read_sound n (variable.Global g) h = nullary_sound n (GlobalGet g) (refl, refl)
   read_sound n (variable.Property p) h = nullary_sound n (Read p.entity) (read_fits p h)
 
-  stored_sound : (n : ℕ) (x : Variable) (e : c.Expr) → IsVariable M n x → IsSound z m n e → IsSound z m n (low.stored n x e)
+  stored_sound : (n : ℕ) (x : Variable) (e : c.Expr) → IsStored M n x → IsSound z m n e → IsSound z m n (low.stored n x e)
   unfolding operands is_fit
   stored_sound n (variable.Local i) e h s = (omega arith, s)
   stored_sound n (variable.Global g) e h s = unary_sound n (GlobalSet g) e (refl, refl) s
   stored_sound n (variable.Property p) e h s = unary_sound n (Write p.entity) e (write_fits p h) s
 
-  changed_sound : (n : ℕ) (x : Variable) (by : Change) (e : c.Expr) → IsVariable M n x → IsSound z m n e → IsSound z m n (low.changed n x by e)
+  changed_sound : (n : ℕ) (x : Variable) (by : Change) (e : c.Expr) → IsStored M n x → IsSound z m n e → IsSound z m n (low.changed n x by e)
   unfolding operands is_fit
   changed_sound n (variable.Local i) by e h s = (omega arith, s)
   changed_sound n (variable.Global g) by e h s = unary_sound n (GlobalChange g by) e (refl, refl) s
@@ -169,7 +192,7 @@ module _ (z : Setting) (m : ℕ) (M : Module) (functions : HasFunctions z m M) (
     known = functions.each f ps at;
     count = passings_count ps ∙ sym (as_many M n ps args h) ∙ sym (lowered_count n args);
     given =
-        let turned = out_turned (map (λ p. passing_of p.pass) ps) in
+        let turned = out_turned (map (λ p. passing_of p) ps) in
         let outs = outs_are M n ps args h in
         let many = target_count n args [] in
         omega (arith, turned, outs, many);
@@ -202,7 +225,11 @@ module _ (z : Setting) (m : ℕ) (M : Module) (functions : HasFunctions z m M) (
     args_sound : (args : tree.Args) (n : ℕ) → EachSound M n args → AreSoundArgs z m n (c.exprs (low.lowered_args n args))
     args_sound tree.none n h = tt
     args_sound (tree.more (tree.by_value ty e) args) n h = (lowered_sound e n h.0, args_sound args n h.1)
-    args_sound (tree.more (tree.out x from to) args) n h = (tt, args_sound args n h)
+    args_sound (tree.more (tree.out x from to) args) n h = (initial_sound n (kind_of from), args_sound args n h)
+
+  begin_sound : (e : Option tree.Expr) (ty : ArgType) (n : ℕ) → SoundOption M n e → IsSound z m n (low.lowered_begin n ty e)
+  begin_sound None ty n h = initial_sound n (kind_of ty)
+  begin_sound (Some e) ty n h = lowered_sound e n h
 
   or_sound : (e : Option tree.Expr) (x n : ℕ) → SoundOption M n e → IsSound z m n (low.lowered_or n x e)
   or_sound None x n h = tt
@@ -253,7 +280,7 @@ module _ (z : Setting) (m : ℕ) (M : Module) (functions : HasFunctions z m M) (
   locals_sound loop [] n h = tt
   locals_sound loop (x ∷ xs) n h =
       let e : suc n ≡ 1 + n = omega arith in
-      (or_sound x.initializer 0 n h.0, subst (λ i. AreSoundStmts z m loop i (c.stmts (low.lowered_locals (suc n) xs))) e (locals_sound loop xs (suc n) h.1))
+      (begin_sound x.initializer x.ty n h.0, subst (λ i. AreSoundStmts z m loop i (c.stmts (low.lowered_locals (suc n) xs))) e (locals_sound loop xs (suc n) h.1))
 
   simple_sound : (loop : Bool) (e : Option tree.Expr) (n : ℕ) → SoundOption M n e → IsSoundStmt z m loop n (low.lowered_simple n e)
   simple_sound loop None n h = tt

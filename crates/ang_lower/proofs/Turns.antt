@@ -7,7 +7,7 @@ use Rattle.ang_meaning.specs.declared.slot.Slot.{Slot}
 use Rattle.ang_meaning.specs.World.{World, give}
 use Rattle.ang_meaning.specs.Setting.{Setting}
 use Rattle.ang_meaning.specs.Results.{Ran, Went, Halted, ticked, with_value, then_run, leave, caught}
-use Rattle.ang_source.specs.Meaning.{Callees, evaluate, evaluate_or, discarded, branched, run_locals, run_steps, in_block, tested, pass_of}
+use Rattle.ang_source.specs.Meaning.{Callees, evaluate, begin_local, evaluate_or, discarded, branched, run_locals, run_steps, in_block, tested, pass_of}
 use Rattle.ang_source.specs.Meaning as source
 use Rattle.ang_source.specs.Sound.{Module, Sound, SoundOption, SoundEach, SoundLocals, SoundStatement, SoundStatements, declared, declared_by}
 use Rattle.ang_lower.specs.Tree as c
@@ -15,7 +15,7 @@ use Rattle.ang_lower.specs.Lowered as low
 use Rattle.ang_lower.proofs.PlainMeaning as plain
 use Rattle.ang_lower.proofs.PlainMeaning.{eval, run, run_all}
 use Rattle.ang_lower.proofs.Ends.{SameRun, SameRunFrom, SameSteps, run_at, run_lower, with_value_same, then_run_same, caught_same, leave_same, ticked_same, test_run, leave_leave, caught_leave, then_went, then_then, then_value, leave_exact, exact_keeps, discarded_exact, steps_same}
-use Rattle.ang_lower.proofs.Values.{CalleesAgree, value_same, or_same}
+use Rattle.ang_lower.proofs.Values.{CalleesAgree, value_same, begin_same, or_same}
 
 -- ---- statements behind one another
 
@@ -50,10 +50,10 @@ module _ (z : Setting) (m : ℕ) (M : Module) (k k' : Callees) (callees : Callee
       → SameRun n (length xs + n) (run_all z m k p (c.stmts (low.lowered_locals n xs)) ls t w) (run_locals z m k' xs ls t w)
   locals_same [] n ls t w l h = record { same = refl; keeps = omega (arith, l) }
   locals_same (x ∷ xs) n ls t w l h =
-      let v = eval z m k (low.lowered_or n 0 x.initializer) ls t w in
+      let v = eval z m k (low.lowered_begin n x.ty x.initializer) ls t w in
       let rest = λ (ls' : List Slot) (t' : ℕ) (w' : World). run_all z m k p (c.stmts (low.lowered_locals (suc n) xs)) ls' t' w' in
-      let r = with_value_same n n (length xs + suc n) v (evaluate_or z m k' 0 x.initializer ls t w) (λ u ls' t' w'. rest (u ∷ ls') t' w') (λ u ls' t' w'. run_locals z m k' xs (u ∷ ls') t' w')
-      (or_same z m M k k' callees x.initializer 0 n ls t w l h.0)
+      let r = with_value_same n n (length xs + suc n) v (begin_local z m k' x.ty x.initializer ls t w) (λ u ls' t' w'. rest (u ∷ ls') t' w') (λ u ls' t' w'. run_locals z m k' xs (u ∷ ls') t' w')
+      (begin_same z m M k k' callees x.initializer x.ty n ls t w l h.0)
       (λ u ls' t' w' l'. run_lower n (suc n) (length xs + suc n) _ _ (omega arith) (locals_same xs (suc n) (u ∷ ls') t' w' (ap suc l') h.1)) in
       run_at n (length xs + suc n) (length (x ∷ xs) + n) _ _ (omega arith) (record { same = then_value v (λ u ls' t' w'. Went (u ∷ ls') t' w') rest ∙ r.same; keeps = r.keeps })
 

@@ -2,12 +2,15 @@
 use Rattle.std.proofs.Common.{◌≡◌, ℕ, suc, ◌+◌, ◌-◌, List, [], ◌∷◌, length, refl, sym, ap, ◌∙◌, arith, Option, Some, None}
 use Rattle.std.specs.Prelude.{slice_get, true, false}
 use Rattle.ang_kinds.specs.declared.primitive.Primitive.{Primitive}
+use Rattle.ang_types.specs.declared.arg_type.ArgType.{ArgType}
 use Rattle.ang_typed.specs.declared.expression.Variable.{Variable}
 use Rattle.ang_typed.specs.declared.expression.Variable.TheVariants as variable
 use Rattle.ang_typed.specs.declared.program.Parameter.{Parameter}
 use Rattle.ang_typed.specs.Typed as t
 use Rattle.ang_meaning.specs.declared.slot.Slot.{Slot}
 use Rattle.ang_meaning.specs.declared.slot.Slot.TheVariants.{Bits}
+use Rattle.ang_meaning.specs.declared.class.ValueKind.{ValueKind}
+use Rattle.ang_meaning.specs.declared.class.ValueKind.TheVariants.{Number, Handle}
 use Rattle.ang_meaning.specs.declared.operation.Change.{Change}
 use Rattle.ang_meaning.specs.declared.operation.Operation.{Operation}
 use Rattle.ang_meaning.specs.declared.operation.Operation.TheVariants.{Work, Compare, Convert, Negate, Complement, Not, GlobalGet, GlobalSet, GlobalChange, Ask, Read, Write, Alter}
@@ -15,11 +18,11 @@ use Rattle.ang_meaning.specs.declared.routine.Callee.TheVariants.{Own}
 use Rattle.ang_meaning.specs.declared.routine.Target.{Target}
 use Rattle.ang_meaning.specs.Numbers.{truth, is_signed, converted, negated, complemented, denied}
 use Rattle.ang_meaning.specs.World.{World}
-use Rattle.ang_meaning.specs.Setting.{Setting}
+use Rattle.ang_meaning.specs.Setting.{Setting, default_of}
 use Rattle.ang_meaning.specs.Hosts.{Fine}
 use Rattle.ang_meaning.specs.Perform.{perform}
 use Rattle.ang_meaning.specs.Results.{Evaluated, Gave, Ready, local_at, loaded, performed, applied, assigned, altered}
-use Rattle.ang_source.specs.Meaning.{Callees, one, two, read_variable, stored, changed_by, evaluate, evaluate_all, evaluate_argument, evaluate_or, work_of, test_of, compound_of, step_of, brought_to}
+use Rattle.ang_source.specs.Meaning.{Callees, one, two, read_variable, stored, changed_by, evaluate, evaluate_all, evaluate_argument, begin_local, evaluate_or, kind_of, work_of, test_of, compound_of, step_of, brought_to}
 use Rattle.ang_source.specs.Meaning as source
 use Rattle.ang_source.specs.Sound.{Module, Sound, SoundArguments, SoundValues, SoundOption, argument_count}
 use Rattle.ang_lower.specs.Tree as c
@@ -122,7 +125,6 @@ module _ (z : Setting) (m : ℕ) (k k' : Callees) where
   folded_is : (f : ℕ → ℕ) (o : Operation) → Gives z m f o → (e : c.Expr) (ls : List Slot) (t : ℕ) (w : World) → eval z m k (low.folded f o e) ls t w ≡ eval z m k (low.unary o e) ls t w
   folded_is f o g (c.number x) ls t w = ap (λ d. performed d (Bits x ∷ []) ls t) (sym (g x w))
   folded_is f o g c.null ls t w = refl
-  folded_is f o g (c.no_key d) ls t w = refl
   folded_is f o g (c.local i) ls t w = refl
   folded_is f o g (c.assign i a) ls t w = refl
   folded_is f o g (c.change i by a) ls t w = refl
@@ -157,6 +159,12 @@ module _ (z : Setting) (m : ℕ) (k k' : Callees) where
 -- calls of the module's functions are the same, where they have an argument for each parameter
 abbrev pub CalleesAgree : Module → Callees → Callees → Type 0
 CalleesAgree M k k' = (f : ℕ) (ps : List Parameter) (vs : List Slot) (t : ℕ) (w : World) → slice_get M.parameters f ≡ Some ps → length vs ≡ length ps → k (Own f) vs t w ≡ k' (Own f) vs t w
+
+-- what begins as 0, false or null
+initial_same : (z : Setting) (m : ℕ) (k : Callees) (n : ℕ) (kind : ValueKind) (ls : List Slot) (t : ℕ) (w : World) → length ls ≡ n
+    → SameEval n (eval z m k (low.initial_by kind) ls t w) (Gave (default_of kind) ls t w)
+initial_same z m k n Number ls t w l = record { same = refl; keeps = l }
+initial_same z m k n Handle ls t w l = record { same = refl; keeps = l }
 
 gave : (n x : ℕ) (ls : List Slot) (t : ℕ) (w : World) → length ls ≡ n → SameEval n (Gave (Bits x) ls t w) (Gave (Bits x) ls t w)
 gave n x ls t w l = record { same = refl; keeps = l }
@@ -210,7 +218,13 @@ module _ (z : Setting) (m : ℕ) (M : Module) (k k' : Callees) (callees : Callee
         then_rest_same n i vs (eval z m k (low.lowered n x) ls t w) (evaluate z m k' x ls t w) _ _ (value_same x n ls t w l h.0)
         (λ v ls' t' w' l'. values_same args n i (v ∷ vs) ls' t' w' l' (omega (arith, e)) h.1)
     values_same (t.more (t.out x from to) args) n i vs ls t w l e h =
-        values_same args n i (Bits 0 ∷ vs) ls t w l (omega (arith, e)) h
+        then_rest_same n i vs (eval z m k (low.initial from) ls t w) (Gave (default_of (kind_of from)) ls t w) _ _
+        (initial_same z m k n (kind_of from) ls t w l) (λ v ls' t' w' l'. values_same args n i (v ∷ vs) ls' t' w' l' (omega (arith, e)) h)
+
+  pub begin_same : (e : Option t.Expr) (ty : ArgType) (n : ℕ) (ls : List Slot) (t : ℕ) (w : World) → length ls ≡ n → SoundOption M n e
+      → SameEval n (eval z m k (low.lowered_begin n ty e) ls t w) (begin_local z m k' ty e ls t w)
+  begin_same None ty n ls t w l h = initial_same z m k n (kind_of ty) ls t w l
+  begin_same (Some e) ty n ls t w l h = value_same e n ls t w l h
 
   pub or_same : (e : Option t.Expr) (x n : ℕ) (ls : List Slot) (t : ℕ) (w : World) → length ls ≡ n → SoundOption M n e → SameEval n (eval z m k (low.lowered_or n x e) ls t w) (evaluate_or z m k' x e ls t w)
   or_same None x n ls t w l h = record { same = refl; keeps = l }

@@ -2,10 +2,13 @@
 -- tree is numbered from the outermost one, and one of the core tree from the innermost one.
 use Rattle.std.specs.Prelude.{◌≡◌, ℕ, suc, ◌+◌, ◌-◌, List, [], ◌∷◌, ◌++◌, length, map, Option, Some, None}
 use Rattle.ang_kinds.specs.declared.primitive.Primitive.{Primitive}
+use Rattle.ang_types.specs.declared.arg_type.ArgType.{ArgType}
 use Rattle.ang_typed.specs.declared.expression.Variable.{Variable}
 use Rattle.ang_typed.specs.declared.expression.Variable.TheVariants as variable
 use Rattle.ang_typed.specs.Typed as t
 use Rattle.ang_typed.specs.View.{Repeated}
+use Rattle.ang_meaning.specs.declared.class.ValueKind.{ValueKind}
+use Rattle.ang_meaning.specs.declared.class.ValueKind.TheVariants.{Number, Handle}
 use Rattle.ang_meaning.specs.declared.operation.Change.{Change}
 use Rattle.ang_meaning.specs.declared.operation.Operation.{Operation}
 use Rattle.ang_meaning.specs.declared.operation.Operation.TheVariants.{Work, Compare, Convert, Negate, Complement, Not, GlobalGet, GlobalSet, GlobalChange, Ask, Read, Write, Alter}
@@ -15,7 +18,7 @@ use Rattle.ang_meaning.specs.declared.routine.Spot.TheVariants as spot
 use Rattle.ang_meaning.specs.declared.routine.Target.{Target}
 use Rattle.ang_meaning.specs.Numbers.{truth, is_signed, converted, negated, complemented, denied}
 use Rattle.ang_core.specs.declared.tree.Statement.{Statement}
-use Rattle.ang_source.specs.Meaning.{Code, of_function, of_global, work_of, test_of, compound_of, step_of, brought_to, passings_of}
+use Rattle.ang_source.specs.Meaning.{Code, of_function, of_global, work_of, test_of, compound_of, step_of, brought_to, kind_of, passings_of}
 use Rattle.ang_source.specs.Sound.{declared, declared_by}
 use Rattle.ang_lower.specs.Tree as c
 use Rattle.ang_lower.specs.Plain.{plain_stmt}
@@ -32,7 +35,6 @@ binary o l r = c.apply o (c.more l (c.more r c.none))
 abbrev pub number_in : c.Expr → Option ℕ
 number_in (c.number x) = Some x
 number_in c.null = None
-number_in (c.no_key d) = None
 number_in (c.local i) = None
 number_in (c.assign i e) = None
 number_in (c.change i by e) = None
@@ -99,6 +101,15 @@ targets_of n args = targets_behind n args []
 
 -- ---- expressions
 
+-- what stands for a value of that kind that nobody wrote
+abbrev pub initial_by : ValueKind → c.Expr
+initial_by Number = c.number 0
+initial_by Handle = c.null
+
+-- and for one of that type: 0, false or null
+abbrev pub initial : ArgType → c.Expr
+initial ty = initial_by (kind_of ty)
+
 abbrev mutual
   pub lowered : ℕ → t.Expr → c.Expr
   lowered n (t.number ty x) = c.number x
@@ -125,7 +136,7 @@ abbrev mutual
 
   pub lowered_arg : ℕ → t.Arg → c.Expr
   lowered_arg n (t.by_value ty e) = lowered n e
-  lowered_arg n (t.out x from to) = c.number 0
+  lowered_arg n (t.out x from to) = initial from
 
 -- this number where nothing is written
 abbrev pub lowered_or : ℕ → ℕ → Option t.Expr → c.Expr
@@ -134,10 +145,15 @@ lowered_or n x (Some e) = lowered n e
 
 -- ---- statements
 
+-- what a new local begins with
+abbrev pub lowered_begin : ℕ → ArgType → Option t.Expr → c.Expr
+lowered_begin n ty None = initial ty
+lowered_begin n ty (Some e) = lowered n e
+
 -- each local is a statement of its own
 abbrev pub lowered_locals : ℕ → List t.Local → List c.Stmt
 lowered_locals n [] = []
-lowered_locals n (l ∷ ls) = c.declare (lowered_or n 0 l.initializer) ∷ lowered_locals (suc n) ls
+lowered_locals n (l ∷ ls) = c.declare (lowered_begin n l.ty l.initializer) ∷ lowered_locals (suc n) ls
 
 abbrev pub lowered_simple : ℕ → Option t.Expr → c.Stmt
 lowered_simple n None = c.skip

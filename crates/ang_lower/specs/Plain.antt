@@ -3,7 +3,7 @@ use Rattle.std.specs.declared.boxed.Box.{Box}
 use Rattle.std.specs.declared.alloc.Global.{Global}
 use Rattle.ang_core.specs.declared.tree.Body.{Body}
 use Rattle.ang_core.specs.declared.tree.Expression.{Expression, Row_of-Expression, end_of-Expression, more_of-Expression}
-use Rattle.ang_core.specs.declared.tree.Expression.TheVariants.{Number, Null as Nothing, NoKey, Local, Assign', Change', Apply', Call', Choose'}
+use Rattle.ang_core.specs.declared.tree.Expression.TheVariants.{Number, Null as Nothing, Local, Assign', Change', Apply', Call', Choose'}
 use Rattle.ang_core.specs.declared.tree.Statement.{Statement, Row_of-Statement, end_of-Statement, more_of-Statement}
 use Rattle.ang_core.specs.declared.tree.Statement.TheVariants.{Skip, Evaluate, Declare, Block', If', While', DoWhile', Return, Break, Continue}
 use Rattle.ang_lower.specs.Tree as c
@@ -12,7 +12,6 @@ abbrev mutual
   pub plain_expr : Expression → c.Expr
   plain_expr (Number n) = c.number n
   plain_expr Nothing = c.null
-  plain_expr (NoKey d) = c.no_key d
   plain_expr (Local i) = c.local i
   plain_expr (Assign' i p e) = c.assign i (plain_expr e)
   plain_expr (Change' i by p e) = c.change i by (plain_expr e)

@@ -76,6 +76,6 @@ pub record MeansProgram (p : t.Program) (bs : List Body) : Type 0 where
   pub means : (V : RegistrationList) (z : Setting) (m : ℕ) (bodies : Bodies) (codes : Codes) → SoundProgram V p → HasProgram z m p → AreBodies m bs bodies → AreCodes m p codes
       → (k : ℕ) → MeansSame z bodies codes (routine m k)
 
--- And where the setting's entities are those of the module's view, each keeps what the generator wants of it.
+-- And where the module sees what its view has, each keeps what the generator wants of it.
 pub record KeepsSound (p : t.Program) (bs : List Body) : Type 0 where
-  pub sound : (V : RegistrationList) (z : Setting) (m : ℕ) (bodies : Bodies) → SoundProgram V p → HasView z V → HasProgram z m p → AreBodies m bs bodies → AreSoundIn z m bodies
+  pub sound : (V : RegistrationList) (z : Setting) (m : ℕ) (bodies : Bodies) → SoundProgram V p → HasView z m V → HasProgram z m p → AreBodies m bs bodies → AreSoundIn z m bodies

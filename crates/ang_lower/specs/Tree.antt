@@ -10,7 +10,6 @@ mutual
   pub data Expr : Type 0 where
     number : ℕ → Expr
     null : Expr
-    no_key : ℕ → Expr
     local : ℕ → Expr
     assign : ℕ → Expr → Expr
     change : ℕ → Change → Expr → Expr

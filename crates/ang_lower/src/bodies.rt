@@ -1,7 +1,7 @@
 //! The bodies of a module.
 ghost use Rattle.std.specs.Prelude.{◌≡◌, ◌+◌, ◌++◌, ◌∷◌, [], suc, reverse, IfOk, OnOk, map as list_map};
 ghost use Rattle.ang_typed.specs.View.{view_block, view_expr, view_function, view_global, view_typed};
-ghost use Rattle.ang_source.specs.Meaning.{passing_of, passings_of, passings_in, of_global};
+ghost use Rattle.ang_source.specs.Meaning.{referred, passing_of, passings_of, passings_in, of_global};
 ghost use Rattle.ang_lower.specs.Plain.{plain_body, plain_stmt};
 ghost use Rattle.ang_lower.specs.Lowered as spec;
 ghost use Rattle.ang_lower.specs.Same.{MeansProgram, KeepsSound};
@@ -13,24 +13,36 @@ use ang_core::{Body, Statement};
 use ang_kinds::Pass;
 use ang_meaning::Passing;
 use ang_typed::{Expression, Function, Global as GlobalVariable, Parameter, Typed, Variable};
+use ang_types::ArgType;
 use std::alloc::{AllocError, Global};
 
-fn passing(pass: Pass) -> Passing
-    ensures same { result ≡ passing_of pass }
+/// How a parameter by reference takes its argument: an object itself passes.
+fn referred(ty: ArgType) -> Passing
+    ensures same { result ≡ referred ty }
 {
-    match pass {
-        Pass::Value | Pass::RefIn | Pass::RefInOut => Passing::In,
+    match ty {
+        ArgType::Object { .. } => Passing::Object,
+        ArgType::Void | ArgType::Null | ArgType::Plain(_) | ArgType::Handle { .. } => Passing::In,
+    }
+}
+
+fn passing(parameter: Parameter) -> Passing
+    ensures same { result ≡ passing_of parameter }
+{
+    match parameter.pass {
+        Pass::Value => Passing::In,
+        Pass::RefIn | Pass::RefInOut => referred(parameter.ty),
         Pass::RefOut => Passing::Out,
     }
 }
 
 /// How parameters take their arguments, in order.
 fn each_passing(alloc: Global, parameters: &[Parameter]) -> Result<Vec<Passing>, AllocError>
-    ensures exact { IfOk result (λ v. v.items ≡ list_map (λ p. passing_of p.pass) parameters.now) }
+    ensures exact { IfOk result (λ v. v.items ≡ list_map (λ p. passing_of p) parameters.now) }
 {
     parameters
         .iter()
-        .map(|parameter| passing(parameter.pass))
+        .map(|parameter| passing(*parameter))
         .collect(alloc)
 }
 

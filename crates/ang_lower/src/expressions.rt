@@ -12,7 +12,8 @@ use crate::variables::{change, read, small, store, targets};
 use ang_core::Expression;
 use ang_meaning::{Callee, Operation};
 use ang_typed as typed;
-use ang_typed::Argument;
+use ang_typed::{Argument, Local};
+use ang_types::ArgType;
 use std::alloc::{AllocError, Global};
 
 /// The core tree of an expression, where so many locals are alive.
@@ -223,7 +224,20 @@ fn lower_call(alloc: Global, alive: usize, e: &typed::Expression) -> Result<Expr
     }
 }
 
-/// The arguments of a call in order; an `&out` parameter begins as 0 or false.
+/// What stands for a value of that type that nobody wrote: 0, false or null.
+fn initial(ty: ArgType) -> Expression
+    ensures exact { plain_expr result ≡ spec.initial ty }
+{
+    match ty {
+        ArgType::Void => Expression::Number(0),
+        ArgType::Null => Expression::Null,
+        ArgType::Plain(_) => Expression::Number(0),
+        ArgType::Object { .. } => Expression::Null,
+        ArgType::Handle { .. } => Expression::Null,
+    }
+}
+
+/// The arguments of a call in order; an `&out` parameter begins as 0, false or null.
 #[cycle(expression)]
 fn lower_arguments(
     alloc: Global,
@@ -250,7 +264,7 @@ fn lower_argument(
 {
     match argument {
         Argument::Value { value, .. } => lower_expression(alloc, alive, value),
-        Argument::Out { .. } => Ok(Expression::Number(0)),
+        Argument::Out { from, .. } => Ok(initial(*from)),
     }
 }
 
@@ -281,5 +295,21 @@ pub fn lower_or(
     match e {
         Some(e) => lower_boxed(alloc, alive, e),
         None => Ok(Box::new(alloc, Expression::Number(number))?),
+    }
+}
+
+/// The core tree of what a new local begins with, where so many others are alive.
+#[inline(never)]
+pub fn lower_begin(
+    alloc: Global,
+    alive: usize,
+    local: &Local,
+) -> Result<Box<Expression>, AllocError>
+    ensures exact { IfOk result (λ x. plain_tree x
+        ≡ spec.lowered_begin alive local.now.ty (view_option local.now.initializer)) }
+{
+    match &local.initializer {
+        Some(e) => lower_boxed(alloc, alive, e),
+        None => Ok(Box::new(alloc, initial(local.ty))?),
     }
 }

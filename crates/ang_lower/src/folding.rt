@@ -16,7 +16,6 @@ fn number_in(e: &Expression) -> Option<u64>
     match e {
         Expression::Number(x) => Some(*x),
         Expression::Null => None,
-        Expression::NoKey(_) => None,
         Expression::Local(_) => None,
         Expression::Assign(_, _) => None,
         Expression::Change(_, _, _) => None,

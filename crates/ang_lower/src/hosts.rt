@@ -38,6 +38,16 @@ fn role(kind: EntryKind, f: u32) -> Role
     }
 }
 
+/// Whether it is a property that is declared `const`.
+fn is_constant(kind: EntryKind, f: u32, declared: bool) -> bool
+    ensures same { result ≡ spec.is_constant kind f declared }
+{
+    match kind {
+        EntryKind::Property | EntryKind::Global => declared,
+        EntryKind::HostType | EntryKind::Factory | EntryKind::Method | EntryKind::Function => false,
+    }
+}
+
 fn host_types(alloc: Global, params: &[Param]) -> Result<Vec<HostType>, AllocError>
     ensures exact { IfOk result (λ v. v.items ≡ list_map (λ p. spec.host_type_of p.ty) params.now) }
 {
@@ -61,5 +71,6 @@ pub fn host_use(alloc: Global, entry: &Entry) -> Result<HostUse, AllocError>
         member: is_member(entry.kind),
         params: List::from_vec(params),
         result: host_type(&entry.signature.result),
+        read_only: is_constant(entry.kind, entry.f, entry.signature.read_only),
     })
 }

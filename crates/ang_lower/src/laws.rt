@@ -10,7 +10,9 @@ ghost use Rattle.ang_core.specs.Sound.{LinksFit, AreSound};
 ghost use Rattle.ang_source.specs.Meaning.{Codes, codes_in};
 ghost use Rattle.ang_source.specs.Meaning as source;
 ghost use Rattle.ang_source.specs.Sound.{Module};
-ghost use Rattle.ang_lower.specs.Hosts.{HasView};
+ghost use Rattle.ang_registry.specs.Registration.{RegistrationList};
+ghost use Rattle.ang_meaning.specs.declared.host.HostUse.{HostUse};
+ghost use Rattle.ang_lower.specs.Hosts.{HasView, IsOfView};
 ghost use Rattle.ang_lower.specs.Same.{routine, AreLowered, AreSoundIn, AreCodes, MeansSame, AllMeanSame, TakeNothing};
 
 /// Where the bodies of a module are lowered from sound code, each of them ends as its source says: for
@@ -42,12 +44,12 @@ pub fn everywhere_same()
         → core.initialized_all z bodies gs t w ≡ source.initialized_all z codes gs t w }
 {}
 
-/// Where the bodies of a module are lowered from sound code, and the setting's entities are those of its
-/// view, each body keeps what the generator wants of it.
+/// Where the bodies of a module are lowered from sound code, and the module sees what its view has, each body
+/// keeps what the generator wants of it.
 pub fn sound_in_module()
     ensures sound { (z : Setting) (m : ℕ) (M : Module) (bodies : Bodies) (codes : Codes)
         → AreLowered z m M bodies codes
-        → HasView z M.view
+        → HasView z m M.view
         → AreSoundIn z m bodies }
 {}
 
@@ -64,4 +66,13 @@ pub fn sound_together()
 #[tactic(auto, using(crate::proofs::Modules::codes_there))]
 pub fn codes_there()
     ensures there { (ps : List Program) (m : ℕ) (p : Program) → slice_get ps m ≡ Some p → AreCodes m p (codes_in ps) }
+{}
+
+/// What a module asks is an entry of its view, which is no type, asked as that is declared.
+#[tactic(auto, using(crate::proofs::Views::seen_in))]
+pub fn each_use_is_of_the_view()
+    ensures seen { (z : Setting) (m : ℕ) (V : RegistrationList) (e : ℕ) (u : HostUse)
+        → HasView z m V
+        → z.host m e ≡ Some u
+        → IsOfView V e u }
 {}

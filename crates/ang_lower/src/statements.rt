@@ -11,7 +11,7 @@ use crate::build::{
     LoopHead, Tested, add, block, block_with, either, late_loop_of, let_go_of_head, let_go_of_list,
     let_go_of_test, let_go_of_tested, loop_of, make_tested,
 };
-use crate::expressions::{lower_boxed, lower_or};
+use crate::expressions::{lower_begin, lower_boxed, lower_or};
 use ang_core::Statement;
 use ang_typed as typed;
 use ang_typed::{Block, Choice, Expression, For, Local, Loop};
@@ -41,7 +41,7 @@ fn add_locals(
 {
     let mut here = alive;
     for local in locals {
-        let value = lower_or(alloc, here, 0, &local.initializer)?;
+        let value = lower_begin(alloc, here, local)?;
         add(found, Statement::Declare(value))?;
         here = one_more(here)?;
     }

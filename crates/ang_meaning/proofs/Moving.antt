@@ -1,6 +1,7 @@
 -- What each piece of a run is told, and what it lists.
-use Rattle.std.proofs.Common.{◌≡◌, ℕ, zero, suc, inl, inr, ⊎_elim, List, [], ◌∷◌, ◌++◌, Option, Some, None, refl, sym, ap, ◌∙◌, append_assoc, append-nil, length}
+use Rattle.std.proofs.Common.{◌≡◌, ℕ, zero, suc, inl, inr, ⊎_elim, List, [], ◌∷◌, ◌++◌, Option, Some, None, refl, sym, ap, ◌∙◌, append_assoc, append-nil}
 use Rattle.std.specs.Prelude.{Bool, true, false, cond, reverse}
+use Rattle.std.specs.FinMap as map
 use Rattle.ang_kinds.specs.declared.mask.EntityNo.{EntityNo}
 use Rattle.ang_kinds.specs.declared.value.Value.{Value}
 use Rattle.ang_kinds.specs.declared.fault.Fault.{Fault}
@@ -17,22 +18,23 @@ use Rattle.ang_meaning.specs.declared.host.HostType.{HostType}
 use Rattle.ang_meaning.specs.declared.host.HostType.TheVariants.{Nothing}
 use Rattle.ang_meaning.specs.declared.operation.Change.{Change}
 use Rattle.ang_meaning.specs.declared.operation.Operation.{Operation}
-use Rattle.ang_meaning.specs.declared.operation.Operation.TheVariants.{Work, Compare, Convert, Negate, Complement, Not, Same, GlobalGet, GlobalSet, GlobalChange, Ask, Read, Write, Alter}
+use Rattle.ang_meaning.specs.declared.operation.Operation.TheVariants.{Work, Compare, Convert, Negate, Complement, Not, Same, GlobalGet, GlobalSet, GlobalChange, Ask, Read, Write, Alter, Make, FieldGet, FieldSet, FieldChange, Cast}
 use Rattle.ang_meaning.specs.declared.routine.Passing.{Passing}
 use Rattle.ang_meaning.specs.declared.routine.Passing.TheVariants.{In, Out, Object}
 use Rattle.ang_meaning.specs.Numbers.{Worked, Is, Cannot, Changed, Into, Never, worked}
-use Rattle.ang_meaning.specs.World.{World, HostRecord, Input, Room, Said, Counted, Fresh, Tried, Yes, No, memory_told, memory_step, one_more, tally_told, tally_step, held, hold, Lowered, Gone, Kept, host_lowered, each_given, script_given, script_lowered, given, give, give_all}
-use Rattle.ang_meaning.specs.Told.{has_room, stopped_by, answers_told, answers_listed, Moves, GoesOn, Stops}
-use Rattle.ang_meaning.specs.Setting.{Setting, use_at}
-use Rattle.ang_meaning.specs.Hosts.{Done, Fine, Fails, holding, accepted, is_void, slot_of, replied_by, is_reply_to, asked_from, asked_told, asked, value_of, values_of}
-use Rattle.ang_meaning.specs.Perform.{work_done, change_of, global_or, global_put, stored_global, changed_global, Receiver, Of, Missing, receiver_of, arguments_of, gives_up, called_of, read_of, write_of, in_place_of, altered_to, altered_of, perform}
+use Rattle.ang_meaning.specs.World.{World, HostCounts, Input, Room, Said, Tallied, Fresh, Tried, Yes, No, memory_told, memory_step, one_more, tally_told, tally_step, hold, Lowered, Gone, Kept, host_lowered, each_given, script_given, script_lowered, given, give, give_all, or_else}
+use Rattle.ang_meaning.specs.Told.{has_room, stopped_by, answers_told, answers_listed, Moves, GoesOn, Faults}
+use Rattle.ang_meaning.specs.declared.class.Class.{Class}
+use Rattle.ang_meaning.specs.Setting.{Setting, class_at, use_at}
+use Rattle.ang_meaning.specs.Hosts.{Done, Fine, Fails, accepted, is_void, slot_of, replied_by, is_reply_to, asked_from, asked, value_of, values_of}
+use Rattle.ang_meaning.specs.Perform.{work_done, change_of, global_or, global_put, stored_global, changed_global, Receiver, Of, receiver_of, arguments_of, gives_up, called_of, read_of, write_of, in_place_of, altered_to, altered_of, field_or, field_put, may_take, member_put, stored_field, changed_field, is_under, cast_to, number_for, made_at, made_from, perform, NoReceiver, NullReceiver}
 use Rattle.ang_meaning.specs.Results.{give_some, give_back, give_others}
 
 told_append : (a b : List Input) → answers_told (a ++ b) ≡ answers_told a ++ answers_told b
 told_append [] b = refl
 told_append (Said r ∷ a) b = ap (λ l. r ∷ l) (told_append a b)
 told_append (Room x ∷ a) b = told_append a b
-told_append (Counted x ∷ a) b = told_append a b
+told_append (Tallied x ∷ a) b = told_append a b
 told_append (Fresh n ∷ a) b = told_append a b
 
 listed_append : (a b : List HostEvent) → answers_listed (a ++ b) ≡ answers_listed a ++ answers_listed b
@@ -45,8 +47,8 @@ room_append [] b h = refl
 room_append (Said r ∷ a) b h = room_append a b h
 room_append (Room true ∷ a) b h = room_append a b h
 room_append (Room false ∷ a) b h = absurd (cc)
-room_append (Counted true ∷ a) b h = room_append a b h
-room_append (Counted false ∷ a) b h = absurd (cc)
+room_append (Tallied true ∷ a) b h = room_append a b h
+room_append (Tallied false ∷ a) b h = absurd (cc)
 room_append (Fresh n ∷ a) b h = room_append a b h
 
 stopped_append : (a b : List Input) → has_room a ≡ true → stopped_by (a ++ b) ≡ stopped_by b
@@ -54,8 +56,8 @@ stopped_append [] b h = refl
 stopped_append (Said r ∷ a) b h = stopped_append a b h
 stopped_append (Room true ∷ a) b h = stopped_append a b h
 stopped_append (Room false ∷ a) b h = absurd (cc)
-stopped_append (Counted true ∷ a) b h = stopped_append a b h
-stopped_append (Counted false ∷ a) b h = absurd (cc)
+stopped_append (Tallied true ∷ a) b h = stopped_append a b h
+stopped_append (Tallied false ∷ a) b h = absurd (cc)
 stopped_append (Fresh n ∷ a) b h = stopped_append a b h
 
 moves_then : (u v w : World) (a b : List Input) → Moves u a v → Moves v b w → Moves u (a ++ b) w
@@ -69,14 +71,14 @@ moves_then u v w a b p q = record {
 pub goes_then : (u v w : World) → GoesOn u v → GoesOn v w → GoesOn u w
 goes_then u v w p q = record { used = p.used ++ q.used; moves = moves_then u v w p.used q.used p.moves q.moves; room = room_append p.used q.used p.room ∙ q.room }
 
-pub goes_stop : (f : Fault) (u v w : World) → GoesOn u v → Stops f v w → Stops f u w
+pub goes_stop : (f : Fault) (u v w : World) → GoesOn u v → Faults f v w → Faults f u w
 goes_stop f u v w p q = record {
   used = p.used ++ q.used;
   moves = moves_then u v w p.used q.used p.moves q.moves;
   told = ⊎_elim (λ (e : has_room q.used ≡ true). inl (room_append p.used q.used p.room ∙ e)) (λ (e : stopped_by q.used ≡ Some f). inr (stopped_append p.used q.used p.room ∙ e)) q.told;
 }
 
-pub faulted : (f : Fault) (u v : World) → GoesOn u v → Stops f u v
+pub faulted : (f : Fault) (u v : World) → GoesOn u v → Faults f u v
 faulted f u v p = record { used = p.used; moves = p.moves; told = inl p.room }
 
 -- what asks for nothing
@@ -84,7 +86,7 @@ pub gives : (u v : World) → Moves u [] v → GoesOn u v
 gives u v p = record { used = []; moves = p; room = refl }
 
 -- and so may follow a refusal
-pub stop_gives : (f : Fault) (u v w : World) → Stops f u v → Moves v [] w → Stops f u w
+pub stop_gives : (f : Fault) (u v w : World) → Faults f u v → Moves v [] w → Faults f u w
 stop_gives f u v w p q =
     let m = p.moves in
     record {
@@ -110,7 +112,7 @@ each_gives : (go : Slot → World → World) → ((v : Slot) (w : World) → Mov
 each_gives go h [] w = same w w refl refl
 each_gives go h (v ∷ vs) w = moves_then w (go v w) (each_given go vs (go v w)) [] [] (h v w) (each_gives go h vs (go v w))
 
-host_ends : (b : Bool) (d k : ℕ) (hs : List HostRecord) (w : World) → Moves w [] (record w { hosts = hs; events = cond b (w.events ++ Ended d k ∷ []) w.events })
+host_ends : (b : Bool) (d k : ℕ) (hs : HostCounts) (w : World) → Moves w [] (record w { hosts = hs; events = cond b (w.events ++ Ended d k ∷ []) w.events })
 host_ends true d k hs w = record { more = Ended d k ∷ []; inputs = refl; events = refl; answers = refl }
 host_ends false d k hs w = same w _ refl refl
 
@@ -131,7 +133,7 @@ given_moves (suc n) (Script (Some k)) w = script_gives (given n) (given_moves n)
 
 pub give_moves : (v : Slot) (w : World) → Moves w [] (give v w)
 unfolding give
-give_moves v w = given_moves (length w.objects) v w
+give_moves v w = given_moves (map.len w.objects) v w
 
 pub give_all_moves : (vs : List Slot) (w : World) → Moves w [] (give_all vs w)
 give_all_moves [] w = same w w refl refl
@@ -160,7 +162,7 @@ put_moves m g v w = same w _ refl refl
 -- a step that may be refused
 abbrev pub TriedFrom : Fault → World → Tried → Type 0
 TriedFrom f w (Yes w') = GoesOn w w'
-TriedFrom f w (No w') = Stops f w w'
+TriedFrom f w (No w') = Faults f w w'
 
 told_one : (w : World) (i : Input) (rest : List Input) → w.inputs ≡ i ∷ rest → answers_told (i ∷ []) ≡ [] → Moves w (i ∷ []) (record w { inputs = rest })
 told_one w i rest e a = record { more = []; inputs = e; events = sym (append-nil w.events); answers = sym a }
@@ -170,7 +172,7 @@ memory_from [] w e = faulted Memory w w (nothing w)
 memory_from (Room true ∷ rest) w e = record { used = Room true ∷ []; moves = told_one w (Room true) rest e refl; room = refl }
 memory_from (Room false ∷ rest) w e = record { used = Room false ∷ []; moves = told_one w (Room false) rest e refl; told = inr refl }
 memory_from (Said r ∷ rest) w e = faulted Memory w w (nothing w)
-memory_from (Counted b ∷ rest) w e = faulted Memory w w (nothing w)
+memory_from (Tallied b ∷ rest) w e = faulted Memory w w (nothing w)
 memory_from (Fresh n ∷ rest) w e = faulted Memory w w (nothing w)
 
 pub memory_goes : (w : World) → TriedFrom Memory w (memory_step w)
@@ -179,8 +181,8 @@ memory_goes w = memory_from w.inputs w refl
 
 tally_from : (inputs : List Input) (w : World) → w.inputs ≡ inputs → TriedFrom Tally w (tally_told inputs w)
 tally_from [] w e = faulted Tally w w (nothing w)
-tally_from (Counted true ∷ rest) w e = record { used = Counted true ∷ []; moves = told_one w (Counted true) rest e refl; room = refl }
-tally_from (Counted false ∷ rest) w e = record { used = Counted false ∷ []; moves = told_one w (Counted false) rest e refl; told = inr refl }
+tally_from (Tallied true ∷ rest) w e = record { used = Tallied true ∷ []; moves = told_one w (Tallied true) rest e refl; room = refl }
+tally_from (Tallied false ∷ rest) w e = record { used = Tallied false ∷ []; moves = told_one w (Tallied false) rest e refl; told = inr refl }
 tally_from (Said r ∷ rest) w e = faulted Tally w w (nothing w)
 tally_from (Room b ∷ rest) w e = faulted Tally w w (nothing w)
 tally_from (Fresh n ∷ rest) w e = faulted Tally w w (nothing w)
@@ -201,7 +203,7 @@ more_moves (Script (Some n)) w = same w _ refl refl
 more_moves (Host d None) w = same w w refl refl
 more_moves (Host d (Some k)) w = same w _ refl refl
 
-held_goes : (v : Slot) (w : World) (o : Tried) → TriedFrom Tally w o → TriedFrom Tally w (held v o)
+held_goes : (v : Slot) (w : World) (o : Tried) → TriedFrom Tally w o → TriedFrom Tally w (or_else o No (λ u. Yes (one_more v u)))
 held_goes v w (No w') p = p
 held_goes v w (Yes w') p = goes_then w w' (one_more v w') p (gives w' (one_more v w') (more_moves v w'))
 
@@ -212,13 +214,13 @@ hold_goes v w = held_goes v w (tally_step v w) (tally_goes v w)
 -- an operation
 abbrev pub DoneFrom : World → Done → Type 0
 DoneFrom w (Fine v w') = GoesOn w w'
-DoneFrom w (Fails f w') = Stops f w w'
+DoneFrom w (Fails f w') = Faults f w w'
 
 done_then : (u w : World) (o : Done) → GoesOn u w → DoneFrom w o → DoneFrom u o
 done_then u w (Fine v w') p q = goes_then u w w' p q
 done_then u w (Fails f w') p q = goes_stop f u w w' p q
 
-holding_goes : (v : Slot) (w : World) (o : Tried) → TriedFrom Tally w o → DoneFrom w (holding v o)
+holding_goes : (v : Slot) (w : World) (o : Tried) → TriedFrom Tally w o → DoneFrom w (or_else o (Fails Tally) (Fine v))
 holding_goes v w (No w') p = p
 holding_goes v w (Yes w') p = p
 
@@ -251,17 +253,17 @@ kind_goes false w o p = faulted Memory w w (nothing w)
 module _ (z : Setting) (m : ℕ) (e : EntityNo) where
   asked_said : (object : Option ℕ) (args : List Value) (result : HostType) (inputs : List Input) (w : World) → w.inputs ≡ inputs → DoneFrom w (asked_from z m e object args result inputs w)
   asked_said object args result (Said reply ∷ rest) w h =
-      let event = Called (z.name m) e (use_at z e).driver object args reply in
+      let event = Called (z.name m) e (use_at z m e).driver object args reply in
       let u : World = record w { inputs = rest; events = w.events ++ event ∷ [] } in
-      kind_goes (is_reply_to (use_at z e).role reply) w _
+      kind_goes (is_reply_to (use_at z m e).role reply) w _
       (done_then w u _ (record { used = Said reply ∷ []; moves = record { more = event ∷ []; inputs = h; events = refl; answers = refl }; room = refl })
-      (replied_goes (use_at z e).driver result reply u))
+      (replied_goes (use_at z m e).driver result reply u))
   asked_said object args result [] w h = faulted Memory w w (nothing w)
   asked_said object args result (Room b ∷ rest) w h = faulted Memory w w (nothing w)
-  asked_said object args result (Counted b ∷ rest) w h = faulted Memory w w (nothing w)
+  asked_said object args result (Tallied b ∷ rest) w h = faulted Memory w w (nothing w)
   asked_said object args result (Fresh n ∷ rest) w h = faulted Memory w w (nothing w)
 
-  asked_tried : (object : Option ℕ) (args : List Value) (result : HostType) (w : World) (o : Tried) → TriedFrom Memory w o → DoneFrom w (asked_told z m e object args result o)
+  asked_tried : (object : Option ℕ) (args : List Value) (result : HostType) (w : World) (o : Tried) → TriedFrom Memory w o → DoneFrom w (or_else o (Fails Memory) (λ u. asked_from z m e object args result u.inputs u))
   asked_tried object args result w (No w') p = p
   asked_tried object args result w (Yes w') p = done_then w w' _ p (asked_said object args result w'.inputs w' refl)
 
@@ -270,34 +272,37 @@ module _ (z : Setting) (m : ℕ) (e : EntityNo) where
   asked_goes object args result w = asked_tried object args result w (memory_step w) (memory_goes w)
 
   called_goes : (r : Receiver) (args : List Slot) (w : World) → DoneFrom w (called_of z m e r args w)
-  called_goes Missing args w = faulted Null w w (nothing w)
-  called_goes (Of object) args w = asked_goes object (values_of (use_at z e).driver (use_at z e).params args) (use_at z e).result w
+  called_goes NoReceiver args w = asked_goes None (values_of (use_at z m e).driver (use_at z m e).params args) (use_at z m e).result w
+  called_goes (Of k) args w = asked_goes (Some k) (values_of (use_at z m e).driver (use_at z m e).params args) (use_at z m e).result w
+  called_goes NullReceiver args w = faulted Null w w (nothing w)
 
   read_goes : (r : Receiver) (w : World) → DoneFrom w (read_of z m e r w)
-  read_goes Missing w = faulted Null w w (nothing w)
-  read_goes (Of object) w = asked_goes object [] (use_at z e).result w
+  read_goes NoReceiver w = asked_goes None [] (use_at z m e).result w
+  read_goes (Of k) w = asked_goes (Some k) [] (use_at z m e).result w
+  read_goes NullReceiver w = faulted Null w w (nothing w)
 
   write_goes : (r : Receiver) (v : Slot) (w : World) → DoneFrom w (write_of z m e r v w)
-  write_goes Missing v w = faulted Null w w (nothing w)
-  write_goes (Of object) v w = asked_goes object (value_of (use_at z e).driver (use_at z e).result v ∷ []) Nothing w
+  write_goes NoReceiver v w = asked_goes None (value_of (use_at z m e).driver (use_at z m e).result v ∷ []) Nothing w
+  write_goes (Of k) v w = asked_goes (Some k) (value_of (use_at z m e).driver (use_at z m e).result v ∷ []) Nothing w
+  write_goes NullReceiver v w = faulted Null w w (nothing w)
 
   in_place_goes : (v : Slot) (w : World) (o : Done) → DoneFrom w o → DoneFrom w (in_place_of v o)
   in_place_goes v w (Fine x w') p = p
   in_place_goes v w (Fails f w') p = p
 
-  altered_to_goes : (r : Receiver) (c : Changed) (w : World) → DoneFrom w (altered_to z m e r c w)
-  altered_to_goes r (Never f) w = faulted f w w (nothing w)
-  altered_to_goes r (Into stored given) w = in_place_goes (Bits given) w (write_of z m e r (Bits stored) w) (write_goes r (Bits stored) w)
+  altered_to_goes : (r : Receiver) (x : Slot) (c : Changed) (w : World) → DoneFrom w (altered_to z m e r x c w)
+  altered_to_goes r x (Never f) w = faulted f w (give x w) (gives w (give x w) (give_moves x w))
+  altered_to_goes r x (Into stored given) w = in_place_goes (Bits given) w (write_of z m e r (Bits stored) w) (write_goes r (Bits stored) w)
 
   altered_goes : (r : Receiver) (c : Change) (v : Slot) (w : World) (o : Done) → DoneFrom w o → DoneFrom w (altered_of z m e r c v o)
   altered_goes r c v w (Fails f w') p = p
-  altered_goes r c v w (Fine x w') p = done_then w w' _ p (altered_to_goes r (change_of c x v) w')
+  altered_goes r c v w (Fine x w') p = done_then w w' _ p (altered_to_goes r x (change_of c x v) w')
 
 work_goes : (o : Worked) (w : World) → DoneFrom w (work_done o w)
 work_goes (Is n) w = nothing w
 work_goes (Cannot f) w = faulted f w w (nothing w)
 
-stored_goes : (m g : ℕ) (v : Slot) (w : World) (o : Tried) → TriedFrom Tally w o → DoneFrom w (stored_global m g v o)
+stored_goes : (m g : ℕ) (v : Slot) (w : World) (o : Tried) → TriedFrom Tally w o → DoneFrom w (or_else o (Fails Tally) (stored_global m g v))
 stored_goes m g v w (No w') p = p
 stored_goes m g v w (Yes w') p =
     let put = global_put m g v w' in
@@ -311,7 +316,55 @@ gives_up_goes : (vs : List Slot) (w : World) (o : Done) → DoneFrom w o → Don
 gives_up_goes vs w (Fine v w') p = goes_then w w' (give_all vs w') p (gives w' _ (give_all_moves vs w'))
 gives_up_goes vs w (Fails f w') p = p
 
-misfit : (w : World) → Stops Null w w
+pub field_moves : (n i : ℕ) (v : Slot) (w : World) → Moves w [] (field_put n i v w)
+unfolding field_put
+field_moves n i v w = same w _ refl refl
+
+taken_moves : (b : Bool) (n i : ℕ) (v : Slot) (w : World) → Moves w [] (cond b (field_put n i v w) w)
+taken_moves true n i v w = field_moves n i v w
+taken_moves false n i v w = same w w refl refl
+
+pub member_moves : (i : ℕ) (o v : Slot) (w : World) → Moves w [] (member_put i o v w)
+unfolding member_put
+member_moves i (Bits x) v w = same w w refl refl
+member_moves i (Script None) v w = same w w refl refl
+member_moves i (Script (Some n)) v w = taken_moves (may_take n v w) n i v w
+member_moves i (Host d k) v w = same w w refl refl
+
+stored_field_goes : (n i : ℕ) (v : Slot) (w : World) (o : Tried) → TriedFrom Tally w o → DoneFrom w (or_else o (Fails Tally) (stored_field n i v))
+stored_field_goes n i v w (No w') p = p
+stored_field_goes n i v w (Yes w') p =
+    let put = field_put n i v w' in
+    goes_then w w' (give (field_or n i v w') put) p (gives w' _ (moves_then w' put _ [] [] (field_moves n i v w') (give_moves (field_or n i v w') put)))
+
+may_store_goes : (b : Bool) (n i : ℕ) (v : Slot) (w : World) → DoneFrom w (cond b (or_else (hold v w) (Fails Tally) (stored_field n i v)) (Fails Null w))
+may_store_goes true n i v w = stored_field_goes n i v w (hold v w) (hold_goes v w)
+may_store_goes false n i v w = faulted Null w w (nothing w)
+
+changed_field_goes : (n i : ℕ) (c : Changed) (w : World) → DoneFrom w (changed_field n i c w)
+changed_field_goes n i (Into stored given) w = gives w _ (field_moves n i (Bits stored) w)
+changed_field_goes n i (Never f) w = faulted f w w (nothing w)
+
+cast_goes : (b : Bool) (n : ℕ) (w : World) → DoneFrom w (cast_to b n w)
+cast_goes true n w = nothing w
+cast_goes false n w = gives w _ (give_moves (Script (Some n)) w)
+
+made_at_goes : (k : Class) (n q : ℕ) (rest : List Input) (w : World) → w.inputs ≡ Fresh q ∷ rest → DoneFrom w (made_at k n rest w)
+made_at_goes k n q rest w e =
+    record { used = Fresh q ∷ []; moves = record { more = []; inputs = e; events = sym (append-nil w.events); answers = refl }; room = refl }
+
+made_from_goes : (k : Class) (inputs : List Input) (w : World) → w.inputs ≡ inputs → DoneFrom w (made_from k inputs w)
+made_from_goes k [] w e = faulted Memory w w (nothing w)
+made_from_goes k (Fresh n ∷ rest) w e = made_at_goes k (number_for n w.objects) n rest w e
+made_from_goes k (Said r ∷ rest) w e = faulted Memory w w (nothing w)
+made_from_goes k (Room b ∷ rest) w e = faulted Memory w w (nothing w)
+made_from_goes k (Tallied b ∷ rest) w e = faulted Memory w w (nothing w)
+
+made_goes : (k : Class) (w : World) (o : Tried) → TriedFrom Memory w o → DoneFrom w (or_else o (Fails Memory) (λ u. made_from k u.inputs u))
+made_goes k w (No w') p = p
+made_goes k w (Yes w') p = done_then w w' _ p (made_from_goes k w'.inputs w' refl)
+
+misfit : (w : World) → Faults Null w w
 misfit w = faulted Null w w (nothing w)
 
 pub perform_goes : (z : Setting) (m : ℕ) (o : Operation) (vs : List Slot) (w : World) → DoneFrom w (perform z m o vs w)
@@ -364,17 +417,48 @@ perform_goes z m (GlobalSet g) (v ∷ (u ∷ us)) w = misfit w
 perform_goes z m (GlobalChange g c) [] w = misfit w
 perform_goes z m (GlobalChange g c) (v ∷ []) w = changed_goes m g (change_of c (global_or m g (Bits 0) w) v) w
 perform_goes z m (GlobalChange g c) (v ∷ (u ∷ us)) w = misfit w
-perform_goes z m (Ask e) vs w = gives_up_goes vs w _ (called_goes z m e (receiver_of (use_at z e) (reverse vs)) (arguments_of (use_at z e) (reverse vs)) w)
-perform_goes z m (Read e) vs w = gives_up_goes vs w _ (read_goes z m e (receiver_of (use_at z e) vs) w)
+perform_goes z m (Ask e) vs w = gives_up_goes vs w _ (called_goes z m e (receiver_of (use_at z m e) (reverse vs)) (arguments_of (use_at z m e) (reverse vs)) w)
+perform_goes z m (Read e) vs w = gives_up_goes vs w _ (read_goes z m e (receiver_of (use_at z m e) vs) w)
 perform_goes z m (Write e) [] w = misfit w
-perform_goes z m (Write e) (v ∷ []) w = in_place_goes z m e v w _ (write_goes z m e (receiver_of (use_at z e) []) v w)
-perform_goes z m (Write e) (o ∷ (v ∷ [])) w = gives_up_goes (o ∷ []) w _ (in_place_goes z m e v w _ (write_goes z m e (receiver_of (use_at z e) (o ∷ [])) v w))
+perform_goes z m (Write e) (v ∷ []) w = in_place_goes z m e v w _ (write_goes z m e (receiver_of (use_at z m e) []) v w)
+perform_goes z m (Write e) (o ∷ (v ∷ [])) w = gives_up_goes (o ∷ []) w _ (in_place_goes z m e v w _ (write_goes z m e (receiver_of (use_at z m e) (o ∷ [])) v w))
 perform_goes z m (Write e) (o ∷ (v ∷ (u ∷ us))) w = misfit w
 perform_goes z m (Alter e c) [] w = misfit w
 perform_goes z m (Alter e c) (v ∷ []) w =
-    let r = receiver_of (use_at z e) [] in
+    let r = receiver_of (use_at z m e) [] in
     altered_goes z m e r c v w (read_of z m e r w) (read_goes z m e r w)
 perform_goes z m (Alter e c) (o ∷ (v ∷ [])) w =
-    let r = receiver_of (use_at z e) (o ∷ []) in
+    let r = receiver_of (use_at z m e) (o ∷ []) in
     gives_up_goes (o ∷ []) w _ (altered_goes z m e r c v w (read_of z m e r w) (read_goes z m e r w))
 perform_goes z m (Alter e c) (o ∷ (v ∷ (u ∷ us))) w = misfit w
+perform_goes z m (Make c) [] w = made_goes (class_at z m c) w (memory_step w) (memory_goes w)
+perform_goes z m (Make c) (v ∷ vs) w = misfit w
+perform_goes z m (FieldGet i) [] w = misfit w
+perform_goes z m (FieldGet i) (Bits x ∷ us) w = misfit w
+perform_goes z m (FieldGet i) (Script None ∷ us) w = misfit w
+perform_goes z m (FieldGet i) (Script (Some n) ∷ []) w =
+    let v = field_or n i (Bits 0) w in gives_up_goes (Script (Some n) ∷ []) w _ (holding_goes v w (hold v w) (hold_goes v w))
+perform_goes z m (FieldGet i) (Script (Some n) ∷ (u ∷ us)) w = misfit w
+perform_goes z m (FieldGet i) (Host d j ∷ us) w = misfit w
+perform_goes z m (FieldSet i) [] w = misfit w
+perform_goes z m (FieldSet i) (Bits x ∷ us) w = misfit w
+perform_goes z m (FieldSet i) (Script None ∷ us) w = misfit w
+perform_goes z m (FieldSet i) (Script (Some n) ∷ []) w = misfit w
+perform_goes z m (FieldSet i) (Script (Some n) ∷ (v ∷ [])) w = gives_up_goes (Script (Some n) ∷ []) w _ (may_store_goes (may_take n v w) n i v w)
+perform_goes z m (FieldSet i) (Script (Some n) ∷ (v ∷ (u ∷ us))) w = misfit w
+perform_goes z m (FieldSet i) (Host d j ∷ us) w = misfit w
+perform_goes z m (FieldChange i c) [] w = misfit w
+perform_goes z m (FieldChange i c) (Bits x ∷ us) w = misfit w
+perform_goes z m (FieldChange i c) (Script None ∷ us) w = misfit w
+perform_goes z m (FieldChange i c) (Script (Some n) ∷ []) w = misfit w
+perform_goes z m (FieldChange i c) (Script (Some n) ∷ (v ∷ [])) w =
+    gives_up_goes (Script (Some n) ∷ []) w _ (changed_field_goes n i (change_of c (field_or n i (Bits 0) w) v) w)
+perform_goes z m (FieldChange i c) (Script (Some n) ∷ (v ∷ (u ∷ us))) w = misfit w
+perform_goes z m (FieldChange i c) (Host d j ∷ us) w = misfit w
+perform_goes z m (Cast c) [] w = misfit w
+perform_goes z m (Cast c) (Bits x ∷ us) w = misfit w
+perform_goes z m (Cast c) (Script None ∷ []) w = nothing w
+perform_goes z m (Cast c) (Script None ∷ (u ∷ us)) w = misfit w
+perform_goes z m (Cast c) (Script (Some n) ∷ []) w = cast_goes (is_under z m c (map.get w.objects n)) n w
+perform_goes z m (Cast c) (Script (Some n) ∷ (u ∷ us)) w = misfit w
+perform_goes z m (Cast c) (Host d j ∷ us) w = misfit w

@@ -15,11 +15,11 @@ use Rattle.ang_host.specs.declared.event.HostEvent.TheVariants.{Called}
 use Rattle.ang_host.specs.declared.event.Role.{Role}
 use Rattle.ang_host.specs.declared.event.Role.TheVariants.{Making as MakingRole, Calling as CallingRole, Property as PropertyRole}
 use Rattle.ang_meaning.specs.declared.slot.Slot.{Slot}
-use Rattle.ang_meaning.specs.declared.slot.Slot.TheVariants.{Bits, Host}
+use Rattle.ang_meaning.specs.declared.slot.Slot.TheVariants.{Bits, Script, Host}
 use Rattle.ang_meaning.specs.declared.host.HostType.{HostType}
 use Rattle.ang_meaning.specs.declared.host.HostType.TheVariants.{Nothing, Plain, Handle}
 use Rattle.ang_meaning.specs.Numbers.{is_signed, width_of, number, bits_of, least}
-use Rattle.ang_meaning.specs.World.{World, Input, Said, Tried, Yes, No, memory_step, one_more, hold}
+use Rattle.ang_meaning.specs.World.{World, Input, Said, or_else, memory_step, one_more, hold}
 use Rattle.ang_meaning.specs.Setting.{Setting, use_at}
 
 -- a strict operation: a value and what is left, or a fault
@@ -28,9 +28,8 @@ pub data Done : Type 0 where
   Fails : Fault → World → Done
 
 -- the value, which one more place holds, unless a tally is full
-abbrev pub holding : Slot → Tried → Done
-holding v (No w) = Fails Tally w
-holding v (Yes w) = Fine v w
+abbrev pub holding : Slot → World → Done
+holding v w = or_else (hold v w) (Fails Tally) (Fine v)
 
 -- a number as it is handed to a driver
 abbrev pub plain_value : Primitive → ℕ → Value
@@ -76,17 +75,18 @@ abbrev pub if_within : Bool → ℕ → Option Slot
 if_within true n = Some (Bits n)
 if_within false n = None
 
--- what a driver's value of a declared type is in a slot; none where it is not of that type or not in its range
+-- What a driver's value of a declared type is in a slot; none where it is not of that type or not in its range. There is one null, whatever the type.
 unfoldable pub slot_of : ℕ → HostType → Value → Option Slot
 slot_of d (Plain p) (Int z) = if_within (is_signed p && is_within p z) (bits_of p z)
 slot_of d (Plain TruthType) (Truth b) = Some (Bits (if b then 1 else 0))
 slot_of d (Plain p) (Uint n) = if_within (is_unsigned p && nat_lt n (2 ^ width_of p)) n
-slot_of d Handle (Key k) = Some (Host d k)
+slot_of d Handle (Key None) = Some (Script None)
+slot_of d Handle (Key (Some k)) = Some (Host d (Some k))
 slot_of d _ _ = None
 
 abbrev pub accepted : Option Slot → World → Done
 accepted None w = Fails BadAnswer w
-accepted (Some v) w = holding v (hold v w)
+accepted (Some v) w = holding v w
 
 -- whether the declared result is void
 abbrev pub is_void : HostType → Bool
@@ -119,16 +119,12 @@ is_reply_to (PropertyRole f) (Asking answer) = true
 -- One asking: the event is listed, whatever the reply says. A reply of another kind is none to this asking, and is left as an input of another sort is.
 abbrev pub asked_from : Setting → ℕ → EntityNo → Option ℕ → List Value → HostType → List Input → World → Done
 asked_from z m e object args result (Said reply ∷ rest) w =
-    if is_reply_to (use_at z e).role reply
-    then (replied_by (use_at z e).driver result reply
-    (record w { inputs = rest; events = w.events ++ Called (z.name m) e (use_at z e).driver object args reply ∷ [] }))
+    if is_reply_to (use_at z m e).role reply
+    then (replied_by (use_at z m e).driver result reply
+    (record w { inputs = rest; events = w.events ++ Called (z.name m) e (use_at z m e).driver object args reply ∷ [] }))
     else (Fails Memory w)
 asked_from z m e object args result _ w = Fails Memory w
 
-abbrev pub asked_told : Setting → ℕ → EntityNo → Option ℕ → List Value → HostType → Tried → Done
-asked_told z m e object args result (No w) = Fails Memory w
-asked_told z m e object args result (Yes w) = asked_from z m e object args result w.inputs w
-
 -- An asking of entity e for module m: memory for its event first, and then the driver's reply.
 unfoldable pub asked : Setting → ℕ → EntityNo → Option ℕ → List Value → HostType → World → Done
-asked z m e object args result w = asked_told z m e object args result (memory_step w)
+asked z m e object args result w = or_else (memory_step w) (Fails Memory) (λ u. asked_from z m e object args result u.inputs u)

@@ -5,3 +5,6 @@ pub mod Hosts
 pub mod Perform
 pub mod Results
 pub mod Told
+pub mod Counting
+pub mod Giving
+pub mod Alike

@@ -13,13 +13,13 @@ use Rattle.ang_meaning.specs.declared.routine.Passing.{Passing}
 use Rattle.ang_meaning.specs.declared.routine.Passing.TheVariants.{In, Out, Object}
 use Rattle.ang_meaning.specs.declared.routine.Target.{Target}
 use Rattle.ang_meaning.specs.declared.routine.Spot.{Spot}
-use Rattle.ang_meaning.specs.declared.routine.Spot.TheVariants.{Local, Global}
+use Rattle.ang_meaning.specs.declared.routine.Spot.TheVariants.{Local, Global, Field}
 use Rattle.ang_kinds.specs.declared.primitive.Primitive.{Primitive}
 use Rattle.ang_meaning.specs.Numbers.{Changed, Into, Never, converted}
-use Rattle.ang_meaning.specs.World.{World, Tried, Yes, No, hold, give, give_all, memory_step}
+use Rattle.ang_meaning.specs.World.{World, or_else, hold, give, give_all, memory_step}
 use Rattle.ang_meaning.specs.Setting.{Setting, Found, Enters, Misses, target, has_objects, params_of}
 use Rattle.ang_meaning.specs.Hosts.{Done, Fine, Fails}
-use Rattle.ang_meaning.specs.Perform.{change_of, global_or, global_put}
+use Rattle.ang_meaning.specs.Perform.{change_of, global_or, global_put, member_or, member_put}
 
 -- an expression: its value, or a fault
 pub data Evaluated : Type 0 where
@@ -91,11 +91,6 @@ abbrev pub ticked : {A : Type 0} → ℕ → A → (ℕ → A) → A
 ticked zero out go = out
 ticked (suc t) out go = go t
 
--- a step that may be refused
-abbrev pub or_else : {A : Type 0} → Tried → (World → A) → (World → A) → A
-or_else (No w) out go = out w
-or_else (Yes w) out go = go w
-
 -- a variable as an operand: one more place holds its value
 abbrev pub loaded : Slot → List Slot → ℕ → World → Evaluated
 loaded v ls t w = or_else (hold v w) (λ w'. Failed Tally ls w') (λ w'. Gave v ls t w')
@@ -149,6 +144,7 @@ pub record Traded : Type 0 where
 abbrev pub trade : ℕ → Spot → Slot → List Slot → World → Traded
 trade m (Local i) v ls w = record { old = local_at ls i; locals = local_set ls i v; world = w }
 trade m (Global g) v ls w = record { old = global_or m g v w; locals = ls; world = global_put m g v w }
+trade m (Field o i) v ls w = record { old = member_or i (local_at ls o) v w; locals = ls; world = member_put i (local_at ls o) v w }
 
 -- the old values of all targets, the last one first
 pub record Settled : Type 0 where

@@ -1,46 +1,73 @@
 -- What stays the same while a run goes on: the modules, the registered entities, the functions and where the imports lead.
-use Rattle.std.specs.Prelude.{ℕ, Bool, true, false, ◌&&◌, not, List, [], ◌∷◌, Option, Some, None}
+use Rattle.std.specs.FinMap as map
+use Rattle.std.specs.Prelude.{ℕ, ◌-◌, Bool, true, false, ◌&&◌, not, is_some, List, [], ◌∷◌, length, take, slice_index_or, Option, Some, None}
 use Rattle.ang_kinds.specs.declared.fault.Fault.{Fault}
-use Rattle.ang_kinds.specs.declared.fault.Fault.TheVariants.{Unbound}
+use Rattle.ang_kinds.specs.declared.fault.Fault.TheVariants.{Null, Unbound}
 use Rattle.ang_meaning.specs.declared.slot.Slot.{Slot}
 use Rattle.ang_meaning.specs.declared.slot.Slot.TheVariants.{Bits, Script, Host}
 use Rattle.ang_kinds.specs.declared.mask.EntityNo.{EntityNo}
 use Rattle.ang_host.specs.declared.event.Role.TheVariants.{Making as MakingRole, Calling as CallingRole, Property as PropertyRole}
 use Rattle.ang_host.specs.declared.event.Role.{Role}
+use Rattle.ang_meaning.specs.declared.class.Class.{Class}
+use Rattle.ang_meaning.specs.declared.class.ValueKind.{ValueKind}
+use Rattle.ang_meaning.specs.declared.class.ValueKind.TheVariants.{Number as NumberField, Handle as HandleField}
 use Rattle.ang_meaning.specs.declared.host.HostType.{HostType}
 use Rattle.ang_meaning.specs.declared.host.HostType.TheVariants.{Nothing, Plain, Handle}
 use Rattle.ang_meaning.specs.declared.operation.Operation.{Operation}
-use Rattle.ang_meaning.specs.declared.operation.Operation.TheVariants.{Work, Compare, Convert, Negate, Complement, Not, Same, GlobalGet, GlobalSet, GlobalChange, Ask, Read, Write, Alter}
+use Rattle.ang_meaning.specs.declared.operation.Operation.TheVariants.{Work, Compare, Convert, Negate, Complement, Not, Same, GlobalGet, GlobalSet, GlobalChange, Ask, Read, Write, Alter, Make, FieldGet, FieldSet, FieldChange, Cast}
 use Rattle.ang_meaning.specs.declared.host.HostUse.{HostUse}
-use Rattle.ang_meaning.specs.World.{World}
+use Rattle.ang_meaning.specs.World.{World, ScriptRecord}
 use Rattle.ang_meaning.specs.declared.routine.Routine.{Routine}
 use Rattle.ang_meaning.specs.declared.routine.Callee.{Callee}
-use Rattle.ang_meaning.specs.declared.routine.Callee.TheVariants.{Own, Import}
+use Rattle.ang_meaning.specs.declared.routine.Callee.TheVariants.{Own, Import, Virtual}
 use Rattle.ang_meaning.specs.declared.routine.Passing.{Passing}
 use Rattle.ang_meaning.specs.declared.routine.Passing.TheVariants.{In, Out, Object}
 
--- By module: its name, each import's parameters as the module declares them, and where the import leads, if it is bound. An import takes no objects but
--- handles, so its call never faults with `Null`. By number: the registered entities. By routine: a function's parameters, where there is such a function.
--- Parameters have the last one first. And how many functions may stand one inside the other: 200, and 201 where the outermost is an initializer, which
--- does not count.
+-- The first number of each is a module's. The values of a function's parameters come with the last one first, here and everywhere.
 pub record Setting : Type 0 where
+  -- a module's name
   pub name : ℕ → List ℕ
-  pub host : ℕ → Option HostUse
-  pub params : Routine → Option (List Passing)
+  -- the registered entities that the module sees, by their numbers (docs/MEANING.md, "Masks and views")
+  pub host : ℕ → ℕ → Option HostUse
+  -- an import's parameters as the module declares them (the AngelScript manual, "Imports"): it takes no objects but handles, so its call never faults with `Null`
   pub imported : ℕ → ℕ → Option (List Passing)
+  -- where an import leads, if it is bound
   pub linked : ℕ → ℕ → Option Routine
+  -- the classes of a module, by their numbers
+  pub class : ℕ → ℕ → Option Class
+  -- the method that a class has in a slot, its own or an inherited one (the manual, "Inheritance and polymorphism")
+  pub method : ℕ → ℕ → ℕ → Option Routine
+  -- the parameters of the methods in a slot, of which the receiver is the first one, so the last of the list
+  pub slot : ℕ → ℕ → Option (List Passing)
+  -- a function's parameters, where there is such a function
+  pub params : Routine → Option (List Passing)
+  -- how many functions may stand one inside the other: 200, and 201 where the outermost is an initializer, which does not count
   pub nesting : ℕ
+
+-- what a field holds while nothing was stored in it: a variable without an initializer is 0, false or null (the manual, "Variable declarations")
+abbrev pub default_of : ValueKind → Slot
+default_of NumberField = Bits 0
+default_of HandleField = Script None
+
+-- stands where there is no class; no operation that is fit makes one
+abbrev pub class_in : Option Class → Class
+class_in None = record { number = 0; rank = 0; fields = []; under = [] }
+class_in (Some c) = c
+
+-- the class of a number, as its objects have it
+abbrev pub class_at : Setting → ℕ → ℕ → Class
+class_at z m c = record (class_in (z.class m c)) { number = c }
 
 -- stands where there is no entity; no sound code asks it
 abbrev pub nobody : HostUse
-nobody = record { driver = 0; role = CallingRole 0; member = false; params = []; result = Nothing }
+nobody = record { driver = 0; role = CallingRole 0; member = false; params = []; result = Nothing; read_only = false }
 
 abbrev pub host_in : Option HostUse → HostUse
 host_in None = nobody
 host_in (Some u) = u
 
-abbrev pub use_at : Setting → EntityNo → HostUse
-use_at z e = host_in (z.host e.0)
+abbrev pub use_at : Setting → ℕ → EntityNo → HostUse
+use_at z m e = host_in (z.host m e.0)
 
 -- the function that a call enters, or why it enters none
 pub data Found : Type 0 where
@@ -51,10 +78,32 @@ abbrev pub bound : Option Routine → Found
 bound (Some g) = Enters g
 bound None = Misses Unbound
 
--- What a callee means in a module, where the values on top are its arguments, the last one first.
+-- the parameters there are, and none where there is no such function or slot
+abbrev pub params_in : Option (List Passing) → List Passing
+params_in (Some ps) = ps
+params_in None = []
+
+-- the method of an object's class in a slot; null where there is no object
+abbrev pub method_of : Setting → ℕ → ℕ → Option ScriptRecord → Found
+method_of z m s None = Misses Null
+method_of z m s (Some o) = bound (z.method m o.class s)
+
+abbrev pub virtual_of : Setting → ℕ → ℕ → Slot → World → Found
+virtual_of z m s (Bits n) w = Misses Null
+virtual_of z m s (Script None) w = Misses Null
+virtual_of z m s (Script (Some n)) w = method_of z m s (map.get w.objects n)
+virtual_of z m s (Host d k) w = Misses Null
+
+-- the value of the first parameter: the last of as many values as there are parameters, and 0 where there are none or too few
+abbrev pub receiver_in : List Passing → List Slot → Slot
+receiver_in ps vs = slice_index_or (take (length ps) vs) (length ps - 1) (Bits 0)
+
+-- What a callee means in a module, where the values on top are its arguments, the last one first. A method is that of the receiver's class (the
+-- AngelScript manual, "Inheritance and polymorphism").
 unfoldable pub target : Setting → ℕ → Callee → List Slot → World → Found
 target z m (Own g) vs w = Enters (record { home = m; number = g })
 target z m (Import i) vs w = bound (z.linked m i)
+target z m (Virtual s) vs w = virtual_of z m s (receiver_in (params_in (z.slot m s)) vs) w
 
 unfoldable pub is_null : Slot → Bool
 is_null (Bits n) = false
@@ -70,11 +119,6 @@ has_objects (p ∷ ps) [] = true
 has_objects (In ∷ ps) (v ∷ vs) = has_objects ps vs
 has_objects (Out ∷ ps) (v ∷ vs) = has_objects ps vs
 has_objects (Object ∷ ps) (v ∷ vs) = not (is_null v) && has_objects ps vs
-
--- the parameters of a function, and none where there is no such function
-abbrev pub params_in : Option (List Passing) → List Passing
-params_in (Some ps) = ps
-params_in None = []
 
 abbrev pub params_of : Setting → Routine → List Passing
 params_of z g = params_in (z.params g)
@@ -104,19 +148,29 @@ abbrev pub may_access : Option HostUse → Bool
 may_access None = false
 may_access (Some u) = is_property u.role
 
--- Whether an operation asks an entity that there is, in the way of its role.
-unfoldable pub is_fit : Setting → Operation → Bool
-is_fit z (Work a p) = true
-is_fit z (Compare c signed) = true
-is_fit z (Convert p) = true
-is_fit z (Negate p) = true
-is_fit z (Complement p) = true
-is_fit z Not = true
-is_fit z Same = true
-is_fit z (GlobalGet g) = true
-is_fit z (GlobalSet g) = true
-is_fit z (GlobalChange g c) = true
-is_fit z (Ask e) = may_call (z.host e.0)
-is_fit z (Read e) = may_access (z.host e.0)
-is_fit z (Write e) = may_access (z.host e.0)
-is_fit z (Alter e c) = may_access (z.host e.0)
+-- a property that is not `const` (the AngelScript manual, "Registering global properties")
+abbrev pub may_write : Option HostUse → Bool
+may_write None = false
+may_write (Some u) = is_property u.role && not u.read_only
+
+-- Whether an operation asks an entity that there is, in the way of its role, or makes an object of a class that there is.
+unfoldable pub is_fit : Setting → ℕ → Operation → Bool
+is_fit z m (Work a p) = true
+is_fit z m (Compare c signed) = true
+is_fit z m (Convert p) = true
+is_fit z m (Negate p) = true
+is_fit z m (Complement p) = true
+is_fit z m Not = true
+is_fit z m Same = true
+is_fit z m (GlobalGet g) = true
+is_fit z m (GlobalSet g) = true
+is_fit z m (GlobalChange g c) = true
+is_fit z m (Ask e) = may_call (z.host m e.0)
+is_fit z m (Read e) = may_access (z.host m e.0)
+is_fit z m (Write e) = may_write (z.host m e.0)
+is_fit z m (Alter e c) = may_write (z.host m e.0)
+is_fit z m (Make c) = is_some (z.class m c)
+is_fit z m (FieldGet i) = true
+is_fit z m (FieldSet i) = true
+is_fit z m (FieldChange i c) = true
+is_fit z m (Cast c) = true

@@ -5,7 +5,7 @@ use Rattle.ang_kinds.specs.declared.fault.Fault.TheVariants.{Memory, Tally}
 use Rattle.ang_host.specs.declared.answer.HostReply.{HostReply}
 use Rattle.ang_host.specs.declared.event.HostEvent.{HostEvent}
 use Rattle.ang_host.specs.declared.event.HostEvent.TheVariants.{Called, Ended}
-use Rattle.ang_meaning.specs.World.{World, Input, Room, Said, Counted, Fresh}
+use Rattle.ang_meaning.specs.World.{World, Input, Room, Said, Tallied, Fresh}
 
 -- The first, told these inputs and any more, gives what the second gives, told the rest. Where the second hands its inputs on untouched, these are
 -- exactly the inputs that the first asks for.
@@ -19,8 +19,8 @@ abbrev pub has_room : List Input → Bool
 has_room [] = true
 has_room (Room true ∷ inputs) = has_room inputs
 has_room (Room false ∷ inputs) = false
-has_room (Counted true ∷ inputs) = has_room inputs
-has_room (Counted false ∷ inputs) = false
+has_room (Tallied true ∷ inputs) = has_room inputs
+has_room (Tallied false ∷ inputs) = false
 has_room (Said reply ∷ inputs) = has_room inputs
 has_room (Fresh n ∷ inputs) = has_room inputs
 
@@ -30,9 +30,9 @@ stopped_by [] = None
 stopped_by (Room true ∷ inputs) = stopped_by inputs
 stopped_by (Room false ∷ []) = Some Memory
 stopped_by (Room false ∷ i ∷ inputs) = None
-stopped_by (Counted true ∷ inputs) = stopped_by inputs
-stopped_by (Counted false ∷ []) = Some Tally
-stopped_by (Counted false ∷ i ∷ inputs) = None
+stopped_by (Tallied true ∷ inputs) = stopped_by inputs
+stopped_by (Tallied false ∷ []) = Some Tally
+stopped_by (Tallied false ∷ i ∷ inputs) = None
 stopped_by (Said reply ∷ inputs) = stopped_by inputs
 stopped_by (Fresh n ∷ inputs) = stopped_by inputs
 
@@ -41,7 +41,7 @@ abbrev pub answers_told : List Input → List HostReply
 answers_told [] = []
 answers_told (Said reply ∷ inputs) = reply ∷ answers_told inputs
 answers_told (Room b ∷ inputs) = answers_told inputs
-answers_told (Counted b ∷ inputs) = answers_told inputs
+answers_told (Tallied b ∷ inputs) = answers_told inputs
 answers_told (Fresh n ∷ inputs) = answers_told inputs
 
 abbrev pub answers_listed : List HostEvent → List HostReply
@@ -64,7 +64,7 @@ pub record GoesOn (before after : World) : Type 0 where
   pub room : has_room used ≡ true
 
 -- it has ended with a fault: nothing was refused, or the last input alone, whose fault this is
-pub record Stops (f : Fault) (before after : World) : Type 0 where
+pub record Faults (f : Fault) (before after : World) : Type 0 where
   pub used : List Input
   pub moves : Moves before used after
   pub told : (has_room used ≡ true) ⊎ (stopped_by used ≡ Some f)

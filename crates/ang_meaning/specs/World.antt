@@ -1,36 +1,41 @@
 -- The world outside the locals of a run: objects with the counts of the places that hold them, globals, events, and what the run is told from
 -- outside (docs/MEANING.md, "The world of a run"; the AngelScript manual, "Memory management").
-use Rattle.std.specs.Prelude.{ℕ, zero, suc, Bool, true, false, ◌&&◌, nat_eq, List, [], ◌∷◌, ◌++◌, length, Some, None, if◌then◌else◌}
+use Rattle.std.specs.Prelude.{ℕ, zero, suc, Bool, true, false, cond, nat_eq, List, [], ◌∷◌, ◌++◌, Option, Some, None, if◌then◌else◌}
+use Rattle.std.specs.Ordering.{nat_cmp}
+use Rattle.std.specs.FinMap as map
 use Rattle.ang_host.specs.declared.answer.HostReply.{HostReply}
 use Rattle.ang_host.specs.declared.event.HostEvent.{HostEvent}
 use Rattle.ang_host.specs.declared.event.HostEvent.TheVariants.{Ended}
+use Rattle.ang_host.specs.State.{count_at}
 use Rattle.ang_meaning.specs.declared.slot.Slot.{Slot}
 use Rattle.ang_meaning.specs.declared.slot.Slot.TheVariants.{Bits, Script, Host}
 
--- a script object: its number, its class, the places that hold it, and its fields, those of the base class first, in order of declaration
+-- a script object, which the table of objects has under its number: its class, that class's rank, the places that hold it, and its fields, those of the
+-- base class first, in order of declaration. The class is a number of the module that made the object; objects do not pass between modules.
 pub record ScriptRecord : Type 0 where
-  pub number : ℕ
   pub class : ℕ
+  pub rank : ℕ
   pub count : ℕ
   pub fields : List Slot
 
--- a host object: its driver, its key, and the places that hold it
-pub record HostRecord : Type 0 where
-  pub driver : ℕ
-  pub key : ℕ
-  pub count : ℕ
+abbrev pub ScriptObjects : Type 0
+ScriptObjects = map.FinMap nat_cmp ScriptRecord
+
+-- by driver, how many places hold each of its live keys
+abbrev pub HostCounts : Type 0
+HostCounts = ℕ → map.FinMap nat_cmp ℕ
 
 -- What a run is told from outside, in the order in which it asks: whether there is memory where it wants some, what a driver answered, whether a tally
 -- has room for one more place, and the number of a new script object.
 pub data Input : Type 0 where
   Room : Bool → Input
   Said : HostReply → Input
-  Counted : Bool → Input
+  Tallied : Bool → Input
   Fresh : ℕ → Input
 
 pub record World : Type 0 where
-  pub objects : List ScriptRecord
-  pub hosts : List HostRecord
+  pub objects : ScriptObjects
+  pub hosts : HostCounts
   pub globals : List (List Slot)
   pub events : List HostEvent
   pub inputs : List Input
@@ -47,6 +52,11 @@ abbrev pub if_told : Bool → World → Tried
 if_told true w = Yes w
 if_told false w = No w
 
+-- what follows a step that may be refused: the first where it was, and else the second
+abbrev pub or_else : {A : Type 0} → Tried → (World → A) → (World → A) → A
+or_else (No w) out go = out w
+or_else (Yes w) out go = go w
+
 -- a step that wants memory
 abbrev pub memory_told : List Input → World → Tried
 memory_told (Room b ∷ rest) w = if_told b (with_inputs rest w)
@@ -55,17 +65,21 @@ memory_told _ w = No w
 unfoldable pub memory_step : World → Tried
 memory_step w = memory_told w.inputs w
 
--- one more place: the count of a script object, and of a host object, which comes to be listed with its first place
-unfoldable pub script_raised : ℕ → List ScriptRecord → List ScriptRecord
-script_raised n [] = []
-script_raised n (o ∷ os) = let rest = script_raised n os in if nat_eq o.number n then (record o { count = suc o.count } ∷ os) else (o ∷ rest)
+-- one more place holds a script object, if it is there
+abbrev pub raised_at : ℕ → Option ScriptRecord → ScriptObjects → ScriptObjects
+raised_at n None os = os
+raised_at n (Some o) os = map.insert os n (record o { count = suc o.count })
 
-abbrev pub is_host : ℕ → ℕ → HostRecord → Bool
-is_host d k h = nat_eq h.driver d && nat_eq h.key k
+unfoldable pub script_raised : ℕ → ScriptObjects → ScriptObjects
+script_raised n os = raised_at n (map.get os n) os
 
-unfoldable pub host_raised : ℕ → ℕ → List HostRecord → List HostRecord
-host_raised d k [] = record { driver = d; key = k; count = 1 } ∷ []
-host_raised d k (h ∷ hs) = let rest = host_raised d k hs in if is_host d k h then (record h { count = suc h.count } ∷ hs) else (h ∷ rest)
+-- the counts of one driver are these now
+abbrev pub host_put : ℕ → map.FinMap nat_cmp ℕ → HostCounts → HostCounts
+host_put d m hs = λ e. cond (nat_eq d e) m (hs e)
+
+-- one more place holds a host object, which comes to be there with its first place
+unfoldable pub host_raised : ℕ → ℕ → HostCounts → HostCounts
+host_raised d k hs = host_put d (map.insert (hs d) k (suc (count_at (hs d) k))) hs
 
 unfoldable pub one_more : Slot → World → World
 one_more (Bits n) w = w
@@ -76,7 +90,7 @@ one_more (Host d (Some k)) w = record w { hosts = host_raised d k w.hosts }
 
 -- a tally is asked for room where an object is held once more
 abbrev pub tally_told : List Input → World → Tried
-tally_told (Counted b ∷ rest) w = if_told b (with_inputs rest w)
+tally_told (Tallied b ∷ rest) w = if_told b (with_inputs rest w)
 tally_told _ w = No w
 
 unfoldable pub tally_step : Slot → World → Tried
@@ -86,48 +100,40 @@ tally_step (Script (Some n)) w = tally_told w.inputs w
 tally_step (Host d None) w = Yes w
 tally_step (Host d (Some k)) w = tally_told w.inputs w
 
-abbrev pub held : Slot → Tried → Tried
-held v (No w) = No w
-held v (Yes w) = Yes (one_more v w)
-
 -- one more place holds the value, unless a tally is full
 unfoldable pub hold : Slot → World → Tried
-hold v w = held v (tally_step v w)
+hold v w = or_else (tally_step v w) No (λ u. Yes (one_more v u))
 
--- what is left of a list of script objects, with the fields of the one that ended
+-- the script objects that are left, with the fields of the one that ended
 pub data Lowered : Type 0 where
-  Gone : List Slot → List ScriptRecord → Lowered
-  Kept : List ScriptRecord → Lowered
+  Gone : List Slot → ScriptObjects → Lowered
+  Kept : ScriptObjects → Lowered
 
-abbrev pub behind : ScriptRecord → Lowered → Lowered
-behind o (Gone vs os) = Gone vs (o ∷ os)
-behind o (Kept os) = Kept (o ∷ os)
+abbrev pub one_less : ℕ → ScriptRecord → ℕ → ScriptObjects → Lowered
+one_less n o zero os = Gone o.fields (map.remove os n)
+one_less n o (suc zero) os = Gone o.fields (map.remove os n)
+one_less n o (suc (suc c)) os = Kept (map.insert os n (record o { count = suc c }))
 
-abbrev pub one_less : ScriptRecord → ℕ → List ScriptRecord → Lowered
-one_less o zero os = Gone o.fields os
-one_less o (suc zero) os = Gone o.fields os
-one_less o (suc (suc c)) os = Kept (record o { count = suc c } ∷ os)
+abbrev pub lowered_at : ℕ → Option ScriptRecord → ScriptObjects → Lowered
+lowered_at n None os = Kept os
+lowered_at n (Some o) os = one_less n o o.count os
 
-unfoldable pub script_lowered : ℕ → List ScriptRecord → Lowered
-script_lowered n [] = Kept []
-script_lowered n (o ∷ os) = let rest = script_lowered n os in if nat_eq o.number n then one_less o o.count os else behind o rest
+unfoldable pub script_lowered : ℕ → ScriptObjects → Lowered
+script_lowered n os = lowered_at n (map.get os n) os
 
 -- whether the host object ended, and the host objects that are left
 pub record HostLowered : Type 0 where
   pub ended : Bool
-  pub hosts : List HostRecord
+  pub hosts : HostCounts
 
-abbrev pub host_behind : HostRecord → HostLowered → HostLowered
-host_behind h l = record { ended = l.ended; hosts = h ∷ l.hosts }
+abbrev pub host_less : ℕ → ℕ → Option ℕ → HostCounts → HostLowered
+host_less d k None hs = record { ended = false; hosts = hs }
+host_less d k (Some zero) hs = record { ended = true; hosts = host_put d (map.remove (hs d) k) hs }
+host_less d k (Some (suc zero)) hs = record { ended = true; hosts = host_put d (map.remove (hs d) k) hs }
+host_less d k (Some (suc (suc c))) hs = record { ended = false; hosts = host_put d (map.insert (hs d) k (suc c)) hs }
 
-abbrev pub host_less : HostRecord → ℕ → List HostRecord → HostLowered
-host_less h zero hs = record { ended = true; hosts = hs }
-host_less h (suc zero) hs = record { ended = true; hosts = hs }
-host_less h (suc (suc c)) hs = record { ended = false; hosts = record h { count = suc c } ∷ hs }
-
-unfoldable pub host_lowered : ℕ → ℕ → List HostRecord → HostLowered
-host_lowered d k [] = record { ended = false; hosts = [] }
-host_lowered d k (h ∷ hs) = let rest = host_lowered d k hs in if is_host d k h then host_less h h.count hs else host_behind h rest
+unfoldable pub host_lowered : ℕ → ℕ → HostCounts → HostLowered
+host_lowered d k hs = host_less d k (map.get (hs d) k) hs
 
 -- the end of a host object is listed
 abbrev pub host_given : ℕ → ℕ → HostLowered → World → World
@@ -154,7 +160,7 @@ given (suc n) (Script (Some k)) w = script_given (given n) (script_lowered k w.o
 
 -- one place gives up its value
 unfoldable pub give : Slot → World → World
-give v w = given (length w.objects) v w
+give v w = given (map.len w.objects) v w
 
 -- all of these, the first one first
 abbrev pub give_all : List Slot → World → World

@@ -26,4 +26,6 @@ pub struct HostUse {
     pub params: List<HostType>,
     /// The result's type, or the property's.
     pub result: HostType,
+    /// Whether it is a property that is declared `const`, which is never written.
+    pub read_only: bool,
 }

@@ -3,11 +3,14 @@
 //! of a run" and "Operations").
 #![tactic(auto)]
 
+mod class;
 mod host;
+pub mod laws;
 mod operation;
 mod routine;
 mod slot;
 
+pub use class::{Class, ValueKind};
 pub use host::{HostType, HostUse};
 pub use operation::{Arithmetic, Change, Comparison, Operation};
 pub use routine::{Callee, Passing, Routine, Spot, Target};

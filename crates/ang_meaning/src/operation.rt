@@ -92,6 +92,17 @@ pub enum Operation {
     Write(EntityNo),
     /// Changes a host property by the first operand; of a type's property the second is the object.
     Alter(EntityNo, Change),
+    /// Makes an object of a class of the running module, whose fields are 0, false or null.
+    Make(u32),
+    /// The value of a field of the operand.
+    FieldGet(u32),
+    /// Stores the first operand into a field of the second, which is the object; its value is what was
+    /// stored.
+    FieldSet(u32),
+    /// Changes a field of the second operand, which is the object, by the first.
+    FieldChange(u32, Change),
+    /// The operand, where it is null or its class stands under that class, and else null.
+    Cast(u32),
 }
 
 /// An operation stays small, so that an instruction with one has at most 16 bytes.

@@ -19,6 +19,8 @@ pub enum Callee {
     Own(u32),
     /// An imported function of the running module, by the import's number.
     Import(u32),
+    /// The method in that slot of the receiver's class.
+    Virtual(u32),
 }
 
 /// How a parameter takes its argument.
@@ -39,6 +41,13 @@ pub enum Spot {
     Local(usize),
     /// The global of that number of the running module.
     Global(u32),
+    /// A field of an object that a local holds, as a method's receiver does.
+    Field {
+        /// The local's number, counted from the innermost one.
+        object: usize,
+        /// The field's number.
+        field: u32,
+    },
 }
 
 /// A variable that an `&out` parameter's value moves into.

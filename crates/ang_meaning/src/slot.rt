@@ -7,9 +7,9 @@ pub enum Slot {
     /// sign-extended to 64 bits where the type is signed and zero-extended where it is not. A truth
     /// value is 1 or 0.
     Bits(u64),
-    /// A handle to the script object of that number, or the null handle to a script type.
+    /// A handle to the script object of that number, or null, of whatever type a handle is.
     Script(Option<usize>),
-    /// A handle to the object of that key of the driver of that number, or the null handle to a type of
-    /// that driver.
+    /// A handle to the object of that key of the driver of that number. Without a key it names nothing,
+    /// as null does; no operation gives it.
     Host(u32, Option<u64>),
 }

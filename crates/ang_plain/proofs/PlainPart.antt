@@ -3,9 +3,8 @@ use Rattle.std.proofs.Common.{◌≡◌, ℕ, zero, suc, Bool, true, false, cond
 use Rattle.std.proofs.lemmas.List.{length-map}
 use Rattle.ang_registry.specs.declared.entry.Entry.{Entry}
 use Rattle.ang_registry.specs.Registration.{RegistrationList, entry_at}
-use Rattle.ang_vm_ask.specs.Plain.{is_plain}
 use Rattle.ang_lower.specs.Hosts.{use_of}
-use Rattle.ang_plain.specs.Plainness.{is_plain_entry, plain_entry, plain_part}
+use Rattle.ang_plain.specs.Plainness.{is_plain, is_plain_entry, plain_entry, plain_part}
 
 -- each number of the plain part has its own entry, or a blank
 pub entry_at_part : (V : RegistrationList) (n : ℕ) → entry_at (plain_part V) n ≡ plain_entry (entry_at V n)

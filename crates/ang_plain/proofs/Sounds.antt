@@ -15,10 +15,9 @@ use Rattle.ang_typed.specs.declared.expression.Variable.{Variable}
 use Rattle.ang_typed.specs.declared.expression.Variable.TheVariants as variable
 use Rattle.ang_typed.specs.declared.program.Parameter.{Parameter}
 use Rattle.ang_typed.specs.Typed as t
-use Rattle.ang_vm_ask.specs.Plain.{gives_plain}
 use Rattle.ang_lower.specs.Hosts.{host_type_of, is_member, role_in}
-use Rattle.ang_source.specs.Sound.{IsNoObject, AreNoObjects, GivesNoObject, PassesNoObject, IsEntity, IsHostFunction, Module, module_of, declared, declared_by, IsVariable, IsTarget, Sound, SoundArguments, SoundArgument, SoundValues, SoundValue, SoundOption, SoundEach, SoundLocals, SoundStatement, SoundStatements, SoundFunctions, SoundGlobals, SoundProgram}
-use Rattle.ang_plain.specs.Plainness.{is_plain_entry, plain_part}
+use Rattle.ang_source.specs.Sound.{IsNoObject, AreNoObjects, GivesNoObject, PassesNoObject, IsEntity, IsHostFunction, IsWritable, Module, module_of, declared, declared_by, IsVariable, IsStored, IsTarget, Sound, SoundArguments, SoundArgument, SoundValues, SoundValue, SoundOption, SoundEach, SoundLocals, SoundStatement, SoundStatements, SoundFunctions, SoundGlobals, SoundProgram}
+use Rattle.ang_plain.specs.Plainness.{gives_plain, is_plain_entry, plain_part}
 use Rattle.ang_plain.proofs.PlainPart.{stays}
 
 -- the module over the plain part of its view
@@ -70,6 +69,10 @@ entity_stays V k h is = record {
   no_object = is.no_object;
 }
 
+property_stays : (V : RegistrationList) (h : HostEntity) → IsWritable V h → IsWritable (plain_part V) h
+unfolding entity_stays
+property_stays V h is = record { entity = entity_stays V _ h is.entity; not_const = is.not_const }
+
 function_stays : (V : RegistrationList) (h : HostEntity) (count : ℕ) → IsHostFunction V h count → IsHostFunction (plain_part V) h count
 unfolding entity_stays
 function_stays V h count is = record { entity = entity_stays V _ h is.entity; params = is.params }
@@ -81,6 +84,11 @@ module _ (M : Module) where
   variable_stays n (variable.Local i) h = h
   variable_stays n (variable.Global g) h = h
   variable_stays n (variable.Property e) h = entity_stays M.view _ e h
+
+  stored_stays : (n : ℕ) (x : Variable) → IsStored M n x → IsStored (plain_module M) n x
+  stored_stays n (variable.Local i) h = h
+  stored_stays n (variable.Global g) h = h
+  stored_stays n (variable.Property e) h = property_stays M.view e h
 
   target_stays : (n : ℕ) (x : Variable) → IsTarget M n x → IsTarget (plain_module M) n x
   target_stays n (variable.Local i) h = h
@@ -101,9 +109,9 @@ module _ (M : Module) where
     expr_stays n (t.and l r) h = (expr_stays n l h.0, expr_stays n r h.1)
     expr_stays n (t.or l r) h = (expr_stays n l h.0, expr_stays n r h.1)
     expr_stays n (t.choose c l r) h = (expr_stays n c h.0, expr_stays n l h.1, expr_stays n r h.2)
-    expr_stays n (t.assign x ty e) h = (variable_stays n x h.0, expr_stays n e h.1)
-    expr_stays n (t.compound x ty op operating e) h = (variable_stays n x h.0, expr_stays n e h.1)
-    expr_stays n (t.step x ty k) h = variable_stays n x h
+    expr_stays n (t.assign x ty e) h = (stored_stays n x h.0, expr_stays n e h.1)
+    expr_stays n (t.compound x ty op operating e) h = (stored_stays n x h.0, expr_stays n e h.1)
+    expr_stays n (t.step x ty k) h = stored_stays n x h
     expr_stays n (t.call f result args) h = (h.0, h.1, arguments_stay n h.0 args h.2)
     expr_stays n (t.host_call e result args) h = (function_stays M.view e _ h.0, values_stay n args h.1)
 

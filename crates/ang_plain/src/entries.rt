@@ -2,7 +2,6 @@
 ghost use Rattle.std.specs.Prelude.{◌≡◌, map as list_map};
 ghost use Rattle.std.specs.List.{list_any};
 ghost use Rattle.ang_meaning.specs.Setting.{is_handle};
-ghost use Rattle.ang_vm_ask.specs.Plain.{is_primitive};
 ghost use Rattle.ang_lower.specs.Hosts.{host_type_of};
 ghost use Rattle.ang_plain.specs.Plainness as spec;
 
@@ -20,7 +19,7 @@ fn is_object(ty: &TypeRef) -> bool
 }
 
 fn is_primitive(ty: &TypeRef) -> bool
-    ensures exact { result ≡ is_primitive (host_type_of ty.now) }
+    ensures exact { result ≡ spec.is_primitive (host_type_of ty.now) }
 {
     match ty {
         TypeRef::Plain(_) => true,

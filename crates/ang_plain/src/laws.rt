@@ -4,9 +4,8 @@ ghost use Rattle.ang_registry.specs.declared.entry.Entry.{Entry};
 ghost use Rattle.ang_registry.specs.Registration.{RegistrationList, entry_at};
 ghost use Rattle.ang_typed.specs.Typed.{Program};
 ghost use Rattle.ang_source.specs.Sound.{SoundProgram};
-ghost use Rattle.ang_vm_ask.specs.Plain.{is_plain};
 ghost use Rattle.ang_lower.specs.Hosts.{use_of};
-ghost use Rattle.ang_plain.specs.Plainness.{plain_part};
+ghost use Rattle.ang_plain.specs.Plainness.{is_plain, plain_part};
 
 /// A sound module is sound over the plain part of its view, since no object passes by what it asks for; and what
 /// that part has under a number the view has there too, and it is plain.

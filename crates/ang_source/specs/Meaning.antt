@@ -22,6 +22,8 @@ use Rattle.ang_typed.specs.declared.program.Parameter.{Parameter}
 use Rattle.ang_typed.specs.Typed as t
 use Rattle.ang_meaning.specs.declared.slot.Slot.{Slot}
 use Rattle.ang_meaning.specs.declared.slot.Slot.TheVariants.{Bits}
+use Rattle.ang_meaning.specs.declared.class.ValueKind.{ValueKind}
+use Rattle.ang_meaning.specs.declared.class.ValueKind.TheVariants.{Number, Handle}
 use Rattle.ang_meaning.specs.declared.operation.Arithmetic.{Arithmetic}
 use Rattle.ang_meaning.specs.declared.operation.Arithmetic.TheVariants as work
 use Rattle.ang_meaning.specs.declared.operation.Comparison as compared
@@ -33,15 +35,15 @@ use Rattle.ang_meaning.specs.declared.routine.Routine.{Routine}
 use Rattle.ang_meaning.specs.declared.routine.Callee.{Callee}
 use Rattle.ang_meaning.specs.declared.routine.Callee.TheVariants.{Own}
 use Rattle.ang_meaning.specs.declared.routine.Passing.{Passing}
-use Rattle.ang_meaning.specs.declared.routine.Passing.TheVariants.{In, Out}
+use Rattle.ang_meaning.specs.declared.routine.Passing.TheVariants.{In, Out, Object}
 use Rattle.ang_meaning.specs.declared.routine.Spot.{Spot}
 use Rattle.ang_meaning.specs.declared.routine.Spot.TheVariants as spot
 use Rattle.ang_meaning.specs.declared.routine.Target.{Target}
 use Rattle.ang_meaning.specs.Numbers.{truth, is_signed}
-use Rattle.ang_meaning.specs.World.{World, give, give_all, memory_step}
-use Rattle.ang_meaning.specs.Setting.{Setting, params_of}
+use Rattle.ang_meaning.specs.World.{World, or_else, give, give_all, memory_step}
+use Rattle.ang_meaning.specs.Setting.{Setting, default_of, params_of}
 use Rattle.ang_meaning.specs.Perform.{perform}
-use Rattle.ang_meaning.specs.Results.{Evaluated, Gave, Failed, Gathered, Ready, Ran, Went, Returned, Halted, Broken, Continued, Reply, Yields, Raises, Calls, local_at, on_test, ticked, or_else, loaded, applied, assigned, altered, chosen, then_rest, called, leave, with_value, then_run, caught, finished, enter}
+use Rattle.ang_meaning.specs.Results.{Evaluated, Gave, Failed, Gathered, Ready, Ran, Went, Returned, Halted, Broken, Continued, Reply, Yields, Raises, Calls, local_at, on_test, ticked, loaded, applied, assigned, altered, chosen, then_rest, called, leave, with_value, then_run, caught, finished, enter}
 
 -- ---- operators
 
@@ -97,6 +99,18 @@ brought_to (type.Object n c) = None
 brought_to (type.Handle n c) = None
 
 -- ---- variables
+
+-- what a variable of this type holds while nothing was stored in it: a number, or an object, a handle of any type or null
+abbrev pub kind_of : ArgType → ValueKind
+kind_of type.Void = Number
+kind_of type.Null = Handle
+kind_of (type.Plain p) = Number
+kind_of (type.Object n c) = Handle
+kind_of (type.Handle n c) = Handle
+
+-- 0, false or null
+abbrev pub default_in : ArgType → Slot
+default_in ty = default_of (kind_of ty)
 
 -- the place of local i among those that are alive, counted from the innermost one
 abbrev pub inner : List Slot → ℕ → ℕ
@@ -175,7 +189,7 @@ abbrev mutual
   evaluate z m c (t.call f ty args) ls t w = called m (c (Own f)) (targets_of ls args) (evaluate_all z m c args [] ls t w)
   evaluate z m c (t.host_call h ty args) ls t w = applied (perform z m (Ask h.entity)) (evaluate_all z m c args [] ls t w)
 
-  -- the arguments of a call, behind those that there are; an `&out` parameter begins as 0 or false
+  -- the arguments of a call, behind those that there are; an `&out` parameter begins as 0, false or null
   pub evaluate_all : Setting → ℕ → Callees → t.Args → List Slot → List Slot → ℕ → World → Gathered
   evaluate_all z m c t.none vs ls t w = Ready vs ls t w
   evaluate_all z m c (t.more a args) vs ls t w =
@@ -183,13 +197,18 @@ abbrev mutual
 
   pub evaluate_argument : Setting → ℕ → Callees → t.Arg → List Slot → ℕ → World → Evaluated
   evaluate_argument z m c (t.by_value ty e) ls t w = evaluate z m c e ls t w
-  evaluate_argument z m c (t.out x from to) ls t w = Gave (Bits 0) ls t w
+  evaluate_argument z m c (t.out x from to) ls t w = Gave (default_in from) ls t w
 
 -- ---- statements
 
 -- one pass of a loop, its tick taken: the condition, the body and the steps; a condition that is not written is true
 abbrev pub Passes : Type 0
 Passes = Option t.Expr → t.Stmts → List t.Expr → List Slot → ℕ → World → Ran
+
+-- what a new local begins with: its initializer's value, or 0, false or null
+abbrev pub begin_local : Setting → ℕ → Callees → ArgType → Option t.Expr → List Slot → ℕ → World → Evaluated
+begin_local z m c ty None ls t w = Gave (default_in ty) ls t w
+begin_local z m c ty (Some e) ls t w = evaluate z m c e ls t w
 
 -- a value or a condition that is written or not
 abbrev pub evaluate_or : Setting → ℕ → Callees → ℕ → Option t.Expr → List Slot → ℕ → World → Evaluated
@@ -204,11 +223,11 @@ discarded e = with_value e (λ v ls t w. Went ls t (give v w))
 abbrev pub branched : Evaluated → (List Slot → ℕ → World → Ran) → (List Slot → ℕ → World → Ran) → Ran
 branched e go other = with_value e (λ v ls t w. on_test v (Halted Null ls (give v w)) (other ls t w) (go ls t w))
 
--- each new local begins with its initializer's value, or as 0 or false
+-- new locals, each known behind its own initializer
 abbrev pub run_locals : Setting → ℕ → Callees → List t.Local → List Slot → ℕ → World → Ran
 run_locals z m c [] ls t w = Went ls t w
 run_locals z m c (l ∷ rest) ls t w =
-    with_value (evaluate_or z m c 0 l.initializer ls t w) (λ v ls' t' w'. run_locals z m c rest (v ∷ ls') t' w')
+    with_value (begin_local z m c l.ty l.initializer ls t w) (λ v ls' t' w'. run_locals z m c rest (v ∷ ls') t' w')
 
 -- the steps of a `for`
 abbrev pub run_steps : Setting → ℕ → Callees → List t.Expr → List Slot → ℕ → World → Ran
@@ -303,16 +322,27 @@ initialized_all z codes (g ∷ gs) t w = then_initialized (initialized z codes t
 
 -- ---- a module's bodies
 
+-- by reference an object itself passes, which is not null
+abbrev pub referred : ArgType → Passing
+referred type.Void = In
+referred type.Null = In
+referred (type.Plain p) = In
+referred (type.Object n c) = Object
+referred (type.Handle n c) = In
+
+abbrev pub passing_by : Pass → ArgType → Passing
+passing_by pass.Value ty = In
+passing_by pass.RefIn ty = referred ty
+passing_by pass.RefOut ty = Out
+passing_by pass.RefInOut ty = referred ty
+
 -- how a parameter takes its argument
-abbrev pub passing_of : Pass → Passing
-passing_of pass.Value = In
-passing_of pass.RefIn = In
-passing_of pass.RefOut = Out
-passing_of pass.RefInOut = In
+abbrev pub passing_of : Parameter → Passing
+passing_of p = passing_by p.pass p.ty
 
 -- how a function's parameters take their arguments, the last one first
 abbrev pub passings_of : List Parameter → List Passing
-passings_of ps = reverse (map (λ p. passing_of p.pass) ps)
+passings_of ps = reverse (map (λ p. passing_of p) ps)
 
 -- the initializers of globals, counted from this number on
 abbrev pub initializer_of : ℕ → Option t.Expr → List Code

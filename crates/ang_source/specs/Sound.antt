@@ -1,6 +1,6 @@
 -- What a checker promises of a resolved tree (docs/MEANING.md, "What a script means"): each local is alive, each global and each function is there, each
--- call has an argument for each parameter, each asking is of an entity that the view has and by which no object passes, and `break` and `continue` stand in a
--- loop. It says nothing else of types: operations are total.
+-- call has an argument for each parameter, each asking is of an entity that the view has and by which no object passes, no property that is declared `const`
+-- is written, and `break` and `continue` stand in a loop. It says nothing else of types: operations are total.
 use Rattle.std.specs.Prelude.{◌≡◌, ◌≢◌, ℕ, suc, ◌+◌, ◌<◌, Bool, true, false, IsTrue, List, [], ◌∷◌, length, map, Option, Some, None, slice_get}
 use Rattle.ang_kinds.specs.declared.types.Param.{Param}
 use Rattle.ang_kinds.specs.declared.types.Pass.{Pass}
@@ -53,6 +53,11 @@ pub record IsEntity (V : RegistrationList) (kind : EntryKind) (h : HostEntity) :
   pub number : h.f ≡ entry.f
   pub no_object : PassesNoObject entry
 
+-- a global property of the host that may be written: one that is not declared `const` (the AngelScript manual, "Registering global properties")
+pub record IsWritable (V : RegistrationList) (h : HostEntity) : Type 0 where
+  pub entity : IsEntity V Global h
+  pub not_const : entity.entry.signature.read_only ≡ false
+
 -- a function of the host with so many parameters
 pub record IsHostFunction (V : RegistrationList) (h : HostEntity) (count : ℕ) : Type 0 where
   pub entity : IsEntity V Function h
@@ -101,6 +106,12 @@ module _ (M : Module) where
   IsVariable n (variable.Global g) = g < M.globals
   IsVariable n (variable.Property h) = IsEntity M.view Global h
 
+  -- a variable that is stored into
+  abbrev pub IsStored : ℕ → Variable → Type 0
+  IsStored n (variable.Local i) = i < n
+  IsStored n (variable.Global g) = g < M.globals
+  IsStored n (variable.Property h) = IsWritable M.view h
+
   -- a variable that an `&out` value moves into, which is no host property
   abbrev pub IsTarget : ℕ → Variable → Type 0
   IsTarget n (variable.Local i) = i < n
@@ -121,9 +132,9 @@ module _ (M : Module) where
     Sound n (t.and l r) = Sound n l × Sound n r
     Sound n (t.or l r) = Sound n l × Sound n r
     Sound n (t.choose c l r) = Sound n c × Sound n l × Sound n r
-    Sound n (t.assign x ty e) = IsVariable n x × Sound n e
-    Sound n (t.compound x ty op operating e) = IsVariable n x × Sound n e
-    Sound n (t.step x ty kind) = IsVariable n x
+    Sound n (t.assign x ty e) = IsStored n x × Sound n e
+    Sound n (t.compound x ty op operating e) = IsStored n x × Sound n e
+    Sound n (t.step x ty kind) = IsStored n x
     Sound n (t.call f result args) = (ps : List Parameter) × (slice_get M.parameters f ≡ Some ps) × SoundArguments n ps args
     Sound n (t.host_call h result args) = IsHostFunction M.view h (argument_count args) × SoundValues n args
 

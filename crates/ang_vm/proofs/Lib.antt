@@ -1,5 +1,8 @@
-pub mod Objectless
-pub mod Moves
-pub mod Asked
+pub mod Moving
+pub mod Counting
+pub mod Stepping
+pub mod Going
+pub mod Weighing
+pub mod Calling
+pub mod Leaving
 pub mod Running
-pub mod Puts

@@ -1,4 +1,4 @@
-pub mod Worlds
-pub mod Machines
+pub mod Crossings
 pub mod Legs
-pub mod Endings
+pub mod Running
+pub mod Machines

@@ -1,14 +1,18 @@
-//! The machine with its drivers: whole runs of the code of script functions.
+//! The machine: whole runs of the code of script functions, over script objects, globals and drivers.
 //!
-//! `ang_vm_frames` runs code until it asks the host, and `ang_vm_ask` asks the drivers; a run is a loop over the two.
-//! There are no objects yet, so that a handle is null wherever there is one, and what lies outside the stack is
-//! the globals and the events.
+//! `ang_vm_steps` has its instructions. A run is a loop over the bodies that are entered and left, and a body
+//! is a loop over its steps, in which the place, the number of values in use and the ticks that are left are
+//! local values. A call and a return are steps of their own, at which the loop over a body ends. Memory is
+//! wanted as a body is entered, as an object is made and before the host is asked, and nowhere else.
 #![tactic(auto)]
 
-mod asking;
+mod bodies;
+mod calls;
+mod crossing;
+mod lookups;
 mod machines;
-mod outside;
-mod runs;
+mod returns;
+mod start;
+mod turns;
 
 pub use machines::{Machine, run, run_initializer};
-pub use outside::Globals;

@@ -1,66 +1,214 @@
 //! The machine.
-ghost use Rattle.std.specs.Prelude.{◌≡◌, ◌<◌, ◌++◌, List, length, reverse, map as list_map};
-ghost use Rattle.ang_host.specs.declared.event.HostEvent.{HostEvent};
+ghost use Rattle.std.specs.Prelude.{◌≡◌, ◌<◌, ℕ, List, [], length, reverse};
+ghost use Rattle.ang_kinds.specs.declared.fault.Fault.TheVariants.{Budget as BudgetFault, Memory as MemoryFault};
 ghost use Rattle.ang_host.specs.declared.event.Role.{Role};
 ghost use Rattle.ang_host.specs.Boxes.{members};
-ghost use Rattle.ang_host.specs.Members.{states_of, AreFresh};
-ghost use Rattle.ang_host.specs.Events.{DriversFollow};
 ghost use Rattle.ang_meaning.specs.World.{with_inputs};
-ghost use Rattle.ang_code.specs.Machine.{call_begins, initializer_begins};
-ghost use Rattle.ang_code.specs.Runs.{Gives, Stops};
-ghost use Rattle.ang_vm_steps.specs.Tables.{setting_of, texts_of};
-ghost use Rattle.ang_vm.specs.Worlds.{values_in, world_of};
-ghost use Rattle.ang_vm.specs.Endings.{value_of, ticks_of};
-ghost use Rattle.ang_vm.specs.Machines.{HasPlainEntities, HaveRoles, HasRun, HasInitialized};
+ghost use Rattle.ang_meaning.specs.declared.routine.Routine.{Routine};
+ghost use Rattle.ang_meaning.specs.Setting.{Setting};
+ghost use Rattle.ang_meaning.specs.Counting.{IsCounted, CanGive};
+ghost use Rattle.ang_code.specs.Machine.{Texts, call_begins, initializer_begins};
+ghost use Rattle.ang_heap.specs.Stores.{world_of, IsReady, StoreMoves};
+ghost use Rattle.ang_vm_stack.specs.Tables.{setting_of, texts_of};
+ghost use Rattle.ang_vm_ask.specs.Entities.{DriversThere, HaveRoles};
+ghost use Rattle.ang_vm.specs.Legs.{Ends};
+ghost use Rattle.ang_vm.specs.Running.{MayRun, RunMoves, HeldAt, IsSettled};
+ghost use Rattle.ang_vm.specs.Machines.{lent, IsLost, HasRun, HasInitialized};
 
-use crate::outside::{Globals, Outside};
-use crate::runs::{initialize, run_call};
-use ang_host::{Driver, Drivers, HostEvent};
+use crate::bodies::run_from;
+use crate::start::{start_call, start_initializer};
+use ang_heap::{Store, give};
+use ang_host::{Driver, HostEvent};
 use ang_kinds::Fault;
 use ang_meaning::{Routine, Slot};
-use ang_vm_steps::place::Ending;
-use ang_vm_steps::table::Table;
+use ang_vm_stack::place::Ending;
+use ang_vm_stack::table::Table;
+use ang_vm_steps::many::give_all_in_use;
 use std::alloc::Global;
 use std::mem;
 
-/// What scripts run on: the drivers and the values of all globals. It stays from run to run.
+/// 200: how many functions may stand one inside the other in a call, the called one being the first. One more
+/// is the fault `Depth`.
+pub const CALLS: usize = 200;
+
+/// 201: the same in a run of an initializer, which stands below the first function and is counted with them, so
+/// that 200 functions may stand above it.
+pub const WITH_INITIALIZER: usize = 201;
+
+/// What scripts run on: script objects, the values of all globals, and the drivers with the host objects that
+/// they keep. It stays from run to run.
 ///
 /// A machine can't be dropped, since its drivers can't.
 pub struct Machine {
-    /// The drivers that runs ask, by their places in the list.
-    pub drivers: Drivers,
-    /// The values that runs read and change, of the globals of all modules.
-    pub globals: Globals,
+    /// What a run borrows. Between runs nothing is read of its `events`: those of a command are put in their
+    /// place.
+    pub store: Store,
 }
 
-/// The value of a run that ended.
-fn value_of(ending: Ending) -> Result<Slot, Fault>
-    ensures exact { result ≡ value_of ending }
+/// The fault of a call for whose arguments there is no memory.
+fn no_room(budget: u64) -> Fault
+    ensures spent { budget ≡ 0 → result ≡ BudgetFault }
+    ensures left { 0 < budget → result ≡ MemoryFault }
+{
+    if budget == 0 {
+        Fault::Budget
+    } else {
+        Fault::Memory
+    }
+}
+
+/// A call ends for whose arguments there is no memory: they are given up.
+fn refuse(store: &mut Store, args: &[Slot], budget: u64) -> Ending
+    requires ready { IsReady (λ v. (⟦<dyn Driver as Driver>⟧ v).meaning) store.old }
+    requires held { CanGive (reverse args.now) (world_of (λ v. (⟦<dyn Driver as Driver>⟧ v).meaning) store.old) }
+    ensures ends { (z : Setting) (code : Texts) (entry : Routine)
+        → Ends z code (λ is. call_begins z code budget entry (reverse args.now) (with_inputs is (world_of (λ v. (⟦<dyn Driver as Driver>⟧ v).meaning) store.old))) result (world_of (λ v. (⟦<dyn Driver as Driver>⟧ v).meaning) store.new) }
+    ensures moves { (roles : List Role) → StoreMoves (λ v. (⟦<dyn Driver as Driver>⟧ v).meaning) roles store.old store.new }
+{
+    let count = args.len();
+    give_all_in_use(args, store, count);
+    Ending::Stops(no_room(budget))
+}
+
+/// A call of a function, from its beginning to its end.
+fn run_call(
+    alloc: Global,
+    table: &Table,
+    store: &mut Store,
+    entry: Routine,
+    args: &[Slot],
+    budget: u64,
+) -> Ending
+    requires may_run { MayRun (λ v. (⟦<dyn Driver as Driver>⟧ v).meaning) table.now (reverse args.now) store.old }
+    ensures ends { Ends (setting_of table.now 200) (texts_of table.now)
+        (λ is. call_begins (setting_of table.now 200) (texts_of table.now) budget entry (reverse args.now) (with_inputs is (world_of (λ v. (⟦<dyn Driver as Driver>⟧ v).meaning) store.old))) result (world_of (λ v. (⟦<dyn Driver as Driver>⟧ v).meaning) store.new) }
+    ensures moves { RunMoves (λ v. (⟦<dyn Driver as Driver>⟧ v).meaning) table.now store.old store.new }
+{
+    let Ok(mut stack) = Vec::from_slice(alloc, args) else {
+        return refuse(store, args, budget);
+    };
+    let mut frames = Vec::new(alloc);
+    match start_call(table, &mut stack, &mut frames, store, entry, budget) {
+        Ok(first) => run_from(table, CALLS, &mut stack, &mut frames, store, first),
+        Err(ending) => ending,
+    }
+}
+
+/// An initializer, from its beginning to its end.
+fn initialize(alloc: Global, table: &Table, store: &mut Store, entry: Routine, ticks: u64) -> Ending
+    requires may_run { MayRun (λ v. (⟦<dyn Driver as Driver>⟧ v).meaning) table.now [] store.old }
+    ensures ends { Ends (setting_of table.now 201) (texts_of table.now)
+        (λ is. initializer_begins (setting_of table.now 201) (texts_of table.now) ticks entry (with_inputs is (world_of (λ v. (⟦<dyn Driver as Driver>⟧ v).meaning) store.old))) result (world_of (λ v. (⟦<dyn Driver as Driver>⟧ v).meaning) store.new) }
+    ensures moves { RunMoves (λ v. (⟦<dyn Driver as Driver>⟧ v).meaning) table.now store.old store.new }
+{
+    let mut stack = Vec::new(alloc);
+    let mut frames = Vec::new(alloc);
+    match start_initializer(table, &mut stack, &mut frames, store, entry, ticks) {
+        Ok(first) => run_from(
+            table,
+            WITH_INITIALIZER,
+            &mut stack,
+            &mut frames,
+            store,
+            first,
+        ),
+        Err(ending) => ending,
+    }
+}
+
+/// A run's end is told, with the ticks that are left. Nobody holds its value any more, so it is given up.
+///
+/// # Errors
+/// The fault of the run. Lost code is `Null`.
+fn settle(store: &mut Store, ending: Ending) -> Result<(Slot, u64), Fault>
+    requires ready { IsReady (λ v. (⟦<dyn Driver as Driver>⟧ v).meaning) store.old }
+    requires held { HeldAt ending (world_of (λ v. (⟦<dyn Driver as Driver>⟧ v).meaning) store.old) }
+    ensures settled { IsSettled ending result (world_of (λ v. (⟦<dyn Driver as Driver>⟧ v).meaning) store.old) (world_of (λ v. (⟦<dyn Driver as Driver>⟧ v).meaning) store.new) }
+    ensures moves { (roles : List Role) → StoreMoves (λ v. (⟦<dyn Driver as Driver>⟧ v).meaning) roles store.old store.new }
 {
     match ending {
-        Ending::Gives(value, _) => Ok(value),
+        Ending::Gives(value, ticks) => {
+            give(store, value);
+            Ok((value, ticks))
+        }
         Ending::Stops(fault) => Err(fault),
         Ending::Lost => Err(Fault::Null),
     }
 }
 
-/// The ticks that a run left.
-fn ticks_of(ending: Ending) -> Result<u64, Fault>
-    ensures exact { result ≡ ticks_of ending }
+/// A call of a function as it is told.
+///
+/// # Errors
+/// The fault of the script.
+fn call_told(
+    alloc: Global,
+    table: &Table,
+    store: &mut Store,
+    entry: Routine,
+    args: &[Slot],
+    budget: u64,
+) -> Result<Slot, Fault>
+    requires may_run { MayRun (λ v. (⟦<dyn Driver as Driver>⟧ v).meaning) table.now (reverse args.now) store.old }
+    ensures told { HasRun (setting_of table.now 200) (texts_of table.now)
+        (λ is. call_begins (setting_of table.now 200) (texts_of table.now) budget entry (reverse args.now) (with_inputs is (world_of (λ v. (⟦<dyn Driver as Driver>⟧ v).meaning) store.old))) result (world_of (λ v. (⟦<dyn Driver as Driver>⟧ v).meaning) store.new) }
+    ensures moves { RunMoves (λ v. (⟦<dyn Driver as Driver>⟧ v).meaning) table.now store.old store.new }
+    ensures counted { (IsLost (setting_of table.now 200) (texts_of table.now) (λ is. call_begins (setting_of table.now 200) (texts_of table.now) budget entry (reverse args.now) (with_inputs is (world_of (λ v. (⟦<dyn Driver as Driver>⟧ v).meaning) store.old))) → ⊥)
+        → IsCounted [] (world_of (λ v. (⟦<dyn Driver as Driver>⟧ v).meaning) store.new) }
 {
-    match ending {
-        Ending::Gives(_, ticks) => Ok(ticks),
-        Ending::Stops(fault) => Err(fault),
-        Ending::Lost => Err(Fault::Null),
+    let ending = run_call(alloc, table, store, entry, args, budget);
+    match settle(store, ending) {
+        Ok((value, _)) => Ok(value),
+        Err(fault) => Err(fault),
     }
+}
+
+/// An initializer as it is told: the ticks that it leaves.
+///
+/// # Errors
+/// The fault of the script.
+fn initializer_told(
+    alloc: Global,
+    table: &Table,
+    store: &mut Store,
+    entry: Routine,
+    ticks: u64,
+) -> Result<u64, Fault>
+    requires may_run { MayRun (λ v. (⟦<dyn Driver as Driver>⟧ v).meaning) table.now [] store.old }
+    ensures told { HasInitialized (setting_of table.now 201) (texts_of table.now)
+        (λ is. initializer_begins (setting_of table.now 201) (texts_of table.now) ticks entry (with_inputs is (world_of (λ v. (⟦<dyn Driver as Driver>⟧ v).meaning) store.old))) result (world_of (λ v. (⟦<dyn Driver as Driver>⟧ v).meaning) store.new) }
+    ensures moves { RunMoves (λ v. (⟦<dyn Driver as Driver>⟧ v).meaning) table.now store.old store.new }
+    ensures counted { (IsLost (setting_of table.now 201) (texts_of table.now) (λ is. initializer_begins (setting_of table.now 201) (texts_of table.now) ticks entry (with_inputs is (world_of (λ v. (⟦<dyn Driver as Driver>⟧ v).meaning) store.old))) → ⊥)
+        → IsCounted [] (world_of (λ v. (⟦<dyn Driver as Driver>⟧ v).meaning) store.new) }
+{
+    let ending = initialize(alloc, table, store, entry, ticks);
+    match settle(store, ending) {
+        Ok((_, left)) => Ok(left),
+        Err(fault) => Err(fault),
+    }
+}
+
+/// Puts a command's events into the machine's store.
+fn lend(machine: &mut Machine, events: &mut Vec<HostEvent>)
+    ensures lent { machine.new.store ≡ lent machine.old events.old }
+{
+    mem::swap(&mut machine.store.events, events);
+}
+
+/// Takes them out again.
+fn take_back(machine: &mut Machine, events: &mut Vec<HostEvent>)
+    ensures back { lent machine.new events.new ≡ machine.old.store }
+{
+    mem::swap(&mut machine.store.events, events);
 }
 
 /// Calls a function of a table's code with a budget of ticks, and answers its value. The last argument stands
-/// last; a `void` function's value is 0.
+/// last; a `void` function's value is 0. What the value holds has been given up: it is of use where it is a
+/// number.
 ///
-/// The run is one of the code's own meaning, told what it met: whether there was memory, and what the drivers
-/// answered. What it asked is listed behind the events, and the drivers follow what was added. It always ends:
-/// each turn of a loop and each call takes a tick.
+/// The run is one of the code's own meaning, told what it met: whether there was memory, what the drivers
+/// answered, and so on. What it asked and which host objects ended is listed behind the events, and the drivers
+/// follow what was added. It always ends: each turn of a loop and each call takes a tick. The events need room
+/// for the end of each live host object.
 ///
 /// # Errors
 /// The fault of the script: `Budget` where its ticks run out, `Depth` where more than 200 functions would stand
@@ -74,30 +222,23 @@ pub fn run(
     budget: u64,
     events: &mut Vec<HostEvent>,
 ) -> Result<Slot, Fault>
-    requires plain { HasPlainEntities table.now (length (members machine.old.drivers)) }
+    requires drivers { DriversThere table.now (length (members machine.old.store.drivers)) }
+    requires ready { IsReady (λ v. (⟦<dyn Driver as Driver>⟧ v).meaning) (lent machine.old events.old) }
+    requires counted { IsCounted (reverse args.now) (world_of (λ v. (⟦<dyn Driver as Driver>⟧ v).meaning) (lent machine.old events.old)) }
     ensures told { HasRun (setting_of table.now 200) (texts_of table.now)
-        (λ is. call_begins (setting_of table.now 200) (texts_of table.now) budget entry (reverse args.now) (with_inputs is (world_of (values_in machine.old.globals) events.old.items)))
-        result (world_of (values_in machine.new.globals) events.new.items) }
-    ensures follow { (roles : List Role) → HaveRoles table.now roles → (es : List HostEvent) × (events.new.items ≡ events.old.items ++ es)
-        × DriversFollow (λ v. (⟦<dyn Driver as Driver>⟧ v).meaning) roles (members machine.old.drivers) es (members machine.new.drivers) }
-    ensures kinds { list_map (λ b. b.vtable) (members machine.new.drivers) ≡ list_map (λ b. b.vtable) (members machine.old.drivers) }
-    ensures same { length (members machine.new.drivers) ≡ length (members machine.old.drivers) }
-    ensures idle { AreFresh (states_of (λ v. (⟦<dyn Driver as Driver>⟧ v).meaning) (members machine.old.drivers))
-        → AreFresh (states_of (λ v. (⟦<dyn Driver as Driver>⟧ v).meaning) (members machine.new.drivers)) }
+        (λ is. call_begins (setting_of table.now 200) (texts_of table.now) budget entry (reverse args.now) (with_inputs is (world_of (λ v. (⟦<dyn Driver as Driver>⟧ v).meaning) (lent machine.old events.old))))
+        result (world_of (λ v. (⟦<dyn Driver as Driver>⟧ v).meaning) (lent machine.new events.new)) }
+    ensures moves { (roles : List Role) → HaveRoles table.now roles → StoreMoves (λ v. (⟦<dyn Driver as Driver>⟧ v).meaning) roles (lent machine.old events.old) (lent machine.new events.new) }
+    ensures ready { IsReady (λ v. (⟦<dyn Driver as Driver>⟧ v).meaning) (lent machine.new events.new) }
+    ensures count { length (members machine.new.store.drivers) ≡ length (members machine.old.store.drivers) }
+    ensures counted { (IsLost (setting_of table.now 200) (texts_of table.now) (λ is. call_begins (setting_of table.now 200) (texts_of table.now) budget entry (reverse args.now) (with_inputs is (world_of (λ v. (⟦<dyn Driver as Driver>⟧ v).meaning) (lent machine.old events.old)))) → ⊥)
+        → IsCounted [] (world_of (λ v. (⟦<dyn Driver as Driver>⟧ v).meaning) (lent machine.new events.new)) }
 {
     let alloc = *events.allocator();
-    let mut outside = lend(alloc, &mut machine.globals, events);
-    let ending = run_call(
-        alloc,
-        table,
-        &mut machine.drivers,
-        &mut outside,
-        entry,
-        args,
-        budget,
-    );
-    give_back(outside, &mut machine.globals, events);
-    value_of(ending)
+    lend(machine, events);
+    let ended = call_told(alloc, table, &mut machine.store, entry, args, budget);
+    take_back(machine, events);
+    ended
 }
 
 /// Runs the initializer of a global, and answers the ticks that are left. Its entry takes none, and it does not
@@ -112,49 +253,21 @@ pub fn run_initializer(
     ticks: u64,
     events: &mut Vec<HostEvent>,
 ) -> Result<u64, Fault>
-    requires plain { HasPlainEntities table.now (length (members machine.old.drivers)) }
+    requires drivers { DriversThere table.now (length (members machine.old.store.drivers)) }
+    requires ready { IsReady (λ v. (⟦<dyn Driver as Driver>⟧ v).meaning) (lent machine.old events.old) }
+    requires counted { IsCounted [] (world_of (λ v. (⟦<dyn Driver as Driver>⟧ v).meaning) (lent machine.old events.old)) }
     ensures told { HasInitialized (setting_of table.now 201) (texts_of table.now)
-        (λ is. initializer_begins (setting_of table.now 201) (texts_of table.now) ticks entry (with_inputs is (world_of (values_in machine.old.globals) events.old.items)))
-        result (world_of (values_in machine.new.globals) events.new.items) }
-    ensures follow { (roles : List Role) → HaveRoles table.now roles → (es : List HostEvent) × (events.new.items ≡ events.old.items ++ es)
-        × DriversFollow (λ v. (⟦<dyn Driver as Driver>⟧ v).meaning) roles (members machine.old.drivers) es (members machine.new.drivers) }
-    ensures kinds { list_map (λ b. b.vtable) (members machine.new.drivers) ≡ list_map (λ b. b.vtable) (members machine.old.drivers) }
-    ensures same { length (members machine.new.drivers) ≡ length (members machine.old.drivers) }
-    ensures idle { AreFresh (states_of (λ v. (⟦<dyn Driver as Driver>⟧ v).meaning) (members machine.old.drivers))
-        → AreFresh (states_of (λ v. (⟦<dyn Driver as Driver>⟧ v).meaning) (members machine.new.drivers)) }
+        (λ is. initializer_begins (setting_of table.now 201) (texts_of table.now) ticks entry (with_inputs is (world_of (λ v. (⟦<dyn Driver as Driver>⟧ v).meaning) (lent machine.old events.old))))
+        result (world_of (λ v. (⟦<dyn Driver as Driver>⟧ v).meaning) (lent machine.new events.new)) }
+    ensures moves { (roles : List Role) → HaveRoles table.now roles → StoreMoves (λ v. (⟦<dyn Driver as Driver>⟧ v).meaning) roles (lent machine.old events.old) (lent machine.new events.new) }
+    ensures ready { IsReady (λ v. (⟦<dyn Driver as Driver>⟧ v).meaning) (lent machine.new events.new) }
+    ensures count { length (members machine.new.store.drivers) ≡ length (members machine.old.store.drivers) }
+    ensures counted { (IsLost (setting_of table.now 201) (texts_of table.now) (λ is. initializer_begins (setting_of table.now 201) (texts_of table.now) ticks entry (with_inputs is (world_of (λ v. (⟦<dyn Driver as Driver>⟧ v).meaning) (lent machine.old events.old)))) → ⊥)
+        → IsCounted [] (world_of (λ v. (⟦<dyn Driver as Driver>⟧ v).meaning) (lent machine.new events.new)) }
 {
     let alloc = *events.allocator();
-    let mut outside = lend(alloc, &mut machine.globals, events);
-    let ending = initialize(
-        alloc,
-        table,
-        &mut machine.drivers,
-        &mut outside,
-        entry,
-        ticks,
-    );
-    give_back(outside, &mut machine.globals, events);
-    ticks_of(ending)
-}
-
-/// Takes the globals and the events for a run.
-fn lend(alloc: Global, globals: &mut Globals, events: &mut Vec<HostEvent>) -> Outside
-    ensures globals { result.globals ≡ globals.old }
-    ensures events { result.events.items ≡ events.old.items }
-{
-    Outside {
-        globals: Globals {
-            modules: mem::replace(&mut globals.modules, Vec::new(alloc)),
-        },
-        events: mem::replace(events, Vec::new(alloc)),
-    }
-}
-
-/// Puts them back.
-fn give_back(outside: Outside, globals: &mut Globals, events: &mut Vec<HostEvent>)
-    ensures globals { globals.new ≡ outside.globals }
-    ensures events { events.new.items ≡ outside.events.items }
-{
-    *globals = outside.globals;
-    *events = outside.events;
+    lend(machine, events);
+    let ended = initializer_told(alloc, table, &mut machine.store, entry, ticks);
+    take_back(machine, events);
+    ended
 }

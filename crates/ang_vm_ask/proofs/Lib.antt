@@ -1,6 +1,10 @@
-pub mod Drivers
-pub mod Handed
-pub mod Meanings
-pub mod Performed
-pub mod Performing
 pub mod Signed
+pub mod Handed
+pub mod Holding
+pub mod Replying
+pub mod Asks
+pub mod Moved
+pub mod Performing
+pub mod Live
+pub mod Fit
+pub mod Whole

@@ -1,180 +1,330 @@
--- Operations on the host as the meaning performs them, where the entity is asked of no object and there are no objects.
-use Rattle.std.proofs.Common.{◌≡◌, ℕ, true, false, List, [], ◌∷◌, ◌++◌, Some, None, reverse, length, refl, sym, ap, ◌∙◌, ◌≤◌, arith}
-use Rattle.std.specs.Prelude.{if◌then◌else◌, Result, Ok, Err}
-use Rattle.std.proofs.lemmas.List.{reverse-reverse, length-reverse}
+-- Operations on the host by the one asking or the two that each of them makes.
+use Rattle.std.proofs.Common.{◌≡◌, ℕ, ◌≤◌, List, [], ◌∷◌, Bool, true, false, not, ◌&&◌, cond, length, reverse, Option, Some, None, refl, sym, ap, ◌∙◌, arith, slice_get}
+use Rattle.std.specs.Prelude.{Result, Ok, Err}
+use Rattle.std.proofs.lemmas.List.{reverse-reverse}
 use Rattle.ang_kinds.specs.declared.mask.EntityNo.{EntityNo}
-use Rattle.ang_kinds.specs.declared.primitive.Primitive.{Primitive}
 use Rattle.ang_kinds.specs.declared.fault.Fault.{Fault}
 use Rattle.ang_kinds.specs.declared.fault.Fault.TheVariants.{Null}
-use Rattle.ang_host.specs.declared.answer.Answer.{Answer}
-use Rattle.ang_host.specs.declared.answer.HostReply.TheVariants.{Asking}
-use Rattle.ang_host.specs.declared.event.HostEvent.{HostEvent}
+use Rattle.ang_host.specs.declared.event.Role.{Role}
+use Rattle.ang_host.specs.declared.event.Role.TheVariants.{Making as MakingRole, Calling as CallingRole, Property as PropertyRole}
 use Rattle.ang_meaning.specs.declared.slot.Slot.{Slot}
 use Rattle.ang_meaning.specs.declared.slot.Slot.TheVariants.{Bits}
-use Rattle.ang_meaning.specs.declared.host.HostType.TheVariants.{Nothing, Plain}
+use Rattle.ang_meaning.specs.declared.host.HostType.{HostType}
+use Rattle.ang_meaning.specs.declared.host.HostType.TheVariants.{Nothing}
+use Rattle.ang_meaning.specs.declared.host.HostUse.{HostUse}
 use Rattle.ang_meaning.specs.declared.operation.Change.{Change}
 use Rattle.ang_meaning.specs.declared.operation.Operation.TheVariants.{Ask, Read, Write, Alter}
 use Rattle.ang_meaning.specs.Numbers.{Changed, Into, Never}
-use Rattle.ang_meaning.specs.World.{World, Input, with_inputs}
-use Rattle.ang_meaning.specs.Setting.{Setting, use_at}
+use Rattle.ang_meaning.specs.World.{World, Input, with_inputs, give}
+use Rattle.ang_meaning.specs.Setting.{Setting, use_at, is_called_by, is_property, may_call, may_access, may_write, is_fit}
+use Rattle.ang_meaning.specs.Hosts.{Done, Fails, value_of, values_of, asked}
+use Rattle.ang_meaning.specs.Perform.{Receiver, NoReceiver, Of, NullReceiver, key_at, receiver_of, behind_first, arguments_of, called_of, read_of, write_of, in_place_of, altered_to, altered_of, change_of, member_count, operands}
 use Rattle.ang_meaning.specs.Told.{Told}
-use Rattle.ang_meaning.specs.Hosts.{Done, Fine, Fails, value_of, values_of, is_reply_to, asked}
-use Rattle.ang_meaning.specs.Perform.{Of, key_at, behind_first, gives_up, called_of, read_of, write_of, in_place_of, altered_to, altered_of, change_of, perform}
 use Rattle.ang_meaning.proofs.Telling.{told_same, told_then, told_map}
-use Rattle.ang_vm_ask.specs.Replies.{done}
-use Rattle.ang_vm_ask.specs.Asking.{HasNoObjects, in_place, SetOnce, WrittenOnce, ChangedOnce, AlteredOnce, first_operand}
-use Rattle.ang_vm_ask.proofs.Meanings.{once_told, give_all_none}
+use Rattle.ang_vm_numbers.specs.declared.changes.Altered.{Altered}
+use Rattle.ang_vm_numbers.specs.Answers as answers
+use Rattle.ang_vm_stack.specs.Arms.{done}
+use Rattle.ang_vm_ask.specs.Asks.{asks}
+use Rattle.ang_vm_ask.specs.Askings.{Sees, Performed}
+use Rattle.ang_vm_ask.specs.Handing.{object_in, in_place}
+use Rattle.ang_vm_ask.proofs.Asks.{use_is}
 
-gives_none : (o : Done) → gives_up [] o ≡ o
-gives_none (Fine v w) = refl
-gives_none (Fails f w) = refl
+-- ---- operands by their number
 
-given_up : (vs : List Slot) (r : Result Slot Fault) (w : World) → HasNoObjects w → gives_up vs (done r w) ≡ done r w
-given_up vs (Ok v) w h = ap (Fine v) (give_all_none vs w h)
-given_up vs (Err f) w h = refl
+one_place : (b : Bool) (d : ℕ) (ops : List Slot) → length ops ≡ member_count b → cond b (key_at d (reverse ops)) NoReceiver ≡ cond b (key_at d ops) NoReceiver
+one_place false d ops h = refl
+one_place true d [] h = absurd (let x : 0 ≡ 1 = h in omega arith)
+one_place true d (o ∷ []) h = refl
+one_place true d (o ∷ (p ∷ ps)) h = absurd (omega (arith, h))
+
+count_small : (b : Bool) → member_count b ≤ 1
+count_small true = omega arith
+count_small false = omega arith
+
+both_true : (a b : Bool) → (a && b) ≡ true → a ≡ true
+both_true true b h = refl
+both_true false b h = h
+
+-- ---- each operation by what it asks
+
+module _ (z : Setting) (m : ℕ) (caller : List ℕ) (e : EntityNo) (u : HostUse) (sees : Sees z m caller e u) where
+  called_as : (r : Receiver) (object : Option ℕ) (args : List Slot) (w : World) → object_in r ≡ Ok object
+      → called_of z m e r args w ≡ asked z m e object (values_of u.driver u.params args) u.result w
+  called_as NoReceiver object args w h =
+      let o : None ≡ object = cc in
+      ap (λ x. asked z m e None (values_of x.driver x.params args) x.result w) (use_is z m caller e u sees) ∙ ap (λ k. asked z m e k (values_of u.driver u.params args) u.result w) o
+  called_as (Of k) object args w h =
+      let o : Some k ≡ object = cc in
+      ap (λ x. asked z m e (Some k) (values_of x.driver x.params args) x.result w) (use_is z m caller e u sees) ∙ ap (λ k. asked z m e k (values_of u.driver u.params args) u.result w) o
+  called_as NullReceiver object args w h = absurd (let x : ⊥ = cc in x)
+
+  called_null : (r : Receiver) (f : Fault) (args : List Slot) (w : World) → object_in r ≡ Err f → called_of z m e r args w ≡ Fails f w
+  called_null NoReceiver f args w h = absurd (let x : ⊥ = cc in x)
+  called_null (Of k) f args w h = absurd (let x : ⊥ = cc in x)
+  called_null NullReceiver f args w h = let n : Null ≡ f = cc in ap (λ x. Fails x w) n
+
+  pub read_as : (r : Receiver) (object : Option ℕ) (w : World) → object_in r ≡ Ok object → read_of z m e r w ≡ asked z m e object [] u.result w
+  read_as NoReceiver object w h =
+      let o : None ≡ object = cc in ap (λ x. asked z m e None [] x.result w) (use_is z m caller e u sees) ∙ ap (λ k. asked z m e k [] u.result w) o
+  read_as (Of k) object w h =
+      let o : Some k ≡ object = cc in ap (λ x. asked z m e (Some k) [] x.result w) (use_is z m caller e u sees) ∙ ap (λ k. asked z m e k [] u.result w) o
+  read_as NullReceiver object w h = absurd (let x : ⊥ = cc in x)
+
+  read_null : (r : Receiver) (f : Fault) (w : World) → object_in r ≡ Err f → read_of z m e r w ≡ Fails f w
+  read_null NoReceiver f w h = absurd (let x : ⊥ = cc in x)
+  read_null (Of k) f w h = absurd (let x : ⊥ = cc in x)
+  read_null NullReceiver f w h = let n : Null ≡ f = cc in ap (λ x. Fails x w) n
+
+  write_as : (r : Receiver) (object : Option ℕ) (v : Slot) (w : World) → object_in r ≡ Ok object
+      → write_of z m e r v w ≡ asked z m e object (value_of u.driver u.result v ∷ []) Nothing w
+  write_as NoReceiver object v w h =
+      let o : None ≡ object = cc in
+      ap (λ x. asked z m e None (value_of x.driver x.result v ∷ []) Nothing w) (use_is z m caller e u sees) ∙ ap (λ k. asked z m e k (value_of u.driver u.result v ∷ []) Nothing w) o
+  write_as (Of k) object v w h =
+      let o : Some k ≡ object = cc in
+      ap (λ x. asked z m e (Some k) (value_of x.driver x.result v ∷ []) Nothing w) (use_is z m caller e u sees) ∙ ap (λ k. asked z m e k (value_of u.driver u.result v ∷ []) Nothing w) o
+  write_as NullReceiver object v w h = absurd (let x : ⊥ = cc in x)
+
+  write_null : (r : Receiver) (f : Fault) (v : Slot) (w : World) → object_in r ≡ Err f → write_of z m e r v w ≡ Fails f w
+  write_null NoReceiver f v w h = absurd (let x : ⊥ = cc in x)
+  write_null (Of k) f v w h = absurd (let x : ⊥ = cc in x)
+  write_null NullReceiver f v w h = let n : Null ≡ f = cc in ap (λ x. Fails x w) n
+
+  ask_is : (ops : List Slot) (w : World) → asks z m (Ask e) (reverse ops) w ≡ called_of z m e (receiver_of u ops) (arguments_of u ops) w
+  unfolding asks
+  ask_is ops w =
+      ap (λ l. called_of z m e (receiver_of (use_at z m e) l) (arguments_of (use_at z m e) l) w) (reverse-reverse ops)
+      ∙ ap (λ x. called_of z m e (receiver_of x ops) (arguments_of x ops) w) (use_is z m caller e u sees)
+
+  read_is : (ops : List Slot) (w : World) → length ops ≡ operands z m (Read e) → asks z m (Read e) (reverse ops) w ≡ read_of z m e (receiver_of u ops) w
+  unfolding asks operands
+  read_is ops w h =
+      let is = use_is z m caller e u sees in
+      ap (λ x. read_of z m e (receiver_of x (reverse ops)) w) is ∙ ap (λ r. read_of z m e r w) (one_place u.member u.driver ops (h ∙ ap (λ x. member_count x.member) is))
+
+  write_count : (ops : List Slot) → length ops ≡ operands z m (Write e) → length ops ≤ 2
+  unfolding operands
+  write_count ops h = omega (arith, h, count_small (use_at z m e).member)
+
+  alter_count : (by : Change) (ops : List Slot) → length ops ≡ operands z m (Alter e by) → length ops ≤ 2
+  unfolding operands
+  alter_count by ops h = omega (arith, h, count_small (use_at z m e).member)
+
+  write_is : (ops : List Slot) (v : Slot) (w : World) → slice_get ops 0 ≡ Some v → length ops ≤ 2
+      → asks z m (Write e) (reverse ops) w ≡ in_place_of v (write_of z m e (receiver_of u (behind_first ops)) v w)
+  unfolding asks
+  write_is [] v w f h = absurd (let x : ⊥ = cc in x)
+  write_is (x ∷ []) v w f h =
+      let same : x ≡ v = cc in
+      ap (λ y. in_place_of x (write_of z m e (receiver_of y []) x w)) (use_is z m caller e u sees) ∙ ap (λ y. in_place_of y (write_of z m e (receiver_of u []) y w)) same
+  write_is (x ∷ (o ∷ [])) v w f h =
+      let same : x ≡ v = cc in
+      ap (λ y. in_place_of x (write_of z m e (receiver_of y (o ∷ [])) x w)) (use_is z m caller e u sees) ∙ ap (λ y. in_place_of y (write_of z m e (receiver_of u (o ∷ [])) y w)) same
+  write_is (x ∷ (o ∷ (p ∷ ps))) v w f h = absurd (omega (arith, h))
+
+  alter_is : (by : Change) (ops : List Slot) (v : Slot) (w : World) → slice_get ops 0 ≡ Some v → length ops ≤ 2
+      → asks z m (Alter e by) (reverse ops) w ≡ altered_of z m e (receiver_of u (behind_first ops)) by v (read_of z m e (receiver_of u (behind_first ops)) w)
+  unfolding asks
+  alter_is by [] v w f h = absurd (let x : ⊥ = cc in x)
+  alter_is by (x ∷ []) v w f h =
+      let same : x ≡ v = cc in
+      ap (λ y. altered_of z m e (receiver_of y []) by x (read_of z m e (receiver_of y []) w)) (use_is z m caller e u sees)
+      ∙ ap (λ y. altered_of z m e (receiver_of u []) by y (read_of z m e (receiver_of u []) w)) same
+  alter_is by (x ∷ (o ∷ [])) v w f h =
+      let same : x ≡ v = cc in
+      ap (λ y. altered_of z m e (receiver_of y (o ∷ [])) by x (read_of z m e (receiver_of y (o ∷ [])) w)) (use_is z m caller e u sees)
+      ∙ ap (λ y. altered_of z m e (receiver_of u (o ∷ [])) by y (read_of z m e (receiver_of u (o ∷ [])) w)) same
+  alter_is by (x ∷ (o ∷ (p ∷ ps))) v w f h = absurd (omega (arith, h))
+
+  -- the operation is fit by the entity's role
+  call_fit : is_fit z m (Ask e) ≡ true → is_called_by u.role u.member u.result ≡ true
+  unfolding is_fit
+  call_fit h = sym (ap may_call sees.host) ∙ h
+
+  read_fit : is_fit z m (Read e) ≡ true → is_property u.role ≡ true
+  unfolding is_fit
+  read_fit h = sym (ap may_access sees.host) ∙ h
+
+  write_fit : is_fit z m (Write e) ≡ true → is_property u.role ≡ true
+  unfolding is_fit
+  write_fit h = both_true (is_property u.role) (not u.read_only) (sym (ap may_write sees.host) ∙ h)
+
+  alter_fit : (by : Change) → is_fit z m (Alter e by) ≡ true → is_property u.role ≡ true
+  unfolding is_fit
+  alter_fit by h = both_true (is_property u.role) (not u.read_only) (sym (ap may_write sees.host) ∙ h)
+
+-- ---- no property, or no call
+
+not_property : (role : Role) → ((f : ℕ) → role ≡ PropertyRole f → ⊥) → is_property role ≡ true → ⊥
+not_property (MakingRole f) other h = let x : ⊥ = cc in x
+not_property (CallingRole f) other h = let x : ⊥ = cc in x
+not_property (PropertyRole f) other h = other f refl
+
+made_alone : (f : ℕ) (role : Role) (member : Bool) (result : HostType) → role ≡ MakingRole f → is_called_by role member result ≡ true → member ≡ false
+made_alone f role true result e h = absurd (let x : false ≡ true = sym (ap (λ r. is_called_by r true result) e) ∙ h in let y : ⊥ = cc in y)
+made_alone f role false result e h = refl
+
+no_receiver : (b : Bool) (d : ℕ) (ops : List Slot) (object : Option ℕ) → b ≡ false → object_in (cond b (key_at d ops) NoReceiver) ≡ Ok object → object ≡ None
+no_receiver true d ops object e h = absurd (let x : ⊥ = cc in x)
+no_receiver false d ops object e h = let o : None ≡ object = cc in sym o
 
 in_place_done : (v : Slot) (r : Result Slot Fault) (w : World) → in_place_of v (done r w) ≡ done (in_place v r) w
 in_place_done v (Ok x) w = refl
 in_place_done v (Err f) w = refl
 
--- the inputs and the events are no objects
-stay : (w : World) (is : List Input) (es : List HostEvent) → HasNoObjects w → HasNoObjects (with_inputs is (record w { events = es }))
-stay w is es h = record { objects = h.objects; hosts = h.hosts }
+no_first : (ops : List Slot) → slice_get ops 0 ≡ None → length ops ≡ 0
+no_first [] h = refl
+no_first (x ∷ ops) h = absurd (let y : ⊥ = cc in y)
 
--- what is told, and then the operands are given up
-pub told_up : (before : List Input → Done) (vs : List Slot) (r : Result Slot Fault) (w : World) (after : List HostEvent) → HasNoObjects w
-    → Told before (λ is. done r (with_inputs is (record w { events = after })))
-    → Told (λ is. gives_up vs (before is)) (λ is. done r (with_inputs is (record w { events = after })))
-told_up before vs r w after h t = record {
-  used = t.used;
-  tells = λ rest. ap (gives_up vs) (t.tells rest) ∙ given_up vs r (with_inputs rest (record w { events = after })) (stay w rest after h);
-}
+-- ---- as records, by how the code goes
 
--- the same beginning, said otherwise
-pub told_from : {A : Type 0} {before begins after : List Input → A} → ((is : List Input) → before is ≡ begins is) → Told begins after → Told before after
-told_from same t = record { used = t.used; tells = λ rest. same (t.used ++ rest) ∙ t.tells rest }
+module _ (caller : List ℕ) (e : EntityNo) (u : HostUse) (ops : List Slot) (w w' : World) where
+  -- what each module that sees the entity so is told
+  abbrev pub AskedSo : Option ℕ → List Slot → Result Slot Fault → Type 0
+  AskedSo object args r = (z : Setting) (m : ℕ) → Sees z m caller e u
+      → Told (λ is. asked z m e object (values_of u.driver u.params args) u.result (with_inputs is w)) (λ is. done r (with_inputs is w'))
 
-many_back : (x o u : Slot) (us : List Slot) → 3 ≤ length (reverse (x ∷ (o ∷ (u ∷ us))))
-many_back x o u us = omega (arith, length-reverse (x ∷ (o ∷ (u ∷ us))))
+  pub ask_performed : (object : Option ℕ) (args : List Slot) (r : Result Slot Fault) → object_in (receiver_of u ops) ≡ Ok object → args ≡ arguments_of u ops → AskedSo object args r
+      → Performed caller e u (Ask e) ops w r w'
+  ask_performed object args r is same t = record {
+    told = λ z m sees fit count. told_then
+        (told_same (λ ins. ask_is z m caller e u sees ops (with_inputs ins w) ∙ ap (λ l. called_of z m e (receiver_of u ops) l (with_inputs ins w)) (sym same)
+        ∙ called_as z m caller e u sees (receiver_of u ops) object args (with_inputs ins w) is))
+        (t z m sees);
+  }
 
-module _ (z : Setting) (m : ℕ) (e : EntityNo) (member : (use_at z e).member ≡ false) where
-  pub ask_is : (ops : List Slot) (w : World) → perform z m (Ask e) (reverse ops) w
-      ≡ gives_up (reverse ops) (asked z m e None (values_of (use_at z e).driver (use_at z e).params ops) (use_at z e).result w)
-  unfolding perform
-  ask_is ops w =
-      let u = use_at z e in
-      let back = reverse (reverse ops) in
-      ap (λ b. gives_up (reverse ops) (called_of z m e (if b then key_at u.driver back else Of None) (if b then behind_first back else back) w)) member
-      ∙ ap (λ l. gives_up (reverse ops) (asked z m e None (values_of u.driver u.params l) u.result w)) (reverse-reverse ops)
+  pub make_performed : (f : ℕ) (object : Option ℕ) (args : List Slot) (r : Result Slot Fault) → u.role ≡ MakingRole f → object_in (receiver_of u ops) ≡ Ok object → args ≡ arguments_of u ops
+      → AskedSo None args r → Performed caller e u (Ask e) ops w r w'
+  make_performed f object args r role is same t = record {
+    told = λ z m sees fit count.
+        let alone = made_alone f u.role u.member u.result role (call_fit z m caller e u sees fit) in
+        let none = no_receiver u.member u.driver ops object alone is in
+        told_then
+        (told_same (λ ins. ask_is z m caller e u sees ops (with_inputs ins w) ∙ ap (λ l. called_of z m e (receiver_of u ops) l (with_inputs ins w)) (sym same)
+        ∙ called_as z m caller e u sees (receiver_of u ops) None args (with_inputs ins w) (is ∙ ap Ok none)))
+        (t z m sees);
+  }
 
-  pub read_is : (vs : List Slot) (w : World) → perform z m (Read e) vs w ≡ gives_up vs (asked z m e None [] (use_at z e).result w)
-  unfolding perform
-  read_is vs w = ap (λ b. gives_up vs (read_of z m e (if b then key_at (use_at z e).driver vs else Of None) w)) member
+  pub read_performed : (object : Option ℕ) (r : Result Slot Fault) → object_in (receiver_of u ops) ≡ Ok object
+      → ((z : Setting) (m : ℕ) → Sees z m caller e u → Told (λ is. asked z m e object [] u.result (with_inputs is w)) (λ is. done r (with_inputs is w')))
+      → Performed caller e u (Read e) ops w r w'
+  read_performed object r is t = record {
+    told = λ z m sees fit count. told_then
+        (told_same (λ ins. read_is z m caller e u sees ops (with_inputs ins w) count ∙ read_as z m caller e u sees (receiver_of u ops) object (with_inputs ins w) is))
+        (t z m sees);
+  }
 
-  -- the operands behind the first one, which a write and a change only give up
-  pub behind : List Slot → List Slot
-  behind [] = []
-  behind (v ∷ []) = []
-  behind (v ∷ (o ∷ us)) = o ∷ []
+  pub write_performed : (object : Option ℕ) (v : Slot) (r : Result Slot Fault) → slice_get ops 0 ≡ Some v → object_in (receiver_of u (behind_first ops)) ≡ Ok object
+      → ((z : Setting) (m : ℕ) → Sees z m caller e u
+      → Told (λ is. in_place_of v (asked z m e object (value_of u.driver u.result v ∷ []) Nothing (with_inputs is w))) (λ is. done r (with_inputs is w')))
+      → Performed caller e u (Write e) ops w r w'
+  write_performed object v r first is t = record {
+    told = λ z m sees fit count. told_then
+        (told_same (λ ins. write_is z m caller e u sees ops v (with_inputs ins w) first (write_count z m caller e u sees ops count)
+        ∙ ap (in_place_of v) (write_as z m caller e u sees (receiver_of u (behind_first ops)) object v (with_inputs ins w) is)))
+        (t z m sees);
+  }
 
-  pub write_is : (ops : List Slot) (v : Slot) (w : World) → first_operand ops ≡ Some v
-      → perform z m (Write e) (reverse ops) w ≡ gives_up (behind ops) (in_place_of v (write_of z m e (Of None) v w))
-  unfolding perform behind
-  write_is [] v w h = absurd (cc)
-  write_is (x ∷ []) v w h =
-      let same : x ≡ v = cc in
-      ap (λ b. in_place_of x (write_of z m e (if b then key_at (use_at z e).driver [] else Of None) x w)) member
-      ∙ ap (λ y. in_place_of y (write_of z m e (Of None) y w)) same ∙ sym (gives_none _)
-  write_is (x ∷ (o ∷ [])) v w h =
-      let same : x ≡ v = cc in
-      ap (λ b. gives_up (o ∷ []) (in_place_of x (write_of z m e (if b then key_at (use_at z e).driver (o ∷ []) else Of None) x w))) member
-      ∙ ap (λ y. gives_up (o ∷ []) (in_place_of y (write_of z m e (Of None) y w))) same
-  write_is (x ∷ (o ∷ (u ∷ us))) v w h = absurd (cc)
+  pub alter_performed : (by : Change) (object : Option ℕ) (v : Slot) (r : Result Slot Fault) → slice_get ops 0 ≡ Some v → object_in (receiver_of u (behind_first ops)) ≡ Ok object
+      → ((z : Setting) (m : ℕ) (o : Receiver) → Sees z m caller e u → object_in o ≡ Ok object
+      → Told (λ is. altered_of z m e o by v (read_of z m e o (with_inputs is w))) (λ is. done r (with_inputs is w')))
+      → Performed caller e u (Alter e by) ops w r w'
+  alter_performed by object v r first is t = record {
+    told = λ z m sees fit count. told_then
+        (told_same (λ ins. alter_is z m caller e u sees by ops v (with_inputs ins w) first (alter_count z m caller e u sees by ops count)))
+        (t z m (receiver_of u (behind_first ops)) sees is);
+  }
 
-  pub alter_is : (by : Change) (ops : List Slot) (v : Slot) (w : World) → first_operand ops ≡ Some v
-      → perform z m (Alter e by) (reverse ops) w ≡ gives_up (behind ops) (altered_of z m e (Of None) by v (read_of z m e (Of None) w))
-  unfolding perform behind
-  alter_is by [] v w h = absurd (cc)
-  alter_is by (x ∷ []) v w h =
-      let same : x ≡ v = cc in
-      ap (λ b. let r = if b then key_at (use_at z e).driver [] else Of None in altered_of z m e r by x (read_of z m e r w)) member
-      ∙ ap (λ y. altered_of z m e (Of None) by y (read_of z m e (Of None) w)) same ∙ sym (gives_none _)
-  alter_is by (x ∷ (o ∷ [])) v w h =
-      let same : x ≡ v = cc in
-      ap (λ b. let r = if b then key_at (use_at z e).driver (o ∷ []) else Of None in gives_up (o ∷ []) (altered_of z m e r by x (read_of z m e r w))) member
-      ∙ ap (λ y. gives_up (o ∷ []) (altered_of z m e (Of None) by y (read_of z m e (Of None) w))) same
-  alter_is by (x ∷ (o ∷ (u ∷ us))) v w h = absurd (cc)
+module _ (caller : List ℕ) (e : EntityNo) (u : HostUse) (ops : List Slot) (w : World) where
+  -- ---- nothing is asked
 
-  -- too few or too many operands
-  write_of_many : (vs : List Slot) (w : World) → 3 ≤ length vs → perform z m (Write e) vs w ≡ Fails Null w
-  unfolding perform
-  write_of_many [] w h = absurd (omega arith)
-  write_of_many (v ∷ []) w h = absurd (omega arith)
-  write_of_many (o ∷ (v ∷ [])) w h = absurd (omega arith)
-  write_of_many (o ∷ (v ∷ (u ∷ us))) w h = refl
+  pub ask_nobody : (f : Fault) → object_in (receiver_of u ops) ≡ Err f → Performed caller e u (Ask e) ops w (Err f) w
+  ask_nobody f is = record {
+    told = λ z m sees fit count. told_same (λ ins. ask_is z m caller e u sees ops (with_inputs ins w) ∙ called_null z m caller e u sees (receiver_of u ops) f (arguments_of u ops) (with_inputs ins w) is);
+  }
 
-  alter_of_many : (by : Change) (vs : List Slot) (w : World) → 3 ≤ length vs → perform z m (Alter e by) vs w ≡ Fails Null w
-  unfolding perform
-  alter_of_many by [] w h = absurd (omega arith)
-  alter_of_many by (v ∷ []) w h = absurd (omega arith)
-  alter_of_many by (o ∷ (v ∷ [])) w h = absurd (omega arith)
-  alter_of_many by (o ∷ (v ∷ (u ∷ us))) w h = refl
+  pub read_nobody : (f : Fault) → object_in (receiver_of u ops) ≡ Err f → Performed caller e u (Read e) ops w (Err f) w
+  read_nobody f is = record {
+    told = λ z m sees fit count. told_same (λ ins. read_is z m caller e u sees ops (with_inputs ins w) count ∙ read_null z m caller e u sees (receiver_of u ops) f (with_inputs ins w) is);
+  }
 
-  pub write_of_none : (ops : List Slot) (w : World) → first_operand ops ≡ None → perform z m (Write e) (reverse ops) w ≡ Fails Null w
-  unfolding perform
-  write_of_none [] w h = refl
-  write_of_none (x ∷ []) w h = absurd (cc)
-  write_of_none (x ∷ (o ∷ [])) w h = absurd (cc)
-  write_of_none (x ∷ (o ∷ (u ∷ us))) w h = write_of_many _ w (many_back x o u us)
+  pub write_nobody : (v : Slot) (f : Fault) → slice_get ops 0 ≡ Some v → object_in (receiver_of u (behind_first ops)) ≡ Err f → Performed caller e u (Write e) ops w (Err f) w
+  write_nobody v f first is = record {
+    told = λ z m sees fit count. told_same (λ ins. write_is z m caller e u sees ops v (with_inputs ins w) first (write_count z m caller e u sees ops count)
+        ∙ ap (in_place_of v) (write_null z m caller e u sees (receiver_of u (behind_first ops)) f v (with_inputs ins w) is));
+  }
 
-  pub alter_of_none : (by : Change) (ops : List Slot) (w : World) → first_operand ops ≡ None → perform z m (Alter e by) (reverse ops) w ≡ Fails Null w
-  unfolding perform
-  alter_of_none by [] w h = refl
-  alter_of_none by (x ∷ []) w h = absurd (cc)
-  alter_of_none by (x ∷ (o ∷ [])) w h = absurd (cc)
-  alter_of_none by (x ∷ (o ∷ (u ∷ us))) w h = alter_of_many by _ w (many_back x o u us)
+  pub alter_nobody : (by : Change) (v : Slot) (f : Fault) → slice_get ops 0 ≡ Some v → object_in (receiver_of u (behind_first ops)) ≡ Err f → Performed caller e u (Alter e by) ops w (Err f) w
+  alter_nobody by v f first is = record {
+    told = λ z m sees fit count. told_same (λ ins. alter_is z m caller e u sees by ops v (with_inputs ins w) first (alter_count z m caller e u sees by ops count)
+        ∙ ap (altered_of z m e (receiver_of u (behind_first ops)) by v) (read_null z m caller e u sees (receiver_of u (behind_first ops)) f (with_inputs ins w) is));
+  }
 
-module _ (z : Setting) (m : ℕ) (e : EntityNo) (d : ℕ) (p : Primitive) (caller : List ℕ) (name : z.name m ≡ caller)
-    (kind : (a : Answer) → is_reply_to (use_at z e).role (Asking a) ≡ true) (driver : (use_at z e).driver ≡ d) (of : (use_at z e).result ≡ Plain p) where
-  -- a property is written
-  pub set_told : (stored given : Slot) (r : Result Slot Fault) (before after : List HostEvent) (w : World) → w.events ≡ before
-      → SetOnce caller e d p stored given r before after
-      → Told (λ is. in_place_of given (write_of z m e (Of None) stored (with_inputs is w))) (λ is. done r (with_inputs is (record w { events = after })))
-  set_told stored given r before after w events s =
-      let t = once_told z m e d (value_of d (Plain p) stored ∷ []) Nothing caller s.0 before after w refl kind name driver events s.2 in
-      let args : value_of (use_at z e).driver (use_at z e).result stored ≡ value_of d (Plain p) stored =
-      ap (λ k. value_of k (use_at z e).result stored) driver ∙ ap (λ ty. value_of d ty stored) of in
-      record {
-        used = t.used;
-        tells = λ rest. ap (λ x. in_place_of given (asked z m e None (x ∷ []) Nothing (with_inputs (t.used ++ rest) w))) args
-            ∙ ap (in_place_of given) (t.tells rest) ∙ in_place_done given s.0 (with_inputs rest (record w { events = after }))
-            ∙ ap (λ x. done x (with_inputs rest (record w { events = after }))) (sym s.1);
-      }
+  module _ (r : Result Slot Fault) (w' : World) where
+    -- no code that is fit comes here
+    pub ask_property : (f : ℕ) → u.role ≡ PropertyRole f → Performed caller e u (Ask e) ops w r w'
+    ask_property f role = record {
+      told = λ z m sees fit count. absurd (let x : false ≡ true = sym (ap (λ y. is_called_by y u.member u.result) role) ∙ call_fit z m caller e u sees fit in let y : ⊥ = cc in y);
+    }
 
-  -- a fault, and nothing more is asked
-  pub fault_told : (f : Fault) (r : Result Slot Fault) (before after : List HostEvent) (w : World) → w.events ≡ before → r ≡ Err f → after ≡ before
-      → Told (λ is. Fails f (with_inputs is w)) (λ is. done r (with_inputs is (record w { events = after })))
-  fault_told f r before after w events e_is same =
-      told_same (λ is. ap (λ es. Fails f (with_inputs is (record w { events = es }))) (events ∙ sym same)
-      ∙ ap (λ x. done x (with_inputs is (record w { events = after }))) (sym e_is))
+    pub read_other : ((f : ℕ) → u.role ≡ PropertyRole f → ⊥) → Performed caller e u (Read e) ops w r w'
+    read_other other = record { told = λ z m sees fit count. absurd (not_property u.role other (read_fit z m caller e u sees fit)) }
 
-  written_told : (to : Changed) (r : Result Slot Fault) (before after : List HostEvent) (w : World) → w.events ≡ before
-      → WrittenOnce caller e d p to r before after
-      → Told (λ is. altered_to z m e (Of None) to (with_inputs is w)) (λ is. done r (with_inputs is (record w { events = after })))
-  written_told (Never f) r before after w events h = fault_told f r before after w events h.0 h.1
-  written_told (Into stored given) r before after w events h = set_told (Bits stored) (Bits given) r before after w events h
+    pub write_other : ((f : ℕ) → u.role ≡ PropertyRole f → ⊥) → Performed caller e u (Write e) ops w r w'
+    write_other other = record { told = λ z m sees fit count. absurd (not_property u.role other (write_fit z m caller e u sees fit)) }
 
-  changed_told : (by : Change) (v : Slot) (old r : Result Slot Fault) (before after : List HostEvent) (w : World) → w.events ≡ before
-      → ChangedOnce caller e d p by v old r before after
-      → Told (λ is. altered_of z m e (Of None) by v (done old (with_inputs is w))) (λ is. done r (with_inputs is (record w { events = after })))
-  changed_told by v (Err f) r before after w events h = fault_told f r before after w events h.0 h.1
-  changed_told by v (Ok x) r before after w events h = written_told (change_of by x v) r before after w events h
+    pub alter_other : (by : Change) → ((f : ℕ) → u.role ≡ PropertyRole f → ⊥) → Performed caller e u (Alter e by) ops w r w'
+    alter_other by other = record { told = λ z m sees fit count. absurd (not_property u.role other (alter_fit z m caller e u sees by fit)) }
 
-  -- a property is read, and then written
-  pub altered_told : (by : Change) (v : Slot) (r : Result Slot Fault) (before after : List HostEvent) (w : World) → w.events ≡ before
-      → AlteredOnce caller e d p by v r before after
-      → Told (λ is. altered_of z m e (Of None) by v (read_of z m e (Of None) (with_inputs is w))) (λ is. done r (with_inputs is (record w { events = after })))
-  altered_told by v r before after w events a =
-      told_from (λ is. ap (λ ty. altered_of z m e (Of None) by v (asked z m e None [] ty (with_inputs is w))) of)
-      (told_then (told_map (altered_of z m e (Of None) by v) (once_told z m e d [] (Plain p) caller a.old before a.between w refl kind name driver events a.was_read))
-      (changed_told by v a.old r a.between after (record w { events = a.between }) refl a.was_changed))
+    pub write_none : slice_get ops 0 ≡ None → Performed caller e u (Write e) ops w r w'
+    unfolding operands
+    write_none empty = record { told = λ z m sees fit count. absurd (omega (arith, count, no_first ops empty)) }
+
+    pub alter_none : (by : Change) → slice_get ops 0 ≡ None → Performed caller e u (Alter e by) ops w r w'
+    unfolding operands
+    alter_none by empty = record { told = λ z m sees fit count. absurd (omega (arith, count, no_first ops empty)) }
+
+-- ---- a property that is written, and one that is altered
+
+pub put_told : (given : Slot) (r s : Result Slot Fault) (w' : World) {before : List Input → Done} → s ≡ in_place given r → Told before (λ is. done r (with_inputs is w'))
+    → Told (λ is. in_place_of given (before is)) (λ is. done s (with_inputs is w'))
+put_told given r s w' same t =
+    told_then (told_map (in_place_of given) t) (told_same (λ is. in_place_done given r (with_inputs is w') ∙ ap (λ x. done x (with_inputs is w')) (sym same)))
+
+module _ (z : Setting) (m : ℕ) (caller : List ℕ) (e : EntityNo) (u : HostUse) (sees : Sees z m caller e u) (r : Receiver) (object : Option ℕ) (is : object_in r ≡ Ok object) where
+  pub changed_told : (x : Slot) (to : Changed) (stored given : ℕ) (s : Result Slot Fault) (w w' : World) → to ≡ Into stored given
+      → Told (λ ins. in_place_of (Bits given) (asked z m e object (value_of u.driver u.result (Bits stored) ∷ []) Nothing (with_inputs ins w))) (λ ins. done s (with_inputs ins w'))
+      → Told (λ ins. altered_to z m e r x to (with_inputs ins w)) (λ ins. done s (with_inputs ins w'))
+  changed_told x to stored given s w w' goes t =
+      told_then (told_same (λ ins. ap (λ y. altered_to z m e r x y (with_inputs ins w)) goes
+      ∙ ap (in_place_of (Bits given)) (write_as z m caller e u sees r object (Bits stored) (with_inputs ins w) is))) t
+
+  -- it can't be changed, and what was read is given up
+  pub unchanged_told : (x : Slot) (to : Changed) (f : Fault) (w w' : World) → to ≡ Never f → ((ins : List Input) → give x (with_inputs ins w) ≡ with_inputs ins w')
+      → Told (λ ins. altered_to z m e r x to (with_inputs ins w)) (λ ins. Fails f (with_inputs ins w'))
+  unchanged_told x to f w w' goes gives =
+      told_same (λ ins. ap (λ y. altered_to z m e r x y (with_inputs ins w)) goes ∙ ap (Fails f) (gives ins))
+
+  pub alter_read : (by : Change) (v x : Slot) (old s : Result Slot Fault) (w w1 w' : World) → old ≡ Ok x
+      → Told (λ ins. asked z m e object [] u.result (with_inputs ins w)) (λ ins. done old (with_inputs ins w1))
+      → Told (λ ins. altered_to z m e r x (change_of by x v) (with_inputs ins w1)) (λ ins. done s (with_inputs ins w'))
+      → Told (λ ins. altered_of z m e r by v (read_of z m e r (with_inputs ins w))) (λ ins. done s (with_inputs ins w'))
+  alter_read by v x old s w w1 w' goes t p =
+      told_then (told_same (λ ins. ap (altered_of z m e r by v) (read_as z m caller e u sees r object (with_inputs ins w) is)))
+      (told_then (told_map (altered_of z m e r by v) t)
+      (told_then (told_same (λ ins. ap (λ y. altered_of z m e r by v (done y (with_inputs ins w1))) goes)) p))
+
+  pub alter_unread : (by : Change) (v : Slot) (f : Fault) (old : Result Slot Fault) (w w1 : World) → old ≡ Err f
+      → Told (λ ins. asked z m e object [] u.result (with_inputs ins w)) (λ ins. done old (with_inputs ins w1))
+      → Told (λ ins. altered_of z m e r by v (read_of z m e r (with_inputs ins w))) (λ ins. Fails f (with_inputs ins w1))
+  alter_unread by v f old w w1 goes t =
+      told_then (told_same (λ ins. ap (altered_of z m e r by v) (read_as z m caller e u sees r object (with_inputs ins w) is)))
+      (told_then (told_map (altered_of z m e r by v) t) (told_same (λ ins. ap (λ y. altered_of z m e r by v (done y (with_inputs ins w1))) goes)))
+
+pub never_of : (to : Changed) (f : Fault) → answers.altered_of to ≡ Err f → to ≡ Never f
+never_of (Into stored given) f h = absurd (let x : ⊥ = cc in x)
+never_of (Never g) f h = let same : g ≡ f = cc in ap Never same
+
+pub into_of : (to : Changed) (a : Altered) → answers.altered_of to ≡ Ok a → to ≡ Into a.stored a.given
+into_of (Into stored given) a h = let same : record { stored = stored; given = given } ≡ a = cc in ap (λ x. Into x.stored x.given) same
+into_of (Never g) a h = absurd (let x : ⊥ = cc in x)

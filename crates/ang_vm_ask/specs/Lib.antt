@@ -1,4 +1,6 @@
-pub mod Asking
+pub mod Asks
+pub mod Askings
+pub mod Entities
 pub mod Fitting
-pub mod Plain
+pub mod Handing
 pub mod Replies

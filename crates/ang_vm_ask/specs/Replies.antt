@@ -1,29 +1,29 @@
--- What an answer of a driver gives to the script, as the code answers it.
-use Rattle.std.specs.Prelude.{ℕ, if◌then◌else◌, Option, Some, None, Result, Ok, Err}
+-- What a driver's reply gives, as the code answers it.
+use Rattle.std.specs.Prelude.{ℕ, List, ◌∷◌, Some, Result, Ok, Err}
 use Rattle.ang_kinds.specs.declared.fault.Fault.{Fault}
-use Rattle.ang_kinds.specs.declared.fault.Fault.TheVariants.{Host as HostFault, BadAnswer, Memory, Tally}
-use Rattle.ang_host.specs.declared.answer.Answer.{Answer}
-use Rattle.ang_host.specs.declared.answer.Answer.TheVariants.{Void, Gave, Fault as SaidFault, Memory as SaidMemory, Full}
+use Rattle.ang_kinds.specs.declared.fault.Fault.TheVariants.{Host as HostFault, NoObject, Memory, Tally}
+use Rattle.ang_host.specs.declared.answer.Made.{Made}
+use Rattle.ang_host.specs.declared.answer.Made.TheVariants.{Key as MadeKey, Nothing as MadeNothing, Fault as MadeFault, Memory as MadeMemory, Full as MadeFull}
 use Rattle.ang_meaning.specs.declared.slot.Slot.{Slot}
-use Rattle.ang_meaning.specs.declared.slot.Slot.TheVariants.{Bits}
-use Rattle.ang_meaning.specs.declared.host.HostType.{HostType}
-use Rattle.ang_meaning.specs.World.{World}
-use Rattle.ang_meaning.specs.Hosts.{Done, Fine, Fails, is_void, slot_of}
+use Rattle.ang_meaning.specs.declared.slot.Slot.TheVariants.{Host}
 
--- how an operation ended, in a world
-abbrev pub done : Result Slot Fault → World → Done
-done (Ok v) w = Fine v w
-done (Err f) w = Fails f w
+-- the result on top of other places; a fault has none
+abbrev pub with_result : Result Slot Fault → List Slot → List Slot
+with_result (Ok v) vs = v ∷ vs
+with_result (Err f) vs = vs
 
--- a value of the declared type, or a bad answer
-abbrev pub taken : Option Slot → Result Slot Fault
-taken None = Err BadAnswer
-taken (Some v) = Ok v
+-- what a making by driver d gives
+abbrev pub made_as : ℕ → Made → Result Slot Fault
+made_as d (MadeKey k) = Ok (Host d (Some k))
+made_as d MadeNothing = Err NoObject
+made_as d (MadeFault n) = Err (HostFault n)
+made_as d MadeMemory = Err Memory
+made_as d MadeFull = Err Tally
 
--- what an answer of driver d gives where the declared result is this and no handle
-abbrev pub answered : ℕ → HostType → Answer → Result Slot Fault
-answered d result Void = if is_void result then Ok (Bits 0) else Err BadAnswer
-answered d result (Gave v) = taken (slot_of d result v)
-answered d result (SaidFault n) = Err (HostFault n)
-answered d result SaidMemory = Err Memory
-answered d result Full = Err Tally
+-- how many objects it makes
+abbrev pub objects_made : Made → ℕ
+objects_made (MadeKey k) = 1
+objects_made MadeNothing = 0
+objects_made (MadeFault n) = 0
+objects_made MadeMemory = 0
+objects_made MadeFull = 0

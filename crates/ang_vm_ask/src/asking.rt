@@ -1,188 +1,228 @@
-//! One asking of a driver, with the memory for its event.
+//! One asking of a driver, over the store of a run.
 //!
-//! The place of the event and the copies that it takes are made before the driver is asked.
-ghost use Rattle.std.specs.Prelude.{◌≡◌, ◌<◌, true, length, [], ◌∷◌, vec_len, vec_capacity, IfOk, OnOk};
-ghost use Rattle.ang_host.specs.declared.event.Role.TheVariants.{Calling, Property as PropertyRole};
+//! All memory is taken first: for the event, with the copies that it takes, and for the end of each object
+//! that lives or may live then. So a driver whose answer can't be listed is never asked, and giving up takes
+//! no memory.
+ghost use Rattle.std.specs.Prelude.{◌≡◌, ℕ, ◌+◌, ◌^◌, ◌<◌, [], ◌∷◌, List, length, None};
+ghost use Rattle.ang_host.specs.declared.event.Role.TheVariants.{Making as MakingRole, Calling as CallingRole, Property as PropertyRole};
 ghost use Rattle.ang_host.specs.Boxes.{members};
-ghost use Rattle.ang_meaning.specs.declared.host.HostType.TheVariants.{Nothing, Plain};
-ghost use Rattle.ang_meaning.specs.Hosts.{value_of, values_of};
-ghost use Rattle.ang_vm_ask.specs.Plain.{is_plain};
-ghost use Rattle.ang_vm_ask.specs.Asking.{AskedOnce, Asked};
+ghost use Rattle.ang_host.specs.Laws.{IsLiveOption, IsLiveValue, AreLive};
+ghost use Rattle.ang_host.specs.Members.{state_at, states_of};
+ghost use Rattle.ang_meaning.specs.declared.host.HostType.TheVariants.{Nothing};
+ghost use Rattle.ang_meaning.specs.Counting.{CanGive};
+ghost use Rattle.ang_meaning.specs.Hosts.{value_of, values_of, asked};
+ghost use Rattle.ang_meaning.specs.Setting.{Setting};
+ghost use Rattle.ang_meaning.specs.Told.{Told};
+ghost use Rattle.ang_meaning.specs.World.{with_inputs};
+ghost use Rattle.ang_heap.specs.Stores.{world_of, IsReady};
+ghost use Rattle.ang_vm_ask.specs.Askings.{Sees, StoreAsked};
+ghost use Rattle.ang_vm_stack.specs.Arms.{done};
+ghost use Rattle.ang_vm_ask.specs.Replies.{with_result, made_as, objects_made};
 
-use crate::replies::reply_from;
+use crate::replies::take_answer;
+use crate::rooms::{call_room, room_for, room_for_ends, write_room};
 use crate::values::value_from;
-use ang_host::{Driver, Drivers, HostEvent, call_listed, read_listed, write_listed};
-use ang_kinds::{EntityNo, Fault, List, Prim, Value};
+use ang_heap::Store;
+use ang_host::{Driver, Made, call_listed, make_listed, read_listed, write_listed};
+use ang_kinds::{EntityNo, Fault, List};
 use ang_meaning::{HostType, HostUse, Slot};
-use std::alloc::{AllocError, Global};
+use std::alloc::Global;
 
-/// A global property of a primitive type.
-#[derive(Clone, Copy)]
-pub struct Property {
-    /// Its number, by which its events are listed.
-    pub entity: EntityNo,
-    /// The number of the driver that answers for it, from 0 in the list of drivers.
-    pub driver: u32,
-    /// The driver's number for it.
-    pub number: u32,
-    /// Its type.
-    pub of: Prim,
-}
-
-/// The place of one event, and a copy of the caller's name for it.
-fn room_for(
+/// Calls the function or method of that number of its driver. The event is listed, whatever the answer.
+pub(crate) fn call(
     alloc: Global,
-    events: &mut Vec<HostEvent>,
-    caller: &[u8],
-) -> Result<List<u8>, AllocError>
-    ensures events { events.new.items ≡ events.old.items }
-    ensures room { OnOk result (vec_len events.new < vec_capacity events.new) }
-    ensures caller { IfOk result (λ name. name ≡ caller.now) }
-{
-    events.reserve(1)?;
-    let caller = Vec::from_slice(alloc, caller)?;
-    Ok(List::from_vec(caller))
-}
-
-/// The operands as they are handed to the driver, each by its declared type.
-fn values_from(
-    alloc: Global,
-    driver: u32,
-    types: &[HostType],
-    operands: &[Slot],
-) -> Result<List<Value>, AllocError>
-    ensures exact { IfOk result (λ values. values ≡ values_of driver types.now operands.now) }
-{
-    let count = types.len().min(operands.len());
-    let mut values = Vec::with_capacity(alloc, count)?;
-    for i in 0..count {
-        values.push(value_from(driver, types[i], operands[i]))?;
-    }
-    Ok(List::from_vec(values))
-}
-
-/// The memory for the event of a call.
-fn call_room(
-    alloc: Global,
-    events: &mut Vec<HostEvent>,
-    caller: &[u8],
-    host: &HostUse,
-    operands: &[Slot],
-) -> Result<(List<u8>, List<Value>), AllocError>
-    ensures events { events.new.items ≡ events.old.items }
-    ensures room { OnOk result (vec_len events.new < vec_capacity events.new) }
-    ensures caller { IfOk result (λ p. p.0 ≡ caller.now) }
-    ensures args { IfOk result (λ p. p.1 ≡ values_of host.now.driver host.now.params operands.now) }
-{
-    let caller = room_for(alloc, events, caller)?;
-    let args = values_from(alloc, host.driver, host.params.as_slice(), operands)?;
-    Ok((caller, args))
-}
-
-/// Calls the function of the number `number` of its driver. Its event is listed, whatever the answer.
-pub fn call_function(
-    alloc: Global,
+    store: &mut Store,
     caller: &[u8],
     entity: EntityNo,
     host: &HostUse,
     number: u32,
-    operands: &[Slot],
-    events: &mut Vec<HostEvent>,
-    drivers: &mut Drivers,
+    object: Option<u64>,
+    args: &[Slot],
 ) -> Result<Slot, Fault>
-    requires in_list { host.now.driver < length (members drivers.old) }
-    requires plain { is_plain host.now ≡ true }
-    ensures once { AskedOnce caller.now entity host.now.driver (values_of host.now.driver host.now.params operands.now) host.now.result result events.old.items events.new.items }
-    ensures asked { Asked (λ v. (⟦<dyn Driver as Driver>⟧ v).meaning) caller.now entity host.now.driver (Calling number) events.old.items events.new.items (members drivers.old) (members drivers.new) }
+    requires role { host.now.role ≡ CallingRole number }
+    requires in_list { host.now.driver < length (members store.old.drivers) }
+    requires ready { IsReady (λ v. (⟦<dyn Driver as Driver>⟧ v).meaning) store.old }
+    requires object_live { IsLiveOption (state_at (states_of (λ v. (⟦<dyn Driver as Driver>⟧ v).meaning) (members store.old.drivers)) host.now.driver) object }
+    requires args_live { AreLive (state_at (states_of (λ v. (⟦<dyn Driver as Driver>⟧ v).meaning) (members store.old.drivers)) host.now.driver) (values_of host.now.driver host.now.params args.now) }
+    ensures told { (z : Setting) (m : ℕ) → Sees z m caller.now entity host.now
+        → Told (λ is. asked z m entity object (values_of host.now.driver host.now.params args.now) host.now.result (with_inputs is (world_of (λ v. (⟦<dyn Driver as Driver>⟧ v).meaning) store.old)))
+        (λ is. done result (with_inputs is (world_of (λ v. (⟦<dyn Driver as Driver>⟧ v).meaning) store.new))) }
+    ensures enough { (vs : List Slot) → CanGive vs (world_of (λ v. (⟦<dyn Driver as Driver>⟧ v).meaning) store.old)
+        → CanGive (with_result result vs) (world_of (λ v. (⟦<dyn Driver as Driver>⟧ v).meaning) store.new) }
+    ensures asked { StoreAsked (λ v. (⟦<dyn Driver as Driver>⟧ v).meaning) entity host.now.role store.old store.new }
 {
-    let Ok((caller, args)) = call_room(alloc, events, caller, host, operands) else {
+    let Some(more) = store.live.checked_add(1) else {
+        return Err(Fault::Memory);
+    };
+    let Ok((caller, args)) = call_room(alloc, &mut store.events, more, caller, host, args) else {
         return Err(Fault::Memory);
     };
     let answer = call_listed(
-        drivers,
-        events,
+        &mut store.drivers,
+        &mut store.events,
         caller,
         entity,
         host.driver,
         number,
-        None,
+        object,
         args,
     );
-    reply_from(host.driver, host.result, answer)
+    take_answer(store, host.driver, host.result, answer)
 }
 
-/// Reads a property. Its event is listed, whatever the answer.
-pub fn read_property(
+/// Reads the property of that number of its driver. The event is listed, whatever the answer.
+pub(crate) fn read(
     alloc: Global,
+    store: &mut Store,
     caller: &[u8],
-    property: Property,
-    events: &mut Vec<HostEvent>,
-    drivers: &mut Drivers,
+    entity: EntityNo,
+    host: &HostUse,
+    number: u32,
+    object: Option<u64>,
 ) -> Result<Slot, Fault>
-    requires in_list { property.driver < length (members drivers.old) }
-    ensures once { AskedOnce caller.now property.entity property.driver [] (Plain property.of) result events.old.items events.new.items }
-    ensures asked { Asked (λ v. (⟦<dyn Driver as Driver>⟧ v).meaning) caller.now property.entity property.driver (PropertyRole property.number) events.old.items events.new.items (members drivers.old) (members drivers.new) }
+    requires role { host.now.role ≡ PropertyRole number }
+    requires in_list { host.now.driver < length (members store.old.drivers) }
+    requires ready { IsReady (λ v. (⟦<dyn Driver as Driver>⟧ v).meaning) store.old }
+    requires object_live { IsLiveOption (state_at (states_of (λ v. (⟦<dyn Driver as Driver>⟧ v).meaning) (members store.old.drivers)) host.now.driver) object }
+    ensures told { (z : Setting) (m : ℕ) → Sees z m caller.now entity host.now
+        → Told (λ is. asked z m entity object [] host.now.result (with_inputs is (world_of (λ v. (⟦<dyn Driver as Driver>⟧ v).meaning) store.old)))
+        (λ is. done result (with_inputs is (world_of (λ v. (⟦<dyn Driver as Driver>⟧ v).meaning) store.new))) }
+    ensures enough { (vs : List Slot) → CanGive vs (world_of (λ v. (⟦<dyn Driver as Driver>⟧ v).meaning) store.old)
+        → CanGive (with_result result vs) (world_of (λ v. (⟦<dyn Driver as Driver>⟧ v).meaning) store.new) }
+    ensures asked { StoreAsked (λ v. (⟦<dyn Driver as Driver>⟧ v).meaning) entity host.now.role store.old store.new }
 {
-    let Ok(caller) = room_for(alloc, events, caller) else {
+    let Some(more) = store.live.checked_add(1) else {
+        return Err(Fault::Memory);
+    };
+    let Ok(caller) = room_for(alloc, &mut store.events, more, caller) else {
         return Err(Fault::Memory);
     };
     let answer = read_listed(
-        drivers,
-        events,
+        &mut store.drivers,
+        &mut store.events,
         caller,
-        property.entity,
-        property.driver,
-        property.number,
-        None,
+        entity,
+        host.driver,
+        number,
+        object,
         List::from_vec(Vec::new(alloc)),
     );
-    reply_from(property.driver, HostType::Plain(property.of), answer)
+    take_answer(store, host.driver, host.result, answer)
 }
 
-/// The memory for the event of a write.
-fn write_room(
+/// Writes the property of that number of its driver, and answers 0 where it went well. The event is listed,
+/// whatever the answer.
+pub(crate) fn write(
     alloc: Global,
-    events: &mut Vec<HostEvent>,
+    store: &mut Store,
     caller: &[u8],
-    value: Value,
-) -> Result<(List<u8>, List<Value>), AllocError>
-    ensures events { events.new.items ≡ events.old.items }
-    ensures room { OnOk result (vec_len events.new < vec_capacity events.new) }
-    ensures caller { IfOk result (λ p. p.0 ≡ caller.now) }
-    ensures args { IfOk result (λ p. p.1 ≡ value ∷ []) }
-{
-    let caller = room_for(alloc, events, caller)?;
-    let mut args = Vec::with_capacity(alloc, 1)?;
-    args.push(value)?;
-    Ok((caller, List::from_vec(args)))
-}
-
-/// Writes a property, and answers 0 where it went well. Its event is listed, whatever the answer.
-pub fn write_property(
-    alloc: Global,
-    caller: &[u8],
-    property: Property,
-    slot: Slot,
-    events: &mut Vec<HostEvent>,
-    drivers: &mut Drivers,
+    entity: EntityNo,
+    host: &HostUse,
+    number: u32,
+    object: Option<u64>,
+    value: Slot,
 ) -> Result<Slot, Fault>
-    requires in_list { property.driver < length (members drivers.old) }
-    ensures once { AskedOnce caller.now property.entity property.driver (value_of property.driver (Plain property.of) slot ∷ []) Nothing result events.old.items events.new.items }
-    ensures asked { Asked (λ v. (⟦<dyn Driver as Driver>⟧ v).meaning) caller.now property.entity property.driver (PropertyRole property.number) events.old.items events.new.items (members drivers.old) (members drivers.new) }
+    requires role { host.now.role ≡ PropertyRole number }
+    requires in_list { host.now.driver < length (members store.old.drivers) }
+    requires ready { IsReady (λ v. (⟦<dyn Driver as Driver>⟧ v).meaning) store.old }
+    requires object_live { IsLiveOption (state_at (states_of (λ v. (⟦<dyn Driver as Driver>⟧ v).meaning) (members store.old.drivers)) host.now.driver) object }
+    requires value_live { IsLiveValue (state_at (states_of (λ v. (⟦<dyn Driver as Driver>⟧ v).meaning) (members store.old.drivers)) host.now.driver) (value_of host.now.driver host.now.result value) }
+    ensures told { (z : Setting) (m : ℕ) → Sees z m caller.now entity host.now
+        → Told (λ is. asked z m entity object (value_of host.now.driver host.now.result value ∷ []) Nothing (with_inputs is (world_of (λ v. (⟦<dyn Driver as Driver>⟧ v).meaning) store.old)))
+        (λ is. done result (with_inputs is (world_of (λ v. (⟦<dyn Driver as Driver>⟧ v).meaning) store.new))) }
+    ensures enough { (vs : List Slot) → CanGive vs (world_of (λ v. (⟦<dyn Driver as Driver>⟧ v).meaning) store.old)
+        → CanGive (with_result result vs) (world_of (λ v. (⟦<dyn Driver as Driver>⟧ v).meaning) store.new) }
+    ensures asked { StoreAsked (λ v. (⟦<dyn Driver as Driver>⟧ v).meaning) entity host.now.role store.old store.new }
 {
-    let value = value_from(property.driver, HostType::Plain(property.of), slot);
-    let Ok((caller, args)) = write_room(alloc, events, caller, value) else {
+    let Some(more) = store.live.checked_add(1) else {
+        return Err(Fault::Memory);
+    };
+    let value = value_from(host.driver, host.result, value);
+    let Ok((caller, args)) = write_room(alloc, &mut store.events, more, caller, value) else {
         return Err(Fault::Memory);
     };
     let answer = write_listed(
-        drivers,
-        events,
+        &mut store.drivers,
+        &mut store.events,
         caller,
-        property.entity,
-        property.driver,
-        property.number,
-        None,
+        entity,
+        host.driver,
+        number,
+        object,
         args,
     );
-    reply_from(property.driver, HostType::Nothing, answer)
+    take_answer(store, host.driver, HostType::Nothing, answer)
+}
+
+/// One host object more lives.
+fn made(store: &mut Store)
+    requires fits { store.old.live + 1 < 2 ^ 64 }
+    ensures live { store.new ≡ record store.old { live = store.old.live + 1 } }
+{
+    store.live += 1;
+}
+
+/// Takes what the driver of that number made: the object, which has its first place then.
+///
+/// # Errors
+/// `NoObject` where it made none, the driver's own fault, its want of memory, and `Tally` where one of its
+/// tallies has run out.
+fn take_made(store: &mut Store, driver: u32, answer: Made) -> Result<Slot, Fault>
+    requires fits { store.old.live + 1 < 2 ^ 64 }
+    ensures exact { result ≡ made_as driver answer }
+    ensures live { store.new ≡ record store.old { live = store.old.live + objects_made answer } }
+{
+    match answer {
+        Made::Key(key) => {
+            made(store);
+            Ok(Slot::Host(driver, Some(key)))
+        }
+        Made::Nothing => Err(Fault::NoObject),
+        Made::Fault(number) => Err(Fault::Host(number)),
+        Made::Memory => Err(Fault::Memory),
+        Made::Full => Err(Fault::Tally),
+    }
+}
+
+/// Asks for a new object by the factory of that number of its driver. The event is listed, whatever the
+/// answer.
+pub(crate) fn make(
+    alloc: Global,
+    store: &mut Store,
+    caller: &[u8],
+    entity: EntityNo,
+    host: &HostUse,
+    number: u32,
+    args: &[Slot],
+) -> Result<Slot, Fault>
+    requires role { host.now.role ≡ MakingRole number }
+    requires in_list { host.now.driver < length (members store.old.drivers) }
+    requires ready { IsReady (λ v. (⟦<dyn Driver as Driver>⟧ v).meaning) store.old }
+    requires args_live { AreLive (state_at (states_of (λ v. (⟦<dyn Driver as Driver>⟧ v).meaning) (members store.old.drivers)) host.now.driver) (values_of host.now.driver host.now.params args.now) }
+    ensures told { (z : Setting) (m : ℕ) → Sees z m caller.now entity host.now
+        → Told (λ is. asked z m entity None (values_of host.now.driver host.now.params args.now) host.now.result (with_inputs is (world_of (λ v. (⟦<dyn Driver as Driver>⟧ v).meaning) store.old)))
+        (λ is. done result (with_inputs is (world_of (λ v. (⟦<dyn Driver as Driver>⟧ v).meaning) store.new))) }
+    ensures enough { (vs : List Slot) → CanGive vs (world_of (λ v. (⟦<dyn Driver as Driver>⟧ v).meaning) store.old)
+        → CanGive (with_result result vs) (world_of (λ v. (⟦<dyn Driver as Driver>⟧ v).meaning) store.new) }
+    ensures asked { StoreAsked (λ v. (⟦<dyn Driver as Driver>⟧ v).meaning) entity host.now.role store.old store.new }
+{
+    let Some(more) = store.live.checked_add(2) else {
+        return Err(Fault::Memory);
+    };
+    let Ok((caller, args)) = call_room(alloc, &mut store.events, more, caller, host, args) else {
+        return Err(Fault::Memory);
+    };
+    let Ok(()) = room_for_ends(&mut store.ends, more - 1) else {
+        return Err(Fault::Memory);
+    };
+    let answer = make_listed(
+        &mut store.drivers,
+        &mut store.events,
+        caller,
+        entity,
+        host.driver,
+        number,
+        args,
+    );
+    take_made(store, host.driver, answer)
 }

@@ -1,14 +1,16 @@
-//! One operation of a script on the host, done by real drivers, where no objects pass: functions and
-//! global properties of primitive types (docs/MEANING.md, "Operations"; docs/EMBEDDING.md, "Drivers").
+//! Operations of a script on the host, done by real drivers over the store of a run: calls of functions and
+//! methods, makings of objects, and the reads and writes of properties (docs/MEANING.md, "Operations";
+//! docs/EMBEDDING.md, "Drivers").
 #![tactic(auto)]
 
 mod asking;
+mod fitting;
+mod handing;
 mod operation;
-mod plain;
 mod replies;
+mod rooms;
 mod values;
 
+pub use fitting::{given_count, operands};
 pub use operation::ask;
-pub use plain::{entity_of, is_plain};
-pub use replies::reply_from;
 pub use values::{slot_from, value_from};

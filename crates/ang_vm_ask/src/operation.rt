@@ -1,30 +1,40 @@
 //! One operation of a script on the host.
-ghost use Rattle.std.specs.Prelude.{◌≡◌, ◌<◌, ◌++◌, ◌&&◌, ℕ, true, false, List, Some, None, Err, length, map as list_map, reverse, MatchOption};
+ghost use Rattle.std.specs.Prelude.{◌≡◌, ℕ, ◌<◌, ◌≤◌, ◌∷◌, true, List, [], Some, Ok, length};
 ghost use Rattle.ang_kinds.specs.declared.mask.EntityNo.{EntityNo};
-ghost use Rattle.ang_host.specs.declared.event.HostEvent.{HostEvent};
 ghost use Rattle.ang_host.specs.declared.event.Role.{Role};
 ghost use Rattle.ang_host.specs.declared.event.Role.TheVariants.{Property as PropertyRole};
 ghost use Rattle.ang_host.specs.Boxes.{members};
-ghost use Rattle.ang_host.specs.Members.{states_of, AreFresh};
-ghost use Rattle.ang_host.specs.Events.{role_at, DriversFollow};
-ghost use Rattle.ang_meaning.specs.declared.host.HostType.TheVariants.{Plain};
+ghost use Rattle.ang_host.specs.Laws.{IsLiveOption, IsLiveValue};
+ghost use Rattle.ang_host.specs.Members.{state_at, states_of};
+ghost use Rattle.ang_code.specs.Machine.{take_some};
 ghost use Rattle.ang_meaning.specs.declared.operation.Operation.TheVariants.{Ask, Read, Write, Alter};
+ghost use Rattle.ang_meaning.specs.declared.host.HostType.TheVariants.{Nothing};
+ghost use Rattle.ang_meaning.specs.Counting.{CanGive, IsCounted};
+ghost use Rattle.ang_meaning.specs.Hosts.{value_of, asked};
 ghost use Rattle.ang_meaning.specs.Numbers.{Changed};
-ghost use Rattle.ang_meaning.specs.World.{World, with_inputs};
+ghost use Rattle.ang_meaning.specs.Perform.{Receiver, in_place_of, altered_to, change_of, operands as operand_count};
+ghost use Rattle.ang_meaning.specs.Setting.{Setting, is_fit};
 ghost use Rattle.ang_meaning.specs.Told.{Told};
-ghost use Rattle.ang_meaning.specs.Setting.{Setting, is_fit, is_property};
-ghost use Rattle.ang_meaning.specs.Perform.{change_of, perform};
+ghost use Rattle.ang_meaning.specs.World.{with_inputs};
+ghost use Rattle.ang_heap.specs.Stores.{world_of, IsReady, StoreMoves};
 ghost use Rattle.ang_vm_numbers.specs.Answers.{altered_of};
-ghost use Rattle.ang_vm_ask.specs.Plain.{is_primitive, is_plain, entity_of};
-ghost use Rattle.ang_vm_ask.specs.Fitting.{suits};
-ghost use Rattle.ang_vm_ask.specs.Replies.{done};
-ghost use Rattle.ang_vm_ask.specs.Asking.{HasNoObjects, AddsAskings, Asked, AlteredOnce, SetOnce, WrittenOnce, first_operand, Performed};
+ghost use Rattle.ang_vm_stack.specs.Arms.{done};
+ghost use Rattle.ang_vm_stack.specs.Stacks.{values};
+ghost use Rattle.ang_vm_stack.specs.Tables.{setting_of};
+ghost use Rattle.ang_vm_ask.specs.Asks.{asked_by, asks_host, asks};
+ghost use Rattle.ang_vm_ask.specs.Askings.{Sees, Performed, StoreAsked};
+ghost use Rattle.ang_vm_ask.specs.Entities.{DriversThere, HaveRoles};
+ghost use Rattle.ang_vm_ask.specs.Handing.{object_in};
 
-use crate::asking::{Property, call_function, read_property, write_property};
-use ang_host::{Driver, Drivers, HostEvent, Role};
+use crate::asking::{call, make, read, write};
+use crate::fitting::asked_by;
+use crate::handing::{arguments_of, behind_first, first_of, object_of, operands_at};
+use ang_heap::{Store, give};
+use ang_host::{Driver, Role};
 use ang_kinds::{EntityNo, Fault};
-use ang_meaning::{Change, HostType, HostUse, Operation, Slot};
+use ang_meaning::{Change, HostUse, Operation, Slot};
 use ang_vm_numbers::{Altered, change};
+use ang_vm_stack::table::{Table, entity_at, name_at};
 use std::alloc::Global;
 
 /// A variable's value changed by an operand: both have to be numbers.
@@ -43,264 +53,225 @@ fn change_slot(by: Change, old: Slot, operand: Slot) -> Result<Altered, Fault>
     }
 }
 
-/// The property that a host use is, where it is one of a primitive type.
-fn property_of(entity: EntityNo, host: &HostUse) -> Option<Property>
-    ensures exact { MatchOption result ((is_property host.now.role && is_primitive host.now.result) ≡ false)
-        (λ p. (p.entity ≡ entity) × (p.driver ≡ host.now.driver) × (host.now.role ≡ PropertyRole p.number) × (host.now.result ≡ Plain p.of)) }
-{
-    let Role::Property(number) = host.role else {
-        return None;
-    };
-    let HostType::Plain(of) = host.result else {
-        return None;
-    };
-    Some(Property {
-        entity,
-        driver: host.driver,
-        number,
-        of,
-    })
-}
-
-/// The operand that is written: the first of one or two.
-fn first_operand(operands: &[Slot]) -> Option<Slot>
-    ensures exact { result ≡ first_operand operands.now }
-{
-    match operands {
-        [] => None,
-        [value] => Some(*value),
-        [value, _] => Some(*value),
-        [_, _, _, ..] => None,
-    }
-}
-
 /// Writes a property, and answers `given` where that went well.
-fn set_property(
+fn put(
     alloc: Global,
+    store: &mut Store,
     caller: &[u8],
-    property: Property,
+    entity: EntityNo,
+    host: &HostUse,
+    number: u32,
+    object: Option<u64>,
     stored: Slot,
     given: Slot,
-    events: &mut Vec<HostEvent>,
-    drivers: &mut Drivers,
 ) -> Result<Slot, Fault>
-    requires in_list { property.driver < length (members drivers.old) }
-    ensures once { SetOnce caller.now property.entity property.driver property.of stored given result events.old.items events.new.items }
-    ensures asked { Asked (λ v. (⟦<dyn Driver as Driver>⟧ v).meaning) caller.now property.entity property.driver (PropertyRole property.number) events.old.items events.new.items (members drivers.old) (members drivers.new) }
+    requires role { host.now.role ≡ PropertyRole number }
+    requires in_list { host.now.driver < length (members store.old.drivers) }
+    requires ready { IsReady (λ v. (⟦<dyn Driver as Driver>⟧ v).meaning) store.old }
+    requires object_live { IsLiveOption (state_at (states_of (λ v. (⟦<dyn Driver as Driver>⟧ v).meaning) (members store.old.drivers)) host.now.driver) object }
+    requires value_live { IsLiveValue (state_at (states_of (λ v. (⟦<dyn Driver as Driver>⟧ v).meaning) (members store.old.drivers)) host.now.driver) (value_of host.now.driver host.now.result stored) }
+    ensures told { (z : Setting) (m : ℕ) → Sees z m caller.now entity host.now
+        → Told (λ is. in_place_of given (asked z m entity object (value_of host.now.driver host.now.result stored ∷ []) Nothing (with_inputs is (world_of (λ v. (⟦<dyn Driver as Driver>⟧ v).meaning) store.old))))
+        (λ is. done result (with_inputs is (world_of (λ v. (⟦<dyn Driver as Driver>⟧ v).meaning) store.new))) }
+    ensures enough { (vs : List Slot) → CanGive vs (world_of (λ v. (⟦<dyn Driver as Driver>⟧ v).meaning) store.old) → CanGive vs (world_of (λ v. (⟦<dyn Driver as Driver>⟧ v).meaning) store.new) }
+    ensures asked { StoreAsked (λ v. (⟦<dyn Driver as Driver>⟧ v).meaning) entity host.now.role store.old store.new }
 {
-    match write_property(alloc, caller, property, stored, events, drivers) {
+    match write(alloc, store, caller, entity, host, number, object, stored) {
         Ok(_) => Ok(given),
         Err(fault) => Err(fault),
     }
 }
 
-/// Writes what was worked out into a property, and answers the value that is to be given.
-fn write_changed(
+/// Writes what was worked out of a property's value into it, and answers the value that is to be given.
+/// Where nothing could be worked out, the value that was read is given up.
+fn put_changed(
     alloc: Global,
+    store: &mut Store,
     caller: &[u8],
-    property: Property,
+    entity: EntityNo,
+    host: &HostUse,
+    number: u32,
+    object: Option<u64>,
+    old: Slot,
     altered: Result<Altered, Fault>,
-    events: &mut Vec<HostEvent>,
-    drivers: &mut Drivers,
 ) -> Result<Slot, Fault>
-    requires in_list { property.driver < length (members drivers.old) }
-    ensures once { (to : Changed) → altered ≡ altered_of to → WrittenOnce caller.now property.entity property.driver property.of to result events.old.items events.new.items }
-    ensures asked { Asked (λ v. (⟦<dyn Driver as Driver>⟧ v).meaning) caller.now property.entity property.driver (PropertyRole property.number) events.old.items events.new.items (members drivers.old) (members drivers.new) }
+    requires role { host.now.role ≡ PropertyRole number }
+    requires in_list { host.now.driver < length (members store.old.drivers) }
+    requires ready { IsReady (λ v. (⟦<dyn Driver as Driver>⟧ v).meaning) store.old }
+    requires object_live { IsLiveOption (state_at (states_of (λ v. (⟦<dyn Driver as Driver>⟧ v).meaning) (members store.old.drivers)) host.now.driver) object }
+    requires held { CanGive (old ∷ []) (world_of (λ v. (⟦<dyn Driver as Driver>⟧ v).meaning) store.old) }
+    ensures told { (z : Setting) (m : ℕ) (r : Receiver) (to : Changed) → Sees z m caller.now entity host.now → object_in r ≡ Ok object → altered ≡ altered_of to
+        → Told (λ is. altered_to z m entity r old to (with_inputs is (world_of (λ v. (⟦<dyn Driver as Driver>⟧ v).meaning) store.old)))
+        (λ is. done result (with_inputs is (world_of (λ v. (⟦<dyn Driver as Driver>⟧ v).meaning) store.new))) }
+    ensures enough { (vs : List Slot) → CanGive (old ∷ vs) (world_of (λ v. (⟦<dyn Driver as Driver>⟧ v).meaning) store.old) → CanGive vs (world_of (λ v. (⟦<dyn Driver as Driver>⟧ v).meaning) store.new) }
+    ensures asked { StoreAsked (λ v. (⟦<dyn Driver as Driver>⟧ v).meaning) entity host.now.role store.old store.new }
 {
     match altered {
         Ok(altered) => {
             let stored = Slot::Bits(altered.stored);
             let given = Slot::Bits(altered.given);
-            set_property(alloc, caller, property, stored, given, events, drivers)
-        }
-        Err(fault) => Err(fault),
-    }
-}
-
-/// Reads a property, changes its value by the operand, and writes it.
-fn alter_property(
-    alloc: Global,
-    caller: &[u8],
-    property: Property,
-    by: Change,
-    operand: Slot,
-    events: &mut Vec<HostEvent>,
-    drivers: &mut Drivers,
-) -> Result<Slot, Fault>
-    requires in_list { property.driver < length (members drivers.old) }
-    ensures once { AlteredOnce caller.now property.entity property.driver property.of by operand result events.old.items events.new.items }
-    ensures asked { Asked (λ v. (⟦<dyn Driver as Driver>⟧ v).meaning) caller.now property.entity property.driver (PropertyRole property.number) events.old.items events.new.items (members drivers.old) (members drivers.new) }
-{
-    match read_property(alloc, caller, property, events, drivers) {
-        Ok(old) => {
-            let altered = change_slot(by, old, operand);
-            write_changed(alloc, caller, property, altered, events, drivers)
-        }
-        Err(fault) => Err(fault),
-    }
-}
-
-/// Calls the function that the entity is, with the operands as its arguments. A factory or a property is `Null`,
-/// and nothing is asked.
-fn perform_ask(
-    alloc: Global,
-    caller: &[u8],
-    host: &HostUse,
-    entity: EntityNo,
-    operands: &[Slot],
-    events: &mut Vec<HostEvent>,
-    drivers: &mut Drivers,
-) -> Result<Slot, Fault>
-    requires plain { is_plain host.now ≡ true }
-    requires in_list { host.now.driver < length (members drivers.old) }
-    ensures performed { Performed caller.now host.now (Ask entity) operands.now result events.old.items events.new.items }
-    ensures unfit { suits host.now (Ask entity) ≡ false → (result ≡ Err Fault.Null) × (events.new.items ≡ events.old.items) }
-    ensures unasked { suits host.now (Ask entity) ≡ false → members drivers.new ≡ members drivers.old }
-    ensures asked { Asked (λ v. (⟦<dyn Driver as Driver>⟧ v).meaning) caller.now entity host.now.driver host.now.role events.old.items events.new.items (members drivers.old) (members drivers.new) }
-{
-    match host.role {
-        Role::Calling(number) => {
-            call_function(
-                alloc, caller, entity, host, number, operands, events, drivers,
+            put(
+                alloc, store, caller, entity, host, number, object, stored, given,
             )
         }
-        Role::Making(_) => Err(Fault::Null),
+        Err(fault) => {
+            give(store, old);
+            Err(fault)
+        }
+    }
+}
+
+/// Calls the function or method that the entity is, or asks for a new object where it is a factory. A property
+/// is `Null`, and nothing is asked.
+fn perform_ask(
+    alloc: Global,
+    store: &mut Store,
+    caller: &[u8],
+    entity: EntityNo,
+    host: &HostUse,
+    operands: &[Slot],
+) -> Result<Slot, Fault>
+    requires in_list { host.now.driver < length (members store.old.drivers) }
+    requires ready { IsReady (λ v. (⟦<dyn Driver as Driver>⟧ v).meaning) store.old }
+    requires enough { CanGive operands.now (world_of (λ v. (⟦<dyn Driver as Driver>⟧ v).meaning) store.old) }
+    ensures performed { Performed caller.now entity host.now (Ask entity) operands.now
+        (world_of (λ v. (⟦<dyn Driver as Driver>⟧ v).meaning) store.old) result (world_of (λ v. (⟦<dyn Driver as Driver>⟧ v).meaning) store.new) }
+    ensures enough { (vs : List Slot) → CanGive vs (world_of (λ v. (⟦<dyn Driver as Driver>⟧ v).meaning) store.old) → CanGive vs (world_of (λ v. (⟦<dyn Driver as Driver>⟧ v).meaning) store.new) }
+    ensures asked { StoreAsked (λ v. (⟦<dyn Driver as Driver>⟧ v).meaning) entity host.now.role store.old store.new }
+{
+    let object = match object_of(host, operands) {
+        Ok(object) => object,
+        Err(fault) => return Err(fault),
+    };
+    let args = arguments_of(host, operands);
+    match host.role {
+        Role::Calling(number) => { call(alloc, store, caller, entity, host, number, object, args) }
+        Role::Making(number) => make(alloc, store, caller, entity, host, number, args),
         Role::Property(_) => Err(Fault::Null),
     }
 }
 
-/// Reads the property that the entity is; the operands play no part. What is no property of a primitive type is
-/// `Null`, and nothing is asked.
+/// Reads the property that the entity is. What is no property is `Null`, and nothing is asked.
 fn perform_read(
     alloc: Global,
+    store: &mut Store,
     caller: &[u8],
-    host: &HostUse,
     entity: EntityNo,
+    host: &HostUse,
     operands: &[Slot],
-    events: &mut Vec<HostEvent>,
-    drivers: &mut Drivers,
 ) -> Result<Slot, Fault>
-    requires plain { is_plain host.now ≡ true }
-    requires in_list { host.now.driver < length (members drivers.old) }
-    ensures performed { Performed caller.now host.now (Read entity) operands.now result events.old.items events.new.items }
-    ensures unfit { suits host.now (Read entity) ≡ false → (result ≡ Err Fault.Null) × (events.new.items ≡ events.old.items) }
-    ensures unasked { suits host.now (Read entity) ≡ false → members drivers.new ≡ members drivers.old }
-    ensures asked { Asked (λ v. (⟦<dyn Driver as Driver>⟧ v).meaning) caller.now entity host.now.driver host.now.role events.old.items events.new.items (members drivers.old) (members drivers.new) }
+    requires in_list { host.now.driver < length (members store.old.drivers) }
+    requires ready { IsReady (λ v. (⟦<dyn Driver as Driver>⟧ v).meaning) store.old }
+    requires enough { CanGive operands.now (world_of (λ v. (⟦<dyn Driver as Driver>⟧ v).meaning) store.old) }
+    ensures performed { Performed caller.now entity host.now (Read entity) operands.now
+        (world_of (λ v. (⟦<dyn Driver as Driver>⟧ v).meaning) store.old) result (world_of (λ v. (⟦<dyn Driver as Driver>⟧ v).meaning) store.new) }
+    ensures enough { (vs : List Slot) → CanGive vs (world_of (λ v. (⟦<dyn Driver as Driver>⟧ v).meaning) store.old) → CanGive vs (world_of (λ v. (⟦<dyn Driver as Driver>⟧ v).meaning) store.new) }
+    ensures asked { StoreAsked (λ v. (⟦<dyn Driver as Driver>⟧ v).meaning) entity host.now.role store.old store.new }
 {
-    match property_of(entity, host) {
-        Some(property) => read_property(alloc, caller, property, events, drivers),
-        None => Err(Fault::Null),
+    let Role::Property(number) = host.role else {
+        return Err(Fault::Null);
+    };
+    match object_of(host, operands) {
+        Ok(object) => read(alloc, store, caller, entity, host, number, object),
+        Err(fault) => Err(fault),
     }
 }
 
-/// Writes the first operand to the property that the entity is, and answers that operand. What is no property of a
-/// primitive type is `Null`, and so are no operands or more than two; nothing is asked then.
+/// Writes the first operand to the property that the entity is, and answers that operand. What is no property is
+/// `Null`, and nothing is asked.
 fn perform_write(
     alloc: Global,
+    store: &mut Store,
     caller: &[u8],
-    host: &HostUse,
     entity: EntityNo,
+    host: &HostUse,
     operands: &[Slot],
-    events: &mut Vec<HostEvent>,
-    drivers: &mut Drivers,
 ) -> Result<Slot, Fault>
-    requires plain { is_plain host.now ≡ true }
-    requires in_list { host.now.driver < length (members drivers.old) }
-    ensures performed { Performed caller.now host.now (Write entity) operands.now result events.old.items events.new.items }
-    ensures unfit { suits host.now (Write entity) ≡ false → (result ≡ Err Fault.Null) × (events.new.items ≡ events.old.items) }
-    ensures unasked { suits host.now (Write entity) ≡ false → members drivers.new ≡ members drivers.old }
-    ensures asked { Asked (λ v. (⟦<dyn Driver as Driver>⟧ v).meaning) caller.now entity host.now.driver host.now.role events.old.items events.new.items (members drivers.old) (members drivers.new) }
+    requires in_list { host.now.driver < length (members store.old.drivers) }
+    requires ready { IsReady (λ v. (⟦<dyn Driver as Driver>⟧ v).meaning) store.old }
+    requires enough { CanGive operands.now (world_of (λ v. (⟦<dyn Driver as Driver>⟧ v).meaning) store.old) }
+    ensures performed { Performed caller.now entity host.now (Write entity) operands.now
+        (world_of (λ v. (⟦<dyn Driver as Driver>⟧ v).meaning) store.old) result (world_of (λ v. (⟦<dyn Driver as Driver>⟧ v).meaning) store.new) }
+    ensures enough { (vs : List Slot) → CanGive vs (world_of (λ v. (⟦<dyn Driver as Driver>⟧ v).meaning) store.old) → CanGive vs (world_of (λ v. (⟦<dyn Driver as Driver>⟧ v).meaning) store.new) }
+    ensures asked { StoreAsked (λ v. (⟦<dyn Driver as Driver>⟧ v).meaning) entity host.now.role store.old store.new }
 {
-    match property_of(entity, host) {
-        Some(property) => match first_operand(operands) {
-            Some(value) => { set_property(alloc, caller, property, value, value, events, drivers) }
-            None => Err(Fault::Null),
-        },
-        None => Err(Fault::Null),
+    let Role::Property(number) = host.role else {
+        return Err(Fault::Null);
+    };
+    let Some(value) = first_of(operands) else {
+        return Err(Fault::Null);
+    };
+    match object_of(host, behind_first(operands)) {
+        Ok(object) => put(
+            alloc, store, caller, entity, host, number, object, value, value,
+        ),
+        Err(fault) => Err(fault),
     }
 }
 
 /// Reads the property that the entity is, changes its value by the first operand, and writes it. The answer is the
-/// old value or the new one, as `by` says. What is no property of a primitive type is `Null`, and so are no operands
-/// or more than two; nothing is asked then.
+/// old value or the new one, as `by` says. What is no property is `Null`, and nothing is asked.
 fn perform_alter(
     alloc: Global,
+    store: &mut Store,
     caller: &[u8],
-    host: &HostUse,
     entity: EntityNo,
+    host: &HostUse,
     by: Change,
     operands: &[Slot],
-    events: &mut Vec<HostEvent>,
-    drivers: &mut Drivers,
 ) -> Result<Slot, Fault>
-    requires plain { is_plain host.now ≡ true }
-    requires in_list { host.now.driver < length (members drivers.old) }
-    ensures performed { Performed caller.now host.now (Alter entity by) operands.now result events.old.items events.new.items }
-    ensures unfit { suits host.now (Alter entity by) ≡ false → (result ≡ Err Fault.Null) × (events.new.items ≡ events.old.items) }
-    ensures unasked { suits host.now (Alter entity by) ≡ false → members drivers.new ≡ members drivers.old }
-    ensures asked { Asked (λ v. (⟦<dyn Driver as Driver>⟧ v).meaning) caller.now entity host.now.driver host.now.role events.old.items events.new.items (members drivers.old) (members drivers.new) }
+    requires in_list { host.now.driver < length (members store.old.drivers) }
+    requires ready { IsReady (λ v. (⟦<dyn Driver as Driver>⟧ v).meaning) store.old }
+    requires enough { CanGive operands.now (world_of (λ v. (⟦<dyn Driver as Driver>⟧ v).meaning) store.old) }
+    ensures performed { Performed caller.now entity host.now (Alter entity by) operands.now
+        (world_of (λ v. (⟦<dyn Driver as Driver>⟧ v).meaning) store.old) result (world_of (λ v. (⟦<dyn Driver as Driver>⟧ v).meaning) store.new) }
+    ensures enough { (vs : List Slot) → CanGive vs (world_of (λ v. (⟦<dyn Driver as Driver>⟧ v).meaning) store.old) → CanGive vs (world_of (λ v. (⟦<dyn Driver as Driver>⟧ v).meaning) store.new) }
+    ensures asked { StoreAsked (λ v. (⟦<dyn Driver as Driver>⟧ v).meaning) entity host.now.role store.old store.new }
 {
-    match property_of(entity, host) {
-        Some(property) => match first_operand(operands) {
-            Some(value) => { alter_property(alloc, caller, property, by, value, events, drivers) }
-            None => Err(Fault::Null),
-        },
-        None => Err(Fault::Null),
+    let Role::Property(number) = host.role else {
+        return Err(Fault::Null);
+    };
+    let Some(operand) = first_of(operands) else {
+        return Err(Fault::Null);
+    };
+    let object = match object_of(host, behind_first(operands)) {
+        Ok(object) => object,
+        Err(fault) => return Err(fault),
+    };
+    match read(alloc, store, caller, entity, host, number, object) {
+        Ok(old) => {
+            let altered = change_slot(by, old, operand);
+            put_changed(
+                alloc, store, caller, entity, host, number, object, old, altered,
+            )
+        }
+        Err(fault) => Err(fault),
     }
 }
 
-/// Does an operation on the host for a module of the name `caller`, where `host` is the entity that it
-/// asks, and answers its value. The first operand stands first.
-///
-/// Each asking is listed behind the events, whatever the driver answered, and the memory for its event is
-/// taken before the driver is asked. A property that is altered is asked twice: it is read and then
-/// written, and between the two its value is changed by the operand. A driver is handed the operands by
-/// their declared types, and a handle as the null key.
-///
-/// An operation that does not suit the entity (`suits`) is `Null`, and nothing is asked.
-///
-/// # Errors
-/// `Memory` where there is none for an event, and then that driver is not asked; what `reply_from` says of
-/// the driver's answer; and of a property that is altered the faults of the change, with the property read
-/// and not written. `Null` where a property is written or altered with no operand or more than two, or
-/// altered by no number.
-pub fn ask(
+/// An operation on the host by the entity that it asks.
+fn perform(
     alloc: Global,
+    store: &mut Store,
     caller: &[u8],
     host: &HostUse,
     operation: Operation,
     operands: &[Slot],
-    events: &mut Vec<HostEvent>,
-    drivers: &mut Drivers,
 ) -> Result<Slot, Fault>
-    requires plain { is_plain host.now ≡ true }
-    requires in_list { host.now.driver < length (members drivers.old) }
-    ensures told { (z : Setting) (m : ℕ) (e : EntityNo) (w : World) → entity_of operation ≡ Some e → is_fit z operation ≡ true → z.name m ≡ caller.now → z.host e.0 ≡ Some host.now
-        → w.events ≡ events.old.items → HasNoObjects w
-        → Told (λ is. perform z m operation (reverse operands.now) (with_inputs is w)) (λ is. done result (with_inputs is (record w { events = events.new.items }))) }
-    ensures unfit { suits host.now operation ≡ false → (result ≡ Err Fault.Null) × (events.new.items ≡ events.old.items) }
-    ensures unasked { suits host.now operation ≡ false → members drivers.new ≡ members drivers.old }
-    ensures listed { (e : EntityNo) → entity_of operation ≡ Some e → AddsAskings caller.now e host.now.driver events.old.items events.new.items }
-    ensures follow { (roles : List Role) (e : EntityNo) → entity_of operation ≡ Some e → role_at roles e.0 ≡ host.now.role
-        → (es : List HostEvent) × (events.new.items ≡ events.old.items ++ es)
-        × DriversFollow (λ v. (⟦<dyn Driver as Driver>⟧ v).meaning) roles (members drivers.old) es (members drivers.new) }
-    ensures kinds { list_map (λ b. b.vtable) (members drivers.new) ≡ list_map (λ b. b.vtable) (members drivers.old) }
-    ensures same { length (members drivers.new) ≡ length (members drivers.old) }
-    ensures idle { AreFresh (states_of (λ v. (⟦<dyn Driver as Driver>⟧ v).meaning) (members drivers.old))
-        → AreFresh (states_of (λ v. (⟦<dyn Driver as Driver>⟧ v).meaning) (members drivers.new)) }
+    requires in_list { host.now.driver < length (members store.old.drivers) }
+    requires ready { IsReady (λ v. (⟦<dyn Driver as Driver>⟧ v).meaning) store.old }
+    requires enough { CanGive operands.now (world_of (λ v. (⟦<dyn Driver as Driver>⟧ v).meaning) store.old) }
+    ensures performed { (e : EntityNo) → asked_by operation ≡ Some e → Performed caller.now e host.now operation operands.now
+        (world_of (λ v. (⟦<dyn Driver as Driver>⟧ v).meaning) store.old) result (world_of (λ v. (⟦<dyn Driver as Driver>⟧ v).meaning) store.new) }
+    ensures enough { (vs : List Slot) → CanGive vs (world_of (λ v. (⟦<dyn Driver as Driver>⟧ v).meaning) store.old) → CanGive vs (world_of (λ v. (⟦<dyn Driver as Driver>⟧ v).meaning) store.new) }
+    ensures asked { (e : EntityNo) → asked_by operation ≡ Some e → StoreAsked (λ v. (⟦<dyn Driver as Driver>⟧ v).meaning) e host.now.role store.old store.new }
 {
     match operation {
-        Operation::Ask(entity) => {
-            perform_ask(alloc, caller, host, entity, operands, events, drivers)
-        }
-        Operation::Read(entity) => {
-            perform_read(alloc, caller, host, entity, operands, events, drivers)
-        }
-        Operation::Write(entity) => {
-            perform_write(alloc, caller, host, entity, operands, events, drivers)
-        }
+        Operation::Ask(entity) => perform_ask(alloc, store, caller, entity, host, operands),
+        Operation::Read(entity) => perform_read(alloc, store, caller, entity, host, operands),
+        Operation::Write(entity) => perform_write(alloc, store, caller, entity, host, operands),
         Operation::Alter(entity, by) => {
-            perform_alter(alloc, caller, host, entity, by, operands, events, drivers)
+            perform_alter(alloc, store, caller, entity, host, by, operands)
         }
         Operation::Work(_, _) => Err(Fault::Null),
         Operation::Compare(_, _) => Err(Fault::Null),
@@ -312,5 +283,64 @@ pub fn ask(
         Operation::GlobalGet(_) => Err(Fault::Null),
         Operation::GlobalSet(_) => Err(Fault::Null),
         Operation::GlobalChange(_, _) => Err(Fault::Null),
+        Operation::Make(_) => Err(Fault::Null),
+        Operation::FieldGet(_) => Err(Fault::Null),
+        Operation::FieldSet(_) => Err(Fault::Null),
+        Operation::FieldChange(_, _) => Err(Fault::Null),
+        Operation::Cast(_) => Err(Fault::Null),
     }
+}
+
+/// Does an operation on the host for a module, and answers its value. Its operands are the top values,
+/// `count` of them, the last one on top. They are all still held then, and `given_count` says how many of
+/// them, from the top, are to be given up behind the value; the value of a write is its operand itself.
+///
+/// Each asking is listed behind the events, whatever the driver answered. The memory for its event, and room
+/// for the end of each object that may live then, is taken before the driver is asked. A property that is
+/// altered is asked twice: it is read and then written, and between the two its value is changed by the
+/// operand. A driver is handed the operands by their declared types: numbers, the keys of its own objects, and
+/// null for what is neither.
+///
+/// # Errors
+/// `Memory` where there is none for an event, and then that driver is not asked; `Null` where the object of
+/// which the entity is asked is none of its driver; `NoObject` where a factory made none; `BadAnswer` where the
+/// answer is not of the declared type or not in its range; `Tally` where a tally of the driver has run out; the
+/// driver's own faults and its want of memory; and of a property that is altered the faults of the change, with
+/// the property read and not written.
+///
+/// It has to be an operation of which `operands` says that it takes `count`: of others nothing is promised but
+/// that the drivers follow what was listed.
+pub fn ask(
+    alloc: Global,
+    table: &Table,
+    home: u32,
+    stack: &[Slot],
+    top: usize,
+    count: usize,
+    store: &mut Store,
+    operation: Operation,
+) -> Result<Slot, Fault>
+    requires in_use { count ≤ top }
+    requires within { top ≤ length stack.now }
+    requires drivers { DriversThere table.now (length (members store.old.drivers)) }
+    requires ready { IsReady (λ v. (⟦<dyn Driver as Driver>⟧ v).meaning) store.old }
+    requires counted { IsCounted (values stack.now top) (world_of (λ v. (⟦<dyn Driver as Driver>⟧ v).meaning) store.old) }
+    ensures told { (nesting : ℕ) → asks_host operation ≡ true → is_fit (setting_of table.now nesting) home operation ≡ true
+        → count ≡ operand_count (setting_of table.now nesting) home operation
+        → Told (λ is. asks (setting_of table.now nesting) home operation (take_some count (values stack.now top)) (with_inputs is (world_of (λ v. (⟦<dyn Driver as Driver>⟧ v).meaning) store.old)))
+        (λ is. done result (with_inputs is (world_of (λ v. (⟦<dyn Driver as Driver>⟧ v).meaning) store.new))) }
+    ensures enough { (vs : List Slot) → CanGive vs (world_of (λ v. (⟦<dyn Driver as Driver>⟧ v).meaning) store.old) → CanGive vs (world_of (λ v. (⟦<dyn Driver as Driver>⟧ v).meaning) store.new) }
+    ensures ready { IsReady (λ v. (⟦<dyn Driver as Driver>⟧ v).meaning) store.new }
+    ensures same { length (members store.new.drivers) ≡ length (members store.old.drivers) }
+    ensures moves { (roles : List Role) → HaveRoles table.now roles → StoreMoves (λ v. (⟦<dyn Driver as Driver>⟧ v).meaning) roles store.old store.new }
+{
+    let Some(entity) = asked_by(operation) else {
+        return Err(Fault::Null);
+    };
+    let Some(host) = entity_at(table, home, entity) else {
+        return Err(Fault::Null);
+    };
+    let caller = name_at(table, home);
+    let operands = operands_at(stack, top, count);
+    perform(alloc, store, caller, host, operation, operands)
 }

@@ -1,13 +1,22 @@
 //! What a driver's answer gives to the script.
-ghost use Rattle.std.specs.Prelude.{◌≡◌, false};
+ghost use Rattle.std.specs.Prelude.{◌≡◌, List, IfSome, Some};
 ghost use Rattle.ang_host.specs.declared.answer.HostReply.TheVariants.{Asking};
-ghost use Rattle.ang_meaning.specs.World.{World};
-ghost use Rattle.ang_meaning.specs.Setting.{is_handle};
-ghost use Rattle.ang_meaning.specs.Hosts.{is_void, replied_by};
-ghost use Rattle.ang_vm_ask.specs.Replies.{done, taken, answered};
+ghost use Rattle.ang_host.specs.declared.event.Role.{Role};
+ghost use Rattle.ang_host.specs.Boxes.{members};
+ghost use Rattle.ang_host.specs.Laws.{IsSound, IsLiveAnswer};
+ghost use Rattle.ang_host.specs.Members.{state_at, states_of};
+ghost use Rattle.ang_meaning.specs.Counting.{CanGive, HasKey};
+ghost use Rattle.ang_meaning.specs.Hosts.{is_void, accepted, replied_by};
+ghost use Rattle.ang_meaning.specs.Told.{Told};
+ghost use Rattle.ang_meaning.specs.World.{with_inputs};
+ghost use Rattle.ang_heap.specs.Parts.{counts_of};
+ghost use Rattle.ang_heap.specs.Stores.{world_of, StoreMoves};
+ghost use Rattle.ang_vm_stack.specs.Arms.{done};
+ghost use Rattle.ang_vm_ask.specs.Replies.{with_result};
 
 use crate::values::slot_from;
-use ang_host::Answer;
+use ang_heap::{Store, hold};
+use ang_host::{Answer, Driver};
 use ang_kinds::Fault;
 use ang_meaning::{HostType, Slot};
 
@@ -21,9 +30,46 @@ fn is_void(of: HostType) -> bool
     }
 }
 
-/// What an answer of the driver of that number gives, where the declared result is `of` and no handle.
-fn answer_from(driver: u32, of: HostType, answer: Answer) -> Result<Slot, Fault>
-    ensures exact { result ≡ answered driver of answer }
+/// Takes a driver's value, which one more place holds then.
+///
+/// # Errors
+/// `BadAnswer` where there is none of the declared type, and `Tally` where a tally has run out.
+fn accept(store: &mut Store, value: Option<Slot>) -> Result<Slot, Fault>
+    requires there { IfSome value (λ v. HasKey v (counts_of (λ v. (⟦<dyn Driver as Driver>⟧ v).meaning) (members store.old.drivers))) }
+    ensures told { Told (λ is. accepted value (with_inputs is (world_of (λ v. (⟦<dyn Driver as Driver>⟧ v).meaning) store.old)))
+        (λ is. done result (with_inputs is (world_of (λ v. (⟦<dyn Driver as Driver>⟧ v).meaning) store.new))) }
+    ensures enough { (vs : List Slot) → CanGive vs (world_of (λ v. (⟦<dyn Driver as Driver>⟧ v).meaning) store.old)
+        → CanGive (with_result result vs) (world_of (λ v. (⟦<dyn Driver as Driver>⟧ v).meaning) store.new) }
+    ensures moves { (roles : List Role) → StoreMoves (λ v. (⟦<dyn Driver as Driver>⟧ v).meaning) roles store.old store.new }
+{
+    let Some(value) = value else {
+        return Err(Fault::BadAnswer);
+    };
+    if !hold(store, value) {
+        return Err(Fault::Tally);
+    }
+    Ok(value)
+}
+
+/// Takes what the driver of that number answered, where the declared result is `of`: a value of the type,
+/// or for `void` the number 0. One more place holds an object that it names.
+///
+/// # Errors
+/// `BadAnswer` where the answer is not of the declared type or not in its range, the driver's own fault,
+/// its want of memory, and `Tally` where one of its tallies has run out.
+pub(crate) fn take_answer(
+    store: &mut Store,
+    driver: u32,
+    of: HostType,
+    answer: Answer,
+) -> Result<Slot, Fault>
+    requires live { IsLiveAnswer (state_at (states_of (λ v. (⟦<dyn Driver as Driver>⟧ v).meaning) (members store.old.drivers)) driver) answer }
+    requires sound { IsSound (state_at (states_of (λ v. (⟦<dyn Driver as Driver>⟧ v).meaning) (members store.old.drivers)) driver) }
+    ensures told { Told (λ is. replied_by driver of (Asking answer) (with_inputs is (world_of (λ v. (⟦<dyn Driver as Driver>⟧ v).meaning) store.old)))
+        (λ is. done result (with_inputs is (world_of (λ v. (⟦<dyn Driver as Driver>⟧ v).meaning) store.new))) }
+    ensures enough { (vs : List Slot) → CanGive vs (world_of (λ v. (⟦<dyn Driver as Driver>⟧ v).meaning) store.old)
+        → CanGive (with_result result vs) (world_of (λ v. (⟦<dyn Driver as Driver>⟧ v).meaning) store.new) }
+    ensures moves { (roles : List Role) → StoreMoves (λ v. (⟦<dyn Driver as Driver>⟧ v).meaning) roles store.old store.new }
 {
     match answer {
         Answer::Void => {
@@ -33,25 +79,9 @@ fn answer_from(driver: u32, of: HostType, answer: Answer) -> Result<Slot, Fault>
                 Err(Fault::BadAnswer)
             }
         }
-        Answer::Gave(value) => match slot_from(driver, of, &value) {
-            Some(slot) => Ok(slot),
-            None => Err(Fault::BadAnswer),
-        },
+        Answer::Gave(value) => accept(store, slot_from(driver, of, &value)),
         Answer::Fault(number) => Err(Fault::Host(number)),
         Answer::Memory => Err(Fault::Memory),
         Answer::Full => Err(Fault::Tally),
     }
-}
-
-/// What an answer of the driver of that number gives to the script, where the declared result is `of`,
-/// which is no handle: a number of the type, or for `void` the number 0.
-///
-/// # Errors
-/// `BadAnswer` where the answer is not of the declared type or not in its range, the driver's own fault,
-/// its want of memory, and `Tally` where one of its tallies is full.
-pub fn reply_from(driver: u32, of: HostType, answer: Answer) -> Result<Slot, Fault>
-    ensures exact { result ≡ answered driver of answer }
-    ensures replied { is_handle of ≡ false → (w : World) → replied_by driver of (Asking answer) w ≡ done result w }
-{
-    answer_from(driver, of, answer)
 }

@@ -1,9 +1,9 @@
 //! Values between a script and its drivers.
-ghost use Rattle.std.specs.Prelude.{◌≡◌, ◌&&◌, nat_lt, ◌^◌, pos};
+ghost use Rattle.std.specs.Prelude.{◌≡◌, ◌&&◌, nat_lt, ◌^◌, pos, Some};
 ghost use Rattle.ang_meaning.specs.Numbers.{is_signed, width_of, bits_of};
 ghost use Rattle.ang_meaning.specs.Hosts.{plain_value, value_of, is_within, is_unsigned, if_within, slot_of};
 ghost use Rattle.ang_meaning.specs.declared.host.HostType.TheVariants.{Plain, Handle};
-ghost use Rattle.ang_kinds.specs.declared.value.Value.TheVariants.{Int, Uint, Bool as Truth};
+ghost use Rattle.ang_kinds.specs.declared.value.Value.TheVariants.{Int, Uint, Bool as Truth, Key};
 
 use ang_kinds::{Prim, Value};
 use ang_meaning::{HostType, Slot};
@@ -142,9 +142,21 @@ fn plain_slot(driver: u32, of: Prim, value: &Value) -> Option<Slot>
     }
 }
 
+/// A driver's key as a slot: the null key is the null of all types.
+#[tactic(auto, unfolding(ang_meaning::specs::Hosts::slot_of))]
+fn key_slot(driver: u32, key: Option<u64>) -> Slot
+    ensures exact { Some result ≡ slot_of driver Handle (Key key) }
+{
+    match key {
+        Some(key) => Slot::Host(driver, Some(key)),
+        None => Slot::Script(None),
+    }
+}
+
 /// What a value of the driver of that number is in a slot, where its declared type is `of`: a signed
 /// number for a signed type that has it in its range, an unsigned number for an unsigned one, a truth
-/// value for `bool`, and a key for a handle. None where it is not of the type or not in its range.
+/// value for `bool`, and for a handle the key, or null. None where it is not of the type or not in its
+/// range.
 #[tactic(auto, unfolding(ang_meaning::specs::Hosts::slot_of))]
 pub fn slot_from(driver: u32, of: HostType, value: &Value) -> Option<Slot>
     ensures exact { result ≡ slot_of driver of value.now }
@@ -153,7 +165,7 @@ pub fn slot_from(driver: u32, of: HostType, value: &Value) -> Option<Slot>
         HostType::Nothing => None,
         HostType::Plain(of) => plain_slot(driver, of, value),
         HostType::Handle => match *value {
-            Value::Key(key) => Some(Slot::Host(driver, key)),
+            Value::Key(key) => Some(key_slot(driver, key)),
             Value::Int(_) => None,
             Value::Uint(_) => None,
             Value::Bool(_) => None,

@@ -1,2 +1,3 @@
 pub mod Congruence
 pub mod Parts
+pub mod Working

@@ -1,11 +1,10 @@
-pub mod Values
-pub mod Tests
-pub mod TableLists
 pub mod Parts
-pub mod Operators
 pub mod SeveralGiven
+pub mod Placed
 pub mod TopValues
 pub mod Paths
 pub mod Turning
 pub mod Trading
-pub mod StoreOperations
+pub mod Receivers
+pub mod Asked
+pub mod Operands

@@ -1,5 +1,2 @@
-pub mod Stacks
-pub mod Tables
 pub mod Arms
-pub mod Asking
 pub mod Turns

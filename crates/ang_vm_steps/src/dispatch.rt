@@ -1,24 +1,33 @@
-//! `Do`: each operation by its function, and a pause before one that asks the host.
-ghost use Rattle.std.specs.Prelude.{◌≡◌, ◌<◌, ◌≤◌, length};
+//! `Do`: each operation by its function.
+ghost use Rattle.std.specs.Prelude.{◌≡◌, ◌<◌, ◌≤◌, List, length};
+ghost use Rattle.ang_host.specs.declared.event.Role.{Role};
+ghost use Rattle.ang_host.specs.Boxes.{members};
+ghost use Rattle.ang_meaning.specs.Counting.{IsCounted};
 ghost use Rattle.ang_code.specs.declared.instruction.Instruction.TheVariants.{Do};
-ghost use Rattle.ang_vm_steps.specs.declared.table.Table.{Table};
+ghost use Rattle.ang_heap.specs.Stores.{world_of, IsReady, StoreMoves};
+ghost use Rattle.ang_vm_stack.specs.Stacks.{values};
+ghost use Rattle.ang_vm_ask.specs.Entities.{DriversThere, HaveRoles};
 ghost use Rattle.ang_vm_steps.specs.Turns.{Turned, IsNext};
 
+use crate::asks::ask_host;
 use crate::doing::{do_compare, do_complement, do_convert, do_negate, do_not, do_work};
+use crate::fields::{cast, change_field, get_field, make_object, set_field};
 use crate::globals::{change_global, get_global, set_global};
 use crate::handles::do_same;
 use crate::jumps::next;
-use crate::place::{Pause, Place};
-use crate::store::Store;
+use ang_heap::Store;
+use ang_host::Driver;
 use ang_meaning::{Operation, Routine, Slot};
+use ang_vm_stack::place::{Pause, Place};
+use ang_vm_stack::table::Table;
 
-/// `Do`: an operation takes its operands from the stack, and puts its value there. Before one that asks the
-/// host the body pauses, and nothing has changed.
+/// `Do`: an operation takes its operands from the stack, and puts its value there.
 #[inline(always)]
-pub fn do_operation<S: Store>(
+pub fn do_operation(
+    table: &Table,
     body: Routine,
     stack: &mut [Slot],
-    store: &mut S,
+    store: &mut Store,
     here: Place,
     room: usize,
     operation: &Operation,
@@ -27,9 +36,14 @@ pub fn do_operation<S: Store>(
     requires inside { here.at < size }
     requires in_room { here.top ≤ room }
     requires within { room ≤ length stack.old }
-    ensures turned { (t : Table) → IsNext t body here (Do operation.now) size
-        → Turned t body room here stack.old (S.world store.old) result stack.new (S.world store.new) }
-    ensures quiet { (S.world store.new).events ≡ (S.world store.old).events }
+    requires ready { IsReady (λ v. (⟦<dyn Driver as Driver>⟧ v).meaning) store.old }
+    requires counted { IsCounted (values stack.old here.top) (world_of (λ v. (⟦<dyn Driver as Driver>⟧ v).meaning) store.old) }
+    requires drivers { DriversThere table.now (length (members store.old.drivers)) }
+    ensures turned { IsNext table.now body here (Do operation.now) size
+        → Turned table.now body room here stack.old (world_of (λ v. (⟦<dyn Driver as Driver>⟧ v).meaning) store.old) result stack.new (world_of (λ v. (⟦<dyn Driver as Driver>⟧ v).meaning) store.new) }
+    ensures moves { (roles : List Role) → HaveRoles table.now roles → StoreMoves (λ v. (⟦<dyn Driver as Driver>⟧ v).meaning) roles store.old store.new }
+    ensures ready { IsReady (λ v. (⟦<dyn Driver as Driver>⟧ v).meaning) store.new }
+    ensures count { length (members store.new.drivers) ≡ length (members store.old.drivers) }
 {
     let top = here.top;
     match *operation {
@@ -46,15 +60,37 @@ pub fn do_operation<S: Store>(
         Operation::GlobalSet(number) => {
             next(here, set_global(body, stack, store, top, room, number))
         }
-        Operation::GlobalChange(number, by) => {
+        Operation::GlobalChange(number, by) => next(
+            here,
+            change_global(body, stack, store, top, room, number, by),
+        ),
+        Operation::Make(class) => {
             next(
                 here,
-                change_global(body, stack, store, top, room, number, by),
+                make_object(table, body, stack, store, top, room, class),
             )
         }
-        Operation::Ask(_) => Err(Pause::Asks(here, *operation)),
-        Operation::Read(_) => Err(Pause::Asks(here, *operation)),
-        Operation::Write(_) => Err(Pause::Asks(here, *operation)),
-        Operation::Alter(_, _) => Err(Pause::Asks(here, *operation)),
+        Operation::FieldGet(number) => next(here, get_field(stack, store, top, room, number)),
+        Operation::FieldSet(number) => next(here, set_field(stack, store, top, room, number)),
+        Operation::FieldChange(number, by) => {
+            next(here, change_field(stack, store, top, room, number, by))
+        }
+        Operation::Cast(class) => next(here, cast(table, body, stack, store, top, room, class)),
+        Operation::Ask(_) => next(
+            here,
+            ask_host(table, body, stack, store, top, room, *operation),
+        ),
+        Operation::Read(_) => next(
+            here,
+            ask_host(table, body, stack, store, top, room, *operation),
+        ),
+        Operation::Write(_) => next(
+            here,
+            ask_host(table, body, stack, store, top, room, *operation),
+        ),
+        Operation::Alter(_, _) => next(
+            here,
+            ask_host(table, body, stack, store, top, room, *operation),
+        ),
     }
 }

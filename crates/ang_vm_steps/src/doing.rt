@@ -1,5 +1,6 @@
 //! `Do`: operations take their operands from the stack and put their value there.
-ghost use Rattle.std.specs.Prelude.{◌≡◌, ℕ, ◌+◌, ◌-◌, ◌<◌, ◌≤◌, ◌∷◌, List, length, IfOk};
+ghost use Rattle.std.specs.Prelude.{◌≡◌, ℕ, ◌+◌, ◌-◌, ◌<◌, ◌≤◌, ◌∷◌, List, length, IfOk, Err};
+ghost use Rattle.ang_kinds.specs.declared.fault.Fault.{Fault as FaultOf};
 ghost use Rattle.ang_meaning.specs.declared.routine.Routine.{Routine};
 ghost use Rattle.ang_meaning.specs.declared.operation.Operation.TheVariants.{Work, Compare, Convert, Negate, Complement, Not};
 ghost use Rattle.ang_meaning.specs.World.{World};
@@ -8,16 +9,18 @@ ghost use Rattle.ang_meaning.specs.Results.{drop_some};
 ghost use Rattle.ang_code.specs.declared.instruction.Frame.{Frame};
 ghost use Rattle.ang_code.specs.declared.instruction.Instruction.TheVariants.{Do};
 ghost use Rattle.ang_code.specs.Machine.{Texts, At, did};
-ghost use Rattle.ang_vm_steps.specs.Stacks.{values};
-ghost use Rattle.ang_vm_steps.specs.Arms.{Acts, done, went};
+ghost use Rattle.ang_vm_stack.specs.declared.stop.Stop.TheVariants.{Fails};
+ghost use Rattle.ang_vm_stack.specs.Stacks.{values};
+ghost use Rattle.ang_vm_stack.specs.Arms.{done, went};
+ghost use Rattle.ang_vm_steps.specs.Arms.{Acts};
 
 use crate::operations::{
     compare_slots, complement_slot, convert_slot, deny_slot, negate_slot, work_slots,
 };
-use crate::stack::{peek, push};
-use crate::stop::Stop;
 use ang_kinds::{Fault, Prim};
 use ang_meaning::{Arithmetic, Comparison, Slot};
+use ang_vm_stack::stack::{peek, push};
+use ang_vm_stack::stop::Stop;
 
 /// The answer of an operation that takes so many operands: its value takes their place, or they stay where
 /// it faults.
@@ -35,6 +38,7 @@ pub(crate) fn put_answer(
         → did (done answer w) (values stack.old top) (λ v u. At f (pc + 1) room (v ∷ drop_some count (values stack.old top)) fr t u)
         ≡ went result f pc room stack.new top fr t w }
     ensures in_room { IfOk result (λ n. n ≤ top - count + 1) }
+    ensures fails { (x : FaultOf) → result ≡ Err (Fails x) → (answer ≡ Err x) × (stack.new ≡ stack.old) }
 {
     match answer {
         Ok(value) => {

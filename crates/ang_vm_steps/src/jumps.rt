@@ -4,15 +4,15 @@ ghost use Rattle.ang_meaning.specs.declared.slot.Slot.{Slot};
 ghost use Rattle.ang_meaning.specs.declared.routine.Routine.{Routine};
 ghost use Rattle.ang_meaning.specs.World.{World};
 ghost use Rattle.ang_code.specs.declared.instruction.Instruction.TheVariants.{SkipIfFalse, GoOn, Tick, Back};
-ghost use Rattle.ang_vm_steps.specs.declared.table.Table.{Table};
-ghost use Rattle.ang_vm_steps.specs.Arms.{next_of};
+ghost use Rattle.ang_vm_stack.specs.declared.table.Table.{Table};
+ghost use Rattle.ang_vm_stack.specs.Arms.{next_of};
 ghost use Rattle.ang_vm_steps.specs.Turns.{Turned, IsNext};
 
-use crate::place::{Pause, Place};
-use crate::stack::peek;
-use crate::stop::Stop;
 use ang_kinds::Fault;
 use ang_meaning::Slot;
+use ang_vm_stack::place::{Pause, Place};
+use ang_vm_stack::stack::peek;
+use ang_vm_stack::stop::Stop;
 
 /// The next instruction's place after one that leaves so many values in use, or why there is none.
 #[inline(always)]

@@ -1,21 +1,20 @@
 //! The machine's instructions, each as a function.
 //!
 //! The machine's stack is a slice with a number that says how much of it is in use, and room for a whole body is
-//! taken as the body is entered, so that no instruction takes memory. Each instruction is a small function
-//! whose contract is that instruction's clause in `ang_code`'s definition of the machine. Before an instruction
-//! that asks the host the body pauses: whoever runs it has the drivers.
+//! taken as the body is entered, so that no instruction takes memory for it. Each instruction is a small
+//! function whose contract is that instruction's clause in `ang_code`'s definition of the machine, over the
+//! store of `ang_heap`: script objects, globals and drivers.
 #![tactic(auto)]
 
 pub mod arms;
+mod asks;
+pub mod calls;
 pub mod dispatch;
 mod doing;
-pub mod globals;
-pub mod handles;
+mod fields;
+mod globals;
+mod handles;
 pub mod jumps;
 pub mod many;
 mod operations;
-pub mod place;
-pub mod stack;
-pub mod stop;
-pub mod store;
-pub mod table;
+pub mod swaps;

@@ -1,59 +1,101 @@
-//! Instructions that give up several values at once.
-ghost use Rattle.std.specs.Prelude.{◌≡◌, ℕ, ◌+◌, ◌-◌, ◌<◌, ◌≤◌, List, length, IfOk};
-ghost use Rattle.ang_meaning.specs.World.{World, with_inputs};
+//! Instructions that give up several values at once, and what a fault gives up.
+//!
+//! Where nothing lives nothing is given up, so that a script without objects pays one test for all of its
+//! values.
+ghost use Rattle.std.specs.Prelude.{◌≡◌, ℕ, ◌+◌, ◌-◌, ◌<◌, ◌≤◌, List, length, IfOk, IsTrue};
+ghost use Rattle.ang_host.specs.declared.event.Role.{Role};
+ghost use Rattle.ang_meaning.specs.World.{Input, give as give_in, give_all, with_inputs};
 ghost use Rattle.ang_meaning.specs.Setting.{Setting};
 ghost use Rattle.ang_meaning.specs.Results.{give_some, give_back};
-ghost use Rattle.ang_meaning.specs.Told.{Told};
+ghost use Rattle.ang_meaning.specs.Counting.{IsCounted, CanGive};
 ghost use Rattle.ang_code.specs.declared.instruction.Instruction.TheVariants.{Leave, DropUnder};
 ghost use Rattle.ang_code.specs.Machine.{Texts, take_some};
-ghost use Rattle.ang_vm_steps.specs.Stacks.{values};
+ghost use Rattle.ang_heap.specs.Stores.{world_of, IsReady, StoreMoves};
+ghost use Rattle.ang_vm_stack.specs.Stacks.{values};
 ghost use Rattle.ang_vm_steps.specs.Arms.{Acts};
 
-use crate::stack::{peek, push};
-use crate::stop::Stop;
-use crate::store::Store;
+use ang_heap::{Store, give};
+use ang_host::Driver;
 use ang_meaning::Slot;
+use ang_vm_stack::stack::{peek, push};
+use ang_vm_stack::stop::Stop;
+
+/// Whether no object lives, so that there is nothing to be given up.
+#[inline(always)]
+fn nothing_lives(store: &Store) -> bool
+    requires ready { IsReady (λ v. (⟦<dyn Driver as Driver>⟧ v).meaning) store.now }
+    ensures nothing { IsTrue result → (value : Slot) (is : List Input)
+        → give_in value (with_inputs is (world_of (λ v. (⟦<dyn Driver as Driver>⟧ v).meaning) store.now)) ≡ with_inputs is (world_of (λ v. (⟦<dyn Driver as Driver>⟧ v).meaning) store.now) }
+{
+    store.live == 0 && store.heap.is_empty()
+}
 
 /// Gives up so many values from the top, the top one first.
-pub fn give_top<S: Store>(stack: &[Slot], store: &mut S, top: usize, count: usize)
+pub fn give_top(stack: &[Slot], store: &mut Store, top: usize, count: usize)
     requires in_use { count ≤ top }
     requires within { top ≤ length stack.now }
-    ensures told { Told (λ is. give_some count (values stack.now top) (with_inputs is (S.world store.old))) (λ is. with_inputs is (S.world store.new)) }
-    ensures quiet { (S.world store.new).events ≡ (S.world store.old).events }
+    requires ready { IsReady (λ v. (⟦<dyn Driver as Driver>⟧ v).meaning) store.old }
+    requires enough { CanGive (values stack.now top) (world_of (λ v. (⟦<dyn Driver as Driver>⟧ v).meaning) store.old) }
+    ensures given { (is : List Input) → give_some count (values stack.now top) (with_inputs is (world_of (λ v. (⟦<dyn Driver as Driver>⟧ v).meaning) store.old))
+        ≡ with_inputs is (world_of (λ v. (⟦<dyn Driver as Driver>⟧ v).meaning) store.new) }
+    ensures moves { (roles : List Role) → StoreMoves (λ v. (⟦<dyn Driver as Driver>⟧ v).meaning) roles store.old store.new }
 {
+    if nothing_lives(store) {
+        return;
+    }
     for given in 0..count {
         let value = peek(stack, top - given, 0);
-        store.give(value);
+        give(store, value);
     }
 }
 
+/// Gives up all values in use, the top one first, as a fault does.
+pub fn give_all_in_use(stack: &[Slot], store: &mut Store, top: usize)
+    requires within { top ≤ length stack.now }
+    requires ready { IsReady (λ v. (⟦<dyn Driver as Driver>⟧ v).meaning) store.old }
+    requires enough { CanGive (values stack.now top) (world_of (λ v. (⟦<dyn Driver as Driver>⟧ v).meaning) store.old) }
+    ensures given { (is : List Input) → give_all (values stack.now top) (with_inputs is (world_of (λ v. (⟦<dyn Driver as Driver>⟧ v).meaning) store.old))
+        ≡ with_inputs is (world_of (λ v. (⟦<dyn Driver as Driver>⟧ v).meaning) store.new) }
+    ensures moves { (roles : List Role) → StoreMoves (λ v. (⟦<dyn Driver as Driver>⟧ v).meaning) roles store.old store.new }
+{
+    give_top(stack, store, top, top);
+}
+
 /// Gives up so many values from the top, the lowest of them first.
-pub(crate) fn give_lowest_first<S: Store>(stack: &[Slot], store: &mut S, top: usize, count: usize)
+fn give_lowest_first(stack: &[Slot], store: &mut Store, top: usize, count: usize)
     requires in_use { count ≤ top }
     requires within { top ≤ length stack.now }
-    ensures told { Told (λ is. give_back (take_some count (values stack.now top)) (with_inputs is (S.world store.old))) (λ is. with_inputs is (S.world store.new)) }
-    ensures quiet { (S.world store.new).events ≡ (S.world store.old).events }
+    requires ready { IsReady (λ v. (⟦<dyn Driver as Driver>⟧ v).meaning) store.old }
+    requires enough { CanGive (values stack.now top) (world_of (λ v. (⟦<dyn Driver as Driver>⟧ v).meaning) store.old) }
+    ensures given { (is : List Input) → give_back (take_some count (values stack.now top)) (with_inputs is (world_of (λ v. (⟦<dyn Driver as Driver>⟧ v).meaning) store.old))
+        ≡ with_inputs is (world_of (λ v. (⟦<dyn Driver as Driver>⟧ v).meaning) store.new) }
+    ensures moves { (roles : List Role) → StoreMoves (λ v. (⟦<dyn Driver as Driver>⟧ v).meaning) roles store.old store.new }
 {
+    if nothing_lives(store) {
+        return;
+    }
     for given in 0..count {
         let value = peek(stack, top - count + given + 1, 0);
-        store.give(value);
+        give(store, value);
     }
 }
 
 /// `Leave`: the top values are given up.
-pub fn leave<S: Store>(
+pub fn leave(
     stack: &[Slot],
-    store: &mut S,
+    store: &mut Store,
     top: usize,
     room: usize,
     count: usize,
 ) -> Result<usize, Stop>
     requires in_room { top ≤ room }
     requires within { room ≤ length stack.now }
-    ensures acts { (z : Setting) (code : Texts) → Acts z code (Leave count) room top stack.now (S.world store.old) result
-        stack.now (S.world store.new) }
+    requires ready { IsReady (λ v. (⟦<dyn Driver as Driver>⟧ v).meaning) store.old }
+    requires counted { IsCounted (values stack.now top) (world_of (λ v. (⟦<dyn Driver as Driver>⟧ v).meaning) store.old) }
+    ensures acts { (z : Setting) (code : Texts) → Acts z code (Leave count) room top stack.now (world_of (λ v. (⟦<dyn Driver as Driver>⟧ v).meaning) store.old)
+        result stack.now (world_of (λ v. (⟦<dyn Driver as Driver>⟧ v).meaning) store.new) }
     ensures in_room { IfOk result (λ n. n ≤ room) }
-    ensures quiet { (S.world store.new).events ≡ (S.world store.old).events }
+    ensures moves { (roles : List Role) → StoreMoves (λ v. (⟦<dyn Driver as Driver>⟧ v).meaning) roles store.old store.new }
 {
     if count > top {
         return Err(Stop::Lost);
@@ -63,19 +105,21 @@ pub fn leave<S: Store>(
 }
 
 /// `DropUnder`: so many values below the top one are given up, the lowest first.
-pub fn drop_under<S: Store>(
+pub fn drop_under(
     stack: &mut [Slot],
-    store: &mut S,
+    store: &mut Store,
     top: usize,
     room: usize,
     count: usize,
 ) -> Result<usize, Stop>
     requires in_room { top ≤ room }
     requires within { room ≤ length stack.old }
-    ensures acts { (z : Setting) (code : Texts) → Acts z code (DropUnder count) room top stack.old (S.world store.old)
-        result stack.new (S.world store.new) }
+    requires ready { IsReady (λ v. (⟦<dyn Driver as Driver>⟧ v).meaning) store.old }
+    requires counted { IsCounted (values stack.old top) (world_of (λ v. (⟦<dyn Driver as Driver>⟧ v).meaning) store.old) }
+    ensures acts { (z : Setting) (code : Texts) → Acts z code (DropUnder count) room top stack.old (world_of (λ v. (⟦<dyn Driver as Driver>⟧ v).meaning) store.old)
+        result stack.new (world_of (λ v. (⟦<dyn Driver as Driver>⟧ v).meaning) store.new) }
     ensures in_room { IfOk result (λ n. n ≤ room) }
-    ensures quiet { (S.world store.new).events ≡ (S.world store.old).events }
+    ensures moves { (roles : List Role) → StoreMoves (λ v. (⟦<dyn Driver as Driver>⟧ v).meaning) roles store.old store.new }
 {
     if top == 0 {
         return Err(Stop::Lost);

@@ -5,7 +5,7 @@ ghost use Rattle.ang_meaning.specs.declared.slot.Slot.TheVariants.{Bits};
 ghost use Rattle.ang_meaning.specs.World.{World};
 ghost use Rattle.ang_meaning.specs.Setting.{Setting};
 ghost use Rattle.ang_meaning.specs.Perform.{perform};
-ghost use Rattle.ang_vm_steps.specs.Arms.{done};
+ghost use Rattle.ang_vm_stack.specs.Arms.{done};
 
 use ang_kinds::{Fault, Prim};
 use ang_meaning::{Arithmetic, Comparison, Slot};
@@ -108,7 +108,7 @@ pub(crate) fn deny_slot(x: Slot) -> Result<Slot, Fault>
 }
 
 #[inline(always)]
-#[tactic(auto, unfolding(ang_meaning::specs::Perform::perform), using(crate::proofs::Operators::work_ends))]
+#[tactic(auto, unfolding(ang_meaning::specs::Perform::perform), using(ang_vm_numbers::proofs::Working::work_ends))]
 fn work_bits(what: Arithmetic, at: Prim, x: u64, y: u64) -> Result<Slot, Fault>
     ensures exact { (z : Setting) (m : ℕ) (w : World) → perform z m (Work what at) (Bits y ∷ Bits x ∷ []) w ≡ done result w }
 {

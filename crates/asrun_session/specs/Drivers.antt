@@ -3,13 +3,16 @@ use Rattle.std.specs.Prelude.{ℕ, ◌≤◌, List, All, length, codes, map as l
 use Rattle.std.specs.declared.alloc.Global.{Global}
 use Rattle.std.specs.declared.dyn_box.DynBox.{DynBox}
 use Rattle.ang_host.specs.Counts.{IsBalanced}
+use Rattle.ang_host.specs.Events.{DriversFollow}
 use Rattle.ang_host.specs.Laws.{Meaning}
 use Rattle.ang_host.specs.Members.{states_of, AreFresh}
 use Rattle.ang_host.specs.Refusal.{IsRefusal}
 use Rattle.ang_host.specs.declared.drivers.DriversError.{DriversError}
 use Rattle.ang_host.specs.declared.drivers.DriversError.TheVariants.{TooMany, Busy}
 use Rattle.ang_registry.specs.Registration.{RegistrationList}
+use Rattle.ang_registry.specs.Roles.{roles_of}
 use Rattle.ang_engine.specs.Sound.{HaveDrivers}
+use Rattle.ang_engine.specs.World.{World, engine_ended}
 
 -- which driver stands at each place
 abbrev pub kinds_of : {V : Type 0} {P : V → Type 0} → List (DynBox V Global P) → List V
@@ -47,3 +50,9 @@ engine_text NoDriver = codes "engine NoDriver\n"
 -- They come back with nothing alive.
 abbrev pub AreBalanced : {V : Type 0} {P : V → Type 0} → ((v : V) → Meaning (P v)) → List (DynBox V Global P) → Type 0
 AreBalanced m xs = All IsBalanced (states_of m xs)
+
+-- An engine over the list R that was left with this world and the drivers zs was discarded: what its globals held was given up, so that nothing is alive, and
+-- the drivers, which come back as ys, follow the ends.
+pub record IsDiscarded {V : Type 0} {P : V → Type 0} (m : (v : V) → Meaning (P v)) (R : RegistrationList) (w : World) (zs ys : List (DynBox V Global P)) : Type 0 where
+  pub ends : DriversFollow m (roles_of R) zs (engine_ended w).events ys
+  pub balanced : AreBalanced m ys

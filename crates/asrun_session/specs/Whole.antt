@@ -9,7 +9,7 @@ use Rattle.ang_registry.specs.declared.error.RegError.TheVariants.{Limit, EmptyM
 use Rattle.ang_registry.specs.Registration.{RegistrationList, Registrations}
 use Rattle.ang_engine.specs.World.{World, no_modules}
 use Rattle.asrun_session.specs.Deeds.{IsDone, IsCut}
-use Rattle.asrun_session.specs.Drivers.{AreTaken, AreBalanced, EngineRefusal, IsRefused, engine_text}
+use Rattle.asrun_session.specs.Drivers.{AreTaken, IsDiscarded, EngineRefusal, IsRefused, engine_text}
 use Rattle.asrun_session.specs.Lines.{lines_of}
 use Rattle.asrun_session.specs.Profile.{loaded}
 use Rattle.asrun_session.specs.Session.{session_from}
@@ -65,7 +65,7 @@ start_of profile =
 
 -- A run with the drivers xs that come back as ys, and with a writer that has the bytes old and then new. Here m is the meaning of what is behind each vtable.
 module _ {V : Type 0} {P : V → Type 0} (m : (v : V) → Meaning (P v)) (xs ys : List (DynBox V Global P)) (old new : Option (List ℕ)) where
-  -- Nothing was printed, and the drivers come back as they were.
+  -- Nothing was printed, and the drivers are as they were.
   abbrev pub Untouched : Type 0
   Untouched = (new ≡ old) × (ys ≡ xs)
 
@@ -73,41 +73,50 @@ module _ {V : Type 0} {P : V → Type 0} (m : (v : V) → Meaning (P v)) (xs ys 
   abbrev pub EngineRefused : RegistrationList → Status → Type 0
   EngineRefused R status = (why : EngineRefusal) × IsRefused m R xs why × Appends old new (engine_text why) × (status ≡ BadInput) × (ys ≡ xs)
 
-  -- The session was read and done.
-  abbrev pub RunsSession : RegistrationList → List ℕ → ℕ → Status → Type 0
-  RunsSession R session budget status =
-      ((most_session < length session) × Appends old new long_session_text × (status ≡ BadInput) × (ys ≡ xs))
-      ⊎ ((length session ≤ most_session) × (after : World) × IsDone m R no_modules xs (session_from 1 budget 0 (lines_of session)) old new status after ys)
-
-  -- A run that came to its end: what it printed is all. Where an engine took the drivers, none of their objects is alive.
-  abbrev pub Ends : Result RegistrationList (List ℕ) → List ℕ → ℕ → Status → Type 0
-  Ends (Err text) session budget status = Appends old new text × (status ≡ BadInput) × (ys ≡ xs)
-  Ends (Ok R) session budget status = EngineRefused R status ⊎ (AreTaken m R xs × RunsSession R session budget status × AreBalanced m ys)
+  -- The session was read and done, and left the engine with this world.
+  abbrev pub RunsSession : RegistrationList → List ℕ → ℕ → Status → World → Type 0
+  RunsSession R session budget status after =
+      ((most_session < length session) × Appends old new long_session_text × (status ≡ BadInput) × (after ≡ no_modules) × (ys ≡ xs))
+      ⊎ ((length session ≤ most_session) × IsDone m R no_modules xs (session_from 1 budget 0 (lines_of session)) old new status after ys)
 
   -- The text that says why no engine takes the drivers was cut short.
   abbrev pub EngineStops : RegistrationList → Type 0
   EngineStops R = (why : EngineRefusal) × IsRefused m R xs why × HasFront old new (engine_text why) × (ys ≡ xs)
 
-  -- The session was not done to its end.
-  abbrev pub StopsSession : RegistrationList → List ℕ → ℕ → Type 0
-  StopsSession R session budget =
-      ((most_session < length session) × HasFront old new long_session_text × (ys ≡ xs))
-      ⊎ ((after : World) × IsCut m R no_modules xs (session_from 1 budget 0 (lines_of session)) old new after ys)
+  -- The session was not done to its end, and left the engine with this world.
+  abbrev pub StopsSession : RegistrationList → List ℕ → ℕ → World → Type 0
+  StopsSession R session budget after =
+      ((most_session < length session) × HasFront old new long_session_text × (after ≡ no_modules) × (ys ≡ xs))
+      ⊎ IsCut m R no_modules xs (session_from 1 budget 0 (lines_of session)) old new after ys
+
+module _ {V : Type 0} {P : V → Type 0} (m : (v : V) → Meaning (P v)) (xs ys : List (DynBox V Global P)) (old new : Option (List ℕ)) where
+  -- A run that came to its end: what it printed is all. An engine that took the drivers was discarded behind the session.
+  abbrev pub Ends : Result RegistrationList (List ℕ) → List ℕ → ℕ → Status → Type 0
+  Ends (Err text) session budget status = Appends old new text × (status ≡ BadInput) × (ys ≡ xs)
+  Ends (Ok R) session budget status =
+      EngineRefused m xs ys old new R status
+      ⊎ (AreTaken m R xs × (after : World) × (zs : List (DynBox V Global P)) × RunsSession m xs zs old new R session budget status after × IsDiscarded m R after zs ys)
 
   -- A run that was cut short: what it printed is a front. It may have been cut before there was an engine.
   abbrev pub Stops : Result RegistrationList (List ℕ) → List ℕ → ℕ → Type 0
   Stops (Err text) session budget = HasFront old new text × (ys ≡ xs)
   Stops (Ok R) session budget =
-      Untouched ⊎ (EngineStops R ⊎ (AreTaken m R xs × StopsSession R session budget × AreBalanced m ys))
+      Untouched m xs ys old new
+      ⊎ (EngineStops m xs ys old new R
+      ⊎ (AreTaken m R xs × (after : World) × (zs : List (DynBox V Global P)) × StopsSession m xs zs old new R session budget after × IsDiscarded m R after zs ys))
 
-  -- What a run over these texts prints and asks, by its outcome. A text that can't be read is found before anything is printed and anyone is asked.
+  -- A text that can't be read is found before anything is printed and anyone is asked. There may have been an engine, which was discarded.
+  abbrev pub Unread : Type 0
+  Unread = Untouched m xs ys old new ⊎ ((new ≡ old) × (R : RegistrationList) × AreTaken m R xs × IsDiscarded m R no_modules xs ys)
+
+  -- What a run over these texts prints and asks, by its outcome.
   abbrev pub Tells : Result RegistrationList (List ℕ) → List ℕ → ℕ → Result Status IoFault → Type 0
   Tells start session budget (Ok AllOk) = Ends start session budget AllOk
   Tells start session budget (Ok SomeRefused) = Ends start session budget SomeRefused
   Tells start session budget (Ok BadInput) = Ends start session budget BadInput
   Tells start session budget (Ok Memory) = Stops start session budget
   Tells start session budget (Err io.Write) = Stops start session budget
-  Tells start session budget (Err io.Read) = Untouched
+  Tells start session budget (Err io.Read) = Unread
 
 -- a profile that was loaded printed nothing, and one that wasn't said why
 abbrev pub Starts : Result RegistrationList (List ℕ) → RegistrationList → Option (List ℕ) → Option (List ℕ) → Bool → Type 0

@@ -68,8 +68,8 @@ fn run_command<W: Write>(
     ensures sound { IsSound (λ v. (⟦<dyn Driver as Driver>⟧ v).meaning) engine.new }
     ensures registrations { registrations engine.new ≡ registrations engine.old }
     ensures order { kinds_of (drivers_in engine.new) ≡ kinds_of (drivers_in engine.old) }
-    ensures done { IfOk result (λ ok. IsPrinted (λ v. (⟦<dyn Driver as Driver>⟧ v).meaning) (registrations engine.old) (world_in engine.old) (drivers_in engine.old) (action.Command command) (W.contents writer.old) (W.contents writer.new) ok (world_in engine.new) (drivers_in engine.new)) }
-    ensures cut { OnErr result (IsHalfPrinted (λ v. (⟦<dyn Driver as Driver>⟧ v).meaning) (registrations engine.old) (world_in engine.old) (drivers_in engine.old) (action.Command command) (W.contents writer.old) (W.contents writer.new) (world_in engine.new) (drivers_in engine.new)) }
+    ensures done { IfOk result (λ ok. IsPrinted (λ v. (⟦<dyn Driver as Driver>⟧ v).meaning) (registrations engine.old) (world_in (λ v. (⟦<dyn Driver as Driver>⟧ v).meaning) engine.old) (drivers_in engine.old) (action.Command command) (W.contents writer.old) (W.contents writer.new) ok (world_in (λ v. (⟦<dyn Driver as Driver>⟧ v).meaning) engine.new) (drivers_in engine.new)) }
+    ensures cut { OnErr result (IsHalfPrinted (λ v. (⟦<dyn Driver as Driver>⟧ v).meaning) (registrations engine.old) (world_in (λ v. (⟦<dyn Driver as Driver>⟧ v).meaning) engine.old) (drivers_in engine.old) (action.Command command) (W.contents writer.old) (W.contents writer.new) (world_in (λ v. (⟦<dyn Driver as Driver>⟧ v).meaning) engine.new) (drivers_in engine.new)) }
     ensures fault { IfErr result (λ e. e ≢ unread) }
 {
     let reply = engine.apply(command);
@@ -90,8 +90,8 @@ fn perform<W: Write>(
     ensures registrations { registrations engine.new ≡ registrations engine.old }
     ensures order { kinds_of (drivers_in engine.new) ≡ kinds_of (drivers_in engine.old) }
     ensures budget { IfOk result (λ x. x.1 ≡ budget_after budget action) }
-    ensures done { IfOk result (λ x. IsPrinted (λ v. (⟦<dyn Driver as Driver>⟧ v).meaning) (registrations engine.old) (world_in engine.old) (drivers_in engine.old) action (W.contents writer.old) (W.contents writer.new) x.0 (world_in engine.new) (drivers_in engine.new)) }
-    ensures cut { OnErr result (IsHalfPrinted (λ v. (⟦<dyn Driver as Driver>⟧ v).meaning) (registrations engine.old) (world_in engine.old) (drivers_in engine.old) action (W.contents writer.old) (W.contents writer.new) (world_in engine.new) (drivers_in engine.new)) }
+    ensures done { IfOk result (λ x. IsPrinted (λ v. (⟦<dyn Driver as Driver>⟧ v).meaning) (registrations engine.old) (world_in (λ v. (⟦<dyn Driver as Driver>⟧ v).meaning) engine.old) (drivers_in engine.old) action (W.contents writer.old) (W.contents writer.new) x.0 (world_in (λ v. (⟦<dyn Driver as Driver>⟧ v).meaning) engine.new) (drivers_in engine.new)) }
+    ensures cut { OnErr result (IsHalfPrinted (λ v. (⟦<dyn Driver as Driver>⟧ v).meaning) (registrations engine.old) (world_in (λ v. (⟦<dyn Driver as Driver>⟧ v).meaning) engine.old) (drivers_in engine.old) action (W.contents writer.old) (W.contents writer.new) (world_in (λ v. (⟦<dyn Driver as Driver>⟧ v).meaning) engine.new) (drivers_in engine.new)) }
     ensures fault { IfErr result (λ e. e ≢ unread) }
 {
     match action {
@@ -119,8 +119,8 @@ pub fn run_session<W: Write>(
     ensures sound { IsSound (λ v. (⟦<dyn Driver as Driver>⟧ v).meaning) engine.new }
     ensures registrations { registrations engine.new ≡ registrations engine.old }
     ensures order { kinds_of (drivers_in engine.new) ≡ kinds_of (drivers_in engine.old) }
-    ensures done { IfOk result (λ status. IsDone (λ v. (⟦<dyn Driver as Driver>⟧ v).meaning) (registrations engine.old) (world_in engine.old) (drivers_in engine.old) (session_from 1 budget 0 (lines_of text.now)) (W.contents writer.old) (W.contents writer.new) status (world_in engine.new) (drivers_in engine.new)) }
-    ensures cut { OnErr result (IsCut (λ v. (⟦<dyn Driver as Driver>⟧ v).meaning) (registrations engine.old) (world_in engine.old) (drivers_in engine.old) (session_from 1 budget 0 (lines_of text.now)) (W.contents writer.old) (W.contents writer.new) (world_in engine.new) (drivers_in engine.new)) }
+    ensures done { IfOk result (λ status. IsDone (λ v. (⟦<dyn Driver as Driver>⟧ v).meaning) (registrations engine.old) (world_in (λ v. (⟦<dyn Driver as Driver>⟧ v).meaning) engine.old) (drivers_in engine.old) (session_from 1 budget 0 (lines_of text.now)) (W.contents writer.old) (W.contents writer.new) status (world_in (λ v. (⟦<dyn Driver as Driver>⟧ v).meaning) engine.new) (drivers_in engine.new)) }
+    ensures cut { OnErr result (IsCut (λ v. (⟦<dyn Driver as Driver>⟧ v).meaning) (registrations engine.old) (world_in (λ v. (⟦<dyn Driver as Driver>⟧ v).meaning) engine.old) (drivers_in engine.old) (session_from 1 budget 0 (lines_of text.now)) (W.contents writer.old) (W.contents writer.new) (world_in (λ v. (⟦<dyn Driver as Driver>⟧ v).meaning) engine.new) (drivers_in engine.new)) }
     ensures fault { IfErr result (λ e. e ≢ unread) }
 {
     let mut rest = text;

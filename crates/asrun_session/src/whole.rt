@@ -9,7 +9,7 @@ ghost use Rattle.asrun_session.specs.Drivers.{kinds_of, AreListed, AreRefused, A
 ghost use Rattle.asrun_session.specs.Lines.{lines_of};
 ghost use Rattle.asrun_session.specs.Profile.{loaded};
 ghost use Rattle.asrun_session.specs.Reading.{unread, IsReadThrough};
-ghost use Rattle.asrun_session.specs.Whole.{profile_fault_text, registered_by, most_profile, most_session, start_of, Starts, Tells, RunsSession, StopsSession, StartStops, Ends, Stops, Untouched, outcome_of, fresh};
+ghost use Rattle.asrun_session.specs.Whole.{profile_fault_text, registered_by, most_profile, most_session, start_of, Starts, Tells, RunsSession, StopsSession, StartStops, Ends, Stops, Untouched, Unread, outcome_of, fresh};
 ghost use Rattle.asrun_session.specs.Writing.{HasFront, unwritten};
 
 use crate::ending::{IoFault, Status, Stop};
@@ -110,13 +110,14 @@ fn run_text<R: Read, W: Write>(
     budget: u64,
 ) -> Result<Status, Stop>
     requires sound { IsSound (λ v. (⟦<dyn Driver as Driver>⟧ v).meaning) engine.old }
-    requires new { world_in engine.old ≡ no_modules }
+    requires new { world_in (λ v. (⟦<dyn Driver as Driver>⟧ v).meaning) engine.old ≡ no_modules }
     ensures sound { IsSound (λ v. (⟦<dyn Driver as Driver>⟧ v).meaning) engine.new }
     ensures order { kinds_of (drivers_in engine.new) ≡ kinds_of (drivers_in engine.old) }
-    ensures done { IfOk result (λ status. IfSome (R.remaining reader.old) (λ text. RunsSession (λ v. (⟦<dyn Driver as Driver>⟧ v).meaning) (drivers_in engine.old) (drivers_in engine.new) (W.contents writer.old) (W.contents writer.new) (registrations engine.old) text budget status)) }
-    ensures cut { OnErr result (IfSome (R.remaining reader.old) (λ text. StopsSession (λ v. (⟦<dyn Driver as Driver>⟧ v).meaning) (drivers_in engine.old) (drivers_in engine.new) (W.contents writer.old) (W.contents writer.new) (registrations engine.old) text budget)) }
+    ensures done { IfOk result (λ status. IfSome (R.remaining reader.old) (λ text. RunsSession (λ v. (⟦<dyn Driver as Driver>⟧ v).meaning) (drivers_in engine.old) (drivers_in engine.new) (W.contents writer.old) (W.contents writer.new) (registrations engine.old) text budget status (world_in (λ v. (⟦<dyn Driver as Driver>⟧ v).meaning) engine.new))) }
+    ensures cut { OnErr result (IfSome (R.remaining reader.old) (λ text. StopsSession (λ v. (⟦<dyn Driver as Driver>⟧ v).meaning) (drivers_in engine.old) (drivers_in engine.new) (W.contents writer.old) (W.contents writer.new) (registrations engine.old) text budget (world_in (λ v. (⟦<dyn Driver as Driver>⟧ v).meaning) engine.new))) }
     ensures read { IfErr result (λ e. e ≡ unwritten → IsReadThrough most_session (R.remaining reader.old) (R.remaining reader.new)) }
     ensures fault { IfErr result (λ e. e ≡ unread → Untouched (λ v. (⟦<dyn Driver as Driver>⟧ v).meaning) (drivers_in engine.old) (drivers_in engine.new) (W.contents writer.old) (W.contents writer.new)) }
+    ensures unread_world { IfErr result (λ e. e ≡ unread → world_in (λ v. (⟦<dyn Driver as Driver>⟧ v).meaning) engine.new ≡ no_modules) }
 {
     match read_text(alloc, reader, MOST_SESSION)? {
         Text::Whole(text) => run_session(alloc, engine, writer, &text, budget),
@@ -168,7 +169,7 @@ fn run_engine<R: Read, W: Write>(
     ensures order { kinds_of result.1.items ≡ kinds_of (members drivers) }
     ensures returned { (result.1.items ≡ members drivers)
         ⊎ AreBalanced (λ v. (⟦<dyn Driver as Driver>⟧ v).meaning) result.1.items }
-    ensures fault { IfErr result.0 (λ e. e ≡ unread → Untouched (λ v. (⟦<dyn Driver as Driver>⟧ v).meaning) (members drivers) result.1.items (W.contents writer.old) (W.contents writer.new)) }
+    ensures fault { IfErr result.0 (λ e. e ≡ unread → Unread (λ v. (⟦<dyn Driver as Driver>⟧ v).meaning) (members drivers) result.1.items (W.contents writer.old) (W.contents writer.new)) }
 {
     match Engine::new(alloc, registry, drivers) {
         Ok(mut engine) => {
@@ -208,7 +209,7 @@ fn run_drivers<R: Read, W: Write>(
     ensures order { kinds_of result.1.items ≡ kinds_of drivers.items }
     ensures returned { (result.1.items ≡ drivers.items)
         ⊎ (AreListed (λ v. (⟦<dyn Driver as Driver>⟧ v).meaning) drivers.items × AreBalanced (λ v. (⟦<dyn Driver as Driver>⟧ v).meaning) result.1.items) }
-    ensures fault { IfErr result.0 (λ e. e ≡ unread → Untouched (λ v. (⟦<dyn Driver as Driver>⟧ v).meaning) drivers.items result.1.items (W.contents writer.old) (W.contents writer.new)) }
+    ensures fault { IfErr result.0 (λ e. e ≡ unread → Unread (λ v. (⟦<dyn Driver as Driver>⟧ v).meaning) drivers.items result.1.items (W.contents writer.old) (W.contents writer.new)) }
 {
     match Drivers::new(drivers) {
         Ok(drivers) => run_engine(alloc, reader, writer, registry, drivers, budget),

@@ -22,7 +22,6 @@ pub fn show(alloc: Global, e: &Expression, out: &mut String) -> Result<(), Alloc
     match e {
         Expression::Number(n) => out.push_str(format!(in alloc; "{n}")?.as_str()),
         Expression::Null => out.push_str("null"),
-        Expression::NoKey(driver) => out.push_str(format!(in alloc; "null{driver}")?.as_str()),
         Expression::Local(i) => out.push_str(format!(in alloc; "l{i}")?.as_str()),
         Expression::Assign(i, value) => {
             out.push_str(format!(in alloc; "(l{i} =) ")?.as_str())?;

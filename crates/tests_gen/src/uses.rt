@@ -32,7 +32,8 @@ fn params(alloc: Global) -> Result<Vec<Param>, AllocError> {
     Ok(params)
 }
 
-/// An entry of driver 3 with the driver's number 7, that takes an `int64` and a handle and gives a `bool`.
+/// A `const` entry of driver 3 with the driver's number 7, that takes an `int64` and a handle and gives a
+/// `bool`.
 fn entry(alloc: Global, kind: EntryKind) -> Result<Entry, AllocError> {
     let params = params(alloc)?;
     Ok(Entry {
@@ -44,7 +45,7 @@ fn entry(alloc: Global, kind: EntryKind) -> Result<Entry, AllocError> {
             name: List::from_vec(Vec::new(alloc)),
             result: TypeRef::Plain(Prim::Bool),
             params: List::from_vec(params),
-            read_only: false,
+            read_only: true,
         },
         mask: Mask(1),
     })
@@ -56,25 +57,26 @@ fn used(alloc: Global, kind: EntryKind) -> Result<HostUse, AllocError> {
     host_use(alloc, &entry)
 }
 
-/// The role of an entry of that kind, whether it belongs to an object, and its driver.
-fn role(alloc: Global, kind: EntryKind) -> Result<(Role, bool, u32), AllocError> {
+/// The role of an entry of that kind, whether it belongs to an object, whether it is a property that is
+/// never written, and its driver.
+fn role(alloc: Global, kind: EntryKind) -> Result<(Role, bool, bool, u32), AllocError> {
     let found = used(alloc, kind)?;
-    Ok((found.role, found.member, found.driver))
+    Ok((found.role, found.member, found.read_only, found.driver))
 }
 
-const ROLES: [(EntryKind, Role, bool); 5] = [
-    (EntryKind::Factory, Role::Making(7), false),
-    (EntryKind::Method, Role::Calling(7), true),
-    (EntryKind::Property, Role::Property(7), true),
-    (EntryKind::Function, Role::Calling(7), false),
-    (EntryKind::Global, Role::Property(7), false),
+const ROLES: [(EntryKind, Role, bool, bool); 5] = [
+    (EntryKind::Factory, Role::Making(7), false, false),
+    (EntryKind::Method, Role::Calling(7), true, false),
+    (EntryKind::Property, Role::Property(7), true, true),
+    (EntryKind::Function, Role::Calling(7), false, false),
+    (EntryKind::Global, Role::Property(7), false, true),
 ];
 
 #[test]
 fn each_kind_has_its_role(rt: HostRuntime) -> Result<(), AllocError> {
-    for (kind, want, member) in ROLES {
+    for (kind, want, member, fixed) in ROLES {
         let found = role(rt.alloc(), kind)?;
-        assert!(rt; found == (want, member, 3), "{kind:?}");
+        assert!(rt; found == (want, member, fixed, 3), "{kind:?}");
     }
     Ok(())
 }

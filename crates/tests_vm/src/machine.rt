@@ -1,87 +1,250 @@
-//! The machine with a console, and calls on it.
-ghost use Rattle.std.specs.Prelude.{◌≡◌, ◌&&◌, ltb, IsTrue};
+//! The machine with the sample drivers, and runs on it.
+ghost use Rattle.std.specs.Prelude.{◌≡◌, ◌≢◌, Err, IsTrue, IfOk, IfSome, Vec, [], length, vec_len};
 ghost use Rattle.std.specs.List.{list_all};
-ghost use Rattle.ang_vm_ask.specs.Plain.{is_plain};
-ghost use Rattle.ang_vm.specs.Machines.{HasPlainEntities};
+ghost use Rattle.std.specs.declared.alloc.Global.{Global};
+ghost use Rattle.ang_kinds.specs.declared.fault.Fault.TheVariants.{Null as NullFault};
+ghost use Rattle.ang_host.specs.declared.event.HostEvent.{HostEvent};
+ghost use Rattle.ang_host.specs.Boxes.{members};
+ghost use Rattle.ang_host.specs.Members.{states_of, AreFresh};
+ghost use Rattle.ang_meaning.specs.Counting.{IsCounted};
+ghost use Rattle.ang_heap.specs.Stores.{world_of, IsReady};
+ghost use Rattle.ang_vm.specs.Machines.{lent};
+ghost use Rattle.ang_vm_ask.specs.Entities.{DriversThere};
+ghost use Rattle.tests_vm.specs.Ready.{is_below, names_nothing, MayBegin};
 
-use ang_drivers::Console;
+use crate::program::first_globals;
+use ang_drivers::{Cell, Console, Counter};
+use ang_heap::{Globals, Heap, Store};
 use ang_host::{Driver, Drivers, HostEvent};
 use ang_kinds::Fault;
 use ang_meaning::{HostUse, Routine, Slot};
-use ang_vm::{Globals, Machine, run, run_initializer};
-use ang_vm_ask::is_plain;
-use ang_vm_steps::table::Table;
+use ang_vm::{Machine, run, run_initializer};
+use ang_vm_stack::table::{ModuleCode, Table};
 use std::alloc::{AllocError, Global};
 
-/// Whether an entity is one of the only driver, by which no objects pass.
-fn is_plain_use(host: &HostUse) -> bool
-    ensures exact { result ≡ (is_plain host.now && ltb host.now.driver 1) }
+/// Whether an entity's driver is one of so many.
+fn has_driver(entity: &Option<HostUse>, count: usize) -> bool
+    ensures exact { result ≡ is_below count entity.now }
 {
-    is_plain(host) && host.driver < 1
+    match entity {
+        Some(host) => (host.driver as usize) < count,
+        None => true,
+    }
 }
 
-fn are_plain(entities: &[HostUse]) -> bool
-    ensures exact { result ≡ list_all (λ u. is_plain u && ltb u.driver 1) entities.now }
+fn has_drivers(code: &ModuleCode, count: usize) -> bool
+    ensures exact { result ≡ list_all (is_below count) code.now.entities.items }
 {
-    entities.iter().all(|host| is_plain_use(host))
+    code.entities.iter().all(|entity| has_driver(entity, count))
 }
 
-/// Whether each entity of a table is such a one.
-fn has_plain_entities(table: &Table) -> bool
-    ensures plain { IsTrue result → HasPlainEntities table.now 1 }
+fn have_drivers(table: &Table, count: usize) -> bool
+    ensures exact { result ≡ list_all (λ m. list_all (is_below count) m.entities.items) table.now.modules.items }
 {
-    are_plain(table.entities.as_slice())
+    table
+        .modules
+        .iter()
+        .all(|module| has_drivers(module, count))
 }
 
-/// The machine with one console, and one module of two globals.
-pub fn with_console(alloc: Global) -> Result<Option<Machine>, AllocError> {
-    let mut modules = Vec::new(alloc);
-    modules.push(vec![in alloc; Slot::Bits(0); 2]?)?;
-    let globals = Globals { modules };
+/// Whether the driver of each entity of a table is one of so many.
+fn drivers_are_there(table: &Table, count: usize) -> bool
+    ensures there { IsTrue result → DriversThere table.now count }
+{
+    have_drivers(table, count)
+}
+
+fn is_empty(value: &Slot) -> bool
+    ensures exact { result ≡ names_nothing value.now }
+{
+    match value {
+        Slot::Bits(_) => true,
+        Slot::Script(None) => true,
+        Slot::Script(Some(_)) => false,
+        Slot::Host(_, _) => false,
+    }
+}
+
+fn are_empty(globals: &Vec<Slot>) -> bool
+    ensures exact { result ≡ list_all names_nothing globals.now.items }
+{
+    globals.iter().all(|value| is_empty(value))
+}
+
+/// Whether no global of any module holds an object.
+fn all_are_empty(modules: &Vec<Vec<Slot>>) -> bool
+    ensures exact { result ≡ list_all (λ globals. list_all names_nothing globals.items) modules.now.items }
+{
+    modules.iter().all(|globals| are_empty(globals))
+}
+
+/// A machine on these drivers, with such globals.
+fn machine_of(alloc: Global, drivers: Drivers, modules: Vec<Vec<Slot>>) -> Machine
+    requires fresh { AreFresh (states_of (λ v. (⟦<dyn Driver as Driver>⟧ v).meaning) (members drivers)) }
+    requires empty { IsTrue (list_all (λ globals. list_all names_nothing globals.items) modules.items) }
+    ensures begins { (events : Vec HostEvent Global) → vec_len events ≡ 0 → MayBegin (λ v. (⟦<dyn Driver as Driver>⟧ v).meaning) result events }
+{
+    let heap = Heap::new(alloc);
+    let ends = Vec::new(alloc);
+    Machine {
+        store: Store {
+            heap,
+            globals: Globals { modules },
+            drivers,
+            events: Vec::new(alloc),
+            ends,
+            live: 0,
+        },
+    }
+}
+
+/// The machine with a console, a counter and a cell, and with the globals of all modules.
+pub fn with_drivers(alloc: Global) -> Result<Option<Machine>, AllocError>
+    ensures begins { IfOk result (λ made. IfSome made (λ machine. (events : Vec HostEvent Global) → vec_len events ≡ 0 → MayBegin (λ v. (⟦<dyn Driver as Driver>⟧ v).meaning) machine events)) }
+{
+    let globals = first_globals(alloc)?;
+    if !all_are_empty(&globals) {
+        return Ok(None);
+    }
     let mut boxes: Vec<Box<dyn Driver>> = Vec::new(alloc);
     boxes.push(Box::new(alloc, Console::new(alloc)?)?)?;
+    boxes.push(Box::new(alloc, Counter::new(alloc)?)?)?;
+    boxes.push(Box::new(alloc, Cell::new(alloc)?)?)?;
     match Drivers::new(boxes) {
-        Ok(drivers) => Ok(Some(Machine { drivers, globals })),
+        Ok(drivers) => Ok(Some(machine_of(alloc, drivers, globals))),
         Err(_) => Ok(None),
     }
 }
 
 /// Takes a machine apart, which can't be dropped.
 pub fn end(machine: Machine) {
-    let Machine {
-        drivers,
+    let Machine { store } = machine;
+    let Store {
+        heap: _,
         globals: _,
-    } = machine;
+        drivers,
+        events: _,
+        ends: _,
+        live: _,
+    } = store;
     drop(drivers.into_boxes());
 }
 
-/// A call of a body; nothing where the table is none of plain entities of one driver.
+/// A call of a body, with no arguments.
+///
+/// # Errors
+/// The fault of the script.
+fn call_alone(
+    table: &Table,
+    machine: &mut Machine,
+    entry: Routine,
+    budget: u64,
+    events: &mut Vec<HostEvent>,
+) -> Result<Slot, Fault>
+    requires drivers { DriversThere table.now (length (members machine.old.store.drivers)) }
+    requires begins { MayBegin (λ v. (⟦<dyn Driver as Driver>⟧ v).meaning) machine.old events.old }
+    ensures ready { IsReady (λ v. (⟦<dyn Driver as Driver>⟧ v).meaning) (lent machine.new events.new) }
+    ensures counted { result ≢ Err NullFault → IsCounted [] (world_of (λ v. (⟦<dyn Driver as Driver>⟧ v).meaning) (lent machine.new events.new)) }
+{
+    run(table, machine, entry, &[], budget, events)
+}
+
+/// A call of a body, with a number.
+///
+/// # Errors
+/// The fault of the script.
+fn call_with(
+    table: &Table,
+    machine: &mut Machine,
+    entry: Routine,
+    number: u64,
+    budget: u64,
+    events: &mut Vec<HostEvent>,
+) -> Result<Slot, Fault>
+    requires drivers { DriversThere table.now (length (members machine.old.store.drivers)) }
+    requires begins { MayBegin (λ v. (⟦<dyn Driver as Driver>⟧ v).meaning) machine.old events.old }
+    ensures ready { IsReady (λ v. (⟦<dyn Driver as Driver>⟧ v).meaning) (lent machine.new events.new) }
+    ensures counted { result ≢ Err NullFault → IsCounted [] (world_of (λ v. (⟦<dyn Driver as Driver>⟧ v).meaning) (lent machine.new events.new)) }
+{
+    run(table, machine, entry, &[Slot::Bits(number)], budget, events)
+}
+
+/// The number that a run gives.
+///
+/// # Errors
+/// The fault of the script, and `Null` too where the value is no number.
+fn number_of(ended: Result<Slot, Fault>) -> Result<u64, Fault>
+    ensures same { result ≢ Err NullFault → ended ≢ Err NullFault }
+{
+    match ended {
+        Ok(value) => match value {
+            Slot::Bits(number) => Ok(number),
+            Slot::Script(_) => Err(Fault::Null),
+            Slot::Host(_, _) => Err(Fault::Null),
+        },
+        Err(fault) => Err(fault),
+    }
+}
+
+/// A call of a body, with a number or with nothing.
+///
+/// # Errors
+/// The fault of the script; `Null` too where its value is no number, or where the driver of an entity is not there.
 pub fn call(
     table: &Table,
     machine: &mut Machine,
-    number: u32,
-    args: &[Slot],
+    entry: Routine,
+    arg: Option<u64>,
     budget: u64,
     events: &mut Vec<HostEvent>,
-) -> Option<Result<Slot, Fault>> {
-    if machine.drivers.len() != 1 || !has_plain_entities(table) {
-        return None;
+) -> Result<u64, Fault>
+    requires begins { MayBegin (λ v. (⟦<dyn Driver as Driver>⟧ v).meaning) machine.old events.old }
+    ensures begins { result ≢ Err NullFault → MayBegin (λ v. (⟦<dyn Driver as Driver>⟧ v).meaning) machine.new events.new }
+{
+    if !drivers_are_there(table, machine.store.drivers.len()) {
+        return Err(Fault::Null);
     }
-    let entry = Routine { home: 0, number };
-    Some(run(table, machine, entry, args, budget, events))
+    match arg {
+        Some(number) => number_of(call_with(table, machine, entry, number, budget, events)),
+        None => number_of(call_alone(table, machine, entry, budget, events)),
+    }
 }
 
-/// A run of an initializer, likewise.
+/// A run of an initializer: the ticks that it leaves.
+///
+/// # Errors
+/// The fault of the script.
+fn initialize_alone(
+    table: &Table,
+    machine: &mut Machine,
+    entry: Routine,
+    ticks: u64,
+    events: &mut Vec<HostEvent>,
+) -> Result<u64, Fault>
+    requires drivers { DriversThere table.now (length (members machine.old.store.drivers)) }
+    requires begins { MayBegin (λ v. (⟦<dyn Driver as Driver>⟧ v).meaning) machine.old events.old }
+    ensures ready { IsReady (λ v. (⟦<dyn Driver as Driver>⟧ v).meaning) (lent machine.new events.new) }
+    ensures counted { result ≢ Err NullFault → IsCounted [] (world_of (λ v. (⟦<dyn Driver as Driver>⟧ v).meaning) (lent machine.new events.new)) }
+{
+    run_initializer(table, machine, entry, ticks, events)
+}
+
+/// The same.
+///
+/// # Errors
+/// The fault of the script, and `Null` too where the driver of an entity is not there.
 pub fn initialize(
     table: &Table,
     machine: &mut Machine,
-    number: u32,
+    entry: Routine,
     ticks: u64,
     events: &mut Vec<HostEvent>,
-) -> Option<Result<u64, Fault>> {
-    if machine.drivers.len() != 1 || !has_plain_entities(table) {
-        return None;
+) -> Result<u64, Fault>
+    requires begins { MayBegin (λ v. (⟦<dyn Driver as Driver>⟧ v).meaning) machine.old events.old }
+    ensures begins { result ≢ Err NullFault → MayBegin (λ v. (⟦<dyn Driver as Driver>⟧ v).meaning) machine.new events.new }
+{
+    if !drivers_are_there(table, machine.store.drivers.len()) {
+        return Err(Fault::Null);
     }
-    let entry = Routine { home: 0, number };
-    Some(run_initializer(table, machine, entry, ticks, events))
+    initialize_alone(table, machine, entry, ticks, events)
 }

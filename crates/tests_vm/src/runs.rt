@@ -1,196 +1,204 @@
-//! Runs on one machine, one behind the other: what each gives, and what the host was asked.
-use crate::machine::{call, end, initialize, with_console};
-use crate::texts::{REGISTER, table};
-use ang_host::{Answer, HostEvent, HostReply};
-use ang_kinds::{EntityNo, Fault, Value};
-use ang_meaning::Slot;
-use ang_vm::Machine;
-use ang_vm_steps::table::Table;
-use std::alloc::{AllocError, Global};
-use std::test::Fail;
+//! Runs on one machine, one behind the other: what each gives, what the host was asked, and what lives then.
+ghost use Rattle.std.specs.Prelude.{◌≡◌, ◌≢◌, Err};
+ghost use Rattle.ang_kinds.specs.declared.fault.Fault.TheVariants.{Null as NullFault};
+ghost use Rattle.tests_vm.specs.Ready.{MayBegin};
+ghost use Rattle.tests_vm.specs.declared.runs.Verdict as Verdict;
 
-/// A run of a body of the table with a budget, and what it gives.
+use crate::listed::{first_other, live_behind};
+use crate::machine::{call, end, initialize, with_drivers};
+use ang_host::{Driver, HostEvent};
+use ang_kinds::Fault;
+use ang_meaning::Routine;
+use ang_vm::Machine;
+use ang_vm_stack::table::Table;
+use std::alloc::{AllocError, Global};
+
+/// A run of a body with a budget, and what it gives.
 #[derive(Clone, Copy)]
-enum Turn {
-    /// A call, with arguments.
-    Call(u32, &'static [Slot], u64, Result<Slot, Fault>),
-    /// A call without arguments that gives a number, on ten ticks.
+pub enum Turn {
+    /// A call, with a number or nothing.
+    Call(u32, Option<u64>, u64, Result<u64, Fault>),
+    /// A call without arguments that gives a number, on a thousand ticks.
     Gives(u32, u64),
-    /// A call without arguments that faults, on ten ticks.
+    /// A call without arguments that faults, on a thousand ticks.
     Faults(u32, Fault),
     /// An initializer, and the ticks that it leaves.
     Initializes(u32, u64, Result<u64, Fault>),
 }
 
-const FIB_OF_10: Turn = Turn::Call(0, &[Slot::Bits(10)], 1000, Ok(Slot::Bits(55)));
+/// Its name, the module's number, turns on a new machine, and all that is listed then. Behind the last turn no global
+/// holds an object.
+pub type Case = (&'static str, u32, &'static [Turn], &'static str);
 
-/// A loop takes a tick at its entry, one before it and one for each turn back. A body that calls itself ends by the
-/// depth, or by the budget where that is less. Where there is less on the stack than is taken, a run is `Null`. An
-/// initializer takes no tick at its entry.
-const TURNS: [Turn; 19] = [
-    FIB_OF_10,
-    Turn::Call(0, &[], 1000, Err(Fault::Null)),
-    Turn::Call(1, &[], 12, Ok(Slot::Bits(10))),
-    Turn::Call(1, &[], 11, Err(Fault::Budget)),
-    Turn::Call(1, &[], 0, Err(Fault::Budget)),
-    Turn::Call(2, &[], 1000, Err(Fault::Depth)),
-    Turn::Call(2, &[], 200, Err(Fault::Depth)),
-    Turn::Call(2, &[], 199, Err(Fault::Budget)),
-    Turn::Gives(3, u64::MAX - 24),
-    Turn::Faults(5, Fault::DivideByZero),
-    Turn::Gives(6, 40),
-    Turn::Gives(6, 80),
-    Turn::Faults(7, Fault::Host(77)),
-    Turn::Faults(8, Fault::BadAnswer),
-    Turn::Gives(9, 300),
-    Turn::Gives(10, 9),
-    Turn::Initializes(12, 3, Ok(3)),
-    Turn::Gives(13, 6),
-    Turn::Initializes(14, 1, Err(Fault::Budget)),
-];
+/// What is not as it should be.
+#[derive(Clone, Copy, PartialEq, Eq, Debug)]
+pub enum Wrong {
+    /// The turn of that number gives something else.
+    Turn(usize),
+    /// Behind that turn other objects live than the events say.
+    Level(usize),
+    /// From that byte on something else is listed.
+    Listed(usize),
+    /// Behind the last turn something lives.
+    Left,
+    /// There is no machine.
+    Machine,
+}
 
-/// An asking: the entity, the arguments and the answer.
-type Listed = (EntityNo, &'static [Value], Answer);
+const DRIVERS: u32 = 3;
 
-const LISTED: [Listed; 12] = [
-    (EntityNo(0), &[Value::Int(5)], Answer::Void),
-    (
-        EntityNo(1),
-        &[Value::Int(30), Value::Int(2)],
-        Answer::Gave(Value::Int(32)),
-    ),
-    (EntityNo(0), &[Value::Int(9)], Answer::Void),
-    (EntityNo(0), &[Value::Int(1)], Answer::Void),
-    (REGISTER, &[], Answer::Gave(Value::Int(0))),
-    (REGISTER, &[Value::Int(40)], Answer::Void),
-    (REGISTER, &[], Answer::Gave(Value::Int(40))),
-    (REGISTER, &[Value::Int(80)], Answer::Void),
-    (EntityNo(3), &[Value::Uint(77)], Answer::Fault(77)),
-    (
-        EntityNo(2),
-        &[Value::Int(200), Value::Int(0)],
-        Answer::Gave(Value::Int(200)),
-    ),
-    (REGISTER, &[Value::Int(300)], Answer::Void),
-    (REGISTER, &[], Answer::Gave(Value::Int(300))),
-];
+/// What became of a turn.
+#[derive(Clone, Copy, PartialEq, Eq, Debug)]
+enum Verdict {
+    /// It gave something else.
+    Wrong,
+    /// It gave that, and another turn may follow.
+    Right,
+    /// It gave `Null`, as it should. Of what lost code leaves nothing is promised, so no other turn follows.
+    Last,
+}
 
-fn runs_so(table: &Table, machine: &mut Machine, turn: &Turn, events: &mut Vec<HostEvent>) -> bool {
-    match *turn {
-        Turn::Call(number, args, budget, want) => {
-            call(table, machine, number, args, budget, events) == Some(want)
-        }
-        Turn::Gives(number, value) => {
-            call(table, machine, number, &[], 10, events) == Some(Ok(Slot::Bits(value)))
-        }
-        Turn::Faults(number, fault) => {
-            call(table, machine, number, &[], 10, events) == Some(Err(fault))
-        }
-        Turn::Initializes(number, ticks, want) => {
-            initialize(table, machine, number, ticks, events) == Some(want)
-        }
+/// A run, with what it is to give.
+#[derive(Clone, Copy)]
+struct Run {
+    entry: Routine,
+    arg: Option<u64>,
+    budget: u64,
+    initializes: bool,
+    want: Result<u64, Fault>,
+}
+
+fn run_of(home: u32, turn: &Turn) -> Run {
+    let (number, arg, budget, initializes, want) = match *turn {
+        Turn::Call(number, arg, budget, want) => (number, arg, budget, false, want),
+        Turn::Gives(number, value) => (number, None, 1000, false, Ok(value)),
+        Turn::Faults(number, fault) => (number, None, 1000, false, Err(fault)),
+        Turn::Initializes(number, ticks, want) => (number, None, ticks, true, want),
+    };
+    Run {
+        entry: Routine { home, number },
+        arg,
+        budget,
+        initializes,
+        want,
     }
 }
 
-/// The first turn that gives something else.
+fn run_once(
+    table: &Table,
+    machine: &mut Machine,
+    run: Run,
+    events: &mut Vec<HostEvent>,
+) -> Result<u64, Fault>
+    requires begins { MayBegin (λ v. (⟦<dyn Driver as Driver>⟧ v).meaning) machine.old events.old }
+    ensures begins { result ≢ Err NullFault → MayBegin (λ v. (⟦<dyn Driver as Driver>⟧ v).meaning) machine.new events.new }
+{
+    if run.initializes {
+        initialize(table, machine, run.entry, run.budget, events)
+    } else {
+        call(table, machine, run.entry, run.arg, run.budget, events)
+    }
+}
+
+/// A run, and once again where it found no memory.
+fn run_again(
+    table: &Table,
+    machine: &mut Machine,
+    run: Run,
+    events: &mut Vec<HostEvent>,
+) -> Result<u64, Fault>
+    requires begins { MayBegin (λ v. (⟦<dyn Driver as Driver>⟧ v).meaning) machine.old events.old }
+    ensures begins { result ≢ Err NullFault → MayBegin (λ v. (⟦<dyn Driver as Driver>⟧ v).meaning) machine.new events.new }
+{
+    match run_once(table, machine, run, events) {
+        Err(Fault::Memory) => run_once(table, machine, run, events),
+        ended => ended,
+    }
+}
+
+fn verdict_on(ended: Result<u64, Fault>, want: Result<u64, Fault>) -> Verdict
+    ensures goes_on { result ≡ Verdict.Right → ended ≢ Err NullFault }
+{
+    if ended != want {
+        return Verdict::Wrong;
+    }
+    match ended {
+        Err(Fault::Null) => Verdict::Last,
+        _ => Verdict::Right,
+    }
+}
+
+/// Takes a turn.
+fn take(table: &Table, machine: &mut Machine, run: Run, events: &mut Vec<HostEvent>) -> Verdict
+    requires begins { MayBegin (λ v. (⟦<dyn Driver as Driver>⟧ v).meaning) machine.old events.old }
+    ensures goes_on { result ≡ Verdict.Right → MayBegin (λ v. (⟦<dyn Driver as Driver>⟧ v).meaning) machine.new events.new }
+{
+    let ended = run_again(table, machine, run, events);
+    verdict_on(ended, run.want)
+}
+
+/// Whether a driver is idle just where the events say that none of its objects lives, and how many live.
+fn live_of(machine: &Machine, driver: u32, events: &[HostEvent]) -> Option<usize> {
+    if driver as usize >= machine.store.drivers.len() {
+        return None;
+    }
+    let live = live_behind(events, driver)?;
+    (machine.store.drivers.idle(driver) == (live == 0)).then_some(live)
+}
+
+/// How many host objects live by the events; none where that is not what the drivers say.
+fn all_live(machine: &Machine, events: &[HostEvent]) -> Option<usize> {
+    let mut live: usize = 0;
+    for driver in 0..DRIVERS {
+        live = live.checked_add(live_of(machine, driver, events)?)?;
+    }
+    Some(live)
+}
+
+/// Whether the drivers, the events and the store say the same of what lives.
+fn is_level(machine: &Machine, events: &[HostEvent]) -> bool {
+    all_live(machine, events) == Some(machine.store.live)
+}
+
+/// The first turn that is wrong.
 fn first_wrong(
     table: &Table,
     machine: &mut Machine,
-    turns: &[Turn],
+    case: &Case,
     events: &mut Vec<HostEvent>,
-) -> Option<usize> {
-    for (at, turn) in turns.iter().enumerate() {
-        if !runs_so(table, machine, turn, events) {
-            return Some(at);
+) -> Option<Wrong>
+    requires begins { MayBegin (λ v. (⟦<dyn Driver as Driver>⟧ v).meaning) machine.old events.old }
+{
+    for (at, turn) in case.2.iter().enumerate() {
+        let verdict = take(table, machine, run_of(case.1, turn), events);
+        if verdict == Verdict::Wrong {
+            return Some(Wrong::Turn(at));
+        }
+        if !is_level(machine, events) {
+            return Some(Wrong::Level(at));
+        }
+        if verdict == Verdict::Last {
+            return None;
         }
     }
     None
 }
 
-/// What is wrong with the turns on a machine of their own, which lists its events behind those there.
-fn wrong_of(
-    alloc: Global,
-    table: &Table,
-    events: &mut Vec<HostEvent>,
-) -> Result<Option<usize>, AllocError> {
-    let Some(mut machine) = with_console(alloc)? else {
-        return Ok(Some(TURNS.len()));
+/// Whether something lives still.
+fn is_left(machine: &Machine) -> bool {
+    machine.store.live > 0 || !machine.store.heap.is_empty()
+}
+
+/// What is wrong with a case: with its turns, with what lives behind them, or with what is listed. With each growth
+/// of memory refused in turn, a run may find none, and the next one does; nothing is said of what is listed then.
+pub fn wrong_in(alloc: Global, table: &Table, case: &Case) -> Result<Option<Wrong>, AllocError> {
+    let Some(mut machine) = with_drivers(alloc)? else {
+        return Ok(Some(Wrong::Machine));
     };
-    let wrong = first_wrong(table, &mut machine, &TURNS, events);
-    end(machine);
-    Ok(wrong)
-}
-
-/// Whether an event lists such an asking by the module "m".
-fn lists(event: &HostEvent, want: &Listed) -> bool {
-    match event {
-        HostEvent::Called {
-            caller,
-            entity,
-            driver,
-            object,
-            args: listed,
-            reply,
-        } => {
-            caller.as_slice() == b"m".as_slice()
-                && *entity == want.0
-                && *driver == 0
-                && object.is_none()
-                && listed.as_slice() == want.1
-                && *reply == HostReply::Asking(want.2)
-        }
-        HostEvent::Ended { .. } => false,
-    }
-}
-
-/// The place of the first event that lists something else, or that one of the two lists lacks.
-fn first_unlisted(events: &[HostEvent], wanted: &[Listed]) -> Option<usize> {
-    for (at, event) in events.iter().enumerate() {
-        match wanted.get(at) {
-            Some(want) if lists(event, want) => {}
-            _ => return Some(at),
-        }
-    }
-    (events.len() < wanted.len()).then_some(events.len())
-}
-
-/// The first turn that gives something else, and the first event that is not as listed.
-fn wrong_runs(alloc: Global) -> Result<(Option<usize>, Option<usize>), AllocError> {
-    let table = table(alloc)?;
     let mut events = Vec::new(alloc);
-    let wrong = wrong_of(alloc, &table, &mut events)?;
-    Ok((wrong, first_unlisted(&events, &LISTED)))
-}
-
-#[test]
-fn runs_give_and_ask(rt: HostRuntime) -> Result<(), Fail> {
-    assert_eq!(rt; wrong_runs(rt.alloc())?, (None, None));
-    Ok(())
-}
-
-/// Run with each growth of memory refused in turn, a call may find none, and the next one does.
-fn runs_again(
-    alloc: Global,
-    table: &Table,
-    events: &mut Vec<HostEvent>,
-) -> Result<bool, AllocError> {
-    let Some(mut machine) = with_console(alloc)? else {
-        return Ok(false);
-    };
-    let again = runs_so(table, &mut machine, &FIB_OF_10, events)
-        || runs_so(table, &mut machine, &FIB_OF_10, events);
-    let asks = Turn::Gives(3, u64::MAX - 24);
-    let asked = runs_so(table, &mut machine, &asks, events)
-        || runs_so(table, &mut machine, &asks, events);
+    let wrong = first_wrong(table, &mut machine, case, &mut events);
+    let left = is_left(&machine).then_some(Wrong::Left);
     end(machine);
-    Ok(again && asked)
-}
-
-#[test]
-fn a_refused_growth_is_a_fault(rt: HostRuntime) -> Result<(), Fail> {
-    let table = table(rt.alloc())?;
-    let mut events = Vec::new(rt.alloc());
-    let runs = runs_again(rt.alloc(), &table, &mut events)?;
-    assert!(rt; runs);
-    Ok(())
+    let listed = first_other(alloc, &events, case.3)?.map(Wrong::Listed);
+    Ok(wrong.or(left).or(listed))
 }

@@ -2,4 +2,4 @@ use Rattle.ang_gen.proofs.Composed.{unbound_fit}
 use Rattle.ang_gen.proofs.laws.unbound_imports_fit.Goals as goal
 
 pub returns : goal.returns
-returns c = record { fit = λ z none. unbound_fit z none }
+returns c = record { fit = λ z none bare. unbound_fit z none bare }

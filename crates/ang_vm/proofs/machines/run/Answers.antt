@@ -1,28 +1,51 @@
-use Rattle.std.proofs.Common.{◌++◌, ap, ◌∙◌}
-use Rattle.std.specs.Prelude.{reverse}
-use Rattle.ang_code.specs.Machine.{call_begins}
-use Rattle.ang_vm_steps.specs.Tables.{setting_of, texts_of}
-use Rattle.ang_vm.specs.Worlds.{values_in}
-use Rattle.ang_vm.proofs.Running.{run_told}
+use Rattle.std.proofs.Common.{[], refl, sym, subst, ap, ◌∙◌}
+use Rattle.std.specs.Prelude.{length, reverse}
+use Rattle.ang_host.specs.Boxes.{members}
+use Rattle.ang_meaning.specs.World.{with_inputs}
+use Rattle.ang_code.specs.Machine.{call_begins, initializer_begins}
+use Rattle.ang_heap.specs.Stores.{world_of, IsReady, StoreMoves}
+use Rattle.ang_vm_stack.specs.Tables.{setting_of, texts_of}
+use Rattle.ang_meaning.specs.Counting.{IsCounted}
+use Rattle.ang_vm.specs.Machines.{lent, IsLost, HasRun}
+use Rattle.ang_vm.specs.Running.{MayRun, RunMoves}
 use Rattle.ang_vm.proofs.machines.run.Goals as goal
+
+pub call_told-ended-requires : goal.call_told-ended-requires
+call_told-ended-requires g c = record {
+  may_run = subst (λ s. MayRun (λ v. (g.dyn-1.0.entry v).1.meaning) c.args.table.now (reverse c.args.args.now) s) (sym c.lend.ensures.lent) (record { ready = c.requires.ready; counted = c.requires.counted; drivers = c.requires.drivers });
+}
 
 pub returns-clause-told : goal.returns-clause-told
 returns-clause-told g c =
     let z = setting_of c.args.table.now 200 in
     let code = texts_of c.args.table.now in
-    run_told z code (λ w. call_begins z code c.args.budget c.args.entry (reverse c.args.args.now) w) c.run_call-ending.result
-    (values_in c.args.machine.now.globals) (values_in c.lend-outside.result.globals) (values_in c.run_call-ending.new.outside.globals) (values_in c.give_back.new.globals)
-    c.args.events.now.items c.lend-outside.result.events.items c.run_call-ending.new.outside.events.items c.give_back.new.events.items
-    c.value_of.result c.value_of.ensures.exact (ap values_in c.lend-outside.ensures.globals) c.lend-outside.ensures.events (ap values_in c.give_back.ensures.globals) c.give_back.ensures.events
-    c.run_call-ending.ensures.ends
+    let first = lent c.args.machine.now c.args.events.now in
+    let after = c.call_told-ended.new.store in
+    let told = subst (λ s. HasRun z code (λ is. call_begins z code c.args.budget c.args.entry (reverse c.args.args.now) (with_inputs is (world_of (λ v. (g.dyn-1.0.entry v).1.meaning) s))) c.call_told-ended.result (world_of (λ v. (g.dyn-1.0.entry v).1.meaning) after)) c.lend.ensures.lent c.call_told-ended.ensures.told in
+    subst (λ u. HasRun z code (λ is. call_begins z code c.args.budget c.args.entry (reverse c.args.args.now) (with_inputs is (world_of (λ v. (g.dyn-1.0.entry v).1.meaning) first))) c.call_told-ended.result (world_of (λ v. (g.dyn-1.0.entry v).1.meaning) u)) (sym c.take_back.ensures.back) told
 
-pub returns-clause-follow : goal.returns-clause-follow
-returns-clause-follow g c = λ roles h.
-    let f = c.run_call-ending.ensures.moved.follow roles h in
-    (f.0, c.give_back.ensures.events ∙ f.1 ∙ ap (λ es. es ++ f.0) c.lend-outside.ensures.events, f.2)
+pub returns-clause-moves : goal.returns-clause-moves
+returns-clause-moves g c = λ roles r.
+    let first = lent c.args.machine.now c.args.events.now in
+    let after = c.call_told-ended.new.store in
+    let moved = subst (λ s. RunMoves (λ v. (g.dyn-1.0.entry v).1.meaning) c.args.table.now s after) c.lend.ensures.lent c.call_told-ended.ensures.moves in
+    subst (λ u. StoreMoves (λ v. (g.dyn-1.0.entry v).1.meaning) roles first u) (sym c.take_back.ensures.back) (moved.moves roles r)
 
-pub returns-clause-kinds : goal.returns-clause-kinds
-returns-clause-kinds g c = c.run_call-ending.ensures.moved.kinds
+pub returns-clause-ready : goal.returns-clause-ready
+returns-clause-ready g c =
+    let after = c.call_told-ended.new.store in
+    let moved = subst (λ s. RunMoves (λ v. (g.dyn-1.0.entry v).1.meaning) c.args.table.now s after) c.lend.ensures.lent c.call_told-ended.ensures.moves in
+    subst (λ u. IsReady (λ v. (g.dyn-1.0.entry v).1.meaning) u) (sym c.take_back.ensures.back) (moved.ready c.requires.ready)
 
-pub returns-clause-idle : goal.returns-clause-idle
-returns-clause-idle g c = c.run_call-ending.ensures.moved.idle
+pub returns-clause-count : goal.returns-clause-count
+returns-clause-count g c =
+    let after = c.call_told-ended.new.store in
+    let moved = subst (λ s. RunMoves (λ v. (g.dyn-1.0.entry v).1.meaning) c.args.table.now s after) c.lend.ensures.lent c.call_told-ended.ensures.moves in
+    ap (λ u. length (members u.drivers)) c.take_back.ensures.back ∙ moved.count
+
+pub returns-clause-counted : goal.returns-clause-counted
+returns-clause-counted g c = λ no.
+    let z = setting_of c.args.table.now 200 in
+    let code = texts_of c.args.table.now in
+    subst (λ u. IsCounted [] (world_of (λ v. (g.dyn-1.0.entry v).1.meaning) u)) (sym c.take_back.ensures.back)
+    (c.call_told-ended.ensures.counted (λ lost. no (subst (λ s. IsLost z code (λ is. call_begins z code c.args.budget c.args.entry (reverse c.args.args.now) (with_inputs is (world_of (λ v. (g.dyn-1.0.entry v).1.meaning) s)))) c.lend.ensures.lent lost)))

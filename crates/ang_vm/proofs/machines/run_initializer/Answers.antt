@@ -1,27 +1,51 @@
-use Rattle.std.proofs.Common.{◌++◌, ap, ◌∙◌}
-use Rattle.ang_code.specs.Machine.{initializer_begins}
-use Rattle.ang_vm_steps.specs.Tables.{setting_of, texts_of}
-use Rattle.ang_vm.specs.Worlds.{values_in}
-use Rattle.ang_vm.proofs.Running.{initializer_told}
+use Rattle.std.proofs.Common.{[], refl, sym, subst, ap, ◌∙◌}
+use Rattle.std.specs.Prelude.{length, reverse}
+use Rattle.ang_host.specs.Boxes.{members}
+use Rattle.ang_meaning.specs.World.{with_inputs}
+use Rattle.ang_code.specs.Machine.{call_begins, initializer_begins}
+use Rattle.ang_heap.specs.Stores.{world_of, IsReady, StoreMoves}
+use Rattle.ang_vm_stack.specs.Tables.{setting_of, texts_of}
+use Rattle.ang_meaning.specs.Counting.{IsCounted}
+use Rattle.ang_vm.specs.Machines.{lent, IsLost, HasInitialized}
+use Rattle.ang_vm.specs.Running.{MayRun, RunMoves}
 use Rattle.ang_vm.proofs.machines.run_initializer.Goals as goal
+
+pub initializer_told-ended-requires : goal.initializer_told-ended-requires
+initializer_told-ended-requires g c = record {
+  may_run = subst (λ s. MayRun (λ v. (g.dyn-1.0.entry v).1.meaning) c.args.table.now [] s) (sym c.lend.ensures.lent) (record { ready = c.requires.ready; counted = c.requires.counted; drivers = c.requires.drivers });
+}
 
 pub returns-clause-told : goal.returns-clause-told
 returns-clause-told g c =
     let z = setting_of c.args.table.now 201 in
     let code = texts_of c.args.table.now in
-    initializer_told z code (λ w. initializer_begins z code c.args.ticks c.args.entry w) c.initialize-ending.result
-    (values_in c.args.machine.now.globals) (values_in c.lend-outside.result.globals) (values_in c.initialize-ending.new.outside.globals) (values_in c.give_back.new.globals)
-    c.args.events.now.items c.lend-outside.result.events.items c.initialize-ending.new.outside.events.items c.give_back.new.events.items
-    c.ticks_of.result c.ticks_of.ensures.exact (ap values_in c.lend-outside.ensures.globals) c.lend-outside.ensures.events (ap values_in c.give_back.ensures.globals) c.give_back.ensures.events
-    c.initialize-ending.ensures.ends
+    let first = lent c.args.machine.now c.args.events.now in
+    let after = c.initializer_told-ended.new.store in
+    let told = subst (λ s. HasInitialized z code (λ is. initializer_begins z code c.args.ticks c.args.entry (with_inputs is (world_of (λ v. (g.dyn-1.0.entry v).1.meaning) s))) c.initializer_told-ended.result (world_of (λ v. (g.dyn-1.0.entry v).1.meaning) after)) c.lend.ensures.lent c.initializer_told-ended.ensures.told in
+    subst (λ u. HasInitialized z code (λ is. initializer_begins z code c.args.ticks c.args.entry (with_inputs is (world_of (λ v. (g.dyn-1.0.entry v).1.meaning) first))) c.initializer_told-ended.result (world_of (λ v. (g.dyn-1.0.entry v).1.meaning) u)) (sym c.take_back.ensures.back) told
 
-pub returns-clause-follow : goal.returns-clause-follow
-returns-clause-follow g c = λ roles h.
-    let f = c.initialize-ending.ensures.moved.follow roles h in
-    (f.0, c.give_back.ensures.events ∙ f.1 ∙ ap (λ es. es ++ f.0) c.lend-outside.ensures.events, f.2)
+pub returns-clause-moves : goal.returns-clause-moves
+returns-clause-moves g c = λ roles r.
+    let first = lent c.args.machine.now c.args.events.now in
+    let after = c.initializer_told-ended.new.store in
+    let moved = subst (λ s. RunMoves (λ v. (g.dyn-1.0.entry v).1.meaning) c.args.table.now s after) c.lend.ensures.lent c.initializer_told-ended.ensures.moves in
+    subst (λ u. StoreMoves (λ v. (g.dyn-1.0.entry v).1.meaning) roles first u) (sym c.take_back.ensures.back) (moved.moves roles r)
 
-pub returns-clause-kinds : goal.returns-clause-kinds
-returns-clause-kinds g c = c.initialize-ending.ensures.moved.kinds
+pub returns-clause-ready : goal.returns-clause-ready
+returns-clause-ready g c =
+    let after = c.initializer_told-ended.new.store in
+    let moved = subst (λ s. RunMoves (λ v. (g.dyn-1.0.entry v).1.meaning) c.args.table.now s after) c.lend.ensures.lent c.initializer_told-ended.ensures.moves in
+    subst (λ u. IsReady (λ v. (g.dyn-1.0.entry v).1.meaning) u) (sym c.take_back.ensures.back) (moved.ready c.requires.ready)
 
-pub returns-clause-idle : goal.returns-clause-idle
-returns-clause-idle g c = c.initialize-ending.ensures.moved.idle
+pub returns-clause-count : goal.returns-clause-count
+returns-clause-count g c =
+    let after = c.initializer_told-ended.new.store in
+    let moved = subst (λ s. RunMoves (λ v. (g.dyn-1.0.entry v).1.meaning) c.args.table.now s after) c.lend.ensures.lent c.initializer_told-ended.ensures.moves in
+    ap (λ u. length (members u.drivers)) c.take_back.ensures.back ∙ moved.count
+
+pub returns-clause-counted : goal.returns-clause-counted
+returns-clause-counted g c = λ no.
+    let z = setting_of c.args.table.now 201 in
+    let code = texts_of c.args.table.now in
+    subst (λ u. IsCounted [] (world_of (λ v. (g.dyn-1.0.entry v).1.meaning) u)) (sym c.take_back.ensures.back)
+    (c.initializer_told-ended.ensures.counted (λ lost. no (subst (λ s. IsLost z code (λ is. initializer_begins z code c.args.ticks c.args.entry (with_inputs is (world_of (λ v. (g.dyn-1.0.entry v).1.meaning) s)))) c.lend.ensures.lent lost)))

@@ -1,23 +1,28 @@
-use Rattle.std.proofs.Common.{subst, sym}
-use Rattle.ang_vm_ask.specs.Asking.{Performed}
+use Rattle.std.proofs.Common.{sym, subst, ◌∙◌}
+use Rattle.ang_heap.specs.Stores.{world_of}
+use Rattle.ang_meaning.specs.World.{with_inputs}
+use Rattle.ang_meaning.specs.Told.{Told}
+use Rattle.ang_vm_stack.specs.Arms.{done}
+use Rattle.ang_vm_stack.specs.Tables.{setting_of}
+use Rattle.ang_vm_ask.specs.Asks.{asks}
+use Rattle.ang_vm_ask.proofs.Fit.{unseen}
+use Rattle.ang_vm_ask.proofs.Live.{operands_can, operands_length}
 use Rattle.ang_vm_ask.proofs.operation.ask.Goals as goal
 
-pub returns-in-Ask-clause-told : goal.returns-in-Ask-clause-told
-returns-in-Ask-clause-told g c =
-    (subst (λ o. Performed c.args.caller.now c.args.host.now o c.args.operands.now c.perform_ask.result c.args.events.now.items c.perform_ask.new.events.items)
-    (sym c.in-Ask.is) c.perform_ask.ensures.performed).told
+pub returns-in_default-entity_at-clause-told : goal.returns-in_default-entity_at-clause-told
+returns-in_default-entity_at-clause-told g c = λ nesting is fit count.
+    absurd (unseen (setting_of c.args.table.now nesting) c.args.home c.args.operation c.in-Some.entity (sym c.in-Some.ensures.exact) c.in_default-entity_at.ensures.exact fit)
 
-pub returns-in-Read-clause-told : goal.returns-in-Read-clause-told
-returns-in-Read-clause-told g c =
-    (subst (λ o. Performed c.args.caller.now c.args.host.now o c.args.operands.now c.perform_read.result c.args.events.now.items c.perform_read.new.events.items)
-    (sym c.in-Read.is) c.perform_read.ensures.performed).told
+pub perform-requires-clause-enough : goal.perform-requires-clause-enough
+perform-requires-clause-enough g c =
+    operands_can c.args.count c.args.top c.args.stack.now c.operands_at-operands.result.now (world_of (λ v. (g.dyn-1.0.entry v).1.meaning) c.args.store.now) c.operands_at-operands.ensures.exact c.requires.counted
 
-pub returns-in-Write-clause-told : goal.returns-in-Write-clause-told
-returns-in-Write-clause-told g c =
-    (subst (λ o. Performed c.args.caller.now c.args.host.now o c.args.operands.now c.perform_write.result c.args.events.now.items c.perform_write.new.events.items)
-    (sym c.in-Write.is) c.perform_write.ensures.performed).told
-
-pub returns-in-Alter-clause-told : goal.returns-in-Alter-clause-told
-returns-in-Alter-clause-told g c =
-    (subst (λ o. Performed c.args.caller.now c.args.host.now o c.args.operands.now c.perform_alter.result c.args.events.now.items c.perform_alter.new.events.items)
-    (sym c.in-Alter.is) c.perform_alter.ensures.performed).told
+pub returns-clause-told : goal.returns-clause-told
+returns-clause-told g c = λ nesting is fit count.
+    let z = setting_of c.args.table.now nesting in
+    let ops = c.operands_at-operands.result.now in
+    let same = operands_length c.args.count c.args.top c.args.stack.now ops c.operands_at-operands.ensures.exact c.requires.in_use c.requires.within ∙ count in
+    let told = (c.perform.ensures.performed c.in-Some.entity (sym c.in-Some.ensures.exact)).told z c.args.home
+    (record { name = sym c.name_at-caller.ensures.exact; host = c.in-Some-entity_at.ensures.exact }) fit same in
+    subst (λ l. Told (λ ins. asks z c.args.home c.args.operation l (with_inputs ins (world_of (λ v. (g.dyn-1.0.entry v).1.meaning) c.args.store.now))) (λ ins. done c.perform.result (with_inputs ins (world_of (λ v. (g.dyn-1.0.entry v).1.meaning) c.perform.new.store))))
+    c.operands_at-operands.ensures.exact told

@@ -1,6 +1,6 @@
 use Rattle.std.proofs.Common.{◌≤◌, ◌+◌, length, sym, ap, ◌∙◌, arith}
 use Rattle.ang_code.specs.Machine.{At}
-use Rattle.ang_vm_steps.proofs.Tests.{roomy_there, roomy_not}
+use Rattle.ang_vm_stack.proofs.Tests.{roomy_there, roomy_not}
 use Rattle.ang_vm_steps.proofs.arms.push_slot.Goals as goal
 
 pub returns-then-top-room : goal.returns-then-top-room

@@ -9,14 +9,14 @@ pub returns-then-top-eq0 : goal.returns-then-top-eq0
 unfolding operands is_fit
 returns-then-top-eq0 c =
     let deep : c.args.top ≤ length c.args.stack.now = omega (arith, c.requires.in_room, c.requires.within) in
-    record { acts = λ z code w. do_lost z code (Convert c.args.to) c.args.room c.args.top c.args.stack.now _ w deep refl 1 refl (omega arith); in_room = tt }
+    record { acts = λ z code w. do_lost z code (Convert c.args.to) c.args.room c.args.top c.args.stack.now _ w deep (λ m. refl) 1 (λ m. refl) (omega arith); in_room = tt }
 
 pub returns : goal.returns
 unfolding operands is_fit
 returns c =
     let deep : c.args.top ≤ length c.args.stack.now = omega (arith, c.requires.in_room, c.requires.within) in
     record {
-      acts = λ z code w. do_here z code (Convert c.args.to) c.args.room c.args.top c.args.stack.now _ w deep refl 1 refl (omega arith) (omega arith) (c.peek-first.result ∷ []) c.convert_slot-answer.result c.put_answer.result (one_taken c.args.stack.now c.args.top c.peek-first.result (omega arith) deep c.peek-first.ensures.exact)
-          (λ m u. c.convert_slot-answer.ensures.exact z m u) (λ f pc fr t u. c.put_answer.ensures.exact c.args.room f pc fr t u);
+      acts = λ z code w. do_here z code (Convert c.args.to) c.args.room c.args.top c.args.stack.now _ w deep (λ m. refl) 1 (λ m. refl) (omega arith) (omega arith) (c.peek-first.result ∷ []) c.convert_slot-answer.result c.put_answer.result (one_taken c.args.stack.now c.args.top c.peek-first.result (omega arith) deep c.peek-first.ensures.exact)
+          (λ m u. c.convert_slot-answer.ensures.exact z m u) (λ f pc fr t u. c.put_answer.ensures.exact c.args.room f pc fr t u) c.put_answer.ensures.fails;
       in_room = room_left c.put_answer.result (c.args.top - 1 + 1) c.args.room (omega arith) c.put_answer.ensures.in_room;
     }

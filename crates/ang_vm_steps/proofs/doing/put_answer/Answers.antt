@@ -1,8 +1,8 @@
-use Rattle.std.proofs.Common.{◌+◌, ◌∷◌, ap, ◌∙◌, arith}
+use Rattle.std.proofs.Common.{◌≡◌, ◌+◌, ◌∷◌, Err, refl, ap, ◌∙◌, arith}
 use Rattle.ang_meaning.specs.Results.{drop_some}
 use Rattle.ang_code.specs.Machine.{At, did}
-use Rattle.ang_vm_steps.specs.Stacks.{values}
-use Rattle.ang_vm_steps.specs.Arms.{done}
+use Rattle.ang_vm_stack.specs.Stacks.{values}
+use Rattle.ang_vm_stack.specs.Arms.{done}
 use Rattle.ang_vm_steps.proofs.TopValues.{put_value}
 use Rattle.ang_vm_steps.proofs.doing.put_answer.Goals as goal
 
@@ -13,9 +13,10 @@ returns-in-Ok c =
       exact = λ room f pc fr t w. ap (λ a. did (done a w) s (λ v u. At f (pc + 1) room (v ∷ drop_some c.args.count s) fr t u)) c.in-Ok.is
           ∙ put_value c.args.stack.now _ c.args.top c.args.count c.in-Ok.value c.requires.in_use c.requires.within c.push.ensures.pushed room f pc fr t w;
       in_room = omega arith;
+      fails = λ x e. absurd (let y : ⊥ = cc in y);
     }
 
 pub returns-in-Err : goal.returns-in-Err
 returns-in-Err c =
     let s = values c.args.stack.now c.args.top in
-    record { exact = λ room f pc fr t w. ap (λ a. did (done a w) s (λ v u. At f (pc + 1) room (v ∷ drop_some c.args.count s) fr t u)) c.in-Err.is; in_room = tt }
+    record { exact = λ room f pc fr t w. ap (λ a. did (done a w) s (λ v u. At f (pc + 1) room (v ∷ drop_some c.args.count s) fr t u)) c.in-Err.is; in_room = tt; fails = λ x e. (c.in-Err.is ∙ (let same : c.in-Err.fault ≡ x = cc in ap Err same), refl) }

@@ -14,9 +14,9 @@ invariant-loop-line g l =
       sound : IsSound (λ v. (g.dyn-1.0.entry v).1.meaning) l.engine;
       list : registrations l.engine ≡ registrations l.initial.engine;
       order : kinds_of (drivers_in l.engine) ≡ kinds_of (drivers_in l.initial.engine);
-      done : HasDone (λ v. (g.dyn-1.0.entry v).1.meaning) (registrations l.initial.engine) (world_in l.initial.engine) (drivers_in l.initial.engine)
+      done : HasDone (λ v. (g.dyn-1.0.entry v).1.meaning) (registrations l.initial.engine) (world_in (λ v. (g.dyn-1.0.entry v).1.meaning) l.initial.engine) (drivers_in l.initial.engine)
           (session_from 1 l.budget 0 (lines_of l.text)) (session_from l.number l.ticks 0 (lines_of l.rest))
-          (g.W.Write.contents l.initial.writer) (g.W.Write.contents l.writer) l.all_ok (world_in l.engine) (drivers_in l.engine);
+          (g.W.Write.contents l.initial.writer) (g.W.Write.contents l.writer) l.all_ok (world_in (λ v. (g.dyn-1.0.entry v).1.meaning) l.engine) (drivers_in l.engine);
     }
 
 abbrev pub decreases-loop-line : goal.decreases-loop-line

@@ -1,25 +1,27 @@
 use Rattle.std.proofs.Common.{rules, length}
 use Rattle.ang_host.specs.Boxes.{members}
+use Rattle.ang_registry.specs.Roles.{roles_of}
 use Rattle.ang_engine.specs.Sound.{HaveDrivers}
 use Rattle.asrun_session.specs.Drivers.{NoDriver}
-use Rattle.asrun_session.proofs.Taking.{ends_taken, stops_taken, untouched_taken, read_refused, read_memory}
+use Rattle.asrun_session.proofs.Taking.{ends_taken, stops_taken, unread_taken, read_refused, read_memory}
 use Rattle.asrun_session.proofs.whole.run_engine.Goals as goal
 use Rattle.asrun_session.proofs.whole.run_engine.Goals.{in-NoDriver, in-Memory}
 
 pub returns-in-Ok-clause-done : goal.returns-in-Ok-clause-done
 returns-in-Ok-clause-done g c =
-    ends_taken (λ v. (g.dyn-1.0.entry v).1.meaning) _ _ _ _ _ _ _ _ _ _ _ c.in-Ok.ensures.registrations c.in-Ok.ensures.drivers c.discard.ensures.same
-    c.requires.listed c.in-Ok.ensures.sound.in_list c.discard.ensures.balanced c.run_text-ended.ensures.done
+    ends_taken (λ v. (g.dyn-1.0.entry v).1.meaning) _ _ _ _ _ _ _ _ _ _ _ _ c.in-Ok.ensures.registrations c.in-Ok.ensures.drivers
+    c.requires.listed c.in-Ok.ensures.sound.in_list (record { ends = c.discard.ensures.ended (roles_of c.args.registry.entries); balanced = c.discard.ensures.balanced }) c.run_text-ended.ensures.done
 
 pub returns-in-Ok-clause-cut : goal.returns-in-Ok-clause-cut
 returns-in-Ok-clause-cut g c =
-    stops_taken (λ v. (g.dyn-1.0.entry v).1.meaning) _ _ _ _ _ _ _ _ _ _ _ c.in-Ok.ensures.registrations c.in-Ok.ensures.drivers c.discard.ensures.same
-    c.requires.listed c.in-Ok.ensures.sound.in_list c.discard.ensures.balanced c.run_text-ended.ensures.cut
+    stops_taken (λ v. (g.dyn-1.0.entry v).1.meaning) _ _ _ _ _ _ _ _ _ _ _ _ c.in-Ok.ensures.registrations c.in-Ok.ensures.drivers
+    c.requires.listed c.in-Ok.ensures.sound.in_list (record { ends = c.discard.ensures.ended (roles_of c.args.registry.entries); balanced = c.discard.ensures.balanced }) c.run_text-ended.ensures.cut
 
 pub returns-in-Ok-clause-fault : goal.returns-in-Ok-clause-fault
 returns-in-Ok-clause-fault g c =
-    untouched_taken (λ v. (g.dyn-1.0.entry v).1.meaning) c.args.registry.entries c.args.registry.entries _ _ _ _ _ _ _ c.in-Ok.ensures.drivers c.discard.ensures.same
-    c.run_text-ended.ensures.fault
+    unread_taken (λ v. (g.dyn-1.0.entry v).1.meaning) _ _ _ _ _ _ _ _ _ _ c.in-Ok.ensures.registrations c.in-Ok.ensures.drivers
+    c.requires.listed c.in-Ok.ensures.sound.in_list (record { ends = c.discard.ensures.ended (roles_of c.args.registry.entries); balanced = c.discard.ensures.balanced })
+    c.run_text-ended.ensures.fault c.run_text-ended.ensures.unread_world
 
 pub returns-after-why-clause-read : goal.returns-after-why-clause-read
 returns-after-why-clause-read g c = elim c.match-why.branch [

@@ -1,9 +1,20 @@
-use Rattle.ang_vm.specs.Worlds.{values_in}
-use Rattle.ang_engine.specs.Engines.{registrations, world_in, drivers_in}
+use Rattle.std.proofs.Common.{refl}
+use Rattle.ang_heap.specs.Stores.{world_of}
+use Rattle.ang_engine.specs.Engines.{registrations, world_in}
 use Rattle.ang_engine.proofs.Whole.{applied-done}
 use Rattle.ang_engine.proofs.engine.Engine.add_section.Goals as goal
 
 pub returns-clause-applied : goal.returns-clause-applied
 returns-clause-applied g c =
-    applied-done (λ v. (g.dyn-1.0.entry v).1.meaning) (registrations c.args.self.now) (world_in c.args.self.now) _ (drivers_in c.args.self.now) _ _ c.add_section-done.result c.ended.result
-    c.ended.ensures.exact c.answer.ensures.exact (c.add_section-done.ensures.done (values_in c.args.self.now.machine.globals))
+    let s = c.args.self.now.machine.store in
+    applied-done (λ v. (g.dyn-1.0.entry v).1.meaning) (registrations c.args.self.now) (world_in (λ v. (g.dyn-1.0.entry v).1.meaning) c.args.self.now) _ s s _ _
+    c.add_section-done.result c.ended.result c.ended.ensures.exact c.answer.ensures.exact (c.add_section-done.ensures.done (world_of (λ v. (g.dyn-1.0.entry v).1.meaning) s))
+    c.requires.sound.kept c.requires.sound.counted refl
+
+pub returns-clause-sound : goal.returns-clause-sound
+returns-clause-sound g c = record {
+  modules = c.add_section-done.ensures.sound (registrations c.args.self.now) c.requires.sound.modules;
+  in_list = c.requires.sound.in_list;
+  kept = c.requires.sound.kept;
+  counted = c.requires.sound.counted;
+}

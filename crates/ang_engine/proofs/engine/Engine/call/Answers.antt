@@ -1,9 +1,16 @@
-use Rattle.ang_engine.specs.Engines.{registrations, world_in, drivers_in}
-use Rattle.ang_engine.proofs.Whole.{applied-call}
+use Rattle.ang_engine.specs.Engines.{registrations, world_in}
+use Rattle.ang_engine.specs.declared.command.Command.TheVariants.{Call}
+use Rattle.ang_engine.proofs.Whole.{applied-call, applied-memory}
 use Rattle.ang_engine.proofs.engine.Engine.call.Goals as goal
+
+pub returns-in_default-clause-applied : goal.returns-in_default-clause-applied
+returns-in_default-clause-applied g c =
+    applied-memory (λ v. (g.dyn-1.0.entry v).1.meaning) (registrations c.args.self.now) (world_in (λ v. (g.dyn-1.0.entry v).1.meaning) c.args.self.now) c.args.self.now.machine.store
+    (Call c.args.name c.args.decl c.args.args c.args.budget) _ c.answer.ensures.exact c.requires.sound.kept c.requires.sound.counted
 
 pub returns-clause-applied : goal.returns-clause-applied
 returns-clause-applied g c =
-    applied-call (λ v. (g.dyn-1.0.entry v).1.meaning) (registrations c.args.self.now) (world_in c.args.self.now) _ (drivers_in c.args.self.now) _ c.args.name c.as_slice.result.now c.args.decl c.as_slice-2.result.now
-    c.args.args c.as_slice-3.result.now c.args.budget _ c.call_named-done.result c.as_slice.ensures.same c.as_slice-2.ensures.same c.as_slice-3.ensures.same
+    applied-call (λ v. (g.dyn-1.0.entry v).1.meaning) (registrations c.args.self.now) (world_in (λ v. (g.dyn-1.0.entry v).1.meaning) c.args.self.now) _
+    c.args.self.now.machine.store c.call_named-done.new.self.machine.store c.as_slice.result.now c.args.name c.as_slice-2.result.now c.args.decl c.as_slice-3.result.now c.args.args c.args.budget _
+    c.call_named-done.result c.call_named-done.new.events.items c.as_slice.ensures.same c.as_slice-2.ensures.same c.as_slice-3.ensures.same
     c.call_reply.ensures.exact c.call_named-done.ensures.done c.call_named-done.ensures.asked

@@ -1,0 +1,96 @@
+-- A module that is loaded, and whose initializers run.
+use Rattle.std.proofs.Common.{◌≡◌, ◌<◌, refl, ap, sym, ◌∙◌, subst, ℕ, zero, suc, ◌+◌, List, [], ◌∷◌, length, arith, map, Option, Some, None}
+use Rattle.std.specs.Prelude.{Result, Ok, Err, slice_index_or, slice_set}
+use Rattle.std.specs.List.{AllByRecursion}
+use Rattle.ang_kinds.specs.declared.fault.Fault.{Fault}
+use Rattle.ang_host.specs.declared.event.Role.{Role}
+use Rattle.ang_host.specs.Boxes.{members}
+use Rattle.ang_host.specs.Laws.{Meaning}
+use Rattle.ang_typed.specs.Typed as t
+use Rattle.ang_typed.specs.View.{view_typed}
+use Rattle.ang_meaning.specs.declared.class.ValueKind.{ValueKind}
+use Rattle.ang_meaning.specs.declared.class.ValueKind.TheVariants.{Number, Handle}
+use Rattle.ang_meaning.specs.declared.slot.Slot.{Slot}
+use Rattle.ang_meaning.specs.Setting.{default_of}
+use Rattle.ang_meaning.specs.Counting.{Thing, names, how_many, IsCounted}
+use Rattle.ang_meaning.specs.World.{World as RunWorld, with_inputs}
+use Rattle.ang_meaning.specs.Told.{answers_listed}
+use Rattle.ang_meaning.proofs.Counting.{bits_name_none, null_names_none}
+use Rattle.ang_heap.specs.declared.globals.Globals.{Globals}
+use Rattle.ang_heap.specs.declared.store.Store.{Store}
+use Rattle.ang_heap.specs.Globals.{values_in}
+use Rattle.ang_heap.specs.Stores.{world_of, IsReady, StoreMoves}
+use Rattle.ang_heap.proofs.Hosting.{parts_none}
+use Rattle.ang_engine_modules.specs.declared.modules.LoadedModule.{LoadedModule}
+use Rattle.ang_engine_modules.specs.Loaded.{module_of, modules_of}
+use Rattle.ang_engine_modules.specs.Modules.{Module as RunModule, unbuilt, module_at, AgreesWith, IsAskedIn}
+use Rattle.ang_source.specs.Meaning.{kind_of}
+use Rattle.ang_engine_modules.specs.Executed.{first_globals, initialization_of}
+use Rattle.ang_engine_modules.specs.Ends.{Ends, completed}
+use Rattle.ang_engine.specs.World.{Program, globals_ended}
+use Rattle.ang_engine.specs.Step.{globals_begun}
+use Rattle.ang_engine.specs.Asked.{HasRunOn}
+use Rattle.ang_engine.proofs.Lists.{map_at, set_at}
+use Rattle.ang_engine.proofs.GlobalsEnd.{ListsEnds, globals_ends, ends_listed, ended_globals, begun_counted}
+
+-- ---- first values
+
+default_none : (x : Thing) (k : ValueKind) → names x (default_of k) ≡ 0
+default_none x Number = bits_name_none 0 x
+default_none x Handle = null_names_none x
+
+defaults_none : {A : Type 0} (x : Thing) (f : A → ValueKind) (xs : List A) → how_many x (map (λ a. default_of (f a)) xs) ≡ 0
+defaults_none x f [] = refl
+defaults_none x f (a ∷ xs) = omega (arith, default_none x (f a), defaults_none x f xs)
+
+pub first_none : (p : t.Program) (x : Thing) → how_many x (first_globals p) ≡ 0
+first_none p x = defaults_none x (λ g. kind_of g.ty) p.globals
+
+set_long : {A : Type 0} (xs : List A) (i : ℕ) (x : A) → length (slice_set xs i x) ≡ length xs
+set_long [] i x = refl
+set_long (y ∷ ys) zero x = refl
+set_long (y ∷ ys) (suc i) x = ap suc (set_long ys i x)
+
+-- what is loaded at its place
+pub loaded_here : (ls : List (Option LoadedModule)) (home : ℕ) (l : LoadedModule) → home < length ls → module_at (modules_of (slice_set ls home (Some l))) home ≡ module_of (Some l)
+loaded_here ls home l lt =
+    map_at module_of (slice_set ls home (Some l)) home None unbuilt (omega (arith, lt, set_long ls home (Some l))) ∙ ap module_of (set_at ls home (Some l) None lt)
+
+-- a module whose globals have ended has none
+none_at : {A : Type 0} (xs : List (List A)) (i : ℕ) → slice_index_or (slice_set xs i []) i [] ≡ []
+none_at [] i = refl
+none_at (x ∷ xs) zero = refl
+none_at (x ∷ xs) (suc i) = none_at xs i
+
+pub none_there : (i : ℕ) (u v : RunWorld) → globals_ended i u ≡ v → slice_index_or v.globals i [] ≡ []
+none_there i u v e = ap (λ (w : RunWorld). slice_index_or w.globals i []) (sym e) ∙ ap (λ gs. slice_index_or gs i []) (ended_globals i u) ∙ none_at u.globals i
+
+-- and nobody has answered meanwhile
+pub ended_silent : (i : ℕ) (u v : RunWorld) → globals_ended i u ≡ v → answers_listed u.events ≡ answers_listed v.events
+ended_silent i u v e = sym (ap (λ (w : RunWorld). answers_listed w.events) (sym e) ∙ ends_listed u (globals_ended i u) (globals_ends i u))
+
+-- ---- its run
+
+pub started-by : (r : Result Slot Fault) (ls ks : List (Option LoadedModule)) (home budget : ℕ) (p : Program) (u v x : RunWorld) → ls ≡ ks → v ≡ globals_begun home p u
+    → Ends (initialization_of (modules_of ls) budget home) v r x → Ends (initialization_of (modules_of ks) budget home) (globals_begun home p u) r x
+started-by r ls ks home budget p u v x code begun h =
+    subst (λ w. Ends (initialization_of (modules_of ks) budget home) w r x) begun (subst (λ q. Ends (initialization_of (modules_of q) budget home) v r x) code h)
+
+module _ {V : Type 0} {P : V → Type 0} (m : (v : V) → Meaning (P v)) (ms : List RunModule) where
+  ready_with : (s : Store V P) (gs : Globals) → IsReady m s → IsReady m (record s { globals = gs })
+  ready_with s gs r = record { kept = record { drivers = r.kept.drivers; alive = r.kept.alive; none = r.kept.none }; room = r.room }
+
+  -- a module's globals begin, which had none
+  pub run-begun : (i : ℕ) (s : Store V P) (gs : Globals) (l : List Slot) → values_in gs ≡ slice_set (values_in s.globals) i l → ((x : Thing) → how_many x l ≡ 0)
+      → slice_index_or (values_in s.globals) i [] ≡ [] → HasRunOn m ms s (record s { globals = gs })
+  run-begun i s gs l e none empty = record {
+    asked = λ h. h;
+    moves = λ roles h. record { parts = parts_none m roles (members s.drivers) s.events.items; ready = λ r. ready_with s gs r };
+    ready = λ r. ready_with s gs r;
+    counted = λ h. subst (λ q. IsCounted [] (record (world_of m s) { globals = q })) (sym e) (begun_counted i l (world_of m s) none empty h);
+  }
+
+  -- a run has ended
+  pub run-done : (s t : Store V P) → (AllByRecursion (IsAskedIn ms) s.events.items → AllByRecursion (IsAskedIn ms) t.events.items)
+      → ((roles : List Role) → AgreesWith roles ms → StoreMoves m roles s t) → IsReady m t → IsCounted [] (world_of m t) → HasRunOn m ms s t
+  run-done s t asked moves ready counted = record { asked = asked; moves = moves; ready = λ q. ready; counted = λ q. counted }

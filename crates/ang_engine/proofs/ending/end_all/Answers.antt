@@ -1,0 +1,37 @@
+use Rattle.std.proofs.Common.{◌≡◌, ◌-◌, suc, [], length, refl, sym, ap, ◌∙◌, subst, arith}
+use Rattle.std.specs.Prelude.{map as list_map}
+use Rattle.ang_host.specs.Boxes.{members}
+use Rattle.ang_meaning.specs.World.{World}
+use Rattle.ang_meaning.specs.Counting.{IsCounted}
+use Rattle.ang_heap.specs.Globals.{values_in}
+use Rattle.ang_heap.specs.Parts.{counts_of, world_by}
+use Rattle.ang_heap.specs.Heaps.{objects_of}
+use Rattle.ang_heap.proofs.Hosting.{parts_none, parts_join}
+use Rattle.ang_engine.specs.World.{globals_ended, all_ended}
+use Rattle.ang_engine.proofs.Lists.{map_length}
+use Rattle.ang_engine.proofs.GlobalsEnd.{ended_counted}
+use Rattle.ang_engine.proofs.Backwards.{turn_ends, none_ends}
+use Rattle.ang_engine.proofs.ending.end_all.Goals as goal
+
+pub loop-left-init : goal.loop-left-init
+loop-left-init g c =
+    record {
+      ended = λ is. ap (λ n. all_ended n (world_by (objects_of c.args.heap.now) (counts_of (λ v. (g.dyn-1.0.entry v).1.meaning) (members c.args.drivers.now)) (values_in c.args.globals.now) c.args.ends.now.items is))
+          (map_length (λ v. v.items) c.args.globals.now.modules.items ∙ sym c.args.globals.now.modules.ok.0 ∙ sym c.len-left.ensures);
+      counted = c.requires.counted;
+      ready = c.requires.ready;
+      moves = λ roles. parts_none _ roles _ _;
+    }
+
+pub loop-left-preserved : goal.loop-left-preserved
+loop-left-preserved g c =
+    let w : World = world_by (objects_of c.loop-left.heap) (counts_of (λ v. (g.dyn-1.0.entry v).1.meaning) (members c.loop-left.drivers)) (values_in c.loop-left.globals) c.loop-left.ends.items [] in
+    record {
+      ended = λ is. c.loop-left.invariant.ended is ∙ turn_ends c.loop-left.left _ _ c.loop-left-test.true (c.end_module.ensures.ended is);
+      counted = subst (λ u. IsCounted [] u) (c.end_module.ensures.ended []) (ended_counted (c.loop-left.left - 1) w c.loop-left.invariant.counted);
+      ready = c.end_module.ensures.ready;
+      moves = λ roles. parts_join _ roles _ _ _ _ _ _ (c.loop-left.invariant.moves roles) (c.end_module.ensures.moves roles);
+    }
+
+pub returns-clause-ended : goal.returns-clause-ended
+returns-clause-ended g c = λ is. c.loop-left.invariant.ended is ∙ none_ends c.loop-left.left _ c.loop-left-test.false

@@ -1,0 +1,15 @@
+use Rattle.std.proofs.Common.{arith}
+use Rattle.ang_engine.proofs.ending.end_globals.Goals as goal
+
+pub returns-clause-moves : goal.returns-clause-moves
+returns-clause-moves g c = λ roles. record {
+  parts = c.end_module.ensures.moves roles;
+  ready = λ r. record {
+    kept = record {
+      drivers = record { sound = c.end_module.ensures.ready.sound; room = omega (arith, r.kept.drivers.room, c.end_module.ensures.fewer) };
+      alive = omega (arith, r.kept.alive, c.end_module.ensures.level, c.end_module.ensures.fewer, c.len.ensures, c.len-before.ensures);
+      none = r.kept.none;
+    };
+    room = omega (arith, r.kept.alive, r.room, c.end_module.ensures.level, c.end_module.ensures.fewer, c.end_module.ensures.capacity, c.end_module.ensures.ready.room, c.len.ensures, c.len-before.ensures);
+  };
+}

@@ -1,4 +1,0 @@
-pub mod Executed
-pub mod Ends
-pub mod Modules
-pub mod Initializing

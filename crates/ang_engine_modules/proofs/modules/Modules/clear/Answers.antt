@@ -1,0 +1,10 @@
+use Rattle.std.proofs.Common.{None}
+use Rattle.ang_engine_modules.proofs.Loading.{blank, loaded_put}
+use Rattle.ang_engine_modules.proofs.modules.Modules.clear.Goals as goal
+
+pub invariant_of-self : goal.invariant_of-self
+invariant_of-self c =
+    let x = c.self.inside in
+    let e = c.no_code.ensures in
+    loaded_put x.table _ x.loaded.items _ c.self.invariant c.args.home c.no_code.result None c.put_code.ensures.put c.put_loaded.ensures.put
+    (blank c.no_code.result e.name e.bodies e.imports e.entities e.classes e.slots)

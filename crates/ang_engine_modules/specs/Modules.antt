@@ -1,0 +1,54 @@
+-- The modules of an engine as their runs know them, by number (docs/MEANING.md, "A run of a built module").
+use Rattle.std.specs.Prelude.{◌≡◌, ◌<◌, ℕ, List, [], Option, Some, IsSome, length, slice_get, slice_index_or, map}
+use Rattle.ang_host.specs.declared.event.HostEvent.{HostEvent}
+use Rattle.ang_host.specs.declared.event.HostEvent.TheVariants.{Called, Ended}
+use Rattle.ang_host.specs.declared.event.Role.{Role}
+use Rattle.ang_host.specs.Events.{role_at}
+use Rattle.ang_registry.specs.declared.entry.Entry.{Entry}
+use Rattle.ang_registry.specs.Registration.{RegistrationList, entry_at}
+use Rattle.ang_typed.specs.Typed as t
+use Rattle.ang_source.specs.Meaning.{nothing}
+use Rattle.ang_meaning.specs.declared.host.HostUse.{HostUse}
+use Rattle.ang_meaning.specs.declared.routine.Routine.{Routine}
+use Rattle.ang_lower.specs.Hosts.{use_in}
+
+-- a built module: its name, as events list it, what its built mask shows of the host (docs/MEANING.md, "Masks and views"), its resolved tree, and by the
+-- number of an import the function that it is bound to, if any
+pub record Module : Type 0 where
+  pub name : List ℕ
+  pub view : RegistrationList
+  pub tree : t.Program
+  pub links : List (Option Routine)
+
+-- stands where no module is built: it sees nothing and has no bodies
+abbrev pub unbuilt : Module
+unbuilt = record { name = []; view = []; tree = nothing; links = [] }
+
+abbrev pub module_at : List Module → ℕ → Module
+module_at ms m = slice_index_or ms m unbuilt
+
+abbrev pub trees_of : List Module → List t.Program
+trees_of ms = map (λ x. x.tree) ms
+
+-- module m sees this entry under its number
+abbrev pub entry_in : List Module → ℕ → ℕ → Option Entry
+entry_in ms m e = entry_at (module_at ms m).view e
+
+-- the driver of each entry that some module sees is one of so many
+abbrev pub AreDriversThere : List Module → ℕ → Type 0
+AreDriversThere ms count = (m e : ℕ) (x : Entry) → entry_in ms m e ≡ Some x → x.driver < count
+
+-- each entry that some module may ask has the role by which it is asked
+pub record AgreesWith (roles : List Role) (ms : List Module) : Type 0 where
+  pub each : (m e : ℕ) (u : HostUse) → use_in (module_at ms m).view e ≡ Some u → role_at roles e ≡ u.role
+
+-- an asking by one of the modules, of an entry that this module sees; or an object's end
+abbrev pub IsAskedIn : List Module → HostEvent → Type 0
+IsAskedIn ms (Called caller entity driver object args reply) = (m : ℕ) × (caller ≡ (module_at ms m).name) × IsSome (entry_in ms m entity.0)
+IsAskedIn ms (Ended driver key) = Unit {0}
+
+-- the function of that number in module m takes so many arguments
+pub record TakesSoMany (ms : List Module) (m n count : ℕ) : Type 0 where
+  pub function : t.Function
+  pub at : slice_get (module_at ms m).tree.functions n ≡ Some function
+  pub params : length function.parameters ≡ count

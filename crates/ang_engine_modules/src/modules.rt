@@ -1,0 +1,262 @@
+//! The modules of an engine.
+ghost use Rattle.std.specs.Prelude.{◌≡◌, ◌++◌, ◌∷◌, List as ListOf, [], None, Some, IfOk, OnOk, OnErr, length, reverse, slice_set};
+ghost use Rattle.std.specs.List.{AllByRecursion};
+ghost use Rattle.std.specs.Option.{option_copied};
+ghost use Rattle.ang_host.specs.Boxes.{members};
+ghost use Rattle.ang_host.specs.declared.event.Role.{Role};
+ghost use Rattle.ang_meaning.specs.Counting.{IsCounted};
+ghost use Rattle.ang_heap.specs.Stores.{world_of, IsReady, StoreMoves};
+ghost use Rattle.ang_vm.specs.Machines.{lent};
+ghost use Rattle.ang_typed.specs.View.{view_typed};
+ghost use Rattle.ang_source.specs.Sound.{SoundProgram};
+ghost use Rattle.ang_engine_modules.specs.Executed.{first_globals, call_of, initialization_of};
+ghost use Rattle.ang_engine_modules.specs.Ends.{Ends, completed};
+ghost use Rattle.ang_engine_modules.specs.Loaded.{loaded_at, modules_of};
+ghost use Rattle.ang_engine_modules.specs.Modules.{module_at, TakesSoMany, AreDriversThere, AgreesWith, IsAskedIn};
+
+use crate::globals::defaults;
+use crate::runs::{body_count, run_initializers};
+use crate::tables::{code_of, no_code};
+use ang_gen::compile;
+use ang_host::{Driver, HostEvent};
+use ang_kinds::{Fault, List};
+use ang_meaning::{Routine, Slot};
+use ang_names::Names;
+use ang_registry::View;
+use ang_typed::Typed;
+use ang_vm::{Machine, run};
+use ang_vm_stack::table::{ModuleCode, Table};
+use std::alloc::{AllocError, Global};
+use std::marker::Model;
+
+/// What a built module is loaded with.
+#[derive(Drop)]
+pub struct LoadedModule {
+    /// Its name, as events list it.
+    pub name: List<u8>,
+    /// What its scripts declare.
+    pub names: Names,
+    /// What it sees of the host.
+    pub view: View,
+    /// Its resolved tree.
+    pub tree: Typed,
+    /// By the number of an import, the function that it is bound to, if any.
+    pub links: List<Option<Routine>>,
+}
+
+/// The modules of an engine, by number, each with its compiled code where it is built. Contracts see the list
+/// of what is built.
+///
+/// Names, views and trees are kept beside the code. No run reads them: contracts speak of them, and a call by
+/// declaration looks names and view up ([`Modules::loaded`]).
+#[derive(Drop)]
+pub struct Modules {
+    table: Table,
+    loaded: Vec<Option<LoadedModule>>,
+}
+
+impl Model for Modules {
+    ghost use Rattle.std.specs.Prelude.{List, Option};
+    ghost use Rattle.std.specs.Coded.{codes};
+    ghost use Rattle.ang_typed.specs.contracts.statement.Statement as statement;
+    ghost use Rattle.ang_typed.specs.contracts.expression.Expression as expression;
+    ghost use Rattle.ang_engine_modules.specs.declared.modules.LoadedModule.{LoadedModule};
+    ghost use Rattle.ang_engine_modules.specs.Loaded.{IsLoaded};
+
+    ghost Value = { List (Option LoadedModule) };
+
+    ghost coded = { Prim.hlevel (codes, statement.the_row.coded, expression.the_row.coded) };
+
+    ghost view = { λ m. m.loaded.items };
+
+    ghost invariant = { λ m. IsLoaded m.table m.loaded.items };
+}
+
+/// A place more for a module.
+///
+/// # Errors
+/// Want of memory.
+fn push_place(
+    codes: &mut Vec<ModuleCode>,
+    loaded: &mut Vec<Option<LoadedModule>>,
+    code: ModuleCode,
+) -> Result<(), AllocError>
+    ensures codes { OnOk result (codes.new.items ≡ codes.old.items ++ code ∷ []) }
+    ensures loaded { OnOk result (loaded.new.items ≡ loaded.old.items ++ None ∷ []) }
+    ensures no_code { OnErr result (codes.new.items ≡ codes.old.items) }
+    ensures not_loaded { OnErr result (loaded.new.items ≡ loaded.old.items) }
+{
+    loaded.reserve(1)?;
+    codes.push(code)?;
+    loaded.push_reserved(None);
+    Ok(())
+}
+
+/// Puts code into the place of a module, where there is one.
+fn put_code(codes: &mut Vec<ModuleCode>, home: u32, code: ModuleCode)
+    ensures put { codes.new.items ≡ slice_set codes.old.items home code }
+{
+    let place = home as usize;
+    if place < codes.len() {
+        codes[place] = code;
+    }
+}
+
+/// Puts what a module is loaded with into its place, where there is one.
+fn put_loaded(loaded: &mut Vec<Option<LoadedModule>>, home: u32, item: Option<LoadedModule>)
+    ensures put { loaded.new.items ≡ slice_set loaded.old.items home item }
+{
+    let place = home as usize;
+    if place < loaded.len() {
+        loaded[place] = item;
+    }
+}
+
+impl Modules {
+    /// No modules. It takes no memory.
+    pub fn new(alloc: Global) -> Modules
+        ensures none { result ≡ [] }
+    {
+        Modules {
+            table: Table {
+                modules: Vec::new(alloc),
+            },
+            loaded: Vec::new(alloc),
+        }
+    }
+
+    /// Adds a module that is not built, behind those that there are.
+    ///
+    /// # Errors
+    /// Want of memory.
+    pub fn add(&mut self, alloc: Global) -> Result<(), AllocError>
+        ensures added { OnOk result (self.new ≡ self.old ++ None ∷ []) }
+        ensures unchanged { OnErr result (self.new ≡ self.old) }
+    {
+        push_place(&mut self.table.modules, &mut self.loaded, no_code(alloc))
+    }
+
+    /// Builds a module, where there is one of that number: compiles its tree, and makes the machine's code of
+    /// it.
+    ///
+    /// # Errors
+    /// Want of memory. It is also answered where a number of a body, a function or a global has more than 32
+    /// bits, which no checked module has.
+    pub fn load(&mut self, alloc: Global, home: u32, loaded: LoadedModule) -> Result<(), AllocError>
+        requires sound { SoundProgram loaded.view (view_typed loaded.tree) }
+        requires unbound { loaded.links ≡ [] }
+        ensures placed { OnOk result (self.new ≡ slice_set self.old home (Some loaded)) }
+        ensures unchanged { OnErr result (self.new ≡ self.old) }
+    {
+        let codes = compile(alloc, &loaded.tree)?;
+        let code = code_of(alloc, loaded.name.as_slice(), &loaded.view, codes)?;
+        put_code(&mut self.table.modules, home, code);
+        put_loaded(&mut self.loaded, home, Some(loaded));
+        Ok(())
+    }
+
+    /// The module of that number is not built any more. It takes no memory.
+    pub fn clear(&mut self, alloc: Global, home: u32)
+        ensures cleared { self.new ≡ slice_set self.old home None }
+    {
+        put_code(&mut self.table.modules, home, no_code(alloc));
+        put_loaded(&mut self.loaded, home, None);
+    }
+
+    /// What a module is loaded with, where it is built.
+    pub fn loaded(&self, home: u32) -> Option<&LoadedModule>
+        ensures exact { option_copied result ≡ loaded_at self.now home }
+    {
+        self.loaded.get(home as usize)?.as_ref()
+    }
+
+    /// The values with which a module's globals begin, each 0, `false` or null.
+    ///
+    /// # Errors
+    /// Want of memory.
+    pub fn first_globals(&self, alloc: Global, home: u32) -> Result<Vec<Slot>, AllocError>
+        ensures exact { IfOk result (λ values. values.items ≡ first_globals (module_at (modules_of self.now) home).tree) }
+    {
+        match self.loaded(home) {
+            Some(loaded) => defaults(alloc, loaded.tree.globals.as_slice()),
+            None => Ok(Vec::new(alloc)),
+        }
+    }
+
+    /// How many functions a module has: the number of its first initializer.
+    fn function_count(&self, home: u32) -> usize
+        ensures exact { result ≡ length (module_at (modules_of self.now) home).tree.functions }
+    {
+        match self.loaded(home) {
+            Some(loaded) => loaded.tree.functions.as_slice().len(),
+            None => 0,
+        }
+    }
+
+    /// Runs the initializers of a module's globals, in the order of declaration and on one budget of ticks. What
+    /// they ask and which objects end is listed behind the events, which need room for the end of each live host
+    /// object. A module that is not built has none.
+    ///
+    /// # Errors
+    /// The fault that ended them.
+    pub fn initialize(
+        &self,
+        machine: &mut Machine,
+        home: u32,
+        budget: u64,
+        events: &mut Vec<HostEvent>,
+    ) -> Result<(), Fault>
+        requires drivers { AreDriversThere (modules_of self.now) (length (members machine.old.store.drivers)) }
+        requires ready { IsReady (λ v. (⟦<dyn Driver as Driver>⟧ v).meaning) (lent machine.old events.old) }
+        requires counted { IsCounted [] (world_of (λ v. (⟦<dyn Driver as Driver>⟧ v).meaning) (lent machine.old events.old)) }
+        ensures means { Ends (initialization_of (modules_of self.now) budget home) (world_of (λ v. (⟦<dyn Driver as Driver>⟧ v).meaning) (lent machine.old events.old))
+            (completed result) (world_of (λ v. (⟦<dyn Driver as Driver>⟧ v).meaning) (lent machine.new events.new)) }
+        ensures asked { AllByRecursion (IsAskedIn (modules_of self.now)) events.old.items → AllByRecursion (IsAskedIn (modules_of self.now)) events.new.items }
+        ensures counted { IsCounted [] (world_of (λ v. (⟦<dyn Driver as Driver>⟧ v).meaning) (lent machine.new events.new)) }
+        ensures moves { (roles : ListOf Role) → AgreesWith roles (modules_of self.now)
+            → StoreMoves (λ v. (⟦<dyn Driver as Driver>⟧ v).meaning) roles (lent machine.old events.old) (lent machine.new events.new) }
+        ensures ready { IsReady (λ v. (⟦<dyn Driver as Driver>⟧ v).meaning) (lent machine.new events.new) }
+        ensures count { length (members machine.new.store.drivers) ≡ length (members machine.old.store.drivers) }
+    {
+        let first = self.function_count(home);
+        let end = body_count(&self.table, home);
+        run_initializers(&self.table, machine, home, first, end, budget, events)
+    }
+
+    /// Calls the function of a number of a module with a budget of ticks, and answers its value; a `void`
+    /// function's value is 0. What the value holds has been given up. The arguments stand in the order of the
+    /// parameters. What the function asks and which objects end is listed behind the events, which need room for
+    /// the end of each live host object.
+    ///
+    /// # Errors
+    /// The fault of the script.
+    pub fn call(
+        &self,
+        machine: &mut Machine,
+        home: u32,
+        number: usize,
+        args: &[Slot],
+        budget: u64,
+        events: &mut Vec<HostEvent>,
+    ) -> Result<Slot, Fault>
+        requires drivers { AreDriversThere (modules_of self.now) (length (members machine.old.store.drivers)) }
+        requires takes { TakesSoMany (modules_of self.now) home number (length args.now) }
+        requires ready { IsReady (λ v. (⟦<dyn Driver as Driver>⟧ v).meaning) (lent machine.old events.old) }
+        requires counted { IsCounted (reverse args.now) (world_of (λ v. (⟦<dyn Driver as Driver>⟧ v).meaning) (lent machine.old events.old)) }
+        ensures means { Ends (call_of (modules_of self.now) budget home number args.now) (world_of (λ v. (⟦<dyn Driver as Driver>⟧ v).meaning) (lent machine.old events.old))
+            result (world_of (λ v. (⟦<dyn Driver as Driver>⟧ v).meaning) (lent machine.new events.new)) }
+        ensures asked { AllByRecursion (IsAskedIn (modules_of self.now)) events.old.items → AllByRecursion (IsAskedIn (modules_of self.now)) events.new.items }
+        ensures counted { IsCounted [] (world_of (λ v. (⟦<dyn Driver as Driver>⟧ v).meaning) (lent machine.new events.new)) }
+        ensures moves { (roles : ListOf Role) → AgreesWith roles (modules_of self.now)
+            → StoreMoves (λ v. (⟦<dyn Driver as Driver>⟧ v).meaning) roles (lent machine.old events.old) (lent machine.new events.new) }
+        ensures ready { IsReady (λ v. (⟦<dyn Driver as Driver>⟧ v).meaning) (lent machine.new events.new) }
+        ensures count { length (members machine.new.store.drivers) ≡ length (members machine.old.store.drivers) }
+    {
+        let table = &self.table;
+        let entry = Routine {
+            home,
+            number: number as u32,
+        };
+        run(table, machine, entry, args, budget, events)
+    }
+}

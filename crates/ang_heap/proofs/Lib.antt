@@ -1,0 +1,5 @@
+pub mod Hosting
+pub mod Heaping
+pub mod Giving
+pub mod Storing
+pub mod Puts

@@ -1,0 +1,75 @@
+-- Values held and given up in a store, over worlds.
+use Rattle.std.proofs.Common.{◌≡◌, ℕ, List, [], ◌∷◌, Bool, true, false, refl, sym, ap, Some, None, cond, subst, Result, Ok, Err, is_ok, OnErr}
+use Rattle.ang_host.specs.declared.event.HostEvent.{HostEvent}
+use Rattle.ang_host.specs.declared.event.Role.{Role}
+use Rattle.ang_host.specs.Laws.{Meaning}
+use Rattle.ang_host.specs.Boxes.{members}
+use Rattle.ang_meaning.specs.declared.slot.Slot.{Slot}
+use Rattle.ang_meaning.specs.declared.slot.Slot.TheVariants.{Bits, Script, Host}
+use Rattle.ang_meaning.specs.World.{World, ScriptObjects, HostCounts, Tallied, Yes, No, hold, one_more, tally_step, host_raised, script_raised, if_told, with_inputs}
+use Rattle.ang_meaning.specs.Told.{Told}
+use Rattle.ang_heap.specs.declared.store.Store.{Store}
+use Rattle.ang_heap.specs.Parts.{world_by}
+use Rattle.ang_heap.specs.Stores.{StoreMoves}
+use Rattle.ang_heap.proofs.Hosting.{parts_none, parts_join}
+
+pub bits_hold : (n : ℕ) (w : World) → Told (λ is. hold (Bits n) (with_inputs is w)) (λ is. if_told true (with_inputs is w))
+unfolding hold tally_step one_more
+bits_hold n w = record { used = []; tells = λ rest. refl }
+
+pub null_hold : (w : World) → Told (λ is. hold (Script None) (with_inputs is w)) (λ is. if_told true (with_inputs is w))
+unfolding hold tally_step one_more
+null_hold w = record { used = []; tells = λ rest. refl }
+
+pub no_key_hold : (d : ℕ) (w : World) → Told (λ is. hold (Host d None) (with_inputs is w)) (λ is. if_told true (with_inputs is w))
+unfolding hold tally_step one_more
+no_key_hold d w = record { used = []; tells = λ rest. refl }
+
+module _ (gs : List (List Slot)) (es : List HostEvent) where
+  pub host_hold : (d k : ℕ) (b : Bool) (os : ScriptObjects) (hs hs' : HostCounts) → hs' ≡ cond b (host_raised d k hs) hs
+      → Told (λ is. hold (Host d (Some k)) (with_inputs is (world_by os hs gs es []))) (λ is. if_told b (with_inputs is (world_by os hs' gs es [])))
+  unfolding hold tally_step one_more
+  host_hold d k true os hs hs' e = record { used = Tallied true ∷ []; tells = λ rest. ap (λ h. Yes (world_by os h gs es rest)) (sym e) }
+  host_hold d k false os hs hs' e = record { used = Tallied false ∷ []; tells = λ rest. ap (λ h. No (world_by os h gs es rest)) (sym e) }
+
+  pub script_hold : (n : ℕ) (b : Bool) (os os' : ScriptObjects) (hs : HostCounts) → os' ≡ cond b (script_raised n os) os
+      → Told (λ is. hold (Script (Some n)) (with_inputs is (world_by os hs gs es []))) (λ is. if_told b (with_inputs is (world_by os' hs gs es [])))
+  unfolding hold tally_step one_more
+  script_hold n true os os' hs e = record { used = Tallied true ∷ []; tells = λ rest. ap (λ o. Yes (world_by o hs gs es rest)) (sym e) }
+  script_hold n false os os' hs e = record { used = Tallied false ∷ []; tells = λ rest. ap (λ o. No (world_by o hs gs es rest)) (sym e) }
+
+-- ---- the same of a value that is such a one
+
+pub bits_held : (v : Slot) (n : ℕ) (w : World) → v ≡ Bits n → Told (λ is. hold v (with_inputs is w)) (λ is. if_told true (with_inputs is w))
+bits_held v n w e = subst (λ x. Told (λ is. hold x (with_inputs is w)) (λ is. if_told true (with_inputs is w))) (sym e) (bits_hold n w)
+
+pub null_held : (v : Slot) (w : World) → v ≡ Script None → Told (λ is. hold v (with_inputs is w)) (λ is. if_told true (with_inputs is w))
+null_held v w e = subst (λ x. Told (λ is. hold x (with_inputs is w)) (λ is. if_told true (with_inputs is w))) (sym e) (null_hold w)
+
+pub no_key_held : (v : Slot) (d : ℕ) (w : World) → v ≡ Host d None → Told (λ is. hold v (with_inputs is w)) (λ is. if_told true (with_inputs is w))
+no_key_held v d w e = subst (λ x. Told (λ is. hold x (with_inputs is w)) (λ is. if_told true (with_inputs is w))) (sym e) (no_key_hold d w)
+
+pub host_held : (v : Slot) (d k : ℕ) (b : Bool) (w : World) (hs' : HostCounts) → v ≡ Host d (Some k) → hs' ≡ cond b (host_raised d k w.hosts) w.hosts
+    → Told (λ is. hold v (with_inputs is w)) (λ is. if_told b (with_inputs is (record w { hosts = hs' })))
+host_held v d k b w hs' e h =
+    subst (λ x. Told (λ is. hold x (with_inputs is w)) (λ is. if_told b (with_inputs is (record w { hosts = hs' })))) (sym e) (host_hold w.globals w.events d k b w.objects w.hosts hs' h)
+
+pub script_held : (v : Slot) (n : ℕ) (b : Bool) (w : World) (os' : ScriptObjects) → v ≡ Script (Some n) → os' ≡ cond b (script_raised n w.objects) w.objects
+    → Told (λ is. hold v (with_inputs is w)) (λ is. if_told b (with_inputs is (record w { objects = os' })))
+script_held v n b w os' e h =
+    subst (λ x. Told (λ is. hold x (with_inputs is w)) (λ is. if_told b (with_inputs is (record w { objects = os' })))) (sym e) (script_hold w.globals w.events n b w.objects os' w.hosts h)
+
+pub on_false : {A E P : Type 0} (r : Result A E) → is_ok r ≡ false → OnErr r P → P
+on_false (Ok a) e p = absurd (let x : ⊥ = cc in x)
+on_false (Err e) h p = p
+
+-- ---- pieces of a run
+
+pub moves_none : {V : Type 0} {P : V → Type 0} (m : (v : V) → Meaning (P v)) (roles : List Role) (s : Store V P) → StoreMoves m roles s s
+moves_none m roles s = record { parts = parts_none m roles (members s.drivers) s.events.items; ready = λ r. r }
+
+pub moves_join : {V : Type 0} {P : V → Type 0} (m : (v : V) → Meaning (P v)) (roles : List Role) (s t u : Store V P) → StoreMoves m roles s t → StoreMoves m roles t u → StoreMoves m roles s u
+moves_join m roles s t u p q = record {
+  parts = parts_join m roles (members s.drivers) (members t.drivers) (members u.drivers) s.events.items t.events.items u.events.items p.parts q.parts;
+  ready = λ r. q.ready (p.ready r);
+}

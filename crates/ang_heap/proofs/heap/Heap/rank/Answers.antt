@@ -1,0 +1,10 @@
+use Rattle.std.proofs.Common.{sym, ap, ◌∙◌}
+use Rattle.std.specs.Option.{option_copied}
+use Rattle.ang_heap.proofs.Heaping.{rank_at, no_rank}
+use Rattle.ang_heap.proofs.heap.Heap.rank.Goals as goal
+
+pub returns-in-Some : goal.returns-in-Some
+returns-in-Some c = record { exact = rank_at c.args.self.now.records c.args.number c.in-Some.object.now (sym c.get.ensures ∙ ap option_copied c.in-Some.is) }
+
+pub returns-in-None : goal.returns-in-None
+returns-in-None c = record { exact = no_rank c.args.self.now.records c.args.number (sym c.get.ensures ∙ ap option_copied c.in-None.is) }

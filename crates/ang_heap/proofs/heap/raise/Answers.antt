@@ -1,0 +1,20 @@
+use Rattle.std.proofs.Common.{◌≡◌, ◌+◌, Some, sym, ap, ◌∙◌, arith}
+use Rattle.std.specs.Option.{option_copied}
+use Rattle.slab.specs.Slab.{get}
+use Rattle.ang_heap.proofs.Heaping.{raise_none, raise_done, value_updates, count_in_slab}
+use Rattle.ang_heap.proofs.heap.raise.Goals as goal
+
+pub returns-in-None-clause-raised : goal.returns-in-None-clause-raised
+returns-in-None-clause-raised c = raise_none _ _ (sym c.get.ensures ∙ ap option_copied c.in-None.is)
+
+pub returns-then-count-lt18446744073709551615-clause-raised : goal.returns-then-count-lt18446744073709551615-clause-raised
+returns-then-count-lt18446744073709551615-clause-raised c =
+    let o = c.in-Some.o.now in
+    let g : get c.args.records.now c.args.key ≡ Some o = sym c.get.ensures ∙ ap option_copied c.in-Some.is in
+    raise_done c.args.records.now c.set_count.new.records c.args.key o g
+    (value_updates c.args.records.now c.set_count.new.records c.args.key o (record o { count = o.count + 1 }) g (c.set_count.ensures.set o g))
+
+pub returns-clause-full : goal.returns-clause-full
+returns-clause-full c = λ e.
+    let counted = count_in_slab c.args.records.now c.args.key c.in-Some.o.now (sym c.get.ensures ∙ ap option_copied c.in-Some.is) in
+    omega (arith, counted, c.if-count-lt18446744073709551615.false)

@@ -1,0 +1,21 @@
+use Rattle.std.proofs.Common.{arith}
+use Rattle.ang_heap.proofs.store.give_object.Goals as goal
+
+pub give_up-requires-clause-ready : goal.give_up-requires-clause-ready
+give_up-requires-clause-ready g c = record { sound = c.requires.ready.kept.drivers.sound; room = omega (arith, c.requires.ready.room, c.requires.ready.kept.alive) }
+
+pub returns-clause-given : goal.returns-clause-given
+returns-clause-given g c = λ is. c.give_up.ensures.gives _ is
+
+pub returns-clause-moves : goal.returns-clause-moves
+returns-clause-moves g c = λ roles. record {
+  parts = c.give_up.ensures.moves roles;
+  ready = λ r. record {
+    kept = record {
+      drivers = record { sound = c.give_up.ensures.ready.sound; room = omega (arith, r.kept.drivers.room, c.give_up.ensures.fewer) };
+      alive = omega (arith, r.kept.alive, c.give_up.ensures.level, c.give_up.ensures.fewer);
+      none = r.kept.none;
+    };
+    room = omega (arith, r.room, r.kept.alive, c.give_up.ensures.level, c.give_up.ensures.fewer, c.give_up.ensures.capacity);
+  };
+}

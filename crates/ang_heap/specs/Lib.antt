@@ -1,0 +1,4 @@
+pub mod Globals
+pub mod Parts
+pub mod Heaps
+pub mod Stores

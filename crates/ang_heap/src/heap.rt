@@ -1,0 +1,201 @@
+//! Script objects, and how they are given up.
+ghost use Rattle.std.specs.Prelude.{ℕ, ◌+◌, ◌-◌, ◌^◌, ◌≡◌, ◌<◌, ◌≤◌, ◌↔◌, false, IsTrue, List, [], ◌∷◌, Some, IfSome, IfNone, is_ok, OnErr, vec_len, vec_capacity, if◌then◌else◌};
+ghost use Rattle.std.specs.FinMap as map;
+ghost use Rattle.ang_host.specs.declared.event.Role.{Role};
+ghost use Rattle.ang_host.specs.Events.{DriversFollow};
+ghost use Rattle.ang_host.specs.Members.{states_of};
+ghost use Rattle.ang_host.specs.Boxes.{members};
+ghost use Rattle.ang_meaning.specs.World.{Input, Gone, Kept, script_raised, script_lowered, hold as hold_in, give as give_in, if_told};
+ghost use Rattle.ang_meaning.specs.Told.{Told};
+ghost use Rattle.ang_meaning.specs.Counting.{EnoughIn, HasKey, count_of_object};
+ghost use Rattle.slab.specs.Slab.{get as slab_get, slab_len, with_value};
+ghost use Rattle.ang_heap.specs.Parts.{counts_of, live_of, world_by, AreReady, IsTallyFull, PartsMove};
+ghost use Rattle.ang_heap.specs.Heaps.{objects_in, objects_of};
+
+use crate::hosts::{add, release};
+use ang_host::{Driver, Drivers, HostEvent};
+use ang_meaning::Slot;
+use slab::Slab;
+use std::alloc::Global;
+
+/// A script object.
+#[derive(Drop)]
+pub struct ScriptObject {
+    /// Its class's number in the module that made it.
+    pub class: u32,
+    /// Its class's rank: a field holds objects of a lower one only.
+    pub rank: u32,
+    /// How many places hold it.
+    pub count: u64,
+    /// Its fields, those of the base class first, in order of declaration.
+    pub fields: Vec<Slot>,
+}
+
+/// The script objects that live, by their numbers.
+#[derive(Drop)]
+pub struct Heap {
+    pub(crate) alloc: Global,
+    pub(crate) records: Slab<ScriptObject>,
+}
+
+/// There is no room for one place more: the driver's tallies, or the script object's count, have run out.
+#[derive(Clone, Copy, Debug, Drop, PartialEq, Eq)]
+pub struct Tally;
+
+impl Heap {
+    /// One more place holds the value.
+    ///
+    /// # Errors
+    /// The driver's tallies, or the script object's count, have run out, and then nothing changes.
+    pub fn hold(&mut self, drivers: &mut Drivers, value: Slot) -> Result<(), Tally>
+        requires there { HasKey value (counts_of (λ v. (⟦<dyn Driver as Driver>⟧ v).meaning) (members drivers.old)) }
+        ensures holds { (gs : List (List Slot)) (es : List HostEvent)
+            → Told (λ is. hold_in value (world_by (objects_of self.old) (counts_of (λ v. (⟦<dyn Driver as Driver>⟧ v).meaning) (members drivers.old)) gs es is))
+            (λ is. if_told (is_ok result) (world_by (objects_of self.new) (counts_of (λ v. (⟦<dyn Driver as Driver>⟧ v).meaning) (members drivers.new)) gs es is)) }
+        ensures full { OnErr result (IsTallyFull value (objects_of self.old) (states_of (λ v. (⟦<dyn Driver as Driver>⟧ v).meaning) (members drivers.old))) }
+        ensures same_objects { OnErr result (objects_of self.new ≡ objects_of self.old) }
+        ensures same_drivers { OnErr result (states_of (λ v. (⟦<dyn Driver as Driver>⟧ v).meaning) (members drivers.new) ≡ states_of (λ v. (⟦<dyn Driver as Driver>⟧ v).meaning) (members drivers.old)) }
+        ensures live { live_of (λ v. (⟦<dyn Driver as Driver>⟧ v).meaning) (members drivers.new) ≡ live_of (λ v. (⟦<dyn Driver as Driver>⟧ v).meaning) (members drivers.old) }
+        ensures ready { (len capacity : ℕ) → AreReady (states_of (λ v. (⟦<dyn Driver as Driver>⟧ v).meaning) (members drivers.old)) len capacity
+            → AreReady (states_of (λ v. (⟦<dyn Driver as Driver>⟧ v).meaning) (members drivers.new)) len capacity }
+        ensures follow { (roles : List Role) → DriversFollow (λ v. (⟦<dyn Driver as Driver>⟧ v).meaning) roles (members drivers.old) [] (members drivers.new) }
+    {
+        if hold(&mut self.records, drivers, value) {
+            return Ok(());
+        }
+        Err(Tally)
+    }
+
+    /// Whether no script object lives.
+    pub fn is_empty(&self) -> bool
+        ensures exact { IsTrue result ↔ (objects_of self.now ≡ map.empty) }
+    {
+        self.records.is_empty()
+    }
+
+    /// One place gives up its value, and each object that ends gives up its fields. It takes no memory and
+    /// always succeeds: the end of each host object has its room in `events`.
+    pub fn give_up(&mut self, drivers: &mut Drivers, events: &mut Vec<HostEvent>, value: Slot)
+        requires ready { AreReady (states_of (λ v. (⟦<dyn Driver as Driver>⟧ v).meaning) (members drivers.old)) (vec_len events.old) (vec_capacity events.old) }
+        requires enough { EnoughIn (value ∷ []) (objects_of self.old) (counts_of (λ v. (⟦<dyn Driver as Driver>⟧ v).meaning) (members drivers.old)) }
+        ensures gives { (gs : List (List Slot)) (is : List Input)
+            → give_in value (world_by (objects_of self.old) (counts_of (λ v. (⟦<dyn Driver as Driver>⟧ v).meaning) (members drivers.old)) gs events.old.items is)
+            ≡ world_by (objects_of self.new) (counts_of (λ v. (⟦<dyn Driver as Driver>⟧ v).meaning) (members drivers.new)) gs events.new.items is }
+        ensures ready { AreReady (states_of (λ v. (⟦<dyn Driver as Driver>⟧ v).meaning) (members drivers.new)) (vec_len events.new) (vec_capacity events.new) }
+        ensures level { vec_len events.new + live_of (λ v. (⟦<dyn Driver as Driver>⟧ v).meaning) (members drivers.new) ≡ vec_len events.old + live_of (λ v. (⟦<dyn Driver as Driver>⟧ v).meaning) (members drivers.old) }
+        ensures fewer { live_of (λ v. (⟦<dyn Driver as Driver>⟧ v).meaning) (members drivers.new) ≤ live_of (λ v. (⟦<dyn Driver as Driver>⟧ v).meaning) (members drivers.old) }
+        ensures capacity { vec_capacity events.new ≡ vec_capacity events.old }
+        ensures moves { (roles : List Role) → PartsMove (λ v. (⟦<dyn Driver as Driver>⟧ v).meaning) roles (members drivers.old) events.old.items (members drivers.new) events.new.items }
+    {
+        give_up(&mut self.records, drivers, events, value);
+    }
+}
+
+fn set_count(records: &mut Slab<ScriptObject>, key: usize, count: u64)
+    ensures set { (o : ScriptObject) → slab_get records.old key ≡ Some o → records.new ≡ with_value records.old key (record o { count = count }) }
+{
+    if let Some(o) = records.get_mut(key) {
+        o.count = count;
+    }
+}
+
+/// One more place holds a script object. False where its count is full, and then nothing is done. True where
+/// there is no such object: its number then names nothing, and to hold that changes nothing.
+fn raise(records: &mut Slab<ScriptObject>, key: usize) -> bool
+    ensures raised { objects_in records.new ≡ (if result then script_raised key (objects_in records.old) else objects_in records.old) }
+    ensures full { result ≡ false → 2 ^ 64 - 1 ≤ count_of_object (map.get (objects_in records.old) key) }
+{
+    let count = match records.get(key) {
+        Some(o) => o.count,
+        None => return true,
+    };
+    if count < u64::MAX {
+        set_count(records, key, count + 1);
+        return true;
+    }
+    false
+}
+
+/// One more place holds the value. False where a tally or a count has run out, and then nothing is done.
+fn hold(records: &mut Slab<ScriptObject>, drivers: &mut Drivers, value: Slot) -> bool
+    requires there { HasKey value (counts_of (λ v. (⟦<dyn Driver as Driver>⟧ v).meaning) (members drivers.old)) }
+    ensures holds { (gs : List (List Slot)) (es : List HostEvent)
+        → Told (λ is. hold_in value (world_by (objects_in records.old) (counts_of (λ v. (⟦<dyn Driver as Driver>⟧ v).meaning) (members drivers.old)) gs es is))
+        (λ is. if_told result (world_by (objects_in records.new) (counts_of (λ v. (⟦<dyn Driver as Driver>⟧ v).meaning) (members drivers.new)) gs es is)) }
+    ensures full { result ≡ false → IsTallyFull value (objects_in records.old) (states_of (λ v. (⟦<dyn Driver as Driver>⟧ v).meaning) (members drivers.old)) }
+    ensures same_objects { result ≡ false → objects_in records.new ≡ objects_in records.old }
+    ensures same_drivers { result ≡ false → states_of (λ v. (⟦<dyn Driver as Driver>⟧ v).meaning) (members drivers.new) ≡ states_of (λ v. (⟦<dyn Driver as Driver>⟧ v).meaning) (members drivers.old) }
+    ensures live { live_of (λ v. (⟦<dyn Driver as Driver>⟧ v).meaning) (members drivers.new) ≡ live_of (λ v. (⟦<dyn Driver as Driver>⟧ v).meaning) (members drivers.old) }
+    ensures ready { (len capacity : ℕ) → AreReady (states_of (λ v. (⟦<dyn Driver as Driver>⟧ v).meaning) (members drivers.old)) len capacity
+        → AreReady (states_of (λ v. (⟦<dyn Driver as Driver>⟧ v).meaning) (members drivers.new)) len capacity }
+    ensures follow { (roles : List Role) → DriversFollow (λ v. (⟦<dyn Driver as Driver>⟧ v).meaning) roles (members drivers.old) [] (members drivers.new) }
+{
+    match value {
+        Slot::Bits(_) => true,
+        Slot::Host(driver, named) => match named {
+            Some(key) => add(drivers, driver, key),
+            None => true,
+        },
+        Slot::Script(handle) => match handle {
+            Some(number) => raise(records, number),
+            None => true,
+        },
+    }
+}
+
+/// One place less holds a script object: the object, where it was the last.
+fn lower(records: &mut Slab<ScriptObject>, key: usize) -> Option<ScriptObject>
+    ensures gone { IfSome result (λ o. script_lowered key (objects_in records.old) ≡ Gone o.fields.items (objects_in records.new)) }
+    ensures shorter { IfSome result (λ o. slab_len records.new < slab_len records.old) }
+    ensures kept { IfNone result (script_lowered key (objects_in records.old) ≡ Kept (objects_in records.new)) }
+    ensures same_length { IfNone result (slab_len records.new ≡ slab_len records.old) }
+{
+    let count = match records.get(key) {
+        Some(o) => o.count,
+        None => return None,
+    };
+    if count > 1 {
+        set_count(records, key, count - 1);
+        return None;
+    }
+    records.try_remove(key)
+}
+
+/// One place gives up its value, and each object that ends gives up its fields, which can't hold it: an
+/// object that ended is no record any more.
+fn give_up(
+    records: &mut Slab<ScriptObject>,
+    drivers: &mut Drivers,
+    events: &mut Vec<HostEvent>,
+    value: Slot,
+)
+    requires ready { AreReady (states_of (λ v. (⟦<dyn Driver as Driver>⟧ v).meaning) (members drivers.old)) (vec_len events.old) (vec_capacity events.old) }
+    requires enough { EnoughIn (value ∷ []) (objects_in records.old) (counts_of (λ v. (⟦<dyn Driver as Driver>⟧ v).meaning) (members drivers.old)) }
+    ensures gives { (gs : List (List Slot)) (is : List Input)
+        → give_in value (world_by (objects_in records.old) (counts_of (λ v. (⟦<dyn Driver as Driver>⟧ v).meaning) (members drivers.old)) gs events.old.items is)
+        ≡ world_by (objects_in records.new) (counts_of (λ v. (⟦<dyn Driver as Driver>⟧ v).meaning) (members drivers.new)) gs events.new.items is }
+    ensures ready { AreReady (states_of (λ v. (⟦<dyn Driver as Driver>⟧ v).meaning) (members drivers.new)) (vec_len events.new) (vec_capacity events.new) }
+    ensures level { vec_len events.new + live_of (λ v. (⟦<dyn Driver as Driver>⟧ v).meaning) (members drivers.new) ≡ vec_len events.old + live_of (λ v. (⟦<dyn Driver as Driver>⟧ v).meaning) (members drivers.old) }
+    ensures fewer { live_of (λ v. (⟦<dyn Driver as Driver>⟧ v).meaning) (members drivers.new) ≤ live_of (λ v. (⟦<dyn Driver as Driver>⟧ v).meaning) (members drivers.old) }
+    ensures capacity { vec_capacity events.new ≡ vec_capacity events.old }
+    ensures shorter { slab_len records.new ≤ slab_len records.old }
+    ensures moves { (roles : List Role) → PartsMove (λ v. (⟦<dyn Driver as Driver>⟧ v).meaning) roles (members drivers.old) events.old.items (members drivers.new) events.new.items }
+{
+    match value {
+        Slot::Bits(_) => {}
+        Slot::Host(driver, named) => match named {
+            Some(key) => release(drivers, events, driver, key),
+            None => {}
+        },
+        Slot::Script(handle) => match handle {
+            Some(number) => {
+                if let Some(object) = lower(records, number) {
+                    for i in 0..object.fields.len() {
+                        give_up(records, drivers, events, object.fields[i]);
+                    }
+                }
+            }
+            None => {}
+        },
+    }
+}

@@ -1,0 +1,15 @@
+//! What lies outside the stack of a run: script objects with their counts, the globals, the drivers with
+//! what they keep, and the events. In `specs/` stands the world that it is (docs/MEANING.md, "The world of
+//! a run"), as a function of it, so that nothing is kept beside the drivers' own counts.
+#![tactic(auto)]
+
+mod globals;
+mod heap;
+mod hosts;
+mod objects;
+mod store;
+
+pub use ang_meaning::Slot;
+pub use globals::Globals;
+pub use heap::{Heap, Tally};
+pub use store::{Store, give, hold};

@@ -1,0 +1,95 @@
+//! What lies outside the stack of a run, as one thing.
+ghost use Rattle.std.specs.Prelude.{◌≡◌, ◌∷◌, false, List, []};
+ghost use Rattle.ang_host.specs.declared.event.Role.{Role};
+ghost use Rattle.ang_meaning.specs.World.{Input, hold as hold_in, give as give_in, if_told, with_inputs};
+ghost use Rattle.ang_meaning.specs.Told.{Told};
+ghost use Rattle.ang_meaning.specs.Counting.{CanGive, HasKey};
+ghost use Rattle.ang_host.specs.Boxes.{members};
+ghost use Rattle.ang_host.specs.Members.{states_of};
+ghost use Rattle.ang_heap.specs.Heaps.{objects_of};
+ghost use Rattle.ang_heap.specs.Parts.{counts_of, IsTallyFull};
+ghost use Rattle.ang_heap.specs.Stores.{world_of, IsReady, StoreMoves};
+
+use crate::globals::Globals;
+use crate::heap::Heap;
+use ang_host::{Driver, Drivers, HostEvent};
+use ang_meaning::Slot;
+
+/// What lies outside the stack of a run. Between commands a machine keeps it with `events` empty: a run
+/// puts the caller's list there, and takes it out again at its end.
+pub struct Store {
+    /// The script objects.
+    pub heap: Heap,
+    /// The values of the globals.
+    pub globals: Globals,
+    /// The drivers, with the host objects that they keep.
+    pub drivers: Drivers,
+    /// What the drivers were asked and which host objects ended, in order. It has room for the end of each
+    /// live host object.
+    pub events: Vec<HostEvent>,
+    /// Empty, with room for the end of each live host object: the ends go here when the engine itself is
+    /// given up.
+    pub ends: Vec<HostEvent>,
+    /// How many host objects live.
+    pub live: usize,
+}
+
+/// One more place holds the value. False where a tally is full, and then nothing is done.
+#[inline(always)]
+pub fn hold(store: &mut Store, value: Slot) -> bool
+    requires there { HasKey value (counts_of (λ v. (⟦<dyn Driver as Driver>⟧ v).meaning) (members store.old.drivers)) }
+    ensures told { Told (λ is. hold_in value (with_inputs is (world_of (λ v. (⟦<dyn Driver as Driver>⟧ v).meaning) store.old)))
+        (λ is. if_told result (with_inputs is (world_of (λ v. (⟦<dyn Driver as Driver>⟧ v).meaning) store.new))) }
+    ensures full { result ≡ false → IsTallyFull value (objects_of store.old.heap) (states_of (λ v. (⟦<dyn Driver as Driver>⟧ v).meaning) (members store.old.drivers)) }
+    ensures unchanged { result ≡ false → states_of (λ v. (⟦<dyn Driver as Driver>⟧ v).meaning) (members store.new.drivers) ≡ states_of (λ v. (⟦<dyn Driver as Driver>⟧ v).meaning) (members store.old.drivers) }
+    ensures moves { (roles : List Role) → StoreMoves (λ v. (⟦<dyn Driver as Driver>⟧ v).meaning) roles store.old store.new }
+{
+    match value {
+        Slot::Bits(_) => true,
+        Slot::Script(_) => hold_object(store, value),
+        Slot::Host(_, _) => hold_object(store, value),
+    }
+}
+
+#[inline(never)]
+fn hold_object(store: &mut Store, value: Slot) -> bool
+    requires there { HasKey value (counts_of (λ v. (⟦<dyn Driver as Driver>⟧ v).meaning) (members store.old.drivers)) }
+    ensures told { Told (λ is. hold_in value (with_inputs is (world_of (λ v. (⟦<dyn Driver as Driver>⟧ v).meaning) store.old)))
+        (λ is. if_told result (with_inputs is (world_of (λ v. (⟦<dyn Driver as Driver>⟧ v).meaning) store.new))) }
+    ensures full { result ≡ false → IsTallyFull value (objects_of store.old.heap) (states_of (λ v. (⟦<dyn Driver as Driver>⟧ v).meaning) (members store.old.drivers)) }
+    ensures unchanged { result ≡ false → states_of (λ v. (⟦<dyn Driver as Driver>⟧ v).meaning) (members store.new.drivers) ≡ states_of (λ v. (⟦<dyn Driver as Driver>⟧ v).meaning) (members store.old.drivers) }
+    ensures moves { (roles : List Role) → StoreMoves (λ v. (⟦<dyn Driver as Driver>⟧ v).meaning) roles store.old store.new }
+{
+    store.heap.hold(&mut store.drivers, value).is_ok()
+}
+
+/// One place gives up the value. It takes no memory and always succeeds.
+#[inline(always)]
+pub fn give(store: &mut Store, value: Slot)
+    requires ready { IsReady (λ v. (⟦<dyn Driver as Driver>⟧ v).meaning) store.old }
+    requires enough { CanGive (value ∷ []) (world_of (λ v. (⟦<dyn Driver as Driver>⟧ v).meaning) store.old) }
+    ensures given { (is : List Input) → give_in value (with_inputs is (world_of (λ v. (⟦<dyn Driver as Driver>⟧ v).meaning) store.old))
+        ≡ with_inputs is (world_of (λ v. (⟦<dyn Driver as Driver>⟧ v).meaning) store.new) }
+    ensures moves { (roles : List Role) → StoreMoves (λ v. (⟦<dyn Driver as Driver>⟧ v).meaning) roles store.old store.new }
+{
+    match value {
+        Slot::Bits(_) => {}
+        Slot::Script(_) => give_object(store, value),
+        Slot::Host(_, _) => give_object(store, value),
+    }
+}
+
+#[inline(never)]
+fn give_object(store: &mut Store, value: Slot)
+    requires ready { IsReady (λ v. (⟦<dyn Driver as Driver>⟧ v).meaning) store.old }
+    requires enough { CanGive (value ∷ []) (world_of (λ v. (⟦<dyn Driver as Driver>⟧ v).meaning) store.old) }
+    ensures given { (is : List Input) → give_in value (with_inputs is (world_of (λ v. (⟦<dyn Driver as Driver>⟧ v).meaning) store.old))
+        ≡ with_inputs is (world_of (λ v. (⟦<dyn Driver as Driver>⟧ v).meaning) store.new) }
+    ensures moves { (roles : List Role) → StoreMoves (λ v. (⟦<dyn Driver as Driver>⟧ v).meaning) roles store.old store.new }
+{
+    let before = store.events.len();
+    store
+        .heap
+        .give_up(&mut store.drivers, &mut store.events, value);
+    store.live -= store.events.len() - before;
+}

@@ -1,0 +1,132 @@
+use Rattle.std.proofs.Common.{◌≡◌, ◌≤◌, ◌<◌, ◌+◌, ◌-◌, ◌∷◌, length, sym, ap, ◌∙◌, subst, refl, arith}
+use Rattle.std.specs.Prelude.{reverse}
+use Rattle.std.proofs.lemmas.List.{length-reverse}
+use Rattle.ang_meaning.specs.World.{with_inputs}
+use Rattle.ang_meaning.specs.Setting.{params_of, has_objects}
+use Rattle.ang_meaning.proofs.Telling.{told_same, told_then}
+use Rattle.ang_vm_stack.specs.Stacks.{values}
+use Rattle.ang_vm_stack.specs.Tables.{setting_of, texts_of}
+use Rattle.ang_vm.specs.Legs.{caller_at, AllFit}
+use Rattle.ang_code.specs.Machine.{begins}
+use Rattle.ang_vm.proofs.Calling.{enters_lost, enters_null, enters_deep, enters_spent, enters_begins, begins_refused, fit_more, fits_begun, push_front}
+use Rattle.ang_vm.proofs.calls.enter_body.Goals as goal
+
+pub returns-then-params-top : goal.returns-then-params-top
+returns-then-params-top c =
+    let z = setting_of c.args.table.now c.args.nesting in
+    let code = texts_of c.args.table.now in
+    let f = c.args.from in
+    let stack = c.args.stack.now.items in
+    let frames = reverse c.args.frames.now.items in
+    let deep : f.place.top ≤ length stack = omega (arith, c.requires.fits.values, c.requires.fits.body) in
+    let count = ap length (c.params_and_height-height.ensures.params c.args.nesting) in
+    record {
+      told = λ w. told_same (λ is. enters_lost z code c.args.body stack f.place.top frames (caller_at f) f.place.ticks deep (omega (arith, count)) (with_inputs is w));
+      fits = tt;
+      body = tt;
+      same = refl;
+      grows = omega arith;
+    }
+
+pub returns-then-not-objects_there : goal.returns-then-not-objects_there
+returns-then-not-objects_there c =
+    let z = setting_of c.args.table.now c.args.nesting in
+    let code = texts_of c.args.table.now in
+    let f = c.args.from in
+    let stack = c.args.stack.now.items in
+    let frames = reverse c.args.frames.now.items in
+    let deep : f.place.top ≤ length stack = omega (arith, c.requires.fits.values, c.requires.fits.body) in
+    let count = ap length (c.params_and_height-height.ensures.params c.args.nesting) in
+    let few : length (params_of z c.args.body) ≤ f.place.top = omega (arith, count) in
+    let objects = ap (λ ps. has_objects ps (values stack f.place.top)) (sym (c.params_and_height-height.ensures.params c.args.nesting)) ∙ sym (ap (λ l. has_objects c.params_and_height-height.result.0.now (values l f.place.top)) c.as_slice.ensures.value) ∙ sym c.objects_there.ensures.exact ∙ c.if-not-objects_there.true in
+    record {
+      told = λ w. told_same (λ is. enters_null z code c.args.body stack f.place.top frames (caller_at f) f.place.ticks deep few objects (with_inputs is w));
+      fits = tt;
+      body = tt;
+      same = refl;
+      grows = omega arith;
+    }
+
+pub returns-then-len-nesting : goal.returns-then-len-nesting
+returns-then-len-nesting c =
+    let z = setting_of c.args.table.now c.args.nesting in
+    let code = texts_of c.args.table.now in
+    let f = c.args.from in
+    let stack = c.args.stack.now.items in
+    let frames = reverse c.args.frames.now.items in
+    let deep : f.place.top ≤ length stack = omega (arith, c.requires.fits.values, c.requires.fits.body) in
+    let count = ap length (c.params_and_height-height.ensures.params c.args.nesting) in
+    let few : length (params_of z c.args.body) ≤ f.place.top = omega (arith, count) in
+    let objects = ap (λ ps. has_objects ps (values stack f.place.top)) (sym (c.params_and_height-height.ensures.params c.args.nesting)) ∙ sym (ap (λ l. has_objects c.params_and_height-height.result.0.now (values l f.place.top)) c.as_slice.ensures.value) ∙ sym c.objects_there.ensures.exact ∙ c.if-not-objects_there.false in
+    let callers = length-reverse c.args.frames.now.items in
+    record {
+      told = λ w. told_same (λ is. enters_deep z code c.args.body stack f.place.top frames (caller_at f) f.place.ticks deep few objects (omega (arith, callers, c.len.ensures, c.args.frames.now.ok.0)) (with_inputs is w));
+      fits = tt;
+      body = tt;
+      same = refl;
+      grows = omega arith;
+    }
+
+pub returns-then-from-eq0 : goal.returns-then-from-eq0
+returns-then-from-eq0 c =
+    let z = setting_of c.args.table.now c.args.nesting in
+    let code = texts_of c.args.table.now in
+    let f = c.args.from in
+    let stack = c.args.stack.now.items in
+    let frames = reverse c.args.frames.now.items in
+    let deep : f.place.top ≤ length stack = omega (arith, c.requires.fits.values, c.requires.fits.body) in
+    let count = ap length (c.params_and_height-height.ensures.params c.args.nesting) in
+    let few : length (params_of z c.args.body) ≤ f.place.top = omega (arith, count) in
+    let objects = ap (λ ps. has_objects ps (values stack f.place.top)) (sym (c.params_and_height-height.ensures.params c.args.nesting)) ∙ sym (ap (λ l. has_objects c.params_and_height-height.result.0.now (values l f.place.top)) c.as_slice.ensures.value) ∙ sym c.objects_there.ensures.exact ∙ c.if-not-objects_there.false in
+    let callers = length-reverse c.args.frames.now.items in
+    let nests : length frames + 1 < c.args.nesting = omega (arith, callers, c.len.ensures, c.args.frames.now.ok.0) in
+    record {
+      told = λ w. told_same (λ is. enters_spent z code c.args.body stack f.place.top frames (caller_at f) f.place.ticks deep few objects nests (omega arith) (with_inputs is w));
+      fits = tt;
+      body = tt;
+      same = refl;
+      grows = omega arith;
+    }
+
+pub returns-in-Err : goal.returns-in-Err
+returns-in-Err c =
+    let z = setting_of c.args.table.now c.args.nesting in
+    let code = texts_of c.args.table.now in
+    let f = c.args.from in
+    let stack = c.args.stack.now.items in
+    let frames = reverse c.args.frames.now.items in
+    let deep : f.place.top ≤ length stack = omega (arith, c.requires.fits.values, c.requires.fits.body) in
+    let count = ap length (c.params_and_height-height.ensures.params c.args.nesting) in
+    let few : length (params_of z c.args.body) ≤ f.place.top = omega (arith, count) in
+    let objects = ap (λ ps. has_objects ps (values stack f.place.top)) (sym (c.params_and_height-height.ensures.params c.args.nesting)) ∙ sym (ap (λ l. has_objects c.params_and_height-height.result.0.now (values l f.place.top)) c.as_slice.ensures.value) ∙ sym c.objects_there.ensures.exact ∙ c.if-not-objects_there.false in
+    let callers = length-reverse c.args.frames.now.items in
+    let nests : length frames + 1 < c.args.nesting = omega (arith, callers, c.len.ensures, c.args.frames.now.ok.0) in
+    record {
+      told = λ w. told_then (told_same (λ is. enters_begins z code c.args.body stack f.place.top frames (caller_at f) f.place.ticks deep few objects nests (omega arith) (with_inputs is w))) (begins_refused code c.args.body stack f.place.top (caller_at f ∷ frames) (f.place.ticks - 1) w stack refl);
+      fits = tt;
+      body = tt;
+      same = refl;
+      grows = omega arith;
+    }
+
+pub returns-in-Ok : goal.returns-in-Ok
+returns-in-Ok c =
+    let z = setting_of c.args.table.now c.args.nesting in
+    let code = texts_of c.args.table.now in
+    let f = c.args.from in
+    let stack = c.args.stack.now.items in
+    let frames = reverse c.args.frames.now.items in
+    let deep : f.place.top ≤ length stack = omega (arith, c.requires.fits.values, c.requires.fits.body) in
+    let count = ap length (c.params_and_height-height.ensures.params c.args.nesting) in
+    let few : length (params_of z c.args.body) ≤ f.place.top = omega (arith, count) in
+    let objects = ap (λ ps. has_objects ps (values stack f.place.top)) (sym (c.params_and_height-height.ensures.params c.args.nesting)) ∙ sym (ap (λ l. has_objects c.params_and_height-height.result.0.now (values l f.place.top)) c.as_slice.ensures.value) ∙ sym c.objects_there.ensures.exact ∙ c.if-not-objects_there.false in
+    let callers = length-reverse c.args.frames.now.items in
+    let nests : length frames + 1 < c.args.nesting = omega (arith, callers, c.len.ensures, c.args.frames.now.ok.0) in
+    let pushed : reverse c.push.new.self.items ≡ caller_at f ∷ frames = ap reverse c.in-Ok.ensures.items ∙ push_front c.args.frames.now.items (caller_at f) in
+    record {
+      told = λ w. told_then (told_same (λ is. enters_begins z code c.args.body stack f.place.top frames (caller_at f) f.place.ticks deep few objects nests (omega arith) (with_inputs is w) ∙ ap (λ fr. begins code c.args.body (values stack f.place.top) fr (f.place.ticks - 1) (with_inputs is w)) (sym pushed))) (c.begin_above.ensures.told code (reverse c.push.new.self.items) w c.params_and_height-height.ensures.height);
+      fits = fits_begun c.begin_above.result c.begin_above.new.stack.items c.push.new.self.items c.begin_above.ensures.in_room (subst (AllFit (length c.begin_above.new.stack.items)) (sym pushed) (omega (arith, c.requires.fits.body, c.begin_above.ensures.grows), fit_more frames (length stack) (length c.begin_above.new.stack.items) c.begin_above.ensures.grows c.requires.fits.callers));
+      body = c.begin_above.ensures.body;
+      same = c.begin_above.ensures.same;
+      grows = c.begin_above.ensures.grows;
+    }

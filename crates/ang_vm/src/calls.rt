@@ -1,0 +1,226 @@
+//! Calls: what stands before a body, and room for its frame.
+ghost use Rattle.std.specs.Prelude.{◌≡◌, ℕ, ◌+◌, ◌<◌, ◌≤◌, ◌^◌, List, length, reverse, Some, None, IfOk, IfSome, MatchOption};
+ghost use Rattle.ang_meaning.specs.World.{World, with_inputs};
+ghost use Rattle.ang_meaning.specs.Setting.{has_objects, target};
+ghost use Rattle.ang_meaning.specs.Told.{Told};
+ghost use Rattle.ang_code.specs.declared.instruction.Frame.{Frame};
+ghost use Rattle.ang_code.specs.Machine.{Texts, begins, enters, found_enters};
+ghost use Rattle.ang_vm_fuse.specs.Parameters.{by_value as are_by_value};
+ghost use Rattle.ang_heap.specs.Stores.{world_of};
+ghost use Rattle.ang_vm_stack.specs.Stacks.{values};
+ghost use Rattle.ang_vm_stack.specs.Tables.{body_of, setting_of, texts_of};
+ghost use Rattle.ang_vm.specs.Legs.{Fits, begun, caller_at, misses, standing_in};
+
+use crate::lookups::params_and_height;
+use ang_code::Frame;
+use ang_heap::Store;
+use ang_host::Driver;
+use ang_kinds::Fault;
+use ang_meaning::{Callee, Passing, Routine, Slot};
+use ang_vm_fuse::body::Body;
+use ang_vm_objects::handles::is_null;
+use ang_vm_stack::place::{Place, Standing};
+use ang_vm_stack::stack::peek;
+use ang_vm_stack::stop::Stop;
+use ang_vm_stack::table::{Table, body_at};
+use ang_vm_steps::calls::callee_of;
+
+/// Whether a parameter misses its object.
+#[inline(always)]
+fn misses_object(passing: Passing, value: Slot) -> bool
+    ensures exact { result ≡ misses passing value }
+{
+    match passing {
+        Passing::In => false,
+        Passing::Out => false,
+        Passing::Object => is_null(value),
+    }
+}
+
+/// Whether each parameter that wants an object has one among the top values, of which there are enough.
+pub fn have_objects(params: &[Passing], stack: &[Slot], top: usize) -> bool
+    requires enough { length params.now ≤ top }
+    requires within { top ≤ length stack.now }
+    ensures exact { result ≡ has_objects params.now (values stack.now top) }
+{
+    for (i, passing) in params.iter().enumerate() {
+        let value = peek(stack, top - i, 0);
+        if misses_object(*passing, value) {
+            return false;
+        }
+    }
+    true
+}
+
+/// The same, where it is known whether all parameters take values.
+#[inline(always)]
+fn objects_there(by_value: bool, params: &[Passing], stack: &[Slot], top: usize) -> bool
+    requires enough { length params.now ≤ top }
+    requires within { top ≤ length stack.now }
+    requires known { by_value ≡ are_by_value params.now }
+    ensures exact { result ≡ has_objects params.now (values stack.now top) }
+{
+    if by_value {
+        return true;
+    }
+    have_objects(params, stack, top)
+}
+
+/// Room above the values in use for so many more; none where there is no memory for it.
+#[inline(always)]
+fn reserve(stack: &mut Vec<Slot>, top: usize, height: usize) -> Option<usize>
+    requires within { top ≤ length stack.old.items }
+    ensures exact { IfSome result (λ room. (room ≡ top + height) × (room ≤ length stack.new.items)) }
+    ensures same { values stack.new.items top ≡ values stack.old.items top }
+    ensures grows { length stack.old.items ≤ length stack.new.items }
+{
+    let room = top.checked_add(height)?;
+    if room <= stack.len() {
+        return Some(room);
+    }
+    match stack.resize(room, Slot::Bits(0)) {
+        Ok(()) => Some(room),
+        Err(_) => None,
+    }
+}
+
+/// A body that puts so many values above its parameters at most begins, where there is memory for its frame.
+///
+/// # Errors
+/// `Memory` where there is none.
+#[inline(always)]
+fn begin_above(
+    body: Routine,
+    height: usize,
+    stack: &mut Vec<Slot>,
+    top: usize,
+    ticks: u64,
+) -> Result<Standing, Stop>
+    requires within { top ≤ length stack.old.items }
+    ensures told { (code : Texts) (frames : List Frame) (w : World) → height ≡ code.height body
+        → Told (λ is. begins code body (values stack.old.items top) frames ticks (with_inputs is w))
+        (λ is. begun result top stack.new.items frames (with_inputs is w)) }
+    ensures in_room { IfOk result (λ s. (s.place.top ≤ s.room) × (s.room ≤ length stack.new.items)) }
+    ensures body { IfOk result (λ s. s.body ≡ body) }
+    ensures same { values stack.new.items top ≡ values stack.old.items top }
+    ensures grows { length stack.old.items ≤ length stack.new.items }
+{
+    match reserve(stack, top, height) {
+        Some(room) => Ok(Standing {
+            body,
+            room,
+            place: Place { at: 0, top, ticks },
+        }),
+        None => Err(Stop::Fails(Fault::Memory)),
+    }
+}
+
+/// A body begins, where there is memory for its frame.
+///
+/// # Errors
+/// `Memory` where there is none.
+pub fn begin(
+    table: &Table,
+    body: Routine,
+    stack: &mut Vec<Slot>,
+    top: usize,
+    ticks: u64,
+) -> Result<Standing, Stop>
+    requires within { top ≤ length stack.old.items }
+    ensures told { (frames : List Frame) (w : World)
+        → Told (λ is. begins (texts_of table.now) body (values stack.old.items top) frames ticks (with_inputs is w))
+        (λ is. begun result top stack.new.items frames (with_inputs is w)) }
+    ensures in_room { IfOk result (λ s. (s.place.top ≤ s.room) × (s.room ≤ length stack.new.items)) }
+    ensures same { values stack.new.items top ≡ values stack.old.items top }
+    ensures grows { length stack.old.items ≤ length stack.new.items }
+{
+    let (_, height, _) = params_and_height(table, body);
+    begin_above(body, height, stack, top, ticks)
+}
+
+/// A function is entered, with its arguments on top.
+///
+/// # Errors
+/// `Null`, `Depth`, `Budget` and `Memory`, the first of them that applies.
+#[inline(always)]
+pub fn enter_body(
+    table: &Table,
+    nesting: usize,
+    stack: &mut Vec<Slot>,
+    frames: &mut Vec<Frame>,
+    from: Standing,
+    body: Routine,
+) -> Result<Standing, Stop>
+    requires fits { Fits from stack.old.items frames.old.items }
+    requires inside { from.place.at + 1 < 2 ^ 64 }
+    ensures told { (w : World)
+        → Told (λ is. enters (setting_of table.now nesting) (texts_of table.now) body (values stack.old.items from.place.top)
+        (reverse frames.old.items) (caller_at from) from.place.ticks (with_inputs is w))
+        (λ is. begun result from.place.top stack.new.items (reverse frames.new.items) (with_inputs is w)) }
+    ensures fits { IfOk result (λ s. Fits s stack.new.items frames.new.items) }
+    ensures body { IfOk result (λ s. s.body ≡ body) }
+    ensures same { values stack.new.items from.place.top ≡ values stack.old.items from.place.top }
+    ensures grows { length stack.old.items ≤ length stack.new.items }
+{
+    let top = from.place.top;
+    let (params, height, by_value) = params_and_height(table, body);
+    if params.len() > top {
+        return Err(Stop::Lost);
+    }
+    if !objects_there(by_value, params, stack.as_slice(), top) {
+        return Err(Stop::Fails(Fault::Null));
+    }
+    if frames.len() + 1 >= nesting {
+        return Err(Stop::Fails(Fault::Depth));
+    }
+    if from.place.ticks == 0 {
+        return Err(Stop::Fails(Fault::Budget));
+    }
+    let caller = Frame {
+        of: from.body,
+        at: from.place.at + 1,
+        room: from.room,
+    };
+    match frames.push(caller) {
+        Ok(()) => begin_above(body, height, stack, top, from.place.ticks - 1),
+        Err(_) => Err(Stop::Fails(Fault::Memory)),
+    }
+}
+
+/// `Enter`: the function that a call names is entered. With where it stands comes its code, if it has any.
+///
+/// # Errors
+/// `Unbound`, `Null`, `Depth`, `Budget` and `Memory`, the first of them that applies.
+#[inline(always)]
+pub fn enter<'t>(
+    table: &'t Table,
+    nesting: usize,
+    stack: &mut Vec<Slot>,
+    frames: &mut Vec<Frame>,
+    store: &Store,
+    from: Standing,
+    callee: Callee,
+) -> Result<(Standing, Option<&'t Body>), Stop>
+    requires fits { Fits from stack.old.items frames.old.items }
+    requires inside { from.place.at + 1 < 2 ^ 64 }
+    ensures told { Told (λ is. found_enters (setting_of table.now nesting) (texts_of table.now)
+        (target (setting_of table.now nesting) from.body.home callee (values stack.old.items from.place.top) (with_inputs is (world_of (λ v. (⟦<dyn Driver as Driver>⟧ v).meaning) store.now)))
+        (values stack.old.items from.place.top) (reverse frames.old.items) (caller_at from) from.place.ticks (with_inputs is (world_of (λ v. (⟦<dyn Driver as Driver>⟧ v).meaning) store.now)))
+        (λ is. begun (standing_in result) from.place.top stack.new.items (reverse frames.new.items) (with_inputs is (world_of (λ v. (⟦<dyn Driver as Driver>⟧ v).meaning) store.now))) }
+    ensures fits { IfOk result (λ r. Fits r.0 stack.new.items frames.new.items) }
+    ensures code { IfOk result (λ r. MatchOption r.1 (body_of table.now r.0.body ≡ None) (λ code. body_of table.now r.0.body ≡ Some code.now)) }
+    ensures same { values stack.new.items from.place.top ≡ values stack.old.items from.place.top }
+    ensures grows { length stack.old.items ≤ length stack.new.items }
+{
+    let top = from.place.top;
+    match callee_of(table, from.body.home, callee, stack.as_slice(), top, store) {
+        Ok(body) => {
+            let code = body_at(table, body);
+            match enter_body(table, nesting, stack, frames, from, body) {
+                Ok(next) => Ok((next, code)),
+                Err(stop) => Err(stop),
+            }
+        }
+        Err(fault) => Err(Stop::Fails(fault)),
+    }
+}

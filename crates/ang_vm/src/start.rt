@@ -1,0 +1,97 @@
+//! How a run begins.
+ghost use Rattle.std.specs.Prelude.{◌≡◌, ℕ, List, [], reverse, IfOk};
+ghost use Rattle.ang_host.specs.declared.event.Role.{Role};
+ghost use Rattle.ang_meaning.specs.World.{with_inputs};
+ghost use Rattle.ang_meaning.specs.Counting.{IsCounted};
+ghost use Rattle.ang_code.specs.Machine.{begins, call_begins, initializer_begins};
+ghost use Rattle.ang_heap.specs.Stores.{world_of, IsReady, StoreMoves};
+ghost use Rattle.ang_vm_stack.specs.Tables.{setting_of, texts_of};
+ghost use Rattle.ang_vm_steps.specs.Turns.{Reaches};
+ghost use Rattle.ang_vm.specs.Legs.{Fits, left};
+
+use crate::bodies::{fail, give_up};
+use crate::calls::begin;
+use ang_code::Frame;
+use ang_heap::Store;
+use ang_host::Driver;
+use ang_kinds::Fault;
+use ang_meaning::{Routine, Slot};
+use ang_vm_stack::place::{Ending, Standing};
+use ang_vm_stack::table::Table;
+
+/// A body begins on a stack of its own, with no callers.
+fn start(
+    table: &Table,
+    stack: &mut Vec<Slot>,
+    frames: &mut Vec<Frame>,
+    store: &mut Store,
+    entry: Routine,
+    ticks: u64,
+) -> Result<Standing, Ending>
+    requires ready { IsReady (λ v. (⟦<dyn Driver as Driver>⟧ v).meaning) store.old }
+    requires counted { IsCounted (reverse stack.old.items) (world_of (λ v. (⟦<dyn Driver as Driver>⟧ v).meaning) store.old) }
+    ensures starts { (nesting : ℕ) → Reaches (setting_of table.now nesting) (texts_of table.now)
+        (λ is. begins (texts_of table.now) entry (reverse stack.old.items) [] ticks (with_inputs is (world_of (λ v. (⟦<dyn Driver as Driver>⟧ v).meaning) store.old)))
+        (λ is. left result stack.new.items (reverse frames.new.items) (with_inputs is (world_of (λ v. (⟦<dyn Driver as Driver>⟧ v).meaning) store.new))) }
+    ensures fits { IfOk result (λ s. Fits s stack.new.items frames.new.items) }
+    ensures moves { (roles : List Role) → StoreMoves (λ v. (⟦<dyn Driver as Driver>⟧ v).meaning) roles store.old store.new }
+{
+    frames.clear();
+    let top = stack.len();
+    match begin(table, entry, stack, top, ticks) {
+        Ok(standing) => Ok(standing),
+        Err(stop) => Err(give_up(stack, store, top, stop)),
+    }
+}
+
+/// A command's call of a function begins, with a budget of ticks. The stack holds its arguments and nothing
+/// else, the last one on top; whatever frames there were go.
+///
+/// # Errors
+/// The end of a run that ends at once: without a tick, or without memory for the body's values.
+pub fn start_call(
+    table: &Table,
+    stack: &mut Vec<Slot>,
+    frames: &mut Vec<Frame>,
+    store: &mut Store,
+    entry: Routine,
+    budget: u64,
+) -> Result<Standing, Ending>
+    requires ready { IsReady (λ v. (⟦<dyn Driver as Driver>⟧ v).meaning) store.old }
+    requires counted { IsCounted (reverse stack.old.items) (world_of (λ v. (⟦<dyn Driver as Driver>⟧ v).meaning) store.old) }
+    ensures starts { (nesting : ℕ) → Reaches (setting_of table.now nesting) (texts_of table.now)
+        (λ is. call_begins (setting_of table.now nesting) (texts_of table.now) budget entry (reverse stack.old.items) (with_inputs is (world_of (λ v. (⟦<dyn Driver as Driver>⟧ v).meaning) store.old)))
+        (λ is. left result stack.new.items (reverse frames.new.items) (with_inputs is (world_of (λ v. (⟦<dyn Driver as Driver>⟧ v).meaning) store.new))) }
+    ensures fits { IfOk result (λ s. Fits s stack.new.items frames.new.items) }
+    ensures moves { (roles : List Role) → StoreMoves (λ v. (⟦<dyn Driver as Driver>⟧ v).meaning) roles store.old store.new }
+{
+    if budget == 0 {
+        let held = stack.len();
+        return Err(fail(stack, store, held, Fault::Budget));
+    }
+    start(table, stack, frames, store, entry, budget - 1)
+}
+
+/// The body of a global's initializer begins, whose entry takes no tick. Whatever frames there were go.
+///
+/// # Errors
+/// The end of a run that ends at once: without memory for the body's values.
+pub fn start_initializer(
+    table: &Table,
+    stack: &mut Vec<Slot>,
+    frames: &mut Vec<Frame>,
+    store: &mut Store,
+    entry: Routine,
+    ticks: u64,
+) -> Result<Standing, Ending>
+    requires empty { stack.old.items ≡ [] }
+    requires ready { IsReady (λ v. (⟦<dyn Driver as Driver>⟧ v).meaning) store.old }
+    requires counted { IsCounted [] (world_of (λ v. (⟦<dyn Driver as Driver>⟧ v).meaning) store.old) }
+    ensures starts { (nesting : ℕ) → Reaches (setting_of table.now nesting) (texts_of table.now)
+        (λ is. initializer_begins (setting_of table.now nesting) (texts_of table.now) ticks entry (with_inputs is (world_of (λ v. (⟦<dyn Driver as Driver>⟧ v).meaning) store.old)))
+        (λ is. left result stack.new.items (reverse frames.new.items) (with_inputs is (world_of (λ v. (⟦<dyn Driver as Driver>⟧ v).meaning) store.new))) }
+    ensures fits { IfOk result (λ s. Fits s stack.new.items frames.new.items) }
+    ensures moves { (roles : List Role) → StoreMoves (λ v. (⟦<dyn Driver as Driver>⟧ v).meaning) roles store.old store.new }
+{
+    start(table, stack, frames, store, entry, ticks)
+}

@@ -1,9 +1,0 @@
-use Rattle.ang_vm_steps.specs.Tables.{texts_of}
-use Rattle.ang_vm_frames.proofs.calls.begin.Goals as goal
-
-pub returns : goal.returns
-returns c = record {
-  told = λ fr w. c.begin_above.ensures.told (texts_of c.args.table.now) fr w c.params_and_height-height.ensures.height;
-  in_room = c.begin_above.ensures.in_room;
-  grows = c.begin_above.ensures.grows;
-}

@@ -1,3 +1,0 @@
-pub mod Crossings
-pub mod Halts
-pub mod Legs

@@ -1,0 +1,6 @@
+pub mod Altering
+pub mod Untold
+pub mod Movings
+pub mod Operands
+pub mod StoreOperations
+pub mod FieldOperations

@@ -1,0 +1,49 @@
+//! Where a run stands, why a body pauses, and how a run ends.
+use ang_kinds::Fault;
+use ang_meaning::{Callee, Routine, Slot};
+
+/// Where a body stands.
+#[derive(Clone, Copy, PartialEq, Eq, Debug)]
+pub struct Place {
+    /// The number of its next instruction.
+    pub at: usize,
+    /// How many values are in use.
+    pub top: usize,
+    /// The ticks that are left.
+    pub ticks: u64,
+}
+
+/// The running body, and where it stands.
+#[derive(Clone, Copy, PartialEq, Eq, Debug)]
+pub struct Standing {
+    /// The body.
+    pub body: Routine,
+    /// How high the stack may stand while it runs.
+    pub room: usize,
+    /// Where it stands.
+    pub place: Place,
+}
+
+/// Why a body pauses.
+#[derive(Clone, Copy, PartialEq, Eq, Debug)]
+pub enum Pause {
+    /// Its next instruction calls a function.
+    Enters(Place, Callee),
+    /// Its next instruction leaves it, and gives up so many locals.
+    Returns(Place, usize),
+    /// The script faults while so many values are in use, all of which are still held.
+    Faults(usize, Fault),
+    /// An instruction finds less than it takes, or no room. Code that was generated never does that.
+    Lost,
+}
+
+/// How a run ends.
+#[derive(Clone, Copy, PartialEq, Eq, Debug)]
+pub enum Ending {
+    /// With a value and the ticks that are left.
+    Gives(Slot, u64),
+    /// With a fault, after which all that it held has been given up.
+    Stops(Fault),
+    /// An instruction finds less than it takes, or no room. Code that was generated never does that.
+    Lost,
+}

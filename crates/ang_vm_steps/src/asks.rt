@@ -1,0 +1,103 @@
+//! Operations that ask the host.
+ghost use Rattle.std.specs.Prelude.{◌≡◌, ℕ, ◌+◌, ◌-◌, ◌<◌, ◌≤◌, true, List, length, IfOk};
+ghost use Rattle.ang_host.specs.declared.event.Role.{Role};
+ghost use Rattle.ang_host.specs.Boxes.{members};
+ghost use Rattle.ang_meaning.specs.World.{with_inputs};
+ghost use Rattle.ang_meaning.specs.Setting.{is_fit};
+ghost use Rattle.ang_meaning.specs.Perform.{perform, operands as operand_count};
+ghost use Rattle.ang_meaning.specs.Counting.{IsCounted};
+ghost use Rattle.ang_meaning.specs.Told.{Told};
+ghost use Rattle.ang_code.specs.declared.instruction.Instruction.TheVariants.{Do};
+ghost use Rattle.ang_code.specs.Machine.{Texts, take_some};
+ghost use Rattle.ang_heap.specs.Stores.{world_of, IsReady, StoreMoves};
+ghost use Rattle.ang_vm_ask.specs.Asks.{asks_host};
+ghost use Rattle.ang_vm_ask.specs.Entities.{DriversThere, HaveRoles};
+ghost use Rattle.ang_vm_stack.specs.Arms.{done};
+ghost use Rattle.ang_vm_steps.specs.Arms.{ActsIn};
+ghost use Rattle.ang_vm_stack.specs.Stacks.{values};
+ghost use Rattle.ang_vm_stack.specs.Tables.{setting_of};
+
+use crate::doing::put_answer;
+use crate::many::give_top;
+use ang_heap::Store;
+use ang_host::Driver;
+use ang_kinds::Fault;
+use ang_meaning::{Operation, Routine, Slot};
+use ang_vm_ask::{ask, given_count, operands};
+use ang_vm_stack::stop::Stop;
+use ang_vm_stack::table::Table;
+
+/// Does an operation on the host for a module, and then gives up those of its operands that are not its value.
+/// They are the top values, `count` of them, the last one on top.
+///
+/// # Errors
+/// Those of `ang_vm_ask::ask`; the operands are then still held.
+fn perform_on_host(
+    table: &Table,
+    home: u32,
+    stack: &[Slot],
+    top: usize,
+    count: usize,
+    store: &mut Store,
+    operation: Operation,
+) -> Result<Slot, Fault>
+    requires in_use { count ≤ top }
+    requires within { top ≤ length stack.now }
+    requires drivers { DriversThere table.now (length (members store.old.drivers)) }
+    requires ready { IsReady (λ v. (⟦<dyn Driver as Driver>⟧ v).meaning) store.old }
+    requires counted { IsCounted (values stack.now top) (world_of (λ v. (⟦<dyn Driver as Driver>⟧ v).meaning) store.old) }
+    ensures told { (nesting : ℕ) → asks_host operation ≡ true → is_fit (setting_of table.now nesting) home operation ≡ true
+        → count ≡ operand_count (setting_of table.now nesting) home operation
+        → Told (λ is. perform (setting_of table.now nesting) home operation (take_some count (values stack.now top)) (with_inputs is (world_of (λ v. (⟦<dyn Driver as Driver>⟧ v).meaning) store.old)))
+        (λ is. done result (with_inputs is (world_of (λ v. (⟦<dyn Driver as Driver>⟧ v).meaning) store.new))) }
+    ensures moves { (roles : List Role) → HaveRoles table.now roles → StoreMoves (λ v. (⟦<dyn Driver as Driver>⟧ v).meaning) roles store.old store.new }
+    ensures ready { IsReady (λ v. (⟦<dyn Driver as Driver>⟧ v).meaning) store.new }
+    ensures count { length (members store.new.drivers) ≡ length (members store.old.drivers) }
+{
+    let alloc = *store.events.allocator();
+    match ask(alloc, table, home, stack, top, count, store, operation) {
+        Ok(value) => {
+            give_top(stack, store, top, given_count(operation, count));
+            Ok(value)
+        }
+        Err(fault) => Err(fault),
+    }
+}
+
+/// An operation that asks the host: its operands stand on top, and its value takes their place.
+pub(crate) fn ask_host(
+    table: &Table,
+    body: Routine,
+    stack: &mut [Slot],
+    store: &mut Store,
+    top: usize,
+    room: usize,
+    operation: Operation,
+) -> Result<usize, Stop>
+    requires in_room { top ≤ room }
+    requires within { room ≤ length stack.old }
+    requires ready { IsReady (λ v. (⟦<dyn Driver as Driver>⟧ v).meaning) store.old }
+    requires counted { IsCounted (values stack.old top) (world_of (λ v. (⟦<dyn Driver as Driver>⟧ v).meaning) store.old) }
+    requires drivers { DriversThere table.now (length (members store.old.drivers)) }
+    requires asks { asks_host operation ≡ true }
+    ensures acts { (nesting : ℕ) (code : Texts) → ActsIn body (setting_of table.now nesting) code (Do operation) room top stack.old (world_of (λ v. (⟦<dyn Driver as Driver>⟧ v).meaning) store.old)
+        result stack.new (world_of (λ v. (⟦<dyn Driver as Driver>⟧ v).meaning) store.new) }
+    ensures in_room { IfOk result (λ n. n ≤ room) }
+    ensures moves { (roles : List Role) → HaveRoles table.now roles → StoreMoves (λ v. (⟦<dyn Driver as Driver>⟧ v).meaning) roles store.old store.new }
+    ensures ready { IsReady (λ v. (⟦<dyn Driver as Driver>⟧ v).meaning) store.new }
+    ensures count { length (members store.new.drivers) ≡ length (members store.old.drivers) }
+{
+    match operands(table, body.home, operation) {
+        Some(count) => {
+            if count > top {
+                return Err(Stop::Lost);
+            }
+            if top - count >= room {
+                return Err(Stop::Lost);
+            }
+            let answer = perform_on_host(table, body.home, stack, top, count, store, operation);
+            put_answer(stack, top, count, answer)
+        }
+        None => Err(Stop::Lost),
+    }
+}

@@ -1,0 +1,156 @@
+//! `Do`: operations on script objects.
+ghost use Rattle.std.specs.Prelude.{◌≡◌, ℕ, ◌≤◌, ◌∷◌, List, [], length, IfOk};
+ghost use Rattle.ang_host.specs.declared.event.Role.{Role};
+ghost use Rattle.ang_meaning.specs.declared.operation.Operation.TheVariants.{Make, FieldGet, FieldSet, FieldChange, Cast};
+ghost use Rattle.ang_meaning.specs.Setting.{Setting};
+ghost use Rattle.ang_meaning.specs.Counting.{IsCounted};
+ghost use Rattle.ang_code.specs.declared.instruction.Instruction.TheVariants.{Do};
+ghost use Rattle.ang_code.specs.Machine.{Texts};
+ghost use Rattle.ang_heap.specs.Stores.{world_of, IsReady, StoreMoves};
+ghost use Rattle.ang_vm_stack.specs.Stacks.{values};
+ghost use Rattle.ang_vm_stack.specs.Tables.{setting_of};
+ghost use Rattle.ang_vm_steps.specs.Arms.{Acts, ActsIn};
+
+use crate::doing::put_answer;
+use ang_heap::Store;
+use ang_host::Driver;
+use ang_meaning::{Change, Routine, Slot};
+use ang_vm_objects::fields::{alter, cast_value, get, make, set};
+use ang_vm_stack::stack::peek;
+use ang_vm_stack::stop::Stop;
+use ang_vm_stack::table::{Table, class_at};
+
+/// `Make`: a new object of a class of the running module goes on top.
+pub(crate) fn make_object(
+    table: &Table,
+    body: Routine,
+    stack: &mut [Slot],
+    store: &mut Store,
+    top: usize,
+    room: usize,
+    class: u32,
+) -> Result<usize, Stop>
+    requires in_room { top ≤ room }
+    requires within { room ≤ length stack.old }
+    requires ready { IsReady (λ v. (⟦<dyn Driver as Driver>⟧ v).meaning) store.old }
+    requires counted { IsCounted (values stack.old top) (world_of (λ v. (⟦<dyn Driver as Driver>⟧ v).meaning) store.old) }
+    ensures acts { (nesting : ℕ) (code : Texts) → ActsIn body (setting_of table.now nesting) code (Do (Make class)) room top stack.old (world_of (λ v. (⟦<dyn Driver as Driver>⟧ v).meaning) store.old)
+        result stack.new (world_of (λ v. (⟦<dyn Driver as Driver>⟧ v).meaning) store.new) }
+    ensures in_room { IfOk result (λ n. n ≤ room) }
+    ensures moves { (roles : List Role) → StoreMoves (λ v. (⟦<dyn Driver as Driver>⟧ v).meaning) roles store.old store.new }
+{
+    let found = match class_at(table, body.home, class) {
+        Some(found) => found,
+        None => return Err(Stop::Lost),
+    };
+    if top >= room {
+        return Err(Stop::Lost);
+    }
+    let answer = make(store, found);
+    put_answer(stack, top, 0, answer)
+}
+
+/// `FieldGet`: a field's value takes the place of its object.
+pub(crate) fn get_field(
+    stack: &mut [Slot],
+    store: &mut Store,
+    top: usize,
+    room: usize,
+    index: u32,
+) -> Result<usize, Stop>
+    requires in_room { top ≤ room }
+    requires within { room ≤ length stack.old }
+    requires ready { IsReady (λ v. (⟦<dyn Driver as Driver>⟧ v).meaning) store.old }
+    requires counted { IsCounted (values stack.old top) (world_of (λ v. (⟦<dyn Driver as Driver>⟧ v).meaning) store.old) }
+    ensures acts { (z : Setting) (code : Texts) → Acts z code (Do (FieldGet index)) room top stack.old (world_of (λ v. (⟦<dyn Driver as Driver>⟧ v).meaning) store.old)
+        result stack.new (world_of (λ v. (⟦<dyn Driver as Driver>⟧ v).meaning) store.new) }
+    ensures in_room { IfOk result (λ n. n ≤ room) }
+    ensures moves { (roles : List Role) → StoreMoves (λ v. (⟦<dyn Driver as Driver>⟧ v).meaning) roles store.old store.new }
+{
+    if top == 0 {
+        return Err(Stop::Lost);
+    }
+    let object = peek(stack, top, 0);
+    let answer = get(store, object, index);
+    put_answer(stack, top, 1, answer)
+}
+
+/// `FieldSet`: the value below the object is stored into its field, and takes both places.
+pub(crate) fn set_field(
+    stack: &mut [Slot],
+    store: &mut Store,
+    top: usize,
+    room: usize,
+    index: u32,
+) -> Result<usize, Stop>
+    requires in_room { top ≤ room }
+    requires within { room ≤ length stack.old }
+    requires ready { IsReady (λ v. (⟦<dyn Driver as Driver>⟧ v).meaning) store.old }
+    requires counted { IsCounted (values stack.old top) (world_of (λ v. (⟦<dyn Driver as Driver>⟧ v).meaning) store.old) }
+    ensures acts { (z : Setting) (code : Texts) → Acts z code (Do (FieldSet index)) room top stack.old (world_of (λ v. (⟦<dyn Driver as Driver>⟧ v).meaning) store.old)
+        result stack.new (world_of (λ v. (⟦<dyn Driver as Driver>⟧ v).meaning) store.new) }
+    ensures in_room { IfOk result (λ n. n ≤ room) }
+    ensures moves { (roles : List Role) → StoreMoves (λ v. (⟦<dyn Driver as Driver>⟧ v).meaning) roles store.old store.new }
+{
+    if top < 2 {
+        return Err(Stop::Lost);
+    }
+    let object = peek(stack, top, 0);
+    let value = peek(stack, top, 1);
+    let answer = set(store, object, index, value);
+    put_answer(stack, top, 2, answer)
+}
+
+/// `FieldChange`: a field changes by the value below its object, and the change's value takes both places.
+pub(crate) fn change_field(
+    stack: &mut [Slot],
+    store: &mut Store,
+    top: usize,
+    room: usize,
+    index: u32,
+    by: Change,
+) -> Result<usize, Stop>
+    requires in_room { top ≤ room }
+    requires within { room ≤ length stack.old }
+    requires ready { IsReady (λ v. (⟦<dyn Driver as Driver>⟧ v).meaning) store.old }
+    requires counted { IsCounted (values stack.old top) (world_of (λ v. (⟦<dyn Driver as Driver>⟧ v).meaning) store.old) }
+    ensures acts { (z : Setting) (code : Texts) → Acts z code (Do (FieldChange index by)) room top stack.old (world_of (λ v. (⟦<dyn Driver as Driver>⟧ v).meaning) store.old)
+        result stack.new (world_of (λ v. (⟦<dyn Driver as Driver>⟧ v).meaning) store.new) }
+    ensures in_room { IfOk result (λ n. n ≤ room) }
+    ensures moves { (roles : List Role) → StoreMoves (λ v. (⟦<dyn Driver as Driver>⟧ v).meaning) roles store.old store.new }
+{
+    if top < 2 {
+        return Err(Stop::Lost);
+    }
+    let object = peek(stack, top, 0);
+    let operand = peek(stack, top, 1);
+    let answer = alter(store, object, index, by, operand);
+    put_answer(stack, top, 2, answer)
+}
+
+/// `Cast`: the top value, or null where it is no object of that class or interface of the running module.
+pub(crate) fn cast(
+    table: &Table,
+    body: Routine,
+    stack: &mut [Slot],
+    store: &mut Store,
+    top: usize,
+    room: usize,
+    class: u32,
+) -> Result<usize, Stop>
+    requires in_room { top ≤ room }
+    requires within { room ≤ length stack.old }
+    requires ready { IsReady (λ v. (⟦<dyn Driver as Driver>⟧ v).meaning) store.old }
+    requires counted { IsCounted (values stack.old top) (world_of (λ v. (⟦<dyn Driver as Driver>⟧ v).meaning) store.old) }
+    ensures acts { (nesting : ℕ) (code : Texts) → ActsIn body (setting_of table.now nesting) code (Do (Cast class)) room top stack.old (world_of (λ v. (⟦<dyn Driver as Driver>⟧ v).meaning) store.old)
+        result stack.new (world_of (λ v. (⟦<dyn Driver as Driver>⟧ v).meaning) store.new) }
+    ensures in_room { IfOk result (λ n. n ≤ room) }
+    ensures moves { (roles : List Role) → StoreMoves (λ v. (⟦<dyn Driver as Driver>⟧ v).meaning) roles store.old store.new }
+{
+    if top == 0 {
+        return Err(Stop::Lost);
+    }
+    let value = peek(stack, top, 0);
+    let answer = cast_value(table, store, body.home, class, value);
+    put_answer(stack, top, 1, answer)
+}

@@ -1,0 +1,135 @@
+//! Values that change places with a variable, for the targets of `&out` parameters.
+ghost use Rattle.std.specs.Prelude.{◌≡◌, ◌<◌, ◌≤◌, List, length, IfOk};
+ghost use Rattle.ang_host.specs.declared.event.Role.{Role};
+ghost use Rattle.ang_meaning.specs.World.{World};
+ghost use Rattle.ang_meaning.specs.Setting.{Setting};
+ghost use Rattle.ang_meaning.specs.Results.{brought};
+ghost use Rattle.ang_meaning.specs.Counting.{IsCounted};
+ghost use Rattle.ang_code.specs.declared.instruction.Instruction.TheVariants.{Swap, SwapGlobal, SwapField};
+ghost use Rattle.ang_code.specs.Machine.{Texts};
+ghost use Rattle.ang_heap.specs.Stores.{world_of, IsReady, StoreMoves};
+ghost use Rattle.ang_vm_stack.specs.Stacks.{values};
+ghost use Rattle.ang_vm_steps.specs.Arms.{Acts, ActsIn};
+
+use ang_heap::Store;
+use ang_host::Driver;
+use ang_kinds::Prim;
+use ang_meaning::{Routine, Slot};
+use ang_vm_numbers::convert;
+use ang_vm_objects::fields::trade_member;
+use ang_vm_objects::globals::trade_global;
+use ang_vm_stack::stack::{peek, poke};
+use ang_vm_stack::stop::Stop;
+
+/// A value brought to its target's type.
+#[inline(always)]
+#[tactic(auto, unfolding(ang_meaning::specs::Results::brought))]
+pub(crate) fn bring(to: Option<Prim>, value: Slot) -> Slot
+    ensures exact { result ≡ brought to value }
+{
+    match value {
+        Slot::Bits(n) => match to {
+            Some(prim) => Slot::Bits(convert(prim, n)),
+            None => value,
+        },
+        Slot::Script(_) | Slot::Host(_, _) => value,
+    }
+}
+
+/// `Swap`: the value at the place `under`, brought to the type, and the one at the place `with` change
+/// places.
+#[inline(always)]
+pub fn swap_local(
+    stack: &mut [Slot],
+    top: usize,
+    room: usize,
+    to: Option<Prim>,
+    under: u32,
+    with: usize,
+) -> Result<usize, Stop>
+    requires in_room { top ≤ room }
+    requires within { room ≤ length stack.old }
+    ensures acts { (z : Setting) (code : Texts) (w : World)
+        → Acts z code (Swap to under with) room top stack.old w result stack.new w }
+    ensures in_room { IfOk result (λ n. n ≤ room) }
+{
+    let under = under as usize;
+    if under >= top {
+        return Err(Stop::Lost);
+    }
+    if with >= top {
+        return Err(Stop::Lost);
+    }
+    let moved = bring(to, peek(stack, top, under));
+    let old = peek(stack, top, with);
+    poke(stack, top, under, old);
+    poke(stack, top, with, moved);
+    Ok(top)
+}
+
+/// `SwapGlobal`: the value at the place `under`, brought to the type, and a global change places. Each place
+/// holds what it held, so nothing is held or given up.
+pub fn swap_global(
+    body: Routine,
+    stack: &mut [Slot],
+    store: &mut Store,
+    top: usize,
+    room: usize,
+    to: Option<Prim>,
+    under: u32,
+    global: u32,
+) -> Result<usize, Stop>
+    requires in_room { top ≤ room }
+    requires within { room ≤ length stack.old }
+    requires ready { IsReady (λ v. (⟦<dyn Driver as Driver>⟧ v).meaning) store.old }
+    requires counted { IsCounted (values stack.old top) (world_of (λ v. (⟦<dyn Driver as Driver>⟧ v).meaning) store.old) }
+    ensures acts { (z : Setting) (code : Texts) → ActsIn body z code (SwapGlobal to under global) room top stack.old (world_of (λ v. (⟦<dyn Driver as Driver>⟧ v).meaning) store.old)
+        result stack.new (world_of (λ v. (⟦<dyn Driver as Driver>⟧ v).meaning) store.new) }
+    ensures in_room { IfOk result (λ n. n ≤ room) }
+    ensures moves { (roles : List Role) → StoreMoves (λ v. (⟦<dyn Driver as Driver>⟧ v).meaning) roles store.old store.new }
+{
+    let place = under as usize;
+    if place >= top {
+        return Err(Stop::Lost);
+    }
+    let moved = bring(to, peek(stack, top, place));
+    let old = trade_global(store, body.home, global, moved);
+    poke(stack, top, place, old);
+    Ok(top)
+}
+
+/// `SwapField`: the value at the place `under`, brought to the type, and a field of the object at the place
+/// `object` change places, where the object is there and the field may take the value.
+pub fn swap_field(
+    stack: &mut [Slot],
+    store: &mut Store,
+    top: usize,
+    room: usize,
+    to: Option<Prim>,
+    under: u32,
+    object: u32,
+    field: u32,
+) -> Result<usize, Stop>
+    requires in_room { top ≤ room }
+    requires within { room ≤ length stack.old }
+    requires ready { IsReady (λ v. (⟦<dyn Driver as Driver>⟧ v).meaning) store.old }
+    requires counted { IsCounted (values stack.old top) (world_of (λ v. (⟦<dyn Driver as Driver>⟧ v).meaning) store.old) }
+    ensures acts { (z : Setting) (code : Texts) → Acts z code (SwapField to under object field) room top stack.old (world_of (λ v. (⟦<dyn Driver as Driver>⟧ v).meaning) store.old)
+        result stack.new (world_of (λ v. (⟦<dyn Driver as Driver>⟧ v).meaning) store.new) }
+    ensures in_room { IfOk result (λ n. n ≤ room) }
+    ensures moves { (roles : List Role) → StoreMoves (λ v. (⟦<dyn Driver as Driver>⟧ v).meaning) roles store.old store.new }
+{
+    let place = under as usize;
+    if place >= top {
+        return Err(Stop::Lost);
+    }
+    let object = object as usize;
+    if object >= top {
+        return Err(Stop::Lost);
+    }
+    let moved = bring(to, peek(stack, top, place));
+    let holder = peek(stack, top, object);
+    let old = trade_member(store, holder, field, moved);
+    poke(stack, top, place, old);
+    Ok(top)
+}

@@ -1,0 +1,184 @@
+//! Steps: where they stand in a text, and what each does at once.
+use ang_code::Instruction;
+use ang_code::Instruction::{
+    Back, Change as Changed, Do, Drop, Load, PushBits, Return, SkipIfFalse, Tick,
+};
+use ang_kinds::Prim;
+use ang_meaning::{Arithmetic, Callee, Change, Comparison, Operation, Slot};
+use ang_vm_fuse::fuse::fuse;
+use ang_vm_fuse::step::Step;
+use ang_vm_fused::fused::take;
+use ang_vm_stack::place::Place;
+use std::alloc::{AllocError, Global};
+
+const LESS: Comparison = Comparison::Less;
+
+const ADD: Arithmetic = Arithmetic::Add;
+
+const SUBTRACT: Arithmetic = Arithmetic::Subtract;
+
+const I64: Prim = Prim::I64;
+
+const LATER: Change = Change {
+    work: Arithmetic::Add,
+    at: Prim::I64,
+    to: Prim::I64,
+    old: true,
+};
+
+/// A step on a stack of four where 5 and 3 are in use, with nine ticks, which it leaves: the place behind it from place 7
+/// on, how many values are in use then, and the first three of them.
+type Row = (Step, Left);
+
+/// The place, how many values are in use, and the first three of them.
+type Left = (usize, usize, u64, u64, u64);
+
+/// An odd number is 1 as a truth value. Where a comparison does not hold, four instructions more are passed.
+const TAKEN: [Row; 23] = [
+    (Step::Push(4), (8, 3, 5, 3, 4)),
+    (Step::Load(1), (8, 3, 5, 3, 5)),
+    (Step::Keep(0), (9, 1, 3, 3, 0)),
+    (Step::Move(1, 0), (10, 2, 5, 5, 0)),
+    (Step::LoadConverted(Prim::Bool, 1), (9, 3, 5, 3, 1)),
+    (Step::Convert(Prim::Bool), (8, 2, 5, 1, 0)),
+    (Step::TestLocals(LESS, true, 1, 0, 4), (15, 2, 5, 3, 0)),
+    (Step::TestConstant(LESS, true, 0, 10, 4), (11, 2, 5, 3, 0)),
+    (Step::TestTopLocal(LESS, true, 1, 4), (10, 1, 5, 3, 0)),
+    (Step::TestTopConstant(LESS, true, 2, 4), (14, 1, 5, 3, 0)),
+    (Step::TestTops(LESS, true, 4), (13, 0, 5, 3, 0)),
+    (Step::WorkLocals(ADD, I64, 1, 0), (10, 3, 5, 3, 8)),
+    (Step::WorkConstant(ADD, I64, 1, 10), (10, 3, 5, 3, 15)),
+    (Step::WorkTopLocal(ADD, I64, 1), (9, 2, 5, 8, 0)),
+    (Step::WorkTopConstant(ADD, I64, 10), (9, 2, 5, 13, 0)),
+    (Step::WorkTops(SUBTRACT, I64), (8, 1, 2, 3, 0)),
+    (Step::KeepLocals(ADD, I64, 1, 0, 1), (12, 2, 8, 3, 0)),
+    (Step::KeepConstant(ADD, I64, 0, 10, 0), (12, 2, 5, 13, 0)),
+    (Step::KeepTopLocal(ADD, I64, 1, 0), (11, 1, 8, 3, 0)),
+    (Step::KeepTopConstant(ADD, I64, 10, 0), (11, 1, 13, 3, 0)),
+    (Step::ChangeConstant(LATER, 1, 2), (10, 2, 7, 3, 0)),
+    (Step::ChangeLocal(LATER, 0, 1), (10, 2, 5, 8, 0)),
+    (Step::ChangeTop(LATER, 0), (9, 1, 8, 3, 0)),
+];
+
+/// At a loop's end a tick is taken.
+const BACK: [Row; 3] = [
+    (Step::ChangeBack(LATER, 1, 2, 3), (7, 2, 7, 3, 0)),
+    (Step::AddBack32(true, 0, 1, 3), (7, 2, 5, 4, 0)),
+    (Step::AddBack64(true, 0, 1, 3), (7, 2, 5, 4, 0)),
+];
+
+/// Calls and returns are left to the run, and so is what faults, finds no value or names no instructions.
+const LEFT: [Step; 5] = [
+    Step::Enter(Callee::Own(0)),
+    Step::Return(0),
+    Step::Other,
+    Step::Load(2),
+    Step::WorkTopConstant(Arithmetic::Divide, I64, 0),
+];
+
+/// A place, and the numbers in the first three places of the stack.
+#[derive(Clone, Copy, PartialEq, Eq)]
+struct After {
+    place: Place,
+    first: Slot,
+    second: Slot,
+    third: Slot,
+}
+
+/// What a step comes to where so many of these numbers are in use.
+fn taken(top: usize, numbers: [u64; 3], ticks: u64, step: Step) -> Option<After> {
+    if top > 4 {
+        return None;
+    }
+    let [first, second, third] = numbers;
+    let mut stack = [
+        Slot::Bits(first),
+        Slot::Bits(second),
+        Slot::Bits(third),
+        Slot::Bits(0),
+    ];
+    let here = Place { at: 7, top, ticks };
+    let place = take(&mut stack, here, 4, &step)?;
+    Some(After {
+        place,
+        first: stack[0],
+        second: stack[1],
+        third: stack[2],
+    })
+}
+
+/// That, with so many ticks left.
+fn left(ticks: u64, want: Left) -> Option<After> {
+    let (at, top, first, second, third) = want;
+    Some(After {
+        place: Place { at, top, ticks },
+        first: Slot::Bits(first),
+        second: Slot::Bits(second),
+        third: Slot::Bits(third),
+    })
+}
+
+#[test]
+fn steps_are_taken(rt: HostRuntime) {
+    for (step, want) in TAKEN {
+        assert!(rt; taken(2, [5, 3, 0], 9, step) == left(9, want), "{step:?}");
+    }
+    for (step, want) in BACK {
+        assert!(rt; taken(2, [5, 3, 0], 9, step) == left(8, want), "{step:?}");
+        assert!(rt; taken(2, [5, 3, 0], 0, step).is_none(), "{step:?}");
+    }
+    let tops = taken(3, [2, 9, 5], 9, Step::KeepTops(SUBTRACT, I64, 0));
+    assert!(rt; tops == left(9, (10, 1, 4, 9, 5)));
+    assert!(rt; taken(4, [2, 9, 5], 9, Step::Push(4)).is_none(), "no room");
+    for step in LEFT {
+        assert!(rt; taken(2, [5, 3, 0], 9, step).is_none(), "{step:?}");
+    }
+}
+
+/// `int64 i = 0; for (; i < 10; i++) {} return i;`
+const COUNTING: &[Instruction] = &[
+    PushBits(0),
+    Tick,
+    Load(0),
+    PushBits(10),
+    Do(Operation::Compare(LESS, true)),
+    SkipIfFalse(4),
+    PushBits(1),
+    Changed(LATER, 0),
+    Drop,
+    Back(7),
+    Load(0),
+    Return(1),
+];
+
+/// Steps of a text by their places, and the number of all.
+const STEPS: [(usize, Option<Step>); 10] = [
+    (0, Some(Step::Push(0))),
+    (1, Some(Step::Other)),
+    (2, Some(Step::TestConstant(LESS, true, 0, 10, 4))),
+    (3, Some(Step::TestTopConstant(LESS, true, 10, 4))),
+    (4, Some(Step::TestTops(LESS, true, 4))),
+    (5, Some(Step::Other)),
+    (6, Some(Step::AddBack64(true, 0, 1, 7))),
+    (7, Some(Step::ChangeTop(LATER, 0))),
+    (10, Some(Step::Load(0))),
+    (12, None),
+];
+
+/// The first of the places at which another step stands.
+fn first_other(alloc: Global) -> Result<Option<usize>, AllocError> {
+    let steps = fuse(alloc, COUNTING)?;
+    for (at, step) in STEPS {
+        if steps.get(at).copied() != step {
+            return Ok(Some(at));
+        }
+    }
+    Ok(None)
+}
+
+/// A place inside what is done at once has a step of its own.
+#[test]
+fn each_place_has_its_step(rt: HostRuntime) -> Result<(), AllocError> {
+    assert_eq!(rt; first_other(rt.alloc())?, None);
+    Ok(())
+}

@@ -1,0 +1,28 @@
+use Rattle.std.proofs.Common.{sym, arith}
+use Rattle.std.specs.Prelude.{vec_len, vec_capacity, map as list_map}
+use Rattle.ang_host.specs.Boxes.{members}
+use Rattle.ang_host.specs.Members.{states_of}
+use Rattle.ang_meaning.specs.Counting.{counts_by}
+use Rattle.ang_meaning.proofs.Roots.{nothing_counted}
+use Rattle.ang_heap.specs.Heaps.{objects_of}
+use Rattle.tests_vm.proofs.Ready.{ready_fresh, live_fresh, no_counts, empty_globals}
+use Rattle.tests_vm.proofs.machine.machine_of.Goals as goal
+
+pub returns : goal.returns
+returns g c = record {
+  begins = λ events e.
+      let ss = states_of (λ v. (g.dyn-1.0.entry v).1.meaning) (members c.args.drivers) in
+      record {
+        ready = record {
+          kept = record {
+            drivers = ready_fresh ss (vec_len c.new-ends.result) (vec_capacity c.new-ends.result) c.requires.fresh c.new-ends.ensures.len;
+            alive = sym (live_fresh ss c.requires.fresh);
+            none = c.new-ends.ensures.items;
+          };
+          room = omega (arith, e);
+        };
+        counted = nothing_counted
+            (record { objects = objects_of c.new-heap.result; hosts = counts_by ss; globals = list_map (λ v. v.items) c.args.modules.items; events = events.items; inputs = [] })
+            c.new-heap.ensures.empty (no_counts ss c.requires.fresh) (λ x. empty_globals x c.args.modules.items c.requires.empty);
+      };
+}

@@ -1,0 +1,30 @@
+-- What a machine of the tests needs to run code, as a test can see it.
+use Rattle.std.specs.Prelude.{ℕ, ltb, Bool, true, false, Option, Some, None, List, Vec, []}
+use Rattle.std.specs.List.{list_all}
+use Rattle.std.specs.declared.alloc.Global.{Global}
+use Rattle.ang_host.specs.Laws.{Meaning}
+use Rattle.ang_host.specs.declared.event.HostEvent.{HostEvent}
+use Rattle.ang_meaning.specs.declared.host.HostUse.{HostUse}
+use Rattle.ang_meaning.specs.declared.slot.Slot.{Slot}
+use Rattle.ang_meaning.specs.declared.slot.Slot.TheVariants.{Bits, Script, Host}
+use Rattle.ang_meaning.specs.Counting.{IsCounted}
+use Rattle.ang_heap.specs.Stores.{world_of, IsReady}
+use Rattle.ang_vm.specs.declared.machines.Machine.{Machine}
+use Rattle.ang_vm.specs.Machines.{lent}
+
+-- the driver of an entity that a module sees is one of so many
+abbrev pub is_below : ℕ → Option HostUse → Bool
+is_below count None = true
+is_below count (Some u) = ltb u.driver count
+
+-- a place that holds no object
+abbrev pub names_nothing : Slot → Bool
+names_nothing (Bits n) = true
+names_nothing (Script None) = true
+names_nothing (Script (Some n)) = false
+names_nothing (Host d k) = false
+
+-- a machine, with the events of a command, on which code may run, but for its drivers
+pub record MayBegin {V : Type 0} {P : V → Type 0} (m : (v : V) → Meaning (P v)) (x : Machine V P) (events : Vec HostEvent Global) : Type 0 where
+  pub ready : IsReady m (lent x events)
+  pub counted : IsCounted [] (world_of m (lent x events))
