@@ -1,15 +1,6 @@
-//! The checker: bodies and initializers of a build, judged one by one, as a resolved tree or their errors.
+//! The checker: a build's resolved tree or its errors, and the denials of a build that was refused.
 #![tactic(auto)]
 
-mod bodies;
-mod checking;
-mod found;
-mod frame;
-mod halt;
-mod locals;
-mod loops;
-mod parts;
-mod statements;
-mod values;
+mod api;
 
-pub use checking::check;
+pub use api::{check, denials_over};

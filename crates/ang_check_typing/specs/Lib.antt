@@ -1,5 +1,3 @@
-pub mod Scope
-pub mod Uses
 pub mod Calls
-pub mod Operands
+pub mod Scope
 pub mod Typing

@@ -2,11 +2,11 @@
 ghost use Rattle.std.specs.Prelude.{◌≡◌};
 ghost use Rattle.ang_names_written.specs.Spellings as spec;
 
-use crate::borrowed::Text;
 use crate::sources::text_at;
 use crate::types::pass_of;
 use ang_kinds::{Param, Pass, Prim, Shape, TypeRef};
 use ang_lex::TokenKind;
+use ang_names_known::Text;
 use ang_tree::{Handle, Parameter, TypeName};
 
 /// What a type is named by.

@@ -1,11 +1,11 @@
 //! Laws of the definitions, each the contract of a function that does nothing.
-ghost use Rattle.std.specs.Prelude.{◌≡◌, ◌↔◌, ℕ, List};
+ghost use Rattle.std.specs.Prelude.{◌≡◌, ◌↔◌, ℕ, List, ◌∷◌, ◌++◌, length};
 ghost use Rattle.ang_types.specs.declared.arg_type.ArgType.{ArgType};
 ghost use Rattle.ang_types.specs.declared.candidate.Candidate.{Candidate};
 ghost use Rattle.ang_types.specs.Ranks.{Lines};
 ghost use Rattle.ang_types.specs.declared.candidate.Pick.{Pick};
 ghost use Rattle.ang_types.specs.declared.candidate.Pick.TheVariants.{One, NoViable, Ambiguous};
-ghost use Rattle.ang_types.specs.Best.{best_of};
+ghost use Rattle.ang_types.specs.Best.{best_of, is_best};
 ghost use Rattle.ang_types.specs.Overloads.{IsBest, IsViableAt};
 
 /// Among several candidates there is at most one best.
@@ -24,4 +24,10 @@ pub fn best_says()
     ensures ambiguous { (lines : Lines) (candidates : List Candidate) (args : List ArgType) →
         (best_of lines candidates args ≡ Ambiguous) ↔
         (((i : ℕ) × IsViableAt lines candidates args i) × ((i : ℕ) → ¬ IsBest lines candidates args i)) }
+{}
+
+/// Whether a candidate is the best is the same wherever it stands among the others.
+pub fn best_anywhere()
+    ensures same { (lines : Lines) (before after : List Candidate) (c : Candidate) (args : List ArgType) →
+        is_best lines (before ++ c ∷ after) args (length before) ≡ is_best lines (c ∷ (before ++ after)) args 0 }
 {}

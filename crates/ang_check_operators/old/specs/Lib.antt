@@ -1,0 +1,5 @@
+pub mod Refusals
+pub mod Operands
+pub mod View
+pub mod Forms
+pub mod Operations

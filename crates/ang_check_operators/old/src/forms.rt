@@ -1,0 +1,83 @@
+//! What the operators of the grammar do.
+ghost use Rattle.std.specs.Prelude.{◌≡◌};
+ghost use Rattle.ang_check_operators.specs.Forms as spec;
+
+use ang_lex::TokenKind;
+use ang_typed::{Comparison, Operator};
+
+/// What an operator with a result of the operands' kind does.
+#[derive(Clone, Copy, PartialEq, Eq, Debug)]
+pub enum Work {
+    /// Works on two integers in their common type.
+    Arithmetic(Operator),
+    /// Works on two integers in the left one's type, raised.
+    Shift(Operator),
+}
+
+/// What a binary operator does.
+#[derive(Clone, Copy, PartialEq, Eq, Debug)]
+pub enum Form {
+    /// Works on two integers.
+    Works(Work),
+    /// Compares two integers.
+    Order(Comparison),
+    /// Compares two integers or two truth values.
+    Equality(Comparison),
+    /// `&&`
+    And,
+    /// `||`
+    Or,
+    /// `xor`
+    Xor,
+}
+
+/// What a binary operator does; nothing for `is`, `!is` and what is none.
+pub fn binary_form(operator: TokenKind) -> Option<Form>
+    ensures exact { result ≡ spec.binary_form operator }
+{
+    let form = match operator {
+        TokenKind::Star => Form::Works(Work::Arithmetic(Operator::Multiply)),
+        TokenKind::Slash => Form::Works(Work::Arithmetic(Operator::Divide)),
+        TokenKind::Percent => Form::Works(Work::Arithmetic(Operator::Remainder)),
+        TokenKind::Plus => Form::Works(Work::Arithmetic(Operator::Add)),
+        TokenKind::Minus => Form::Works(Work::Arithmetic(Operator::Subtract)),
+        TokenKind::Ampersand => Form::Works(Work::Arithmetic(Operator::BitAnd)),
+        TokenKind::Caret => Form::Works(Work::Arithmetic(Operator::BitXor)),
+        TokenKind::Pipe => Form::Works(Work::Arithmetic(Operator::BitOr)),
+        TokenKind::ShiftLeft => Form::Works(Work::Shift(Operator::ShiftLeft)),
+        TokenKind::ShiftRight => Form::Works(Work::Shift(Operator::ShiftRight)),
+        TokenKind::ShiftRightArithmetic => Form::Works(Work::Shift(Operator::ShiftRightArithmetic)),
+        TokenKind::Less => Form::Order(Comparison::Less),
+        TokenKind::LessEqual => Form::Order(Comparison::LessEqual),
+        TokenKind::Greater => Form::Order(Comparison::Greater),
+        TokenKind::GreaterEqual => Form::Order(Comparison::GreaterEqual),
+        TokenKind::Equal => Form::Equality(Comparison::Equal),
+        TokenKind::NotEqual => Form::Equality(Comparison::NotEqual),
+        TokenKind::Xor => Form::Xor,
+        TokenKind::And => Form::And,
+        TokenKind::Or => Form::Or,
+        _ => return None,
+    };
+    Some(form)
+}
+
+/// What the operator of a compound assignment does; nothing for `=` and what is none.
+pub fn compound_work(operator: TokenKind) -> Option<Work>
+    ensures exact { result ≡ spec.compound_work operator }
+{
+    let work = match operator {
+        TokenKind::PlusAssign => Work::Arithmetic(Operator::Add),
+        TokenKind::MinusAssign => Work::Arithmetic(Operator::Subtract),
+        TokenKind::StarAssign => Work::Arithmetic(Operator::Multiply),
+        TokenKind::SlashAssign => Work::Arithmetic(Operator::Divide),
+        TokenKind::PercentAssign => Work::Arithmetic(Operator::Remainder),
+        TokenKind::AmpersandAssign => Work::Arithmetic(Operator::BitAnd),
+        TokenKind::PipeAssign => Work::Arithmetic(Operator::BitOr),
+        TokenKind::CaretAssign => Work::Arithmetic(Operator::BitXor),
+        TokenKind::ShiftLeftAssign => Work::Shift(Operator::ShiftLeft),
+        TokenKind::ShiftRightAssign => Work::Shift(Operator::ShiftRight),
+        TokenKind::ShiftRightArithmeticAssign => Work::Shift(Operator::ShiftRightArithmetic),
+        _ => return None,
+    };
+    Some(work)
+}

@@ -1,0 +1,5 @@
+pub mod Scope
+pub mod Uses
+pub mod Calls
+pub mod Operands
+pub mod Typing

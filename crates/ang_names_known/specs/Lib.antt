@@ -1,0 +1,4 @@
+pub mod Added
+pub mod Host
+pub mod Lookup
+pub mod Spaces

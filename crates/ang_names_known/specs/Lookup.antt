@@ -1,0 +1,210 @@
+-- What the scripts declare, by name (docs/LANGUAGE.md, "Names of a build"; the AngelScript manual, "Function overloading" and
+-- "Inheritance and polymorphism"). Numbers are places in `Names`.
+use Rattle.std.specs.Prelude.{ℕ, ◌+◌, ◌==◌, Bool, true, false, not, ◌&&◌, ◌||◌, if◌then◌else◌, List, [], ◌∷◌, ◌++◌, map, filter, length, Option, Some, None, bytes_eq, is_some, slice_get}
+use Rattle.std.specs.List.{list_any, position, filter_map, flat_map}
+use Rattle.std.specs.Cmp.Lexicographic.{pointwise}
+use Rattle.std.proofs.Math.Bool.{beq}
+use Rattle.ang_kinds.specs.declared.types.Pass.{Pass}
+use Rattle.ang_types.specs.declared.arg_type.ArgType.{ArgType}
+use Rattle.ang_types.specs.declared.arg_type.ArgType.TheVariants as type
+use Rattle.ang_view.specs.Numbers.{primitive_number, pass_number}
+use Rattle.ang_names_known.specs.declared.names.Access.{Access}
+use Rattle.ang_names_known.specs.declared.names.Access.TheVariants as access
+use Rattle.ang_names_known.specs.declared.names.Constructor.{Constructor}
+use Rattle.ang_names_known.specs.declared.names.Default.{Default}
+use Rattle.ang_names_known.specs.declared.names.Default.TheVariants as default
+use Rattle.ang_names_known.specs.declared.names.Family.{Family}
+use Rattle.ang_names_known.specs.declared.names.Field.{Field}
+use Rattle.ang_names_known.specs.declared.names.FoundField.{FoundField}
+use Rattle.ang_names_known.specs.declared.names.Method.{Method}
+use Rattle.ang_names_known.specs.declared.names.ScriptFunction.{ScriptFunction}
+use Rattle.ang_names_known.specs.declared.names.ScriptGlobal.{ScriptGlobal}
+use Rattle.ang_names_known.specs.declared.names.ScriptParameter.{ScriptParameter}
+use Rattle.ang_names_known.specs.declared.names.Written.{Written}
+
+abbrev pub is_empty : {A : Type 0} → List A → Bool
+is_empty [] = true
+is_empty (x ∷ xs) = false
+
+-- the first that passes
+abbrev pub first_that : {A : Type 0} → (A → Bool) → List A → Option A
+first_that p [] = None
+first_that p (x ∷ xs) = if p x then Some x else first_that p xs
+
+-- ---- types as they are written
+
+abbrev pub is_read_only_by : ArgType → Bool → Bool → Bool
+is_read_only_by (type.Handle n c) constant const_handle = const_handle
+is_read_only_by type.Void constant const_handle = constant
+is_read_only_by type.Null constant const_handle = constant
+is_read_only_by (type.Plain p) constant const_handle = constant
+is_read_only_by (type.Object n c) constant const_handle = constant
+
+-- a variable of this written type can't be assigned: `const int`, `const T`, `T@ const`
+abbrev pub is_read_only : Written → Bool
+is_read_only w = is_read_only_by w.ty w.constant w.const_handle
+
+abbrev pub same_type : ArgType → ArgType → Bool
+same_type type.Void type.Void = true
+same_type type.Null type.Null = true
+same_type (type.Plain p) (type.Plain q) = primitive_number p == primitive_number q
+same_type (type.Object n c) (type.Object m d) = n == m && beq c d
+same_type (type.Handle n c) (type.Handle m d) = n == m && beq c d
+same_type _ _ = false
+
+-- Two types are written the same: `int32` is `int`, and `const` stands at both or at neither, in front and behind `@`. Object types are
+-- the same by number.
+abbrev pub same_written : Written → Written → Bool
+same_written a b = same_type a.ty b.ty && beq a.constant b.constant && beq a.const_handle b.const_handle
+
+abbrev pub same_parameter : ScriptParameter → ScriptParameter → Bool
+same_parameter p q = same_written p.written q.written && pass_number p.pass == pass_number q.pass
+
+-- names of parameters don't count
+abbrev pub same_parameters : List ScriptParameter → List ScriptParameter → Bool
+same_parameters = pointwise same_parameter
+
+-- equal results and parameters, as a binding compares them
+abbrev pub same_call : ScriptFunction → ScriptFunction → Bool
+same_call f g = same_written f.result g.result && same_parameters f.params g.params
+
+-- equal names besides, as a command's call compares them
+abbrev pub same_heading : ScriptFunction → ScriptFunction → Bool
+same_heading f g = bytes_eq f.name g.name && same_call f g
+
+-- ---- functions, imports and globals
+
+-- the number of the function with this heading
+unfoldable pub function_with : List ScriptFunction → ScriptFunction → Option ℕ
+function_with fs wanted = position (same_heading wanted) fs
+
+abbrev pub named_from : ℕ → List ScriptFunction → List ℕ → List ℕ
+named_from n [] name = []
+named_from n (f ∷ fs) name = if bytes_eq f.name name then n ∷ named_from (n + 1) fs name else named_from (n + 1) fs name
+
+-- the numbers of the functions of this name, or of the imports, rising
+unfoldable pub functions_named : List ScriptFunction → List ℕ → List ℕ
+functions_named fs name = named_from 0 fs name
+
+-- the number of the global of this name
+unfoldable pub global_named : List ScriptGlobal → List ℕ → Option ℕ
+global_named gs name = position (λ (g : ScriptGlobal). bytes_eq g.name name) gs
+
+-- some declaration has the name
+abbrev pub is_declared : List (List ℕ) → List ℕ → Bool
+is_declared declared name = list_any (bytes_eq name) declared
+
+abbrev pub passing_of : ScriptParameter → ArgType × Pass
+passing_of p = (p.written.ty, p.pass)
+
+-- the types and passings of a function's parameters
+unfoldable pub parameters_of : ScriptFunction → List (ArgType × Pass)
+parameters_of f = map passing_of f.params
+
+-- ---- members
+
+-- a family with its number
+abbrev pub Numbered : Type 0
+Numbered = ℕ × Family
+
+abbrev pub with_family : ℕ → Option Family → List Numbered → List Numbered
+with_family n None rest = rest
+with_family n (Some f) rest = (n, f) ∷ rest
+
+-- the families of these numbers
+abbrev pub families_at : List Family → List ℕ → List Numbered
+families_at fs [] = []
+families_at fs (n ∷ ns) = with_family n (slice_get fs n) (families_at fs ns)
+
+abbrev pub order_in : List Family → Option Family → List Numbered
+order_in fs None = []
+order_in fs (Some f) = families_at fs f.order
+
+-- a family and those that it has members of, the nearest first
+unfoldable pub kin_of : List Family → ℕ → List Numbered
+kin_of fs c = order_in fs (slice_get fs c)
+
+abbrev pub above_in : Option Family → List ℕ
+above_in None = []
+above_in (Some f) = f.above
+
+-- family d is family c, or stands above it
+abbrev pub is_under : List Family → ℕ → ℕ → Bool
+is_under fs c d = c == d || list_any (λ k. k == d) (above_in (slice_get fs c))
+
+abbrev pub field_with : Numbered → ℕ → Option Field → Option FoundField
+field_with f i None = None
+field_with f i (Some x) = Some (record { owner = f.0; number = f.1.inherited + i; written = x.written; access = x.access })
+
+abbrev pub field_at : Numbered → Option ℕ → Option FoundField
+field_at f None = None
+field_at f (Some i) = field_with f i (slice_get f.1.fields i)
+
+abbrev pub own_field : List ℕ → Numbered → Option FoundField
+own_field name f = field_at f (position (λ (x : Field). bytes_eq x.name name) f.1.fields)
+
+abbrev pub field_or : Option FoundField → Option FoundField → Option FoundField
+field_or (Some x) rest = Some x
+field_or None rest = rest
+
+abbrev pub first_field : List ℕ → List Numbered → Option FoundField
+first_field name [] = None
+first_field name (f ∷ fs) = field_or (own_field name f) (first_field name fs)
+
+-- The field of this name that objects of a family have.
+unfoldable pub field_named : List Family → ℕ → List ℕ → Option FoundField
+field_named fs c name = first_field name (kin_of fs c)
+
+-- a method, with the family that declares it
+pub record FoundMethod : Type 0 where
+  pub owner : ℕ
+  pub method : Method
+
+abbrev pub methods_in : Numbered → List FoundMethod
+methods_in f = map (λ (x : Method). record { owner = f.0; method = x }) f.1.methods
+
+-- of each slot the first method
+abbrev pub first_of_slots : List ℕ → List FoundMethod → List FoundMethod
+first_of_slots slots [] = []
+first_of_slots slots (x ∷ xs) =
+    if list_any (λ k. k == x.method.slot) slots then first_of_slots slots xs else x ∷ first_of_slots (x.method.slot ∷ slots) xs
+
+-- All methods of a family, own and inherited: of those of equal name, parameters and `const` the nearest alone.
+unfoldable pub methods_of : List Family → ℕ → List FoundMethod
+methods_of fs c = first_of_slots [] (flat_map methods_in (kin_of fs c))
+
+-- the methods of this name
+unfoldable pub methods_named : List Family → ℕ → List ℕ → List FoundMethod
+methods_named fs c name = filter (λ (x : FoundMethod). bytes_eq x.method.function.name name) (methods_of fs c)
+
+-- a field or a method of the family has the name
+abbrev pub has_member : List Family → ℕ → List ℕ → Bool
+has_member fs c name = is_some (field_named fs c name) || not (is_empty (methods_named fs c name))
+
+-- ---- constructors
+
+abbrev pub takes_nothing : Constructor → Bool
+takes_nothing k = is_empty k.function.params
+
+abbrev pub default_by : Option Constructor → Default
+default_by None = default.Missing
+default_by (Some k) = default.Written k.body
+
+abbrev pub first_default : List Numbered → Default
+first_default [] = default.Unwritten
+first_default (f ∷ fs) =
+    if is_empty f.1.constructors then first_default fs else default_by (first_that takes_nothing f.1.constructors)
+
+-- A class without a constructor has a default one, which runs that of its base class: so it is the nearest written one that decides.
+unfoldable pub default_of : List Family → ℕ → Default
+default_of fs c = first_default (kin_of fs c)
+
+-- ---- who may use a member
+
+-- the body in which a use stands is that of a method or a constructor of the class c
+abbrev pub may_use : List Family → Option ℕ → ℕ → Access → Bool
+may_use fs within owner access.Public = true
+may_use fs None owner access.Protected = false
+may_use fs (Some c) owner access.Protected = is_under fs c owner
+may_use fs None owner access.Private = false
+may_use fs (Some c) owner access.Private = c == owner

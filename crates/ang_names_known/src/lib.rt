@@ -1,0 +1,25 @@
+//! What names mean before any text is read: what a module sees of the host, by name and by type, and what its scripts
+//! declare.
+//!
+//! `Names` is what `ang_names` makes of the scripts. All look-ups in it and in the view stand here, so that each of them has one
+//! contract (docs/LANGUAGE.md, "Names of a build").
+#![tactic(auto)]
+
+mod api;
+mod borrowed;
+mod host;
+mod lookup;
+mod names;
+mod space;
+
+pub use api::{
+    FoundMethod, functions_named, lineage_of, methods_named, parameters_of, space_of_names,
+};
+pub use borrowed::Text;
+pub use host::{HostFunction, HostProperty, Wanted, WantedProperty, host_where, property_where};
+pub use lookup::{global_named, is_declared, is_read_only};
+pub use names::{
+    Access, Constructor, Default, Family, Field, FoundField, Method, Names, Origin, ScriptFunction,
+    ScriptGlobal, ScriptParameter, Written,
+};
+pub use space::{Named, Space, type_number};

@@ -1,0 +1,99 @@
+//! The object types that a name can mean.
+ghost use Rattle.std.specs.Prelude.{◌≡◌, ◌≤◌, ◌<◌, length, bytes_eq, IfSome};
+ghost use Rattle.std.specs.List.{position};
+ghost use Rattle.ang_view.specs.Types.{type_named};
+ghost use Rattle.ang_names_known.specs.Spaces as spaces;
+
+use crate::borrowed::Text;
+use ang_kinds::EntityNo;
+use ang_view::View;
+use std::marker::Model;
+
+/// The number of the first family as a type, above those of all entries.
+const FIRST_FAMILY: u32 = 1024;
+
+/// What a name means as a type.
+#[derive(Clone, Copy, PartialEq, Eq, Debug)]
+pub enum Named {
+    /// Nothing.
+    Unknown,
+    /// The object type of this number: a host type's entry, or 1,024 and the number of a family.
+    Object(u32),
+}
+
+/// The number of the host type of this name that the module sees. It takes no memory.
+pub fn type_number(view: &View, name: &[u8]) -> Option<u32>
+    ensures exact { result ≡ type_named view.now name.now }
+{
+    let EntityNo(number) = view.find_type(name)?;
+    Some(number)
+}
+
+/// The object types that names mean: what a module sees of the host, and the names of the scripts' families.
+#[derive(Drop)]
+pub struct Space<'a> {
+    view: &'a View,
+    families: Vec<Text<'a>>,
+}
+
+impl<'a> Model for Space<'a> {
+    ghost use Rattle.std.specs.Prelude.{◌≤◌, length};
+    ghost use Rattle.ang_names_known.specs.Spaces as spaces;
+
+    ghost Value = { spaces.Space };
+
+    ghost view = { λ s. record { view = s.view.now; families = s.families.items } };
+
+    ghost invariant = { λ s. length s.families.items ≤ 1048576 };
+}
+
+impl<'a> Space<'a> {
+    /// The types of a view, and the families of these names, in the order of their numbers: 1,048,576 at most, which is
+    /// far above the limit of a module.
+    pub fn new(view: &'a View, families: Vec<Text<'a>>) -> Space<'a>
+        requires few { length families.items ≤ 1048576 }
+        ensures view { result.view ≡ view.now }
+        ensures families { result.families ≡ families.entry.items }
+    {
+        Space { view, families }
+    }
+
+    /// What the module sees of the host.
+    pub fn view(&self) -> &'a View
+        ensures same { result.now ≡ self.now.view }
+    {
+        self.view
+    }
+
+    /// The number of the script's family of this name.
+    fn family_named(&self, name: &[u8]) -> Option<usize>
+        ensures exact { result ≡ position (bytes_eq name.now) self.now.families }
+        ensures few { IfSome result (λ c. c < 1048576) }
+    {
+        self.families
+            .iter()
+            .position(|family| name == family.bytes())
+    }
+
+    /// What a name means as a type. A name that the scripts declare is theirs, whatever the module sees of the host.
+    /// It takes no memory.
+    #[tactic(auto, unfolding(crate::specs::Spaces::named_in))]
+    pub fn named(&self, name: &[u8]) -> Named
+        ensures exact { result ≡ spaces.named_in self.now name.now }
+    {
+        named_by(self.family_named(name), type_number(self.view, name))
+    }
+}
+
+fn named_by(family: Option<usize>, host: Option<u32>) -> Named
+    requires few { IfSome family (λ c. c < 1048576) }
+    ensures exact { result ≡ spaces.named_by family host }
+{
+    match family {
+        Some(family) => Named::Object(FIRST_FAMILY + family as u32),
+        None => match host {
+            Some(number) => Named::Object(number),
+            None => Named::Unknown,
+        },
+    }
+}
