@@ -102,10 +102,10 @@ turned_add t u n k i f s kn lt there len others row =
       left = λ a j le an jn. same a j (omega arith) jn ∙ s.left a j (omega arith) an jn;
     }
 
-lt_true : (a b : ℕ) → a < b → nat_lt a b ≡ true
+pub lt_true : (a b : ℕ) → a < b → nat_lt a b ≡ true
 lt_true a b h = search arith
 
-first_entry : (x y c : Bool) → x ≡ true → y ≡ true → c ≡ (x && (y && c))
+pub first_entry : (x y c : Bool) → x ≡ true → y ≡ true → c ≡ (x && (y && c))
 first_entry true true c e f = refl
 first_entry true false c e f = cc
 first_entry false y c e f = cc

@@ -12,7 +12,7 @@ ghost use Rattle.ang_names_heritage.specs.Tables.{Shows, at, edges_of};
 pub mod laws;
 mod orders;
 
-pub use orders::{above, order_of};
+pub use orders::{above_of, order_of};
 
 /// Closes a table of `n` rows and columns, 256 at most: entry (i, j) then says whether some way of one edge or
 /// more leads from i to j. It takes no memory, and some `n`³ steps.
