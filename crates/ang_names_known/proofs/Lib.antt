@@ -1,1 +1,4 @@
 pub mod SoFar
+pub mod Sights
+pub mod Adding
+pub mod AddingProperty
