@@ -3,4 +3,4 @@
 
 mod api;
 
-pub use api::{check, denials_over};
+pub use api::{check, denials};

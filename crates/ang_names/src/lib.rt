@@ -13,5 +13,5 @@ pub use ang_names_known::{
     Access, Constructor, Family, Field, Method, Names, Origin, ScriptFunction, ScriptGlobal,
     ScriptParameter, Written,
 };
-pub use api::{declare, names_over, phase_refusals};
+pub use api::{declare, function_refusal, heading_of, names_over, phase_refusals};
 pub use phase::Phase;

@@ -91,17 +91,17 @@ module _ (script : ℕ) (text : List ℕ) where
 
   -- What the declaration at this place declares: each name of a declaration of globals is a declaration of its own, and a `;` alone
   -- declares nothing.
-  abbrev pub declared_by : ℕ → Decl → List Declared
-  declared_by n (class final word x bases left members right) = declared_as n 0 x (part.Family (class_shape final bases members)) ∷ []
-  declared_by n (interface word x bases left methods right) = declared_as n 0 x (part.Family (interface_shape bases methods)) ∷ []
-  declared_by n (import word y x ps from module_name semicolon) = declared_as n 0 x (part.Import y ps.items) ∷ []
-  declared_by n (function y x ps b) = declared_as n 0 x (part.Function y ps.items) ∷ []
-  declared_by n (globals vs) = globals_from n vs.declared_type 0 vs.items
-  declared_by n (empty semicolon) = []
+  abbrev pub declared_at : ℕ → Decl → List Declared
+  declared_at n (class final word x bases left members right) = declared_as n 0 x (part.Family (class_shape final bases members)) ∷ []
+  declared_at n (interface word x bases left methods right) = declared_as n 0 x (part.Family (interface_shape bases methods)) ∷ []
+  declared_at n (import word y x ps from module_name semicolon) = declared_as n 0 x (part.Import y ps.items) ∷ []
+  declared_at n (function y x ps b) = declared_as n 0 x (part.Function y ps.items) ∷ []
+  declared_at n (globals vs) = globals_from n vs.declared_type 0 vs.items
+  declared_at n (empty semicolon) = []
 
   abbrev pub declared_from : ℕ → List Decl → List Declared
   declared_from n [] = []
-  declared_from n (d ∷ ds) = declared_by n d ++ declared_from (n + 1) ds
+  declared_from n (d ∷ ds) = declared_at n d ++ declared_from (n + 1) ds
 
 abbrev pub declarations_from : ℕ → List Source → List Declared
 declarations_from s [] = []

@@ -5,5 +5,5 @@
 mod api;
 mod listed;
 
-pub use api::{declarations_of, name_refusal};
+pub use api::{declarations_of, name_refusals};
 pub use listed::{Attributes, Declared, Member, MemberKind, Part, Shape};
