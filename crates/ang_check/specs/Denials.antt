@@ -5,7 +5,6 @@ use Rattle.std.specs.List.{list_any, flat_map}
 use Rattle.ang_kinds.specs.declared.error.Denial.{Denial}
 use Rattle.ang_kinds.specs.declared.error.Error.{Error}
 use Rattle.ang_kinds.specs.declared.mask.Mask.{Mask}
-use Rattle.ang_kinds.specs.declared.place.Place.{Place}
 use Rattle.ang_types.specs.declared.asks.Asks.{Asks}
 use Rattle.ang_types.specs.declared.asks.Asks.TheVariants as asks
 use Rattle.ang_types.specs.declared.asks.Refused.{Refused}

@@ -1,9 +1,9 @@
 -- What is to be proved of the definitions, stated here and claimed by no contract yet.
-use Rattle.std.specs.Prelude.{◌≡◌, ◌<◌, ◌↔◌, ℕ, true, List, [], length, Contains, Option, Some, None}
+use Rattle.std.specs.Prelude.{◌≡◌, ◌<◌, ◌↔◌, ℕ, true, List, [], length, Contains, Some, None}
 use Rattle.ang_kinds.specs.declared.error.Denial.{Denial}
 use Rattle.ang_types.specs.declared.asks.Asks.{Asks}
 use Rattle.ang_types.specs.declared.asks.Refused.{Refused}
-use Rattle.ang_view.specs.Hidden.{is_unmet, is_with, seen_with}
+use Rattle.ang_view.specs.Hidden.{seen_with}
 use Rattle.ang_view.specs.Registration.{RegistrationList, entry_at, seen}
 use Rattle.ang_names_known.specs.declared.host.Wanted.{Wanted}
 use Rattle.ang_names_known.specs.declared.host.WantedProperty.{WantedProperty}
@@ -14,17 +14,11 @@ use Rattle.ang_names_written.specs.Sources.{Source}
 use Rattle.ang_names_listed.specs.Declarations.{declarations_of}
 use Rattle.ang_names.specs.Resolved.{names_of}
 use Rattle.ang_check_uses.specs.declared.uses.Resolution.TheVariants as resolution
-use Rattle.ang_check_uses.specs.Uses.{Scope, resolution_of}
+use Rattle.ang_check_uses.specs.Uses.{resolution_of}
 use Rattle.ang_check_bodies.specs.Bodies.{body_refusals, program_of, HasBodies}
-use Rattle.ang_check.specs.Denials.{script_refusals, scope_over, helps, denied, row, denials_of}
+use Rattle.ang_check.specs.Denials.{script_refusals, scope_over, denied, row, denials_of}
 
 -- ---- denials
-
--- Entry y has a row for a refused use just where its own mask is not met and it comes with a hidden entry that helps the use.
-abbrev pub EachRowHelps : Type 0
-EachRowHelps = (R : RegistrationList) (m : ℕ) (s : Scope) (r : Refused) (a : Asks) (y : ℕ) →
-    (denied R m s r a y ≡ true)
-    ↔ ((is_unmet R m y ≡ true) × ((x : ℕ) × (x < length R) × (helps R m s r a x ≡ true) × (is_with R x y ≡ true)))
 
 -- a row that is listed for a refused use of these scripts
 abbrev pub IsListed : RegistrationList → ℕ → List Source → Denial → Type 0

@@ -11,13 +11,12 @@ use Rattle.ang_kinds.specs.declared.types.Pass.TheVariants as pass
 use Rattle.ang_lex.specs.declared.token.Token.{Token}
 use Rattle.ang_tree.specs.declared.declaration.BaseName.{BaseName}
 use Rattle.ang_tree.specs.declared.type_name.TypeName.{TypeName}
-use Rattle.ang_tree.specs.Stmt.{Init, Vars, Var, Body, body, Stmts}
-use Rattle.ang_tree.specs.Declarations.{Decl, class, interface, import, function, globals, empty, MemberTree, fields, method, constructor, SuperTree}
+use Rattle.ang_tree.specs.Stmt.{Init, Var, Body, body, Stmts}
+use Rattle.ang_tree.specs.Declarations.{Decl, class, interface, function, globals, MemberTree, fields, method, constructor, SuperTree}
 use Rattle.ang_types.specs.declared.arg_type.ArgType.{ArgType}
 use Rattle.ang_types.specs.declared.arg_type.ArgType.TheVariants as type
 use Rattle.ang_types.specs.declared.asks.Refused.{Refused}
 use Rattle.ang_typed.specs.declared.expression.Callee.TheVariants as callee
-use Rattle.ang_typed.specs.declared.expression.Variable.TheVariants as variable
 use Rattle.ang_typed.specs.declared.program.Class as classes
 use Rattle.ang_typed.specs.declared.program.Heading.{Heading}
 use Rattle.ang_typed.specs.declared.program.Parameter.{Parameter}
@@ -34,11 +33,9 @@ use Rattle.ang_names_known.specs.declared.names.ScriptFunction.{ScriptFunction}
 use Rattle.ang_names_known.specs.declared.names.ScriptGlobal.{ScriptGlobal}
 use Rattle.ang_names_known.specs.declared.names.ScriptParameter.{ScriptParameter}
 use Rattle.ang_check_operand.specs.declared.refusal.Refusal.{Refusal}
-use Rattle.ang_check_statements.specs.declared.frame.Returns.{Returns}
 use Rattle.ang_check_statements.specs.declared.frame.Returns.TheVariants as returns
 use Rattle.ang_check_typing.specs.declared.scope.LocalVariable.{LocalVariable}
 use Rattle.ang_check_typing.specs.declared.scope.Within.{Within}
-use Rattle.ang_check_uses.specs.declared.uses.Callable.{Callable}
 use Rattle.ang_check_uses.specs.declared.uses.Called.{Called}
 use Rattle.ang_check_uses.specs.declared.uses.Called.TheVariants as calls
 use Rattle.ang_check_uses.specs.declared.uses.Resolution.{Resolution}
@@ -433,7 +430,8 @@ module _ (V : RegistrationList) (names : Names) (sources : List Source) (p : t.P
   -- The same of constructor m of class c.
   pub record HasConstructorBody (c m : ℕ) (x : Constructor) : Type 0 where
     pub text : List ℕ
-    pub name own : Token
+    pub name : Token
+    pub own : Token
     pub bases : List BaseName
     pub super : Option SuperTree
     pub tree : Stmts

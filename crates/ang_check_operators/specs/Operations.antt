@@ -1,7 +1,7 @@
 -- What operators make of typed operands (docs/LANGUAGE.md, "Expressions": types of operations; the AngelScript manual,
 -- "Math operators", "Bitwise operators", "Comparison operators", "Identity comparison", "Logic operators", "Conditional expression",
 -- "Handle of" and "Assignments").
-use Rattle.std.specs.Prelude.{ℕ, Bool, true, false, if◌then◌else◌, is_some, List, Option, Some, None, Result, Ok, Err}
+use Rattle.std.specs.Prelude.{ℕ, Bool, true, false, if◌then◌else◌, is_some, List, Option, Some, None, Ok, Err}
 use Rattle.ang_kinds.specs.declared.error.ErrorKind.TheVariants as kind
 use Rattle.ang_kinds.specs.declared.place.Place.{Place}
 use Rattle.ang_kinds.specs.declared.primitive.Primitive.{Primitive}
@@ -12,7 +12,7 @@ use Rattle.ang_lex.specs.declared.token.TokenKind.TheVariants as k
 use Rattle.ang_lex.specs.Numbers.{number_of}
 use Rattle.ang_types.specs.declared.arg_type.ArgType.{ArgType}
 use Rattle.ang_types.specs.declared.arg_type.ArgType.TheVariants as type
-use Rattle.ang_types.specs.Integers.{is_integer, common_type}
+use Rattle.ang_types.specs.Integers.{common_type}
 use Rattle.ang_types.specs.Ranks.{Ancestors, rank_of}
 use Rattle.ang_typed.specs.declared.expression.Operator.{Operator}
 use Rattle.ang_typed.specs.declared.expression.Comparison.{Comparison}

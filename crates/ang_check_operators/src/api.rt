@@ -1,4 +1,5 @@
 //! What operators make of typed operands.
+ghost use Rattle.std.specs.Prelude.{◌≡◌};
 ghost use Rattle.ang_check_operand.specs.Refusals.{Gives};
 ghost use Rattle.ang_check_operand.specs.View.{view_operand};
 ghost use Rattle.ang_check_operators.specs.Operations as spec;

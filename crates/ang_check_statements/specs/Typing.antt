@@ -13,7 +13,6 @@ use Rattle.ang_tree.specs.Stmt.{Init, absent, value, constructor, Var, Vars, Sta
 use Rattle.ang_tree.specs.Stmt as written
 use Rattle.ang_typed.specs.declared.expression.Variable.TheVariants as variable
 use Rattle.ang_typed.specs.Typed as t
-use Rattle.ang_names_known.specs.declared.names.Written.{Written}
 use Rattle.ang_check_statements.specs.declared.frame.Returns.{Returns}
 use Rattle.ang_check_statements.specs.declared.frame.Returns.TheVariants as returns
 use Rattle.ang_check_typing.specs.declared.scope.LocalVariable.{LocalVariable}

@@ -14,13 +14,11 @@ use Rattle.ang_types.specs.declared.arg_type.ArgType.TheVariants as type
 use Rattle.ang_types.specs.declared.asks.Asks.{Asks}
 use Rattle.ang_types.specs.declared.asks.Asks.TheVariants as asks
 use Rattle.ang_types.specs.Ranks.{Ancestors}
-use Rattle.ang_typed.specs.declared.expression.Callee.{Callee}
 use Rattle.ang_typed.specs.declared.expression.Callee.TheVariants as callee
 use Rattle.ang_typed.specs.declared.expression.Member.TheVariants as member
 use Rattle.ang_typed.specs.declared.expression.Variable.{Variable}
 use Rattle.ang_typed.specs.declared.expression.Variable.TheVariants as variable
 use Rattle.ang_typed.specs.Typed as t
-use Rattle.ang_names_known.specs.declared.host.HostProperty.{HostProperty}
 use Rattle.ang_names_known.specs.declared.names.Access.{Access}
 use Rattle.ang_names_known.specs.declared.names.Access.TheVariants as access
 use Rattle.ang_names_known.specs.declared.names.Family.{Family}

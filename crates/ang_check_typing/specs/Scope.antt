@@ -1,6 +1,6 @@
 -- What expressions stand in: a body's class, and the parameters and locals that are alive (docs/LANGUAGE.md, "Expressions": names; the
 -- AngelScript manual, "Variables" and "Script classes").
-use Rattle.std.specs.Prelude.{ℕ, ◌+◌, Bool, true, false, not, ◌||◌, bytes_eq, if◌then◌else◌, List, [], ◌∷◌, Option, Some, None}
+use Rattle.std.specs.Prelude.{ℕ, ◌+◌, Bool, false, ◌||◌, bytes_eq, if◌then◌else◌, List, [], ◌∷◌, Option, Some, None}
 use Rattle.std.specs.List.{list_any}
 use Rattle.std.specs.Option.{option_or}
 use Rattle.ang_view.specs.Registration.{RegistrationList}

@@ -5,14 +5,12 @@ use Rattle.std.specs.Prelude.{ℕ, ◌+◌, ◌==◌, nat_lt, Bool, true, false,
 use Rattle.std.specs.List.{list_any, filter_map, flat_map, position, range_with_len}
 use Rattle.std.proofs.Math.Bool.{beq}
 use Rattle.ang_lex.specs.declared.token.Token.{Token}
-use Rattle.ang_kinds.specs.declared.place.Place.{Place}
 use Rattle.ang_view.specs.Registration.{RegistrationList}
 use Rattle.ang_tree.specs.declared.declaration.Parameter.{Parameter}
 use Rattle.ang_tree.specs.declared.type_name.TypeName.{TypeName}
 use Rattle.ang_types.specs.declared.arg_type.ArgType.{ArgType}
 use Rattle.ang_types.specs.declared.arg_type.ArgType.TheVariants as type
 use Rattle.ang_names_heritage.specs.Graphs.{above, order_of, rank_of}
-use Rattle.ang_names_known.specs.declared.names.Access.{Access}
 use Rattle.ang_names_known.specs.declared.names.Constructor.{Constructor}
 use Rattle.ang_names_known.specs.declared.names.Family.{Family}
 use Rattle.ang_names_known.specs.declared.names.Field.{Field}
@@ -30,7 +28,6 @@ use Rattle.ang_names_listed.specs.declared.listed.MemberKind.{MemberKind}
 use Rattle.ang_names_listed.specs.declared.listed.MemberKind.TheVariants as member
 use Rattle.ang_names_listed.specs.declared.listed.Part.{Part}
 use Rattle.ang_names_listed.specs.declared.listed.Part.TheVariants as part
-use Rattle.ang_names_listed.specs.declared.listed.Shape.{Shape}
 use Rattle.ang_names_written.specs.declared.role.Role.{Role}
 use Rattle.ang_names_written.specs.declared.role.Role.TheVariants as role
 use Rattle.ang_names_known.specs.Spaces.{Space, family_of_type}
@@ -112,14 +109,14 @@ module _ (E : Space) where
   abbrev pub field_types : Declaring → List Written
   field_types d = filter_map (λ (m : Member). field_type d m.kind) d.shape.members
 
-  abbrev pub field_as : Declaring → Member → ℕ → Option Written → List Field
-  field_as d m number None = []
-  field_as d m number (Some w) = record { name = text_of d.text m.name; place = m.name.place; written = w; access = m.access; number = number } ∷ []
+  abbrev pub field_numbered : Declaring → Member → ℕ → Option Written → List Field
+  field_numbered d m number None = []
+  field_numbered d m number (Some w) = record { name = text_of d.text m.name; place = m.name.place; written = w; access = m.access; number = number } ∷ []
 
   -- A field's number is how many stand before it: `inherited` in base classes, and those of the members before it.
   abbrev pub fields_after : Declaring → ℕ → List Member → Member → List Field
   fields_after d inherited before m =
-      field_as d m (inherited + length (filter_map (λ (x : Member). field_type d x.kind) before)) (field_type d m.kind)
+      field_numbered d m (inherited + length (filter_map (λ (x : Member). field_type d x.kind) before)) (field_type d m.kind)
 
   -- a method's heading, and whether it is `const`
   abbrev pub signature_by : Declaring → Member → MemberKind → Option (ScriptFunction × Bool)

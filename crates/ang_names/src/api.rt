@@ -30,7 +30,8 @@ pub fn declare(alloc: Global, view: &View, scripts: &[Script]) -> Result<Names, 
 }
 
 /// The names of all declarations, whatever is refused of them: denials ask over these. Where the first phase refuses nothing
-/// there are few enough classes and interfaces (`laws::few_families`), and where it refuses some no denial asks for a name.
+/// there are few enough classes and interfaces (`ang_names_listed::laws::few_families`), and where it refuses some no denial asks
+/// for a name.
 ///
 /// The only error is want of memory.
 pub fn names_over(alloc: Global, view: &View, scripts: &[Script]) -> Result<Names, AllocError>

@@ -6,6 +6,7 @@
 #![tactic(auto)]
 
 mod api;
+pub mod laws;
 mod phase;
 
 pub use ang_kinds::Unbuilt;

@@ -1,5 +1,5 @@
 -- Words on lists that the definitions of a build's names and bodies share.
-use Rattle.std.specs.Prelude.{ℕ, Bool, true, false, List, [], ◌∷◌, ◌++◌}
+use Rattle.std.specs.Prelude.{Bool, true, false, List, [], ◌∷◌, ◌++◌}
 
 abbrev pub is_empty : {A : Type 0} → List A → Bool
 is_empty [] = true

@@ -169,9 +169,12 @@ if_nearest before x = if list_any (stands_in x.method.slot) before then [] else 
 unfoldable pub methods_named : List Family → ℕ → List ℕ → List FoundMethod
 methods_named fs c name = each_after if_nearest [] (filter (is_named name) (methods_of fs c))
 
--- some method of the family has the name
-abbrev pub has_method : List Family → ℕ → List ℕ → Bool
-has_method fs c name = list_any (is_named name) (methods_of fs c)
+abbrev pub declares_method : List ℕ → Numbered → Bool
+declares_method name f = list_any (λ (x : Method). bytes_eq x.function.name name) f.1.methods
+
+-- some method of the family has the name, own or inherited
+unfoldable pub has_method : List Family → ℕ → List ℕ → Bool
+has_method fs c name = list_any (declares_method name) (kin_of fs c)
 
 -- a field or a method does
 abbrev pub has_member : List Family → ℕ → List ℕ → Bool

@@ -1,6 +1,5 @@
 //! What the scripts declare, by name, as far as it takes no memory.
-ghost use Rattle.std.specs.Prelude.{◌≡◌, [], ◌∷◌, option_map, option_and_then, slice_get};
-ghost use Rattle.std.specs.List.{list_any};
+ghost use Rattle.std.specs.Prelude.{◌≡◌, false, [], option_map, option_and_then, slice_get};
 ghost use Rattle.std.specs.Option.{option_map_or};
 ghost use Rattle.ang_names_known.specs.Lookup as spec;
 
@@ -179,7 +178,8 @@ fn own_field(families: &[Family], family: usize, name: &[u8]) -> Option<FoundFie
 pub fn field_named(families: &[Family], family: usize, name: &[u8]) -> Option<FoundField>
     ensures exact { result ≡ spec.field_named families.now family name.now }
 {
-    for number in order_of(families, family) {
+    let order = order_of(families, family);
+    for number in order {
         let found = own_field(families, *number, name);
         if found.is_some() {
             return found;
@@ -190,8 +190,8 @@ pub fn field_named(families: &[Family], family: usize, name: &[u8]) -> Option<Fo
 
 /// Whether a family declares a method of this name itself.
 fn has_own_method(families: &[Family], family: usize, name: &[u8]) -> bool
-    ensures exact { result ≡ list_any (λ f. list_any (spec.is_named name.now) (spec.methods_in f))
-        (spec.families_at families.now (family ∷ [])) }
+    ensures exact { result ≡ option_map_or (λ f. spec.declares_method name.now (family, f))
+        (slice_get families.now family) false }
 {
     match families.get(family) {
         None => false,
@@ -204,11 +204,12 @@ fn has_own_method(families: &[Family], family: usize, name: &[u8]) -> bool
 }
 
 /// Whether a family has a method of this name, own or inherited. It takes no memory.
-#[tactic(auto, unfolding(crate::specs::Lookup::methods_of))]
+#[tactic(auto, unfolding(crate::specs::Lookup::has_method))]
 pub fn has_method(families: &[Family], family: usize, name: &[u8]) -> bool
     ensures exact { result ≡ spec.has_method families.now family name.now }
 {
-    for number in order_of(families, family) {
+    let order = order_of(families, family);
+    for number in order {
         if has_own_method(families, *number, name) {
             return true;
         }
@@ -248,7 +249,8 @@ fn nearest_default(families: &[Family], family: usize) -> Option<usize>
     ensures exact { result
         ≡ option_map (λ k. k.body) (spec.nearest_default (spec.kin_of families.now family)) }
 {
-    for number in order_of(families, family) {
+    let order = order_of(families, family);
+    for number in order {
         let constructors = constructors_of(families, *number);
         if !constructors.is_empty() {
             return default_among(constructors);

@@ -1,7 +1,7 @@
 -- What scripts declare (docs/LANGUAGE.md, "Names of a build"; the AngelScript manual, "Global entities" and "Script classes"): all
 -- declarations, in the order of sections and text, with the members of classes and interfaces. Each has its heading, and where it stands;
 -- its body or initializer stands there too, which no phase over the declarations looks at.
-use Rattle.std.specs.Prelude.{ℕ, ◌+◌, Bool, true, false, ◌||◌, List, [], ◌∷◌, ◌++◌, map, length, is_some, Option, Some, None}
+use Rattle.std.specs.Prelude.{ℕ, ◌+◌, Bool, true, false, List, [], ◌∷◌, ◌++◌, map, is_some, Option, Some, None}
 use Rattle.std.specs.List.{list_any, filter_map, flat_map}
 use Rattle.ang_lex.specs.declared.token.Token.{Token}
 use Rattle.ang_lex.specs.declared.token.TokenKind.{TokenKind}
@@ -9,7 +9,6 @@ use Rattle.ang_lex.specs.declared.token.TokenKind.TheVariants as k
 use Rattle.ang_tree.specs.declared.type_name.TypeName.{TypeName}
 use Rattle.ang_tree.specs.declared.declaration.BaseName.{BaseName}
 use Rattle.ang_tree.specs.declared.declaration.FieldName.{FieldName}
-use Rattle.ang_tree.specs.declared.declaration.Parameter.{Parameter}
 use Rattle.ang_tree.specs.Stmt.{Var}
 use Rattle.ang_tree.specs.Declarations.{Decl, class, interface, import, function, globals, empty, MemberTree, fields, method, constructor, MethodTree}
 use Rattle.ang_names_known.specs.declared.names.Access.{Access}
@@ -18,7 +17,6 @@ use Rattle.ang_names_known.specs.declared.names.Origin.{Origin}
 use Rattle.ang_names_listed.specs.declared.listed.Attributes.{Attributes}
 use Rattle.ang_names_listed.specs.declared.listed.Declared.{Declared}
 use Rattle.ang_names_listed.specs.declared.listed.Member.{Member}
-use Rattle.ang_names_listed.specs.declared.listed.MemberKind.{MemberKind}
 use Rattle.ang_names_listed.specs.declared.listed.MemberKind.TheVariants as member
 use Rattle.ang_names_listed.specs.declared.listed.Part.{Part}
 use Rattle.ang_names_listed.specs.declared.listed.Part.TheVariants as part

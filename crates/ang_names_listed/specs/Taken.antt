@@ -1,7 +1,7 @@
 -- Names that are taken, and too many of them (docs/LANGUAGE.md, "Names of a build"; the AngelScript manual, "Function
 -- overloading"; the limits are this profile's own): types, functions and globals, those that the module sees of the host's
 -- included, share one space of names. Imports are functions there.
-use Rattle.std.specs.Prelude.{ℕ, ◌==◌, Bool, true, false, ◌&&◌, ◌||◌, if◌then◌else◌, List, [], Option, Some, None, option_to_list, bytes_eq, count_by}
+use Rattle.std.specs.Prelude.{ℕ, ◌==◌, Bool, true, false, ◌&&◌, ◌||◌, if◌then◌else◌, List, [], Option, Some, None, option_to_list, bytes_eq, length, count_by}
 use Rattle.std.specs.List.{list_any}
 use Rattle.ang_kinds.specs.declared.error.Error.{Error}
 use Rattle.ang_kinds.specs.declared.error.ErrorKind.TheVariants as kind
@@ -17,7 +17,7 @@ use Rattle.ang_names_known.specs.Spaces.{most_families}
 use Rattle.ang_names_listed.specs.declared.listed.Declared.{Declared}
 use Rattle.ang_names_listed.specs.declared.listed.Part.{Part}
 use Rattle.ang_names_listed.specs.declared.listed.Part.TheVariants as part
-use Rattle.ang_names_listed.specs.Declarations.{declared_name}
+use Rattle.ang_names_listed.specs.Declarations.{declared_name, families_of}
 use Rattle.ang_names_written.specs.Sources.{error_at}
 use Rattle.ang_names_written.specs.Spellings.{same_spellings, same_as_host}
 
@@ -82,12 +82,6 @@ most_imports = 256
 abbrev pub most_globals : ℕ
 most_globals = 4096
 
-abbrev pub declares_family : Part → Bool
-declares_family (part.Family s) = true
-declares_family (part.Function y ps) = false
-declares_family (part.Import y ps) = false
-declares_family (part.Global y) = false
-
 abbrev pub declares_function : Part → Bool
 declares_function (part.Family s) = false
 declares_function (part.Function y ps) = true
@@ -108,7 +102,7 @@ declares_global (part.Global y) = true
 
 -- as many of its kind stand before it as a module can have, so it is the first above
 abbrev pub is_first_above : List Declared → Part → Bool
-is_first_above before (part.Family s) = count_by (λ (d : Declared). declares_family d.part) before == most_families
+is_first_above before (part.Family s) = length (families_of before) == most_families
 is_first_above before (part.Function y ps) = count_by (λ (d : Declared). declares_function d.part) before == most_functions
 is_first_above before (part.Import y ps) = count_by (λ (d : Declared). declares_import d.part) before == most_imports
 is_first_above before (part.Global y) = count_by (λ (d : Declared). declares_global d.part) before == most_globals

@@ -3,6 +3,7 @@
 #![tactic(auto)]
 
 mod api;
+pub mod laws;
 mod listed;
 
 pub use api::{declarations_of, name_refusals};
