@@ -1,11 +1,10 @@
 -- The denials of a build (docs/LANGUAGE.md, "Denials"; the AngelScript manual, "Access masks and exposing different interfaces"): for each
 -- refused use the hidden entries by which it would have been resolved, told by the same resolver over a larger view.
-use Rattle.std.specs.Prelude.{ℕ, ◌==◌, Bool, true, false, not, ◌&&◌, ◌||◌, is_some, List, [], ◌∷◌, ◌++◌, map, filter, Option, Some, None}
+use Rattle.std.specs.Prelude.{◌≡◌, ◌≢◌, ℕ, ◌==◌, Bool, true, false, not, ◌&&◌, ◌||◌, List, [], map, filter, Option, Some, None}
 use Rattle.std.specs.List.{list_any, flat_map}
 use Rattle.ang_kinds.specs.declared.error.Denial.{Denial}
 use Rattle.ang_kinds.specs.declared.error.Error.{Error}
 use Rattle.ang_kinds.specs.declared.mask.Mask.{Mask}
-use Rattle.ang_kinds.specs.declared.place.Place.{Place}
 use Rattle.ang_types.specs.declared.asks.Asks.{Asks}
 use Rattle.ang_types.specs.declared.asks.Asks.TheVariants as asks
 use Rattle.ang_types.specs.declared.asks.Refused.{Refused}
@@ -20,30 +19,30 @@ use Rattle.ang_check_uses.specs.declared.uses.Called.TheVariants as calls
 use Rattle.ang_check_uses.specs.declared.uses.Resolution.{Resolution}
 use Rattle.ang_check_uses.specs.declared.uses.Resolution.TheVariants as resolution
 use Rattle.ang_check_bodies.specs.Bodies.{body_refusals}
-use Rattle.ang_names_known.specs.Lookup.{is_declared, is_empty}
-use Rattle.ang_names_known.specs.Spaces.{lines_of}
+use Rattle.ang_names_known.specs.Lookup.{is_declared}
+use Rattle.ang_names_known.specs.Items.{is_empty, list_or}
+use Rattle.ang_names_known.specs.Spaces.{ancestors_of}
 use Rattle.ang_names_listed.specs.Declarations.{declarations_of}
-use Rattle.ang_names.specs.Phases.{refusals_of}
+use Rattle.ang_names.specs.Phases.{refusals_of, errors_in}
 use Rattle.ang_names.specs.Resolved.{names_of}
-use Rattle.ang_check_uses.specs.Meaning.{Scope, meaning_of, functions_of}
+use Rattle.ang_check_uses.specs.Uses.{Scope, resolution_of, functions_of}
 use Rattle.ang_names_written.specs.Sources.{Source}
 
 -- ---- what is refused
 
-abbrev pub refusals_or : List Refused → List Refused → List Refused
-refusals_or [] later = later
-refusals_or (r ∷ rs) later = r ∷ rs
-
 -- What is refused of these scripts over a view: of the declarations, else of the bodies and initializers.
 unfoldable pub script_refusals : RegistrationList → List Source → List Refused
-script_refusals V ss = refusals_or (refusals_of V ss) (body_refusals V (names_of V (declarations_of ss)) ss)
+script_refusals V ss = list_or (refusals_of V ss) (body_refusals V (names_of V (declarations_of ss)) ss)
 
-abbrev pub script_errors : RegistrationList → List Source → List Error
-script_errors V ss = map (λ (r : Refused). r.error) (script_refusals V ss)
+-- The errors of a build over a view: those of `declare`, which then gave no names, or those of `check` over the names that it gave.
+abbrev pub AreErrors : RegistrationList → List Source → Option Names → List Error → Type 0
+AreErrors V ss None errors = (errors ≡ errors_in (refusals_of V ss)) × (errors ≢ [])
+AreErrors V ss (Some names) errors =
+    (refusals_of V ss ≡ []) × (names ≡ names_of V (declarations_of ss)) × (errors ≡ errors_in (body_refusals V names ss))
 
 -- what a refused use is asked over; the names are there whatever is refused
-abbrev pub scope_of : RegistrationList → List Source → Scope
-scope_of V ss = let names = names_of V (declarations_of ss) in record { view = V; names = names; lines = lines_of names }
+abbrev pub scope_over : RegistrationList → List Source → Scope
+scope_over V ss = let names = names_of V (declarations_of ss) in record { view = V; names = names; ancestors = ancestors_of names }
 
 -- ---- what a use means
 
@@ -105,7 +104,7 @@ stays s r a x = is_bare a && ((is_declared s.names.declared r.error.name || r.is
 abbrev pub helps : RegistrationList → ℕ → Scope → Refused → Asks → ℕ → Bool
 helps R m s r a x =
     is_hidden R m x && (not (stays s r a (entry_at R x))
-    && means_entry x (meaning_of (record s { view = seen_with R m x }) r.error.name a))
+    && means_entry x (resolution_of (record s { view = seen_with R m x }) r.error.name a))
 
 -- entry y has a row: one that comes with such an x, and whose own mask is not met
 abbrev pub denied : RegistrationList → ℕ → Scope → Refused → Asks → ℕ → Bool
@@ -133,4 +132,4 @@ rows_for R m s r = rows_asked R m s r r.asks
 
 -- The denials of these scripts for a module of mask m, in the order of errors.
 unfoldable pub denials_of : RegistrationList → ℕ → List Source → List Denial
-denials_of R m ss = flat_map (rows_for R m (scope_of (seen R m) ss)) (script_refusals (seen R m) ss)
+denials_of R m ss = flat_map (rows_for R m (scope_over (seen R m) ss)) (script_refusals (seen R m) ss)

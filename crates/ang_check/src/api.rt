@@ -1,13 +1,17 @@
 //! The checker's calls.
-ghost use Rattle.std.specs.Prelude.{◌≡◌, [], IfOk, IfErr, OnOk, map as list_map};
+ghost use Rattle.std.specs.Prelude.{◌≡◌, [], IfOk, IfErr, OnOk, option_copied, map as list_map};
 ghost use Rattle.ang_typed.specs.View.{view_typed};
 ghost use Rattle.ang_check_bodies.specs.Bodies as bodies;
 ghost use Rattle.ang_check.specs.Denials as spec;
-ghost use Rattle.ang_names.specs.Phases.{IsRefused, errors_in};
+ghost use Rattle.ang_names_listed.specs.Declarations.{declarations_of};
+ghost use Rattle.ang_names.specs.Phases.{IsRefused, errors_in, refusals_of};
+ghost use Rattle.ang_names.specs.Resolved.{names_of};
+ghost use Rattle.ang_view.specs.Registration.{seen};
 ghost use Rattle.ang_names_written.specs.Sources.{source_of};
 
-use ang_kinds::{Denial, Mask, Unbuilt};
+use ang_kinds::{Denial, Error, Mask, Unbuilt};
 use ang_names_known::Names;
+use ang_registry::Registry;
 use ang_tree::Script;
 use ang_typed::Typed;
 use ang_view::View;
@@ -23,6 +27,8 @@ pub fn check(
     names: &Names,
     scripts: &[Script],
 ) -> Result<Typed, Unbuilt>
+    requires accepted { refusals_of view.now (list_map source_of scripts.now) ≡ [] }
+    requires names { names.now ≡ names_of view.now (declarations_of (list_map source_of scripts.now)) }
     ensures accepted { OnOk result
         (bodies.body_refusals view.now names.now (list_map source_of scripts.now) ≡ []) }
     ensures typed { IfOk result (λ t. view_typed t
@@ -33,18 +39,23 @@ pub fn check(
     Err(Unbuilt::Memory)
 }
 
-/// The denials of scripts of which something is refused, for a module of this mask: for each refused use the hidden
-/// entries by which it would have been resolved, in the order of the errors, and of each in the order of entries.
+/// The denials of a build of these scripts for a module of this mask: for each refused use the hidden entries by which it
+/// would have been resolved, in the order of the errors, and of each in the order of entries.
 ///
-/// The only error is want of memory.
-pub fn denials_over(
+/// `names` are those that `declare` gave, if it did; the errors are those of `declare`, or else those of `check`, over what the
+/// mask shows. The only error is want of memory.
+pub fn denials(
     alloc: Global,
-    list: &View,
+    registry: &Registry,
     mask: Mask,
     scripts: &[Script],
+    names: Option<&Names>,
+    errors: &[Error],
 ) -> Result<Vec<Denial>, AllocError>
-    ensures exact { IfOk result
-        (λ rows. rows.items ≡ spec.denials_of list.now mask.0 (list_map source_of scripts.now)) }
+    requires errors { spec.AreErrors (seen registry.now.entries mask.0)
+        (list_map source_of scripts.now) (option_copied names) errors.now }
+    ensures exact { IfOk result (λ rows. rows.items
+        ≡ spec.denials_of registry.now.entries mask.0 (list_map source_of scripts.now)) }
 {
     Err(AllocError)
 }

@@ -2,5 +2,6 @@
 #![tactic(auto)]
 
 mod api;
+pub mod laws;
 
-pub use api::{check, denials_over};
+pub use api::{check, denials};

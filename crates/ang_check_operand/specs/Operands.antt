@@ -1,6 +1,6 @@
 -- Operands, and what they are fit for (docs/LANGUAGE.md, "Expressions": conversions and targets; the AngelScript
 -- manual, "Conversions", "Object handles" and "Assignments").
-use Rattle.std.specs.Prelude.{ℕ, zero, suc, Bool, true, false, if◌then◌else◌, List, Option, Some, None, Result, Ok, Err}
+use Rattle.std.specs.Prelude.{ℕ, zero, suc, Bool, if◌then◌else◌, Option, Some, None, Ok, Err}
 use Rattle.ang_kinds.specs.declared.error.ErrorKind.TheVariants as kind
 use Rattle.ang_kinds.specs.declared.place.Place.{Place}
 use Rattle.ang_kinds.specs.declared.primitive.Primitive.{Primitive}
@@ -8,11 +8,11 @@ use Rattle.ang_kinds.specs.declared.primitive.Primitive.TheVariants as p
 use Rattle.ang_types.specs.declared.arg_type.ArgType.{ArgType}
 use Rattle.ang_types.specs.declared.arg_type.ArgType.TheVariants as type
 use Rattle.ang_types.specs.Integers.{is_integer}
-use Rattle.ang_types.specs.Ranks.{Lines, rank_of}
+use Rattle.ang_types.specs.Ranks.{Ancestors, rank_of}
 use Rattle.ang_typed.specs.Typed as t
 use Rattle.ang_check_operand.specs.declared.operand.Seat.{Seat}
 use Rattle.ang_check_operand.specs.declared.operand.Target.{Target}
-use Rattle.ang_check_operand.specs.Refusals.{Typing, ◌>>=◌, fault_at, refused_at}
+use Rattle.ang_check_operand.specs.Refusals.{Typing, ◌>>=◌, fault, refused}
 
 -- An expression that was typed: the place of its first token, its type, its resolved tree, how the site that its tree reads may be used,
 -- where it reads one, and the site that `@` in front of it names.
@@ -39,19 +39,19 @@ conversion (type.Plain p) (type.Plain q) e = t.convert p q e
 conversion from to e = e
 
 abbrev pub fit_by : Option ℕ → ArgType → Operand → Typing t.Expr
-fit_by None ty a = Err (fault_at kind.BadConversion a.place)
+fit_by None ty a = Err (fault kind.BadConversion a.place)
 fit_by (Some zero) ty a = Ok a.tree
 fit_by (Some (suc n)) ty a = Ok (conversion a.ty ty a.tree)
 
 -- The operand as a value of this type; `BadConversion` where it does not convert by itself.
-unfoldable pub fit : Lines → ArgType → Operand → Typing t.Expr
-fit lines ty a = fit_by (rank_of lines a.ty ty) ty a
+unfoldable pub fit : Ancestors → ArgType → Operand → Typing t.Expr
+fit ancestors ty a = fit_by (rank_of ancestors a.ty ty) ty a
 
 -- ---- what an operator wants
 
 abbrev pub integer_in : Operand → ArgType → Typing Primitive
-integer_in a (type.Plain q) = if is_integer q then Ok q else Err (fault_at kind.BadConversion a.place)
-integer_in a _ = Err (fault_at kind.BadConversion a.place)
+integer_in a (type.Plain q) = if is_integer q then Ok q else Err (fault kind.BadConversion a.place)
+integer_in a _ = Err (fault kind.BadConversion a.place)
 
 -- the operand's integer type
 unfoldable pub integer : Operand → Typing Primitive
@@ -59,7 +59,7 @@ integer a = integer_in a a.ty
 
 abbrev pub truth_in : Operand → ArgType → Typing t.Expr
 truth_in a (type.Plain p.Bool) = Ok a.tree
-truth_in a _ = Err (fault_at kind.NotBool a.place)
+truth_in a _ = Err (fault kind.NotBool a.place)
 
 -- the operand as a truth value
 unfoldable pub truth : Operand → Typing t.Expr
@@ -74,9 +74,9 @@ object_of (type.Object n c) = Some (n, c)
 object_of (type.Handle n c) = Some (n, c)
 
 abbrev pub identity_in : Operand → ArgType → Typing t.Expr
-identity_in a type.Void = Err (fault_at kind.BadConversion a.place)
+identity_in a type.Void = Err (fault kind.BadConversion a.place)
 identity_in a type.Null = Ok a.tree
-identity_in a (type.Plain q) = Err (fault_at kind.BadConversion a.place)
+identity_in a (type.Plain q) = Err (fault kind.BadConversion a.place)
 identity_in a (type.Object n c) = Ok a.tree
 identity_in a (type.Handle n c) = Ok a.tree
 
@@ -92,12 +92,12 @@ site_in (t.read x ty) = Some x
 site_in e = None
 
 abbrev pub site_or : Place → Option t.Site → Typing t.Site
-site_or place None = Err (fault_at kind.BadConversion place)
+site_or place None = Err (fault kind.BadConversion place)
 site_or place (Some x) = Ok x
 
 abbrev pub target_by : Place → Option Target → t.Expr → Typing t.Site
-target_by place None e = Err (fault_at kind.BadConversion place)
-target_by place (Some x) e = if x.read_only then Err (refused_at kind.Const x.name) else site_or place (site_in e)
+target_by place None e = Err (fault kind.BadConversion place)
+target_by place (Some x) e = if x.read_only then Err (refused kind.Const x.name) else site_or place (site_in e)
 
 -- The site that an assignment, `++` or `--` changes: `Const` at the name of one that can't be, and `BadConversion` at any other
 -- expression.
@@ -105,8 +105,8 @@ unfoldable pub target : Operand → Typing t.Site
 target a = target_by a.place a.target a.tree
 
 abbrev pub seat_by : Place → Option Seat → t.Expr → Typing t.Site
-seat_by place None e = Err (fault_at kind.BadConversion place)
-seat_by place (Some s) e = if s.is_object then Err (refused_at kind.Const s.target.name) else target_by place (Some s.target) e
+seat_by place None e = Err (fault kind.BadConversion place)
+seat_by place (Some s) e = if s.is_object then Err (refused kind.Const s.target.name) else target_by place (Some s.target) e
 
 -- The site of a handle that `@` stands in front of: `Const` also at the name of a variable that is an object.
 unfoldable pub seat : Operand → Typing t.Site

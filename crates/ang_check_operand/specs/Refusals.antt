@@ -1,5 +1,5 @@
 -- Refusals, and results that may be one (docs/LANGUAGE.md, "Expressions": errors; kinds and places are this profile's own).
-use Rattle.std.specs.Prelude.{◌≡◌, Bool, false, Option, Some, None, Result, Ok, Err}
+use Rattle.std.specs.Prelude.{◌≡◌, Bool, false, Some, None, Result, Ok, Err}
 use Rattle.ang_kinds.specs.declared.error.ErrorKind.{ErrorKind}
 use Rattle.ang_kinds.specs.declared.place.Place.{Place}
 use Rattle.ang_lex.specs.declared.token.Token.{Token}
@@ -18,16 +18,16 @@ abbrev pub ◌>>=◌ : {A B : Type 0} → Typing A → (A → Typing B) → Typi
 (Err r) >>= f = Err r
 
 -- a refusal without a name
-abbrev pub fault_at : ErrorKind → Place → Refusal
-fault_at k place = record { kind = k; place = place; name = None; asks = None; is_there = false }
+abbrev pub fault : ErrorKind → Place → Refusal
+fault k place = record { kind = k; place = place; name = None; asks = None; is_there = false }
 
 -- a refusal about a name, at a place
 abbrev pub refused_for : ErrorKind → Place → Token → Refusal
 refused_for k place x = record { kind = k; place = place; name = Some x; asks = None; is_there = false }
 
 -- a refusal at a name
-abbrev pub refused_at : ErrorKind → Token → Refusal
-refused_at k x = refused_for k x.place x
+abbrev pub refused : ErrorKind → Token → Refusal
+refused k x = refused_for k x.place x
 
 -- the refusal of a use that an entry of the host could help, where a local or a member has the name or not
 abbrev pub use_refused : ErrorKind → Token → Asks → Bool → Refusal

@@ -50,7 +50,7 @@ impl<T: Drop> From<AllocFailed<T>> for Stop {
 
 /// A refusal without a name.
 pub fn fault(kind: ErrorKind, place: Place) -> Stop
-    ensures exact { result ≡ Stop.Refused (spec.fault_at kind place) }
+    ensures exact { result ≡ Stop.Refused (spec.fault kind place) }
 {
     Stop::Refused(Refusal {
         kind,
@@ -76,7 +76,7 @@ pub fn refused_for(kind: ErrorKind, place: Place, name: &Token) -> Stop
 
 /// A refusal at the place of `name`, which it is about. No entry of the host could help there.
 pub fn refused(kind: ErrorKind, name: &Token) -> Stop
-    ensures exact { result ≡ Stop.Refused (spec.refused_at kind name.now) }
+    ensures exact { result ≡ Stop.Refused (spec.refused kind name.now) }
 {
     refused_for(kind, name.place, name)
 }

@@ -8,5 +8,5 @@
 mod api;
 mod forms;
 
-pub use api::{assignment, binary, prefix};
+pub use api::{assignment, binary, conditional, convert, group, literal, postfix, prefix};
 pub use forms::{Form, Work, binary_form, compound_work};

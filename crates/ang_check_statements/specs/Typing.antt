@@ -6,22 +6,21 @@ use Rattle.ang_kinds.specs.declared.error.ErrorKind.TheVariants as kind
 use Rattle.ang_lex.specs.declared.token.Token.{Token}
 use Rattle.ang_types.specs.declared.arg_type.ArgType.{ArgType}
 use Rattle.ang_types.specs.declared.arg_type.ArgType.TheVariants as type
-use Rattle.ang_types.specs.Ranks.{Lines}
+use Rattle.ang_types.specs.Ranks.{Ancestors}
 use Rattle.ang_tree.specs.declared.type_name.TypeName.{TypeName}
 use Rattle.ang_tree.specs.Tree.{Tree, Trees}
 use Rattle.ang_tree.specs.Stmt.{Init, absent, value, constructor, Var, Vars, Start, with_variables, with_expression, Stmt, Body, Stmts, block, variables, expression, break, continue, return, when, either, while, do_while, for, body, end}
 use Rattle.ang_tree.specs.Stmt as written
 use Rattle.ang_typed.specs.declared.expression.Variable.TheVariants as variable
 use Rattle.ang_typed.specs.Typed as t
-use Rattle.ang_names_known.specs.declared.names.Written.{Written}
 use Rattle.ang_check_statements.specs.declared.frame.Returns.{Returns}
 use Rattle.ang_check_statements.specs.declared.frame.Returns.TheVariants as returns
 use Rattle.ang_check_typing.specs.declared.scope.LocalVariable.{LocalVariable}
 use Rattle.ang_names_written.specs.declared.role.Role.TheVariants as role
 use Rattle.ang_names_known.specs.Lookup.{is_read_only}
 use Rattle.ang_check_operand.specs.Operands.{Operand, fit, truth}
-use Rattle.ang_check_operand.specs.Refusals.{Typing, ◌>>=◌, fault_at, refused_at}
-use Rattle.ang_check_typing.specs.Calls.{type_by, default_typing, made_typing}
+use Rattle.ang_check_operand.specs.Refusals.{Typing, ◌>>=◌, fault, refused}
+use Rattle.ang_check_typing.specs.Calls.{type_or_refusal, default_typing, made_typing}
 use Rattle.ang_check_typing.specs.Scope.{BodyContext, space_of, last_named}
 use Rattle.ang_check_typing.specs.Typing.{typing_of, typing_of_args, typing_of_all}
 use Rattle.ang_names_written.specs.Sources.{text_of}
@@ -88,29 +87,29 @@ pub record Keeps (old new : List LocalVariable) : Type 0 where
 
 -- The type of locals, refused at its name.
 unfoldable pub local_type : BodyContext → List LocalVariable → TypeName → Typing ArgType
-local_type s ps y = type_by s ps y.name (type_in (space_of s) role.Variable s.text y)
+local_type s ps y = type_or_refusal s ps y.name (type_in (space_of s) role.Variable s.text y)
 
 -- The name of a variable is that of another one of its block, which begins at local `start`, or it is one local too many.
-abbrev pub name_refusal : Frame → ℕ → List LocalVariable → List ℕ → Option ErrorKind
-name_refusal f start ps name =
+abbrev pub local_name_error : Frame → ℕ → List LocalVariable → List ℕ → Option ErrorKind
+local_name_error f start ps name =
     if is_some (last_named name 0 (drop start ps)) then Some kind.Duplicate
     else (if nat_lt (length ps - f.parameters) most_locals then None else Some kind.Limit)
 
 abbrev pub name_judged : Option ErrorKind → Token → List ℕ → Typing (List ℕ)
 name_judged None x name = Ok name
-name_judged (Some why) x name = Err (refused_at why x)
+name_judged (Some why) x name = Err (refused why x)
 
 unfoldable pub local_name : Frame → ℕ → List LocalVariable → Token → Typing (List ℕ)
-local_name f start ps x = let name = text_of f.context.text x in name_judged (name_refusal f start ps name) x name
+local_name f start ps x = let name = text_of f.context.text x in name_judged (local_name_error f start ps name) x name
 
 abbrev pub made : Typing Operand → Typing (Option t.Expr)
 made x = do
   a ← x
   Ok (Some a.tree)
 
-abbrev pub fitted : Lines → ArgType → Operand → Typing (Option t.Expr)
-fitted lines ty a = do
-  x ← fit lines ty a
+abbrev pub fitted : Ancestors → ArgType → Operand → Typing (Option t.Expr)
+fitted ancestors ty a = do
+  x ← fit ancestors ty a
   Ok (Some x)
 
 -- A variable without an initializer: an object is made without arguments.
@@ -122,27 +121,27 @@ absent_typing s y (type.Object n c) = made (default_typing s y.name n)
 absent_typing s y (type.Handle n c) = Ok None
 
 -- One with `=`: no object is assigned by value.
-abbrev pub value_typing : Lines → Token → ArgType → Operand → Typing (Option t.Expr)
-value_typing lines equals type.Void a = fitted lines type.Void a
-value_typing lines equals type.Null a = fitted lines type.Null a
-value_typing lines equals (type.Plain p) a = fitted lines (type.Plain p) a
-value_typing lines equals (type.Object n c) a = Err (fault_at kind.NoAssign equals.place)
-value_typing lines equals (type.Handle n c) a = fitted lines (type.Handle n c) a
+abbrev pub value_typing : Ancestors → Token → ArgType → Operand → Typing (Option t.Expr)
+value_typing ancestors equals type.Void a = fitted ancestors type.Void a
+value_typing ancestors equals type.Null a = fitted ancestors type.Null a
+value_typing ancestors equals (type.Plain p) a = fitted ancestors (type.Plain p) a
+value_typing ancestors equals (type.Object n c) a = Err (fault kind.NoAssign equals.place)
+value_typing ancestors equals (type.Handle n c) a = fitted ancestors (type.Handle n c) a
 
 -- One with arguments, which objects alone take.
 abbrev pub arguments_typing : BodyContext → TypeName → ArgType → List Operand → Typing (Option t.Expr)
-arguments_typing s y type.Void operands = Err (refused_at kind.NoMatch y.name)
-arguments_typing s y type.Null operands = Err (refused_at kind.NoMatch y.name)
-arguments_typing s y (type.Plain p) operands = Err (refused_at kind.NoMatch y.name)
+arguments_typing s y type.Void operands = Err (refused kind.NoMatch y.name)
+arguments_typing s y type.Null operands = Err (refused kind.NoMatch y.name)
+arguments_typing s y (type.Plain p) operands = Err (refused kind.NoMatch y.name)
 arguments_typing s y (type.Object n c) operands = made (made_typing s y.name n operands)
-arguments_typing s y (type.Handle n c) operands = Err (refused_at kind.NoMatch y.name)
+arguments_typing s y (type.Handle n c) operands = Err (refused kind.NoMatch y.name)
 
 -- What a variable of this type begins with.
 abbrev pub initializer_typing : BodyContext → List LocalVariable → TypeName → ArgType → Init → Typing (Option t.Expr)
 initializer_typing s ps y ty absent = absent_typing s y ty
 initializer_typing s ps y ty (value equals e) = do
   a ← typing_of s ps e
-  value_typing s.lines equals ty a
+  value_typing s.ancestors equals ty a
 initializer_typing s ps y ty (constructor es) = do
   operands ← typing_of_args s ps es
   arguments_typing s y ty operands
@@ -181,19 +180,19 @@ declaration_typing f start ps vs = do
 
 -- ---- `return`
 
-abbrev pub value_returned : Lines → ArgType → Operand → Typing t.Expr
-value_returned lines type.Void a = Err (fault_at kind.BadConversion a.place)
-value_returned lines type.Null a = fit lines type.Null a
-value_returned lines (type.Plain p) a = fit lines (type.Plain p) a
-value_returned lines (type.Object n c) a = fit lines (type.Object n c) a
-value_returned lines (type.Handle n c) a = fit lines (type.Handle n c) a
+abbrev pub value_returned : Ancestors → ArgType → Operand → Typing t.Expr
+value_returned ancestors type.Void a = Err (fault kind.BadConversion a.place)
+value_returned ancestors type.Null a = fit ancestors type.Null a
+value_returned ancestors (type.Plain p) a = fit ancestors (type.Plain p) a
+value_returned ancestors (type.Object n c) a = fit ancestors (type.Object n c) a
+value_returned ancestors (type.Handle n c) a = fit ancestors (type.Handle n c) a
 
 abbrev pub nothing_returned : ArgType → Token → Typing (Option t.Expr)
 nothing_returned type.Void word = Ok None
-nothing_returned type.Null word = Err (fault_at kind.BadConversion word.place)
-nothing_returned (type.Plain p) word = Err (fault_at kind.BadConversion word.place)
-nothing_returned (type.Object n c) word = Err (fault_at kind.BadConversion word.place)
-nothing_returned (type.Handle n c) word = Err (fault_at kind.BadConversion word.place)
+nothing_returned type.Null word = Err (fault kind.BadConversion word.place)
+nothing_returned (type.Plain p) word = Err (fault kind.BadConversion word.place)
+nothing_returned (type.Object n c) word = Err (fault kind.BadConversion word.place)
+nothing_returned (type.Handle n c) word = Err (fault kind.BadConversion word.place)
 
 -- `this` as the object that a constructor gives back
 abbrev pub own_object : ArgType → t.Expr
@@ -203,16 +202,16 @@ abbrev pub return_nothing : Returns → Token → Typing (Option t.Expr)
 return_nothing (returns.Value ty) word = nothing_returned ty word
 return_nothing (returns.Own ty) word = Ok (Some (own_object ty))
 
-abbrev pub return_value : Lines → Returns → Operand → Typing t.Expr
-return_value lines (returns.Value ty) a = value_returned lines ty a
-return_value lines (returns.Own ty) a = Err (fault_at kind.BadConversion a.place)
+abbrev pub return_value : Ancestors → Returns → Operand → Typing t.Expr
+return_value ancestors (returns.Value ty) a = value_returned ancestors ty a
+return_value ancestors (returns.Own ty) a = Err (fault kind.BadConversion a.place)
 
 -- A function with a result returns a value of that type, and one without returns none.
 abbrev pub result_typing : Frame → List LocalVariable → Token → Option Tree → Typing (Option t.Expr)
 result_typing f ps word None = return_nothing f.returns word
 result_typing f ps word (Some e) = do
   a ← typing_of f.context ps e
-  x ← return_value f.context.lines f.returns a
+  x ← return_value f.context.ancestors f.returns a
   Ok (Some x)
 
 abbrev pub return_typing : Frame → List LocalVariable → Token → Option Tree → Typing t.Stmt
@@ -224,7 +223,7 @@ return_typing f ps word e = do
 
 abbrev pub jump : Bool → Token → t.Stmt → Typing t.Stmt
 jump true word x = Ok x
-jump false word x = Err (refused_at kind.Jump word)
+jump false word x = Err (refused kind.Jump word)
 
 -- ---- `for`
 

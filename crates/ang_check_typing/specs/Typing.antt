@@ -9,7 +9,7 @@ use Rattle.ang_check_typing.specs.declared.scope.LocalVariable.{LocalVariable}
 use Rattle.ang_check_operand.specs.Operands.{Operand}
 use Rattle.ang_check_operand.specs.Refusals.{Typing, ◌>>=◌}
 use Rattle.ang_check_operators.specs.Operations.{literal_typing, binary_typing, prefix_typing, postfix_typing, convert_typing, group_typing, conditional_typing, assignment_typing}
-use Rattle.ang_check_typing.specs.Calls.{name_typing, this_typing, call_typing, scoped_typing, member_typing, method_typing, cast_type, cast_typing}
+use Rattle.ang_check_typing.specs.Calls.{name_typing, this_typing, call_typing, scoped_typing, member_typing, method_call_typing, cast_type, cast_typing}
 use Rattle.ang_check_typing.specs.Scope.{BodyContext}
 use Rattle.ang_names_written.specs.Sources.{text_of}
 
@@ -36,7 +36,7 @@ module _ (s : BodyContext) (ps : List LocalVariable) where
       cast_typing word ty a
     typing_of (convert word left e right) = do
       a ← typing_of e
-      convert_typing s.lines word a
+      convert_typing s.ancestors word a
     typing_of (group left e right) = do
       a ← typing_of e
       Ok (group_typing left.place a)
@@ -49,23 +49,23 @@ module _ (s : BodyContext) (ps : List LocalVariable) where
     typing_of (method_call e dot x es) = do
       a ← typing_of e
       operands ← typing_of_args es
-      method_typing s a x operands
+      method_call_typing s a x operands
     typing_of (prefix op e) = do
       a ← typing_of e
-      prefix_typing s.lines op a
+      prefix_typing s.ancestors op a
     typing_of (binary l op r) = do
       a ← typing_of l
       b ← typing_of r
-      binary_typing s.lines a op.kind b
+      binary_typing s.ancestors a op.kind b
     typing_of (conditional c question l colon r) = do
       x ← typing_of c
       a ← typing_of l
       b ← typing_of r
-      conditional_typing s.lines x a b
+      conditional_typing s.ancestors x a b
     typing_of (assignment l op r) = do
       a ← typing_of l
       b ← typing_of r
-      assignment_typing s.lines a op b
+      assignment_typing s.ancestors a op b
 
     pub typing_of_args : Args → Typing (List Operand)
     typing_of_args (arguments left es right) = typing_of_all es

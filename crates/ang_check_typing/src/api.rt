@@ -1,17 +1,22 @@
 //! The typing of expressions.
-ghost use Rattle.std.specs.Prelude.{◌≡◌};
+ghost use Rattle.std.specs.Prelude.{◌≡◌, ◌≤◌, length, map as list_map};
 ghost use Rattle.ang_tree.specs.View as trees;
+ghost use Rattle.ang_typed.specs.View.{view_arg};
 ghost use Rattle.ang_check_operand.specs.Refusals.{Gives};
 ghost use Rattle.ang_check_operand.specs.View.{view_operand, view_operands};
 ghost use Rattle.ang_check_typing.specs.Calls as calls;
+ghost use Rattle.ang_check_typing.specs.Scope as scopes;
 ghost use Rattle.ang_check_typing.specs.Typing as spec;
 
 use crate::scope::{LocalVariable, Within};
-use ang_check_operand::{Operand, Stop};
+use ang_check_operand::{Operand, Stop, refused, use_refused};
+use ang_kinds::{ErrorKind, List, Pass};
 use ang_lex::Token;
-use ang_names_known::Names;
+use ang_names_known::{Names, has_member};
+use ang_names_written::text_at;
 use ang_tree::{Argument, Expression};
-use ang_types::Lineage;
+use ang_typed as typed;
+use ang_types::{ArgType, Asks, Lineage};
 use ang_view::View;
 use std::alloc::Global;
 use std::marker::Model;
@@ -28,6 +33,7 @@ pub struct BodyContext<'a> {
 }
 
 impl<'a> Model for BodyContext<'a> {
+    ghost use Rattle.std.specs.Prelude.{◌≤◌, length};
     ghost use Rattle.ang_check_typing.specs.Scope as spec;
 
     ghost Value = { spec.BodyContext };
@@ -35,10 +41,12 @@ impl<'a> Model for BodyContext<'a> {
     ghost view = { λ s. record {
       view = s.view.now;
       names = s.names.now;
-      lines = s.lineage.now;
+      ancestors = s.lineage.now;
       text = s.text.now;
       within = s.within;
     } };
+
+    ghost invariant = { λ s. length s.names.now.families ≤ 256 };
 }
 
 impl<'a> BodyContext<'a> {
@@ -51,9 +59,10 @@ impl<'a> BodyContext<'a> {
         text: &'a [u8],
         within: Option<Within>,
     ) -> BodyContext<'a>
+        requires few { length names.now.families ≤ 256 }
         ensures view { result.view ≡ view.now }
         ensures names { result.names ≡ names.now }
-        ensures lines { result.lines ≡ lineage.now }
+        ensures ancestors { result.ancestors ≡ lineage.now }
         ensures text { result.text ≡ text.now }
         ensures within { result.within ≡ within }
     {
@@ -118,4 +127,49 @@ pub fn made_typing(
         (calls.made_typing context.now name.now number (view_operands operands.items)) }
 {
     Err(Stop::Memory)
+}
+
+/// Each argument for its parameter, from left to right.
+pub fn arguments_for(
+    alloc: Global,
+    lineage: &Lineage,
+    params: &[(ArgType, Pass)],
+    operands: Vec<Operand>,
+) -> Result<List<typed::Argument>, Stop>
+    ensures exact { Gives (list_map view_arg) result
+        (calls.arguments_for lineage.now params.now (view_operands operands.items)) }
+{
+    Err(Stop::Memory)
+}
+
+/// Whether a local, a parameter, or a field or method of the class has the name. It takes no memory.
+pub fn is_there(context: &BodyContext<'_>, locals: &[LocalVariable<'_>], name: &[u8]) -> bool
+    ensures exact { result ≡ scopes.is_there context.now locals.now name.now }
+{
+    locals.iter().any(|local| local.name.bytes() == name)
+        || match context.within {
+            None => false,
+            Some(within) => has_member(context.names.families.as_slice(), within.family, name),
+        }
+}
+
+/// A type that is written at this name, or its refusal: where it is unknown that of a use of the name. It takes no
+/// memory.
+pub fn type_or_refusal(
+    context: &BodyContext<'_>,
+    locals: &[LocalVariable<'_>],
+    name: &Token,
+    written: Result<ArgType, ErrorKind>,
+) -> Result<ArgType, Stop>
+    ensures exact { Gives (λ ty. ty) result
+        (calls.type_or_refusal context.now locals.now name.now written) }
+{
+    match written {
+        Ok(ty) => Ok(ty),
+        Err(ErrorKind::UnknownType) => {
+            let is_there = is_there(context, locals, text_at(context.text, name));
+            Err(use_refused(ErrorKind::UnknownType, name, Asks::Type, is_there))
+        }
+        Err(kind) => Err(refused(kind, name)),
+    }
 }

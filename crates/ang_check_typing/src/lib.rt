@@ -5,5 +5,8 @@
 mod api;
 mod scope;
 
-pub use api::{BodyContext, default_typing, made_typing, typing, typing_of_all};
+pub use api::{
+    BodyContext, arguments_for, default_typing, is_there, made_typing, type_or_refusal, typing,
+    typing_of_all,
+};
 pub use scope::{LocalVariable, Within};

@@ -1,28 +1,25 @@
 -- The phases of a build over the declarations (docs/LANGUAGE.md, "Names of a build"; they are this profile's own): each is a
 -- property of the list of all declarations, and the first that refuses one decides.
-use Rattle.std.specs.Prelude.{◌≡◌, ◌≢◌, ℕ, length, List, [], ◌∷◌, ◌++◌, map, Option, Some, None, option_to_list, slice_get}
+use Rattle.std.specs.Prelude.{◌≡◌, ◌≢◌, ℕ, length, List, [], ◌∷◌, map, Option, Some, None, slice_get}
 use Rattle.ang_kinds.specs.declared.error.Error.{Error}
 use Rattle.ang_kinds.specs.declared.error.Unbuilt.{Unbuilt}
 use Rattle.ang_kinds.specs.declared.error.Unbuilt.TheVariants.{Errors, Memory}
 use Rattle.ang_view.specs.Registration.{RegistrationList}
 use Rattle.ang_types.specs.declared.asks.Refused.{Refused}
 use Rattle.ang_names_known.specs.declared.names.Family.{Family}
+use Rattle.ang_names_known.specs.Items.{list_or}
 use Rattle.ang_names_listed.specs.declared.listed.Declared.{Declared}
 use Rattle.ang_names_listed.specs.declared.listed.Part.{Part}
 use Rattle.ang_names_listed.specs.declared.listed.Part.TheVariants as part
 use Rattle.ang_names.specs.declared.phase.Phase.{Phase}
 use Rattle.ang_names.specs.declared.phase.Phase.TheVariants as phase
 use Rattle.ang_names_listed.specs.Declarations.{declarations_of, families_of}
-use Rattle.ang_names_listed.specs.Taken.{name_refusal, plain_refusal}
+use Rattle.ang_names_listed.specs.Taken.{name_refusal, plain_refusal, each_refused}
 use Rattle.ang_names.specs.Heirs.{ancestor_refusal, heir_refusal, cycle_refusal}
-use Rattle.ang_names.specs.Meant.{space_of, type_refusal}
+use Rattle.ang_names.specs.Meant.{space_of_declared, type_refusal}
 use Rattle.ang_names.specs.Resolved.{families_in}
 use Rattle.ang_names_written.specs.NotYet.{not_yet}
 use Rattle.ang_names_written.specs.Sources.{Source}
-
-abbrev pub some_or : List Refused → List Refused → List Refused
-some_or [] later = later
-some_or (r ∷ rs) later = r ∷ rs
 
 -- ---- of one family, by its number
 
@@ -40,25 +37,24 @@ of_family p fs before (part.Global y) = None
 -- Among all declarations, over a view:
 module _ (V : RegistrationList) (all : List Declared) where
   abbrev pub families : List Family
-  families = families_in (space_of V all) all
+  families = families_in (space_of_declared V all) all
 
-  -- why a phase refuses a declaration, behind those before it
+  -- why a phase refuses a declaration, after those before it
   abbrev pub refusal : Phase → List Declared → Declared → Option Refused
   refusal phase.Names before d = name_refusal V before d
-  refusal phase.Types before d = type_refusal (space_of V all) all d
+  refusal phase.Types before d = type_refusal (space_of_declared V all) all d
   refusal phase.Ancestors before d = of_family (ancestor_refusal (families_of all)) families before d.part
   refusal phase.Heirs before d = of_family (heir_refusal families) families before d.part
-  refusal phase.Cycles before d = of_family (cycle_refusal (space_of V all) (families_of all)) families before d.part
+  refusal phase.Cycles before d = of_family (cycle_refusal (space_of_declared V all) (families_of all)) families before d.part
 
-  -- each declaration's refusal, in their order, behind those before them
-  abbrev pub refusals : Phase → List Declared → List Declared → List Refused
-  refusals p before [] = []
-  refusals p before (d ∷ ds) = option_to_list (refusal p before d) ++ refusals p (before ++ d ∷ []) ds
+  -- each declaration's refusal, in their order
+  abbrev pub refusals : Phase → List Refused
+  refusals p = each_refused (refusal p) all
 
   -- the refusals of the first phase that has some
   abbrev pub first_refusals : List Phase → List Refused
   first_refusals [] = []
-  first_refusals (p ∷ ps) = some_or (refusals p [] all) (first_refusals ps)
+  first_refusals (p ∷ ps) = list_or (refusals p) (first_refusals ps)
 
 -- the phases, in order
 abbrev pub all_phases : List Phase
@@ -67,7 +63,7 @@ all_phases = phase.Names ∷ phase.Types ∷ phase.Ancestors ∷ phase.Heirs ∷
 -- What is refused of the declarations of these sections over what the module sees, those beyond what is built first: none where each
 -- phase accepts each of them.
 unfoldable pub refusals_of : RegistrationList → List Source → List Refused
-refusals_of V ss = some_or (map plain_refusal (not_yet V ss)) (first_refusals V (declarations_of ss) all_phases)
+refusals_of V ss = list_or (map plain_refusal (not_yet V ss)) (first_refusals V (declarations_of ss) all_phases)
 
 abbrev pub errors_in : List Refused → List Error
 errors_in rs = map (λ (r : Refused). r.error) rs

@@ -1,18 +1,16 @@
 -- The names of declarations, with what their types mean (docs/LANGUAGE.md, "Names of a build"; the AngelScript manual, "Functions",
 -- "Global variables", "Script classes" and "Inheritance"). All of it is said of any declarations: where a phase refuses some, its
 -- types and its families are those of the others.
-use Rattle.std.specs.Prelude.{ℕ, zero, suc, ◌+◌, ◌-◌, ◌==◌, nat_lt, Bool, true, false, ◌&&◌, ◌||◌, if◌then◌else◌, List, [], ◌∷◌, ◌++◌, map, length, filter, Option, Some, None, bytes_eq, slice_get}
-use Rattle.std.specs.List.{list_any, filter_map, flat_map, position}
+use Rattle.std.specs.Prelude.{ℕ, ◌+◌, ◌==◌, nat_lt, Bool, true, false, ◌&&◌, ◌||◌, List, [], ◌∷◌, map, length, drop, filter, find, unwrap_or, Option, Some, None, bytes_eq, slice_get}
+use Rattle.std.specs.List.{list_any, filter_map, flat_map, position, range_with_len}
 use Rattle.std.proofs.Math.Bool.{beq}
 use Rattle.ang_lex.specs.declared.token.Token.{Token}
-use Rattle.ang_kinds.specs.declared.place.Place.{Place}
 use Rattle.ang_view.specs.Registration.{RegistrationList}
 use Rattle.ang_tree.specs.declared.declaration.Parameter.{Parameter}
 use Rattle.ang_tree.specs.declared.type_name.TypeName.{TypeName}
 use Rattle.ang_types.specs.declared.arg_type.ArgType.{ArgType}
 use Rattle.ang_types.specs.declared.arg_type.ArgType.TheVariants as type
 use Rattle.ang_names_heritage.specs.Graphs.{above, order_of, rank_of}
-use Rattle.ang_names_known.specs.declared.names.Access.{Access}
 use Rattle.ang_names_known.specs.declared.names.Constructor.{Constructor}
 use Rattle.ang_names_known.specs.declared.names.Family.{Family}
 use Rattle.ang_names_known.specs.declared.names.Field.{Field}
@@ -30,15 +28,15 @@ use Rattle.ang_names_listed.specs.declared.listed.MemberKind.{MemberKind}
 use Rattle.ang_names_listed.specs.declared.listed.MemberKind.TheVariants as member
 use Rattle.ang_names_listed.specs.declared.listed.Part.{Part}
 use Rattle.ang_names_listed.specs.declared.listed.Part.TheVariants as part
-use Rattle.ang_names_listed.specs.declared.listed.Shape.{Shape}
 use Rattle.ang_names_written.specs.declared.role.Role.{Role}
 use Rattle.ang_names_written.specs.declared.role.Role.TheVariants as role
 use Rattle.ang_names_known.specs.Spaces.{Space, family_of_type}
+use Rattle.ang_names_known.specs.Items.{each_after}
 use Rattle.ang_names_known.specs.Lookup.{same_parameters}
 use Rattle.ang_names_listed.specs.Declarations.{Declaring, families_of, family_name, declared_name}
-use Rattle.ang_names.specs.Meant.{space_of}
+use Rattle.ang_names.specs.Meant.{space_of_declared}
 use Rattle.ang_names_written.specs.Sources.{text_of, name_of}
-use Rattle.ang_names_written.specs.Types.{written_in, pass_of}
+use Rattle.ang_names_written.specs.Types.{written_in, pass_of, own_role, imported_role}
 
 -- ---- headings
 
@@ -51,8 +49,8 @@ module _ (E : Space) where
     name = name_of text p.name;
   }
 
-  abbrev pub function_with : Origin → List ℕ → Token → Written → (Parameter → Role) → List Parameter → ScriptFunction
-  function_with o text x result r ps = record {
+  abbrev pub function_as : Origin → List ℕ → Token → Written → (Parameter → Role) → List Parameter → ScriptFunction
+  function_as o text x result r ps = record {
     name = text_of text x;
     place = x.place;
     result = result;
@@ -60,25 +58,19 @@ module _ (E : Space) where
     origin = o;
   }
 
-  abbrev pub own_role : Parameter → Role
-  own_role p = role.Parameter (pass_of p.reference)
-
-  abbrev pub imported_role : Parameter → Role
-  imported_role p = role.ImportParameter (pass_of p.reference)
-
   -- a function or a method
   abbrev pub heading_of : Origin → List ℕ → Token → TypeName → List Parameter → ScriptFunction
-  heading_of o text x y ps = function_with o text x (written_in E role.Result text y) own_role ps
+  heading_of o text x y ps = function_as o text x (written_in E role.Result text y) own_role ps
 
   abbrev pub import_of : Declared → TypeName → List Parameter → ScriptFunction
-  import_of d y ps = function_with d.origin d.text d.name (written_in E role.ImportResult d.text y) imported_role ps
+  import_of d y ps = function_as d.origin d.text d.name (written_in E role.ImportResult d.text y) imported_role ps
 
   -- a constructor, which gives nothing
   abbrev pub no_result : Written
   no_result = record { ty = type.Void; constant = false; const_handle = false }
 
   abbrev pub maker_of : Origin → List ℕ → Token → List Parameter → ScriptFunction
-  maker_of o text x ps = function_with o text x no_result own_role ps
+  maker_of o text x ps = function_as o text x no_result own_role ps
 
   abbrev pub global_with : Declared → TypeName → ScriptGlobal
   global_with d y = record {
@@ -108,14 +100,23 @@ module _ (E : Space) where
 
   -- ---- members
 
-  abbrev pub field_by : List ℕ → Member → MemberKind → Option Field
-  field_by text m (member.Field y) =
-      Some (record { name = text_of text m.name; place = m.name.place; written = written_in E role.Field text y; access = m.access })
-  field_by text m (member.Method y ps a) = None
-  field_by text m (member.Constructor ps) = None
+  abbrev pub field_type : Declaring → MemberKind → Option Written
+  field_type d (member.Field y) = Some (written_in E role.Field d.text y)
+  field_type d (member.Method y ps a) = None
+  field_type d (member.Constructor ps) = None
 
-  abbrev pub fields_of : Declaring → List Field
-  fields_of d = filter_map (λ (m : Member). field_by d.text m m.kind) d.shape.members
+  -- the types of a family's own fields
+  abbrev pub field_types : Declaring → List Written
+  field_types d = filter_map (λ (m : Member). field_type d m.kind) d.shape.members
+
+  abbrev pub field_numbered : Declaring → Member → ℕ → Option Written → List Field
+  field_numbered d m number None = []
+  field_numbered d m number (Some w) = record { name = text_of d.text m.name; place = m.name.place; written = w; access = m.access; number = number } ∷ []
+
+  -- A field's number is how many stand before it: `inherited` in base classes, and those of the members before it.
+  abbrev pub fields_after : Declaring → ℕ → List Member → Member → List Field
+  fields_after d inherited before m =
+      field_numbered d m (inherited + length (filter_map (λ (x : Member). field_type d x.kind) before)) (field_type d m.kind)
 
   -- a method's heading, and whether it is `const`
   abbrev pub signature_by : Declaring → Member → MemberKind → Option (ScriptFunction × Bool)
@@ -131,13 +132,9 @@ module _ (E : Space) where
 abbrev pub same_signature : ScriptFunction × Bool → ScriptFunction × Bool → Bool
 same_signature a b = bytes_eq a.0.name b.0.name && same_parameters a.0.params b.0.params && beq a.1 b.1
 
-abbrev pub number_or : ℕ → Option ℕ → ℕ
-number_or n None = n
-number_or n (Some k) = k
-
 -- the number of the first method of this signature
 abbrev pub slot_of : List (ScriptFunction × Bool) → ScriptFunction × Bool → ℕ
-slot_of all s = number_or (length all) (position (same_signature s) all)
+slot_of all s = unwrap_or (position (same_signature s) all) (length all)
 
 -- whether a member has a body, in a class or in an interface
 abbrev pub has_body : Bool → MemberKind → Bool
@@ -145,9 +142,12 @@ has_body is_class (member.Field y) = false
 has_body is_class (member.Method y ps a) = is_class
 has_body is_class (member.Constructor ps) = true
 
--- how many bodies stand among some members
-abbrev pub bodies_among : Bool → List Member → ℕ
-bodies_among is_class ms = length (filter (λ (m : Member). has_body is_class m.kind) ms)
+-- the members of a family that have bodies
+abbrev pub with_bodies : Bool → List Member → List Member
+with_bodies is_class ms = filter (λ (m : Member). has_body is_class m.kind) ms
+
+abbrev pub body_members : Declaring → List Member
+body_members d = with_bodies d.shape.is_class d.shape.members
 
 abbrev pub body_number : Bool → ℕ → Option ℕ
 body_number true n = Some n
@@ -171,19 +171,17 @@ module _ (E : Space) (all : List (ScriptFunction × Bool)) where
   methods_by d m body (member.Method y ps a) = method_with d m body (heading_of E d.origin d.text m.name y ps) a ∷ []
   methods_by d m body (member.Constructor ps) = []
 
-  abbrev pub makers_by : Declaring → Member → ℕ → MemberKind → List Constructor
-  makers_by d m body (member.Field y) = []
-  makers_by d m body (member.Method y ps a) = []
-  makers_by d m body (member.Constructor ps) = record { function = maker_of E d.origin d.text m.name ps; body = body } ∷ []
+  abbrev pub constructors_by : Declaring → Member → ℕ → MemberKind → List Constructor
+  constructors_by d m body (member.Field y) = []
+  constructors_by d m body (member.Method y ps a) = []
+  constructors_by d m body (member.Constructor ps) = record { function = maker_of E d.origin d.text m.name ps; body = body } ∷ []
 
-  -- the members of a family from here on, where the next body has this number
-  abbrev pub methods_from : Declaring → ℕ → List Member → List Method
-  methods_from d body [] = []
-  methods_from d body (m ∷ ms) = methods_by d m body m.kind ++ methods_from d (bodies_among d.shape.is_class (m ∷ []) + body) ms
+  -- A body's number is how many stand before it: `first` before the family, and those of the members before it.
+  abbrev pub methods_after : Declaring → ℕ → List Member → Member → List Method
+  methods_after d first before m = methods_by d m (first + length (with_bodies d.shape.is_class before)) m.kind
 
-  abbrev pub makers_from : Declaring → ℕ → List Member → List Constructor
-  makers_from d body [] = []
-  makers_from d body (m ∷ ms) = makers_by d m body m.kind ++ makers_from d (bodies_among d.shape.is_class (m ∷ []) + body) ms
+  abbrev pub constructors_after : Declaring → ℕ → List Member → Member → List Constructor
+  constructors_after d first before m = constructors_by d m (first + length (with_bodies d.shape.is_class before)) m.kind
 
 -- ---- what stands above a family
 
@@ -218,25 +216,19 @@ abbrev pub gives_members : List Declaring → Bool → ℕ → ℕ → Bool
 gives_members ds true i j = is_base ds i j
 gives_members ds false i j = is_parent ds i j
 
-abbrev pub or_this : Option ℕ → Bool → ℕ → Option ℕ
-or_this (Some k) b n = Some k
-or_this None true n = Some n
-or_this None false n = None
-
--- the first place that passes
+-- the first number below n that passes
 abbrev pub first_below : (ℕ → Bool) → ℕ → Option ℕ
-first_below p zero = None
-first_below p (suc n) = or_this (first_below p n) (p n) n
+first_below p n = find p (range_with_len 0 n)
 
 -- ---- what a class's fields reach
 
-abbrev pub fields_in : Space → Option Declaring → List Field
-fields_in E None = []
-fields_in E (Some d) = fields_of E d
+abbrev pub field_types_in : Space → Option Declaring → List Written
+field_types_in E None = []
+field_types_in E (Some d) = field_types E d
 
--- all fields of these numbers of families
-abbrev pub fields_at : Space → List Declaring → List ℕ → List Field
-fields_at E ds ns = flat_map (λ n. fields_in E (slice_get ds n)) ns
+-- the types of all fields of the families of these numbers
+abbrev pub field_types_at : Space → List Declaring → List ℕ → List Written
+field_types_at E ds ns = flat_map (λ n. field_types_in E (slice_get ds n)) ns
 
 abbrev pub held_by : ArgType → Option ℕ
 held_by type.Void = None
@@ -255,54 +247,51 @@ is_under_or ds j (Some d) = j == d || list_any (λ k. k == d) (above (is_parent 
 unfoldable pub holds : Space → List Declaring → ℕ → ℕ → Bool
 holds E ds i j =
     nat_lt i (length ds) && nat_lt j (length ds)
-    && list_any (λ (f : Field). is_under_or ds j (held_by f.written.ty)) (fields_at E ds (order_of (is_base ds) (length ds) i))
+    && list_any (λ (w : Written). is_under_or ds j (held_by w.ty)) (field_types_at E ds (order_of (is_base ds) (length ds) i))
 
 -- ---- all of them
 
 -- In the space of a build, whose families and methods are these:
 module _ (E : Space) (ds : List Declaring) (all : List (ScriptFunction × Bool)) where
-  abbrev pub order_in : ℕ → Declaring → List ℕ
-  order_in c d = order_of (gives_members ds d.shape.is_class) (length ds) c
+  -- how many fields the base classes of class c have
+  abbrev pub inherited_fields : ℕ → ℕ
+  inherited_fields c = length (field_types_at E ds (drop 1 (order_of (is_base ds) (length ds) c)))
 
-  abbrev pub without_first : List ℕ → List ℕ
-  without_first [] = []
-  without_first (n ∷ ns) = ns
-
-  -- the family of this number, where the first of its bodies has this one
+  -- family c, before whose bodies stand `first` others
   abbrev pub family_with : ℕ → ℕ → Declaring → Family
-  family_with c body d = record {
+  family_with c first d = record {
     name = family_name d;
     place = d.name.place;
     is_class = d.shape.is_class;
     base = first_below (is_base ds c) (length ds);
     above = above (is_parent ds) (length ds) c;
-    order = order_in c d;
+    order = order_of (gives_members ds d.shape.is_class) (length ds) c;
     rank = rank_of (holds E ds) (length ds) c;
-    fields = fields_of E d;
-    inherited = length (fields_at E ds (without_first (order_of (is_base ds) (length ds) c)));
-    methods = methods_from E all d body d.shape.members;
-    constructors = makers_from E all d body d.shape.members;
+    fields = each_after (fields_after E d (inherited_fields c)) [] d.shape.members;
+    methods = each_after (methods_after E all d first) [] d.shape.members;
+    constructors = each_after (constructors_after E all d first) [] d.shape.members;
     origin = d.origin;
   }
 
-  abbrev pub families_from : ℕ → ℕ → List Declaring → List Family
-  families_from c body [] = []
-  families_from c body (d ∷ rest) =
-      family_with c body d ∷ families_from (c + 1) (bodies_among d.shape.is_class d.shape.members + body) rest
+  -- A family's number is how many stand before it. Its bodies come after those of the functions and of these.
+  abbrev pub families_after : ℕ → List Declaring → Declaring → List Family
+  families_after functions before d = family_with (length before) (functions + length (flat_map body_members before)) d ∷ []
 
 abbrev pub functions_in : Space → List Declared → List ScriptFunction
 functions_in E ds = filter_map (λ (d : Declared). function_by E d d.part) ds
 
--- The families of the declarations. Bodies are numbered behind those of functions.
+-- The families of the declarations.
 unfoldable pub families_in : Space → List Declared → List Family
-families_in E ds = families_from E (families_of ds) (signatures_of E (families_of ds)) 0 (length (functions_in E ds)) (families_of ds)
+families_in E ds =
+    let families = families_of ds in
+    each_after (families_after E families (signatures_of E families) (length (functions_in E ds))) [] families
 
 -- All names of the declarations over a view, each kind in order.
 unfoldable pub names_of : RegistrationList → List Declared → Names
 names_of V ds = record {
   declared = map declared_name ds;
-  families = families_in (space_of V ds) ds;
-  functions = functions_in (space_of V ds) ds;
-  imports = filter_map (λ (d : Declared). import_by (space_of V ds) d d.part) ds;
-  globals = filter_map (λ (d : Declared). global_by (space_of V ds) d d.part) ds;
+  families = families_in (space_of_declared V ds) ds;
+  functions = functions_in (space_of_declared V ds) ds;
+  imports = filter_map (λ (d : Declared). import_by (space_of_declared V ds) d d.part) ds;
+  globals = filter_map (λ (d : Declared). global_by (space_of_declared V ds) d d.part) ds;
 }

@@ -1,13 +1,16 @@
 //! The names of a build.
-ghost use Rattle.std.specs.Prelude.{◌≡◌, [], IfOk, IfErr, OnOk, map as list_map};
-ghost use Rattle.ang_names_listed.specs.Declarations.{declarations_of};
+ghost use Rattle.std.specs.Prelude.{◌≡◌, ◌≤◌, [], length, IfOk, IfErr, OnOk, map as list_map};
+ghost use Rattle.ang_names_listed.specs.Declarations.{declarations_of, families_of};
+ghost use Rattle.ang_names.specs.Meant as meant;
 ghost use Rattle.ang_names.specs.Phases as spec;
+ghost use Rattle.ang_names.specs.Resolved as resolved;
 ghost use Rattle.ang_names.specs.Resolved.{names_of};
 ghost use Rattle.ang_names_written.specs.Sources.{source_of};
 
 use ang_kinds::Unbuilt;
-use ang_names_known::Names;
-use ang_tree::Script;
+use ang_lex::Token;
+use ang_names_known::{Names, Origin, ScriptFunction, Space};
+use ang_tree::{Parameter, Script, TypeName};
 use ang_types::Refused;
 use ang_view::View;
 use std::alloc::{AllocError, Global};
@@ -26,10 +29,13 @@ pub fn declare(alloc: Global, view: &View, scripts: &[Script]) -> Result<Names, 
     Err(Unbuilt::Memory)
 }
 
-/// The names of all declarations, whatever is refused of them. Denials ask over these.
+/// The names of all declarations, whatever is refused of them: denials ask over these. Where the first phase refuses nothing
+/// there are few enough classes and interfaces (`ang_names_listed::laws::few_families`), and where it refuses some no denial asks
+/// for a name.
 ///
 /// The only error is want of memory.
 pub fn names_over(alloc: Global, view: &View, scripts: &[Script]) -> Result<Names, AllocError>
+    requires few { length (families_of (declarations_of (list_map source_of scripts.now))) ≤ 256 }
     ensures exact { IfOk result
         (λ names. names ≡ names_of view.now (declarations_of (list_map source_of scripts.now))) }
 {
@@ -46,6 +52,41 @@ pub fn phase_refusals(
 ) -> Result<Vec<Refused>, AllocError>
     ensures exact { IfOk result
         (λ found. found.items ≡ spec.refusals_of view.now (list_map source_of scripts.now)) }
+{
+    Err(AllocError)
+}
+
+/// The heading of a function or a method, as it is written there, with what its types mean.
+///
+/// The only error is want of memory.
+pub fn heading_of(
+    alloc: Global,
+    space: &Space<'_>,
+    origin: Origin,
+    text: &[u8],
+    name: &Token,
+    declared: &TypeName,
+    params: &[Parameter],
+) -> Result<ScriptFunction, AllocError>
+    ensures exact { IfOk result (λ f. f
+        ≡ resolved.heading_of space.now origin text.now name.now declared.now params.now) }
+{
+    Err(AllocError)
+}
+
+/// What is refused of the heading of a function or a method: the first type that can't stand there, or too many parameters.
+///
+/// The only error is want of memory.
+pub fn function_refusal(
+    alloc: Global,
+    space: &Space<'_>,
+    text: &[u8],
+    name: &Token,
+    declared: &TypeName,
+    params: &[Parameter],
+) -> Result<Option<Refused>, AllocError>
+    ensures exact { IfOk result (λ r. r
+        ≡ meant.function_refusal space.now text.now name.now declared.now params.now) }
 {
     Err(AllocError)
 }

@@ -6,6 +6,7 @@
 #![tactic(auto)]
 
 mod api;
+pub mod laws;
 mod phase;
 
 pub use ang_kinds::Unbuilt;
@@ -13,5 +14,5 @@ pub use ang_names_known::{
     Access, Constructor, Family, Field, Method, Names, Origin, ScriptFunction, ScriptGlobal,
     ScriptParameter, Written,
 };
-pub use api::{declare, names_over, phase_refusals};
+pub use api::{declare, function_refusal, heading_of, names_over, phase_refusals};
 pub use phase::Phase;

@@ -1,3 +1,4 @@
+pub mod Kin
 pub mod SoFar
 pub mod Sights
 pub mod Adding

@@ -1,5 +1,5 @@
 -- What is found in a view with one entry more (docs/LANGUAGE.md, "Denials"): what is found without it, and the entry at its place.
-use Rattle.std.specs.Prelude.{ℕ, nat_lt, if◌then◌else◌, List, [], ◌∷◌, Option, Some, None}
+use Rattle.std.specs.Prelude.{nat_lt, if◌then◌else◌, List, [], ◌∷◌, Option, Some, None}
 use Rattle.ang_names_known.specs.declared.host.HostFunction.{HostFunction}
 use Rattle.ang_names_known.specs.declared.host.HostProperty.{HostProperty}
 

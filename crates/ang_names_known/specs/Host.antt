@@ -2,7 +2,8 @@
 -- of a build"; the AngelScript manual, "Registering a function", "Registering object methods" and "Registering global properties").
 -- A host's declaration names host types alone. One of which some type is not in the view is none that a script can use; the view of a
 -- mask has all types that it names.
-use Rattle.std.specs.Prelude.{ℕ, ◌+◌, ◌==◌, Bool, true, false, ◌&&◌, List, [], ◌∷◌, ◌++◌, Option, Some, None, bytes_eq, option_to_list, if◌then◌else◌}
+use Rattle.std.specs.Prelude.{ℕ, ◌+◌, Bool, true, false, ◌&&◌, List, [], ◌∷◌, ◌++◌, Option, Some, None, bytes_eq, option_to_list, if◌then◌else◌}
+use Rattle.std.specs.Option.{option_or}
 use Rattle.ang_kinds.specs.declared.types.Param.{Param}
 use Rattle.ang_kinds.specs.declared.types.Pass.{Pass}
 use Rattle.ang_kinds.specs.declared.types.Shape.{Shape}
@@ -64,8 +65,8 @@ host_function n x (Some t) (Some params) = Some (record {
 })
 
 -- the function of an entry
-abbrev pub function_in : RegistrationList → ℕ → Entry → Option HostFunction
-function_in V n x = host_function n x (host_type V x.signature.result) (host_parameters V x.signature.params)
+abbrev pub function_of_entry : RegistrationList → ℕ → Entry → Option HostFunction
+function_of_entry V n x = host_function n x (host_type V x.signature.result) (host_parameters V x.signature.params)
 
 abbrev pub is_factory : EntryKind → Bool
 is_factory entry.HostType = false
@@ -92,7 +93,7 @@ is_wanted (wanted.Method n name) x = is_method x.kind && (is_number n x.owner &&
 -- what is found in the entry of a number
 abbrev pub found : Wanted → RegistrationList → ℕ → Option Entry → Option HostFunction
 found w V n None = None
-found w V n (Some x) = if is_wanted w x then function_in V n x else None
+found w V n (Some x) = if is_wanted w x then function_of_entry V n x else None
 
 abbrev pub scan : (ℕ → Option Entry → Option HostFunction) → ℕ → RegistrationList → List HostFunction
 scan f n [] = []
@@ -133,14 +134,9 @@ abbrev pub property_found : WantedProperty → RegistrationList → ℕ → Opti
 property_found w V n None = None
 property_found w V n (Some x) = if is_wanted_property w x then property_with n x (host_type V x.signature.result) else None
 
--- the first that is there
-abbrev pub or_else : {A : Type 0} → Option A → Option A → Option A
-or_else (Some a) rest = Some a
-or_else None rest = rest
-
 abbrev pub first_found : (ℕ → Option Entry → Option HostProperty) → ℕ → RegistrationList → Option HostProperty
 first_found f n [] = None
-first_found f n (x ∷ xs) = or_else (f n x) (first_found f (n + 1) xs)
+first_found f n (x ∷ xs) = option_or (f n x) (first_found f (n + 1) xs)
 
 -- The property that is wanted, in a view. The registry has one at most.
 unfoldable pub property_where : WantedProperty → RegistrationList → Option HostProperty

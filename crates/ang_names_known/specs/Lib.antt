@@ -1,4 +1,5 @@
 pub mod Added
 pub mod Host
+pub mod Items
 pub mod Lookup
 pub mod Spaces

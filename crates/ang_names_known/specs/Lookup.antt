@@ -1,7 +1,8 @@
 -- What the scripts declare, by name (docs/LANGUAGE.md, "Names of a build"; the AngelScript manual, "Function overloading" and
 -- "Inheritance and polymorphism"). Numbers are places in `Names`.
-use Rattle.std.specs.Prelude.{ℕ, ◌+◌, ◌==◌, Bool, true, false, not, ◌&&◌, ◌||◌, if◌then◌else◌, List, [], ◌∷◌, ◌++◌, map, filter, length, Option, Some, None, bytes_eq, is_some, slice_get}
-use Rattle.std.specs.List.{list_any, position, filter_map, flat_map}
+use Rattle.std.specs.Prelude.{ℕ, ◌+◌, ◌==◌, Bool, true, false, not, ◌&&◌, ◌||◌, if◌then◌else◌, List, [], ◌∷◌, map, filter, find, Option, Some, None, bytes_eq, is_some, option_map, option_and_then, slice_get}
+use Rattle.std.specs.List.{list_any, position, flat_map}
+use Rattle.std.specs.Option.{option_or}
 use Rattle.std.specs.Cmp.Lexicographic.{pointwise}
 use Rattle.std.proofs.Math.Bool.{beq}
 use Rattle.ang_kinds.specs.declared.types.Pass.{Pass}
@@ -21,15 +22,7 @@ use Rattle.ang_names_known.specs.declared.names.ScriptFunction.{ScriptFunction}
 use Rattle.ang_names_known.specs.declared.names.ScriptGlobal.{ScriptGlobal}
 use Rattle.ang_names_known.specs.declared.names.ScriptParameter.{ScriptParameter}
 use Rattle.ang_names_known.specs.declared.names.Written.{Written}
-
-abbrev pub is_empty : {A : Type 0} → List A → Bool
-is_empty [] = true
-is_empty (x ∷ xs) = false
-
--- the first that passes
-abbrev pub first_that : {A : Type 0} → (A → Bool) → List A → Option A
-first_that p [] = None
-first_that p (x ∷ xs) = if p x then Some x else first_that p xs
+use Rattle.ang_names_known.specs.Items.{is_empty, each_after}
 
 -- ---- types as they are written
 
@@ -64,7 +57,7 @@ same_parameter p q = same_written p.written q.written && pass_number p.pass == p
 abbrev pub same_parameters : List ScriptParameter → List ScriptParameter → Bool
 same_parameters = pointwise same_parameter
 
--- equal results and parameters, as a binding compares them
+-- equal results and parameters, `const` as it is spelled, as a binding compares them
 abbrev pub same_call : ScriptFunction → ScriptFunction → Bool
 same_call f g = same_written f.result g.result && same_parameters f.params g.params
 
@@ -94,12 +87,12 @@ global_named gs name = position (λ (g : ScriptGlobal). bytes_eq g.name name) gs
 abbrev pub is_declared : List (List ℕ) → List ℕ → Bool
 is_declared declared name = list_any (bytes_eq name) declared
 
-abbrev pub passing_of : ScriptParameter → ArgType × Pass
-passing_of p = (p.written.ty, p.pass)
+abbrev pub type_and_pass : ScriptParameter → ArgType × Pass
+type_and_pass p = (p.written.ty, p.pass)
 
 -- the types and passings of a function's parameters
 unfoldable pub parameters_of : ScriptFunction → List (ArgType × Pass)
-parameters_of f = map passing_of f.params
+parameters_of f = map type_and_pass f.params
 
 -- ---- members
 
@@ -116,13 +109,13 @@ abbrev pub families_at : List Family → List ℕ → List Numbered
 families_at fs [] = []
 families_at fs (n ∷ ns) = with_family n (slice_get fs n) (families_at fs ns)
 
-abbrev pub order_in : List Family → Option Family → List Numbered
-order_in fs None = []
-order_in fs (Some f) = families_at fs f.order
+abbrev pub kin_in : List Family → Option Family → List Numbered
+kin_in fs None = []
+kin_in fs (Some f) = families_at fs f.order
 
 -- a family and those that it has members of, the nearest first
 unfoldable pub kin_of : List Family → ℕ → List Numbered
-kin_of fs c = order_in fs (slice_get fs c)
+kin_of fs c = kin_in fs (slice_get fs c)
 
 abbrev pub above_in : Option Family → List ℕ
 above_in None = []
@@ -132,24 +125,15 @@ above_in (Some f) = f.above
 abbrev pub is_under : List Family → ℕ → ℕ → Bool
 is_under fs c d = c == d || list_any (λ k. k == d) (above_in (slice_get fs c))
 
-abbrev pub field_with : Numbered → ℕ → Option Field → Option FoundField
-field_with f i None = None
-field_with f i (Some x) = Some (record { owner = f.0; number = f.1.inherited + i; written = x.written; access = x.access })
-
-abbrev pub field_at : Numbered → Option ℕ → Option FoundField
-field_at f None = None
-field_at f (Some i) = field_with f i (slice_get f.1.fields i)
+abbrev pub field_of : ℕ → Field → FoundField
+field_of owner x = record { owner = owner; number = x.number; written = x.written; access = x.access }
 
 abbrev pub own_field : List ℕ → Numbered → Option FoundField
-own_field name f = field_at f (position (λ (x : Field). bytes_eq x.name name) f.1.fields)
-
-abbrev pub field_or : Option FoundField → Option FoundField → Option FoundField
-field_or (Some x) rest = Some x
-field_or None rest = rest
+own_field name f = option_map (field_of f.0) (find (λ (x : Field). bytes_eq x.name name) f.1.fields)
 
 abbrev pub first_field : List ℕ → List Numbered → Option FoundField
 first_field name [] = None
-first_field name (f ∷ fs) = field_or (own_field name f) (first_field name fs)
+first_field name (f ∷ fs) = option_or (own_field name f) (first_field name fs)
 
 -- The field of this name that objects of a family have.
 unfoldable pub field_named : List Family → ℕ → List ℕ → Option FoundField
@@ -163,41 +147,73 @@ pub record FoundMethod : Type 0 where
 abbrev pub methods_in : Numbered → List FoundMethod
 methods_in f = map (λ (x : Method). record { owner = f.0; method = x }) f.1.methods
 
--- of each slot the first method
-abbrev pub first_of_slots : List ℕ → List FoundMethod → List FoundMethod
-first_of_slots slots [] = []
-first_of_slots slots (x ∷ xs) =
-    if list_any (λ k. k == x.method.slot) slots then first_of_slots slots xs else x ∷ first_of_slots (x.method.slot ∷ slots) xs
-
--- All methods of a family, own and inherited: of those of equal name, parameters and `const` the nearest alone.
+-- All methods of a family and of those that it has members of, the nearest first.
 unfoldable pub methods_of : List Family → ℕ → List FoundMethod
-methods_of fs c = first_of_slots [] (flat_map methods_in (kin_of fs c))
+methods_of fs c = flat_map methods_in (kin_of fs c)
 
--- the methods of this name
+abbrev pub stands_in : ℕ → FoundMethod → Bool
+stands_in slot x = x.method.slot == slot
+
+-- the method that a family has in a slot, own or inherited: the nearest one
+unfoldable pub method_in_slot : List Family → ℕ → ℕ → Option FoundMethod
+method_in_slot fs c slot = find (stands_in slot) (methods_of fs c)
+
+abbrev pub is_named : List ℕ → FoundMethod → Bool
+is_named name x = bytes_eq x.method.function.name name
+
+-- a method in front of which none of its slot stands
+abbrev pub if_nearest : List FoundMethod → FoundMethod → List FoundMethod
+if_nearest before x = if list_any (stands_in x.method.slot) before then [] else x ∷ []
+
+-- The methods of this name, own and inherited: of those of equal parameters and `const` the nearest alone.
 unfoldable pub methods_named : List Family → ℕ → List ℕ → List FoundMethod
-methods_named fs c name = filter (λ (x : FoundMethod). bytes_eq x.method.function.name name) (methods_of fs c)
+methods_named fs c name = each_after if_nearest [] (filter (is_named name) (methods_of fs c))
 
--- a field or a method of the family has the name
+abbrev pub declares_method : List ℕ → Numbered → Bool
+declares_method name f = list_any (λ (x : Method). bytes_eq x.function.name name) f.1.methods
+
+-- some method of the family has the name, own or inherited
+unfoldable pub has_method : List Family → ℕ → List ℕ → Bool
+has_method fs c name = list_any (declares_method name) (kin_of fs c)
+
+-- a field or a method does
 abbrev pub has_member : List Family → ℕ → List ℕ → Bool
-has_member fs c name = is_some (field_named fs c name) || not (is_empty (methods_named fs c name))
+has_member fs c name = is_some (field_named fs c name) || has_method fs c name
 
 -- ---- constructors
 
 abbrev pub takes_nothing : Constructor → Bool
 takes_nothing k = is_empty k.function.params
 
-abbrev pub default_by : Option Constructor → Default
-default_by None = default.Missing
-default_by (Some k) = default.Written k.body
+-- the constructor without parameters among some
+abbrev pub default_among : List Constructor → Option Constructor
+default_among ks = find takes_nothing ks
 
-abbrev pub first_default : List Numbered → Default
-first_default [] = default.Unwritten
-first_default (f ∷ fs) =
-    if is_empty f.1.constructors then first_default fs else default_by (first_that takes_nothing f.1.constructors)
+-- what a class with constructors is made by
+abbrev pub own_default : Option Constructor → Default
+own_default None = default.Missing
+own_default (Some k) = default.Written k.body
 
--- A class without a constructor has a default one, which runs that of its base class: so it is the nearest written one that decides.
+-- what one without constructors is made by: it runs that of its base class, if one is written
+abbrev pub written_default : Option Constructor → Default
+written_default None = default.Unwritten
+written_default (Some k) = default.Written k.body
+
+abbrev pub has_constructors : Numbered → Bool
+has_constructors f = not (is_empty f.1.constructors)
+
+-- the constructor without parameters of the nearest of these families that has constructors
+abbrev pub nearest_default : List Numbered → Option Constructor
+nearest_default kin = option_and_then (λ (f : Numbered). default_among f.1.constructors) (find has_constructors kin)
+
+abbrev pub default_in : List Family → ℕ → Option Family → Default
+default_in fs c None = default.Unwritten
+default_in fs c (Some f) = if is_empty f.constructors then written_default (nearest_default (kin_of fs c)) else own_default (default_among f.constructors)
+
+-- How an object of a class is made without arguments. A class without a constructor has a default one: where its base class has none
+-- without parameters it is refused at its own name, and nowhere else.
 unfoldable pub default_of : List Family → ℕ → Default
-default_of fs c = first_default (kin_of fs c)
+default_of fs c = default_in fs c (slice_get fs c)
 
 -- ---- who may use a member
 

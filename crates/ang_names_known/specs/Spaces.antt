@@ -1,10 +1,10 @@
 -- The object types that a name can mean: the classes and interfaces of the scripts, and the types that the module sees of the host
 -- (docs/LANGUAGE.md, "Names of a build"; the AngelScript manual, "Data types"). No number moves as a view grows.
-use Rattle.std.specs.Prelude.{ℕ, zero, suc, ◌+◌, ◌-◌, nat_lt, Bool, not, if◌then◌else◌, List, [], ◌∷◌, ◌++◌, map, Option, Some, None, bytes_eq}
+use Rattle.std.specs.Prelude.{ℕ, ◌+◌, ◌-◌, ◌≤◌, ◌<◌, nat_lt, Bool, not, if◌then◌else◌, List, [], ◌++◌, All, map, length, replicate, Option, Some, None, bytes_eq}
 use Rattle.std.specs.List.{position}
 use Rattle.ang_view.specs.Registration.{RegistrationList}
 use Rattle.ang_view.specs.Types.{type_named}
-use Rattle.ang_types.specs.Ranks.{Lines}
+use Rattle.ang_types.specs.Ranks.{Ancestors}
 use Rattle.ang_names_known.specs.declared.names.Family.{Family}
 use Rattle.ang_names_known.specs.declared.names.Names.{Names}
 use Rattle.ang_names_known.specs.declared.space.Named.{Named}
@@ -29,27 +29,32 @@ is_family_type n = not (nat_lt n first_family)
 abbrev pub family_of_type : ℕ → Option ℕ
 family_of_type n = if nat_lt n first_family then None else Some (n - first_family)
 
-abbrev pub host_named : Option ℕ → Named
-host_named None = named.Unknown
-host_named (Some n) = named.Object n
+-- the type of a name that is a family's or a host type's
+abbrev pub family_or_host : Option ℕ → Option ℕ → Named
+family_or_host (Some c) host = named.Object (family_type c)
+family_or_host None (Some n) = named.Object n
+family_or_host None None = named.Unknown
 
-abbrev pub named_by : Option ℕ → Option ℕ → Named
-named_by (Some c) host = named.Object (family_type c)
-named_by None host = host_named host
-
--- What a name means. A name that the script declares is the script's, whatever the view has.
-unfoldable pub named_in : Space → List ℕ → Named
-named_in E name = named_by (position (bytes_eq name) E.families) (type_named E.view name)
+-- The type that a name means. A name that the script declares is the script's, whatever the view has.
+unfoldable pub type_of_name : Space → List ℕ → Named
+type_of_name E name = family_or_host (position (bytes_eq name) E.families) (type_named E.view name)
 
 abbrev pub space_of_names : RegistrationList → Names → Space
 space_of_names V names = record { view = V; families = map (λ (f : Family). f.name) names.families }
 
+-- ---- how many there are
+
+-- the most classes and interfaces that a module can have
+abbrev pub most_families : ℕ
+most_families = 256
+
+-- Families are few enough for each to have a number as a type, and all that stands above one is among them.
+pub record AreFamilies (fs : List Family) : Type 0 where
+  pub few : length fs ≤ most_families
+  pub above : All (λ (f : Family). All (λ k. k < length fs) f.above) fs
+
 -- ---- what stands above each object type
 
-abbrev pub repeated : {A : Type 0} → ℕ → A → List A
-repeated zero a = []
-repeated (suc n) a = a ∷ repeated n a
-
 -- Nothing stands above a host type.
-unfoldable pub lines_of : Names → Lines
-lines_of names = repeated first_family [] ++ map (λ (f : Family). map family_type f.above) names.families
+unfoldable pub ancestors_of : Names → Ancestors
+ancestors_of names = replicate first_family [] ++ map (λ (f : Family). map family_type f.above) names.families

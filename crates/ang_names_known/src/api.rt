@@ -1,5 +1,5 @@
 //! What the scripts declare and what a module sees of the host, by name.
-ghost use Rattle.std.specs.Prelude.{◌≡◌, IfOk, length};
+ghost use Rattle.std.specs.Prelude.{◌≡◌, ◌≤◌, IfOk, length};
 ghost use Rattle.ang_names_known.specs.Spaces as spaces;
 ghost use Rattle.ang_names_known.specs.Lookup as spec;
 
@@ -19,6 +19,7 @@ pub fn space_of_names<'a>(
     view: &'a View,
     names: &'a Names,
 ) -> Result<Space<'a>, AllocError>
+    requires few { length names.now.families ≤ 256 }
     ensures exact { IfOk result (λ s. s ≡ spaces.space_of_names view.now names.now) }
 {
     Err(AllocError)
@@ -28,7 +29,8 @@ pub fn space_of_names<'a>(
 ///
 /// The only error is want of memory.
 pub fn lineage_of(alloc: Global, names: &Names) -> Result<Lineage, AllocError>
-    ensures exact { IfOk result (λ l. l ≡ spaces.lines_of names.now) }
+    requires families { spaces.AreFamilies names.now.families }
+    ensures exact { IfOk result (λ l. l ≡ spaces.ancestors_of names.now) }
 {
     Err(AllocError)
 }

@@ -115,7 +115,7 @@ fn function_in(
     entity: EntityNo,
     entry: &Entry,
 ) -> Result<Option<HostFunction>, AllocError>
-    ensures exact { IfOk result (λ found. found ≡ spec.function_in view.now entity.0 entry.now) }
+    ensures exact { IfOk result (λ found. found ≡ spec.function_of_entry view.now entity.0 entry.now) }
 {
     let Some(result) = host_type(view, &entry.signature.result) else {
         return Ok(None);
@@ -161,8 +161,10 @@ fn is_wanted(wanted: &Wanted<'_>, entry: &Entry) -> bool
     }
 }
 
-/// The function of an entry, if it is wanted.
-fn found_at(
+/// The function, factory or method of the entry of this number, if it is wanted. Its types are looked up in the same view.
+///
+/// The only error is want of memory.
+pub fn found_at(
     alloc: Global,
     view: &View,
     wanted: &Wanted<'_>,
@@ -240,8 +242,8 @@ fn property_in(view: &View, entity: EntityNo, entry: &Entry) -> Option<HostPrope
     })
 }
 
-/// The property of an entry, if it is wanted.
-fn property_at(view: &View, wanted: &WantedProperty<'_>, entity: EntityNo) -> Option<HostProperty>
+/// The property of the entry of this number, if it is wanted. It takes no memory.
+pub fn property_at(view: &View, wanted: &WantedProperty<'_>, entity: EntityNo) -> Option<HostProperty>
     ensures exact { result
         ≡ spec.property_found wanted.now view.now entity.0 (entry_at view.now entity.0) }
 {

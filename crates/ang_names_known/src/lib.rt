@@ -16,8 +16,14 @@ pub use api::{
     FoundMethod, functions_named, lineage_of, methods_named, parameters_of, space_of_names,
 };
 pub use borrowed::Text;
-pub use host::{HostFunction, HostProperty, Wanted, WantedProperty, host_where, property_where};
-pub use lookup::{global_named, is_declared, is_read_only};
+pub use host::{
+    HostFunction, HostProperty, Wanted, WantedProperty, found_at, host_where, property_at,
+    property_where,
+};
+pub use lookup::{
+    default_of, field_named, function_with, global_named, has_member, has_method, is_declared,
+    is_read_only, is_under, may_use, same_call, same_heading, same_parameters, same_type,
+};
 pub use names::{
     Access, Constructor, Default, Family, Field, FoundField, Method, Names, Origin, ScriptFunction,
     ScriptGlobal, ScriptParameter, Written,

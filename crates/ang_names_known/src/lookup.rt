@@ -1,8 +1,12 @@
 //! What the scripts declare, by name, as far as it takes no memory.
-ghost use Rattle.std.specs.Prelude.{◌≡◌};
+ghost use Rattle.std.specs.Prelude.{◌≡◌, false, [], option_map, option_and_then, slice_get};
+ghost use Rattle.std.specs.Option.{option_map_or};
 ghost use Rattle.ang_names_known.specs.Lookup as spec;
 
-use crate::names::{ScriptGlobal, Written};
+use crate::names::{
+    Access, Constructor, Default, Family, Field, FoundField, ScriptFunction, ScriptGlobal,
+    ScriptParameter, Written,
+};
 use ang_kinds::List;
 use ang_types::ArgType;
 
@@ -33,4 +37,242 @@ pub fn is_declared(declared: &[List<u8>], name: &[u8]) -> bool
     ensures exact { result ≡ spec.is_declared declared.now name.now }
 {
     declared.iter().any(|other| name == other.as_slice())
+}
+
+/// Whether two types are one, `const` included. Object types go by their numbers.
+pub fn same_type(one: ArgType, other: ArgType) -> bool
+    ensures exact { result ≡ spec.same_type one other }
+{
+    match (one, other) {
+        (ArgType::Void, ArgType::Void) | (ArgType::Null, ArgType::Null) => true,
+        (ArgType::Plain(one), ArgType::Plain(other)) => one == other,
+        (
+            ArgType::Object { number, read_only },
+            ArgType::Object {
+                number: other,
+                read_only: other_read_only,
+            },
+        )
+        | (
+            ArgType::Handle { number, read_only },
+            ArgType::Handle {
+                number: other,
+                read_only: other_read_only,
+            },
+        ) => number == other && read_only == other_read_only,
+        _ => false,
+    }
+}
+
+fn same_written(one: Written, other: Written) -> bool
+    ensures exact { result ≡ spec.same_written one other }
+{
+    same_type(one.ty, other.ty)
+        && one.constant == other.constant
+        && one.const_handle == other.const_handle
+}
+
+fn same_parameter(one: &ScriptParameter, other: &ScriptParameter) -> bool
+    ensures exact { result ≡ spec.same_parameter one.now other.now }
+{
+    same_written(one.written, other.written) && one.pass == other.pass
+}
+
+/// Whether two lists of parameters are the same as they are written; names don't count.
+pub fn same_parameters(params: &[ScriptParameter], others: &[ScriptParameter]) -> bool
+    ensures exact { result ≡ spec.same_parameters params.now others.now }
+{
+    params.len() == others.len()
+        && params
+            .iter()
+            .zip(others)
+            .all(|(one, other)| same_parameter(one, other))
+}
+
+/// Whether an import can be bound to a function: they have the same result and parameters, as they are written. It takes
+/// no memory.
+pub fn same_call(one: &ScriptFunction, other: &ScriptFunction) -> bool
+    ensures exact { result ≡ spec.same_call one.now other.now }
+{
+    same_written(one.result, other.result)
+        && same_parameters(one.params.as_slice(), other.params.as_slice())
+}
+
+/// Whether two headings are the same: names, results and parameters. It takes no memory.
+pub fn same_heading(one: &ScriptFunction, other: &ScriptFunction) -> bool
+    ensures exact { result ≡ spec.same_heading one.now other.now }
+{
+    one.name.as_slice() == other.name.as_slice() && same_call(one, other)
+}
+
+/// The number of the function with this heading. It takes no memory.
+#[tactic(auto, unfolding(crate::specs::Lookup::function_with))]
+pub fn function_with(functions: &[ScriptFunction], heading: &ScriptFunction) -> Option<usize>
+    ensures exact { result ≡ spec.function_with functions.now heading.now }
+{
+    functions
+        .iter()
+        .position(|function| same_heading(heading, function))
+}
+
+/// Whether a family is another one, or stands under it. It takes no memory.
+pub fn is_under(families: &[Family], family: usize, other: usize) -> bool
+    ensures exact { result ≡ spec.is_under families.now family other }
+{
+    family == other
+        || match families.get(family) {
+            None => false,
+            Some(family) => family.above.as_slice().iter().any(|above| *above == other),
+        }
+}
+
+/// Whether a member of the family `owner` may be used in a body of the class `within`, or in one of no class. It takes no
+/// memory.
+pub fn may_use(families: &[Family], within: Option<usize>, owner: usize, access: Access) -> bool
+    ensures exact { result ≡ spec.may_use families.now within owner access }
+{
+    match access {
+        Access::Public => true,
+        Access::Protected => match within {
+            None => false,
+            Some(class) => is_under(families, class, owner),
+        },
+        Access::Private => match within {
+            None => false,
+            Some(class) => class == owner,
+        },
+    }
+}
+
+/// The families of which a family has members, itself first, by number.
+fn order_of(families: &[Family], family: usize) -> &[usize]
+    ensures exact { spec.families_at families.now result.now ≡ spec.kin_of families.now family }
+{
+    match families.get(family) {
+        None => &[],
+        Some(family) => family.order.as_slice(),
+    }
+}
+
+/// The field of this name that a family declares itself.
+fn own_field(families: &[Family], family: usize, name: &[u8]) -> Option<FoundField>
+    ensures exact { result ≡ option_and_then (λ f. spec.own_field name.now (family, f))
+        (slice_get families.now family) }
+{
+    let field = families
+        .get(family)?
+        .fields
+        .as_slice()
+        .iter()
+        .find(|field| field.name.as_slice() == name)?;
+    Some(FoundField {
+        owner: family,
+        number: field.number,
+        written: field.written,
+        access: field.access,
+    })
+}
+
+/// The field of this name that objects of a family have. It takes no memory.
+#[tactic(auto, unfolding(crate::specs::Lookup::field_named))]
+pub fn field_named(families: &[Family], family: usize, name: &[u8]) -> Option<FoundField>
+    ensures exact { result ≡ spec.field_named families.now family name.now }
+{
+    let order = order_of(families, family);
+    for number in order {
+        let found = own_field(families, *number, name);
+        if found.is_some() {
+            return found;
+        }
+    }
+    None
+}
+
+/// Whether a family declares a method of this name itself.
+fn has_own_method(families: &[Family], family: usize, name: &[u8]) -> bool
+    ensures exact { result ≡ option_map_or (λ f. spec.declares_method name.now (family, f))
+        (slice_get families.now family) false }
+{
+    match families.get(family) {
+        None => false,
+        Some(family) => family
+            .methods
+            .as_slice()
+            .iter()
+            .any(|method| method.function.name.as_slice() == name),
+    }
+}
+
+/// Whether a family has a method of this name, own or inherited. It takes no memory.
+#[tactic(auto, unfolding(crate::specs::Lookup::has_method))]
+pub fn has_method(families: &[Family], family: usize, name: &[u8]) -> bool
+    ensures exact { result ≡ spec.has_method families.now family name.now }
+{
+    let order = order_of(families, family);
+    for number in order {
+        if has_own_method(families, *number, name) {
+            return true;
+        }
+    }
+    false
+}
+
+/// Whether a family has a field or a method of this name, own or inherited. It takes no memory.
+pub fn has_member(families: &[Family], family: usize, name: &[u8]) -> bool
+    ensures exact { result ≡ spec.has_member families.now family name.now }
+{
+    field_named(families, family, name).is_some() || has_method(families, family, name)
+}
+
+/// The constructor without parameters among some, by the number of its body.
+fn default_among(constructors: &[Constructor]) -> Option<usize>
+    ensures exact { result ≡ option_map (λ k. k.body) (spec.default_among constructors.now) }
+{
+    let found = constructors
+        .iter()
+        .find(|constructor| constructor.function.params.as_slice().is_empty())?;
+    Some(found.body)
+}
+
+/// The constructors that a family declares itself.
+fn constructors_of(families: &[Family], family: usize) -> &[Constructor]
+    ensures exact { result.now ≡ option_map_or (λ f. f.constructors) (slice_get families.now family) [] }
+{
+    match families.get(family) {
+        None => &[],
+        Some(family) => family.constructors.as_slice(),
+    }
+}
+
+/// The constructor without parameters of the nearest of a family and those above it that has constructors.
+fn nearest_default(families: &[Family], family: usize) -> Option<usize>
+    ensures exact { result
+        ≡ option_map (λ k. k.body) (spec.nearest_default (spec.kin_of families.now family)) }
+{
+    let order = order_of(families, family);
+    for number in order {
+        let constructors = constructors_of(families, *number);
+        if !constructors.is_empty() {
+            return default_among(constructors);
+        }
+    }
+    None
+}
+
+/// How an object of a class is made without arguments. It takes no memory.
+#[tactic(auto, unfolding(crate::specs::Lookup::default_of))]
+pub fn default_of(families: &[Family], family: usize) -> Default
+    ensures exact { result ≡ spec.default_of families.now family }
+{
+    let own = constructors_of(families, family);
+    if own.is_empty() {
+        return match nearest_default(families, family) {
+            None => Default::Unwritten,
+            Some(body) => Default::Written(body),
+        };
+    }
+    match default_among(own) {
+        None => Default::Missing,
+        Some(body) => Default::Written(body),
+    }
 }

@@ -85,6 +85,8 @@ pub struct Field {
     pub written: Written,
     /// Who may use it.
     pub access: Access,
+    /// Its number among all fields of an object, those of the base class first.
+    pub number: usize,
 }
 
 /// A method of a class or an interface.
@@ -136,8 +138,6 @@ pub struct Family {
     pub rank: usize,
     /// Its own fields, in order of declaration.
     pub fields: List<Field>,
-    /// How many fields its base class has, with those that it inherits.
-    pub inherited: usize,
     /// Its own methods, in order of declaration.
     pub methods: List<Method>,
     /// Its constructors, in order of declaration.
@@ -181,9 +181,10 @@ pub struct FoundField {
 /// How an object of a class is made without arguments.
 #[derive(Clone, Copy, PartialEq, Eq, Debug)]
 pub enum Default {
-    /// Not at all: the nearest class that has constructors has none without parameters.
+    /// Not at all: the class has constructors, and none without parameters.
     Missing,
-    /// By no constructor: no class has one.
+    /// By no constructor that is written: the class has none, and nor has any above it. A class that has none while the
+    /// nearest above it has none without parameters is refused at its own name, and stands here too.
     Unwritten,
     /// By the constructor with this body.
     Written(usize),

@@ -44,14 +44,13 @@ impl<'a> Model for Space<'a> {
 
     ghost view = { λ s. record { view = s.view.now; families = s.families.items } };
 
-    ghost invariant = { λ s. length s.families.items ≤ 1048576 };
+    ghost invariant = { λ s. length s.families.items ≤ 256 };
 }
 
 impl<'a> Space<'a> {
-    /// The types of a view, and the families of these names, in the order of their numbers: 1,048,576 at most, which is
-    /// far above the limit of a module.
+    /// The types of a view, and the families of these names, in the order of their numbers.
     pub fn new(view: &'a View, families: Vec<Text<'a>>) -> Space<'a>
-        requires few { length families.items ≤ 1048576 }
+        requires few { length families.items ≤ 256 }
         ensures view { result.view ≡ view.now }
         ensures families { result.families ≡ families.entry.items }
     {
@@ -68,7 +67,7 @@ impl<'a> Space<'a> {
     /// The number of the script's family of this name.
     fn family_named(&self, name: &[u8]) -> Option<usize>
         ensures exact { result ≡ position (bytes_eq name.now) self.now.families }
-        ensures few { IfSome result (λ c. c < 1048576) }
+        ensures few { IfSome result (λ c. c < 256) }
     {
         self.families
             .iter()
@@ -77,17 +76,17 @@ impl<'a> Space<'a> {
 
     /// What a name means as a type. A name that the scripts declare is theirs, whatever the module sees of the host.
     /// It takes no memory.
-    #[tactic(auto, unfolding(crate::specs::Spaces::named_in))]
+    #[tactic(auto, unfolding(crate::specs::Spaces::type_of_name))]
     pub fn named(&self, name: &[u8]) -> Named
-        ensures exact { result ≡ spaces.named_in self.now name.now }
+        ensures exact { result ≡ spaces.type_of_name self.now name.now }
     {
-        named_by(self.family_named(name), type_number(self.view, name))
+        family_or_host(self.family_named(name), type_number(self.view, name))
     }
 }
 
-fn named_by(family: Option<usize>, host: Option<u32>) -> Named
-    requires few { IfSome family (λ c. c < 1048576) }
-    ensures exact { result ≡ spaces.named_by family host }
+fn family_or_host(family: Option<usize>, host: Option<u32>) -> Named
+    requires few { IfSome family (λ c. c < 256) }
+    ensures exact { result ≡ spaces.family_or_host family host }
 {
     match family {
         Some(family) => Named::Object(FIRST_FAMILY + family as u32),

@@ -1,7 +1,7 @@
 -- What scripts declare (docs/LANGUAGE.md, "Names of a build"; the AngelScript manual, "Global entities" and "Script classes"): all
 -- declarations, in the order of sections and text, with the members of classes and interfaces. Each has its heading, and where it stands;
 -- its body or initializer stands there too, which no phase over the declarations looks at.
-use Rattle.std.specs.Prelude.{ℕ, ◌+◌, Bool, true, false, ◌||◌, List, [], ◌∷◌, ◌++◌, map, length, is_some, Option, Some, None}
+use Rattle.std.specs.Prelude.{ℕ, ◌+◌, Bool, true, false, List, [], ◌∷◌, ◌++◌, map, is_some, Option, Some, None}
 use Rattle.std.specs.List.{list_any, filter_map, flat_map}
 use Rattle.ang_lex.specs.declared.token.Token.{Token}
 use Rattle.ang_lex.specs.declared.token.TokenKind.{TokenKind}
@@ -9,7 +9,6 @@ use Rattle.ang_lex.specs.declared.token.TokenKind.TheVariants as k
 use Rattle.ang_tree.specs.declared.type_name.TypeName.{TypeName}
 use Rattle.ang_tree.specs.declared.declaration.BaseName.{BaseName}
 use Rattle.ang_tree.specs.declared.declaration.FieldName.{FieldName}
-use Rattle.ang_tree.specs.declared.declaration.Parameter.{Parameter}
 use Rattle.ang_tree.specs.Stmt.{Var}
 use Rattle.ang_tree.specs.Declarations.{Decl, class, interface, import, function, globals, empty, MemberTree, fields, method, constructor, MethodTree}
 use Rattle.ang_names_known.specs.declared.names.Access.{Access}
@@ -18,7 +17,6 @@ use Rattle.ang_names_known.specs.declared.names.Origin.{Origin}
 use Rattle.ang_names_listed.specs.declared.listed.Attributes.{Attributes}
 use Rattle.ang_names_listed.specs.declared.listed.Declared.{Declared}
 use Rattle.ang_names_listed.specs.declared.listed.Member.{Member}
-use Rattle.ang_names_listed.specs.declared.listed.MemberKind.{MemberKind}
 use Rattle.ang_names_listed.specs.declared.listed.MemberKind.TheVariants as member
 use Rattle.ang_names_listed.specs.declared.listed.Part.{Part}
 use Rattle.ang_names_listed.specs.declared.listed.Part.TheVariants as part
@@ -91,17 +89,17 @@ module _ (script : ℕ) (text : List ℕ) where
 
   -- What the declaration at this place declares: each name of a declaration of globals is a declaration of its own, and a `;` alone
   -- declares nothing.
-  abbrev pub declared_by : ℕ → Decl → List Declared
-  declared_by n (class final word x bases left members right) = declared_as n 0 x (part.Family (class_shape final bases members)) ∷ []
-  declared_by n (interface word x bases left methods right) = declared_as n 0 x (part.Family (interface_shape bases methods)) ∷ []
-  declared_by n (import word y x ps from module_name semicolon) = declared_as n 0 x (part.Import y ps.items) ∷ []
-  declared_by n (function y x ps b) = declared_as n 0 x (part.Function y ps.items) ∷ []
-  declared_by n (globals vs) = globals_from n vs.declared_type 0 vs.items
-  declared_by n (empty semicolon) = []
+  abbrev pub declared_at : ℕ → Decl → List Declared
+  declared_at n (class final word x bases left members right) = declared_as n 0 x (part.Family (class_shape final bases members)) ∷ []
+  declared_at n (interface word x bases left methods right) = declared_as n 0 x (part.Family (interface_shape bases methods)) ∷ []
+  declared_at n (import word y x ps from module_name semicolon) = declared_as n 0 x (part.Import y ps.items) ∷ []
+  declared_at n (function y x ps b) = declared_as n 0 x (part.Function y ps.items) ∷ []
+  declared_at n (globals vs) = globals_from n vs.declared_type 0 vs.items
+  declared_at n (empty semicolon) = []
 
   abbrev pub declared_from : ℕ → List Decl → List Declared
   declared_from n [] = []
-  declared_from n (d ∷ ds) = declared_by n d ++ declared_from (n + 1) ds
+  declared_from n (d ∷ ds) = declared_at n d ++ declared_from (n + 1) ds
 
 abbrev pub declarations_from : ℕ → List Source → List Declared
 declarations_from s [] = []

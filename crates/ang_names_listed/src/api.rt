@@ -20,17 +20,16 @@ pub fn declarations_of(alloc: Global, scripts: &[Script]) -> Result<Vec<Declared
     Err(AllocError)
 }
 
-/// What is refused of a declaration's name behind those before it: `Duplicate` where it is taken, else `Limit` at the
-/// first of its kind that is too many.
+/// What is refused of the names of declarations, in their order: `Duplicate` where the name is taken by an earlier one or by
+/// what the module sees of the host, else `Limit` at the first of its kind that is too many.
 ///
 /// The only error is want of memory.
-pub fn name_refusal(
+pub fn name_refusals(
     alloc: Global,
     view: &View,
-    before: &[Declared<'_>],
-    declared: &Declared<'_>,
-) -> Result<Option<Refused>, AllocError>
-    ensures exact { IfOk result (λ r. r ≡ taken.name_refusal view.now before.now declared.now) }
+    all: &[Declared<'_>],
+) -> Result<Vec<Refused>, AllocError>
+    ensures exact { IfOk result (λ found. found.items ≡ taken.name_refusals view.now all.now) }
 {
     Err(AllocError)
 }

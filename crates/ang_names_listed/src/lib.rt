@@ -3,7 +3,8 @@
 #![tactic(auto)]
 
 mod api;
+pub mod laws;
 mod listed;
 
-pub use api::{declarations_of, name_refusal};
+pub use api::{declarations_of, name_refusals};
 pub use listed::{Attributes, Declared, Member, MemberKind, Part, Shape};

@@ -96,8 +96,8 @@ same_spelling a b =
     same_base a.base b.base && sign_number a.sign == sign_number b.sign && beq a.is_const b.is_const && pass_number a.pass == pass_number b.pass
 
 -- Two lists of parameters by which functions of one name can't overload: they are as long, and each parameter is the same.
-abbrev pub same_parameters : List ℕ → List Parameter → List ℕ → List Parameter → Bool
-same_parameters text ps other qs = pointwise (λ p q. same_spelling (spelling_of text p) (spelling_of other q)) ps qs
+abbrev pub same_spellings : List ℕ → List Parameter → List ℕ → List Parameter → Bool
+same_spellings text ps other qs = pointwise (λ p q. same_spelling (spelling_of text p) (spelling_of other q)) ps qs
 
 abbrev pub same_as_host : List ℕ → List Parameter → List Param → Bool
 same_as_host text ps qs = pointwise (λ p q. same_spelling (spelling_of text p) (host_spelling_of q)) ps qs

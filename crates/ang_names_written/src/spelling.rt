@@ -179,7 +179,7 @@ pub fn have_same_types(
     other_text: &[u8],
     others: &[Parameter],
 ) -> bool
-    ensures exact { result ≡ spec.same_parameters text.now params.now other_text.now others.now }
+    ensures exact { result ≡ spec.same_spellings text.now params.now other_text.now others.now }
 {
     params.len() == others.len()
         && params.iter().zip(others).all(|(one, other)| is_same_parameter(

@@ -35,8 +35,8 @@ fn object_type(named: Named, read_only: bool, handle: &Option<Handle>) -> Result
     }
 }
 
-fn type_by(space: &Space<'_>, text: &[u8], declared: &TypeName) -> Result<ArgType, ErrorKind>
-    ensures exact { result ≡ spec.type_by space.now text.now declared.now declared.now.name.kind }
+fn written_type(space: &Space<'_>, text: &[u8], declared: &TypeName) -> Result<ArgType, ErrorKind>
+    ensures exact { result ≡ spec.written_type space.now text.now declared.now declared.now.name.kind }
 {
     match declared.name.kind {
         TokenKind::Primitive(primitive) => {
@@ -185,7 +185,7 @@ pub fn type_in(
 ) -> Result<ArgType, ErrorKind>
     ensures exact { result ≡ spec.type_in space.now role text.now declared.now }
 {
-    admitted(role, type_by(space, text, declared)?)
+    admitted(role, written_type(space, text, declared)?)
 }
 
 fn pass_in(direction: &Option<Token>) -> Pass

@@ -1,13 +1,13 @@
 -- What a script means: what an expression, a statement and a body of the resolved tree does, by cases on the tree (docs/MEANING.md, "What a script means";
 -- the AngelScript manual, "Expressions", "Statements" and "Functions"). What follows from the ends of a construct's parts is said by the combinators of
 -- `Results`. A local is numbered from the outermost one, and `this` is local 0 of the bodies of methods and constructors.
-use Rattle.std.specs.Prelude.{ℕ, zero, suc, ◌-◌, ◌==◌, Bool, true, false, if◌then◌else◌, List, [], ◌∷◌, length, reverse, map, ◌++◌, Option, Some, None, slice_get, slice_index_or}
+use Rattle.std.specs.Prelude.{ℕ, zero, suc, ◌-◌, ◌==◌, true, false, List, [], ◌∷◌, length, reverse, map, find, ◌++◌, Option, Some, None, option_map, option_and_then, slice_get, slice_index_or}
+use Rattle.std.specs.Option.{option_or}
 use Rattle.ang_kinds.specs.declared.primitive.Primitive.{Primitive}
 use Rattle.ang_kinds.specs.declared.primitive.Primitive.TheVariants.{I8, I16, I32, I64, U8, U16, U32, U64, Bool as Truth}
 use Rattle.ang_kinds.specs.declared.fault.Fault.TheVariants.{Null, Budget, Memory}
 use Rattle.ang_kinds.specs.declared.types.Pass.{Pass}
 use Rattle.ang_kinds.specs.declared.types.Pass.TheVariants as pass
-use Rattle.ang_kinds.specs.declared.mask.EntityNo.{EntityNo}
 use Rattle.ang_types.specs.declared.arg_type.ArgType.{ArgType}
 use Rattle.ang_types.specs.declared.arg_type.ArgType.TheVariants as type
 use Rattle.ang_typed.specs.declared.expression.Variable.{Variable}
@@ -36,7 +36,6 @@ use Rattle.ang_meaning.specs.declared.operation.Arithmetic.TheVariants as work
 use Rattle.ang_meaning.specs.declared.operation.Comparison as compared
 use Rattle.ang_meaning.specs.declared.operation.Comparison.TheVariants as holds
 use Rattle.ang_meaning.specs.declared.operation.Change.{Change}
-use Rattle.ang_meaning.specs.declared.operation.Operation.{Operation}
 use Rattle.ang_meaning.specs.declared.operation.Operation.TheVariants.{Work, Compare, Convert, Negate, Complement, Not, Same, GlobalGet, GlobalSet, GlobalChange, Ask, Read, Write, Alter, Make, FieldGet, FieldSet, FieldChange, Cast}
 use Rattle.ang_meaning.specs.declared.routine.Routine.{Routine}
 use Rattle.ang_meaning.specs.declared.routine.Callee.{Callee}
@@ -50,7 +49,7 @@ use Rattle.ang_meaning.specs.Numbers.{truth, is_signed}
 use Rattle.ang_meaning.specs.World.{World, or_else, give, give_all, memory_step}
 use Rattle.ang_meaning.specs.Setting.{Setting, default_of, params_of}
 use Rattle.ang_meaning.specs.Perform.{perform}
-use Rattle.ang_meaning.specs.Results.{Evaluated, Gave, Failed, Gathered, Ready, Ran, Went, Returned, Halted, Broken, Continued, Reply, Yields, Raises, Calls, local_at, on_test, ticked, loaded, applied, assigned, altered, chosen, then_rest, called, leave, with_value, then_run, caught, finished, enter}
+use Rattle.ang_meaning.specs.Results.{Evaluated, Gave, Gathered, Ready, Ran, Went, Returned, Halted, Broken, Continued, Reply, Yields, Raises, Calls, local_at, on_test, ticked, loaded, applied, assigned, altered, chosen, then_rest, called, leave, with_value, then_run, caught, finished, enter}
 
 -- ---- operators
 
@@ -302,7 +301,7 @@ abbrev mutual
   run z m c p (t.expression (Some e)) ls t w = discarded (evaluate z m c e ls t w)
   run z m c p t.break ls t w = Broken ls t w
   run z m c p t.continue ls t w = Continued ls t w
-  run z m c p (t.return e) ls t w = with_value (evaluate_or z m c (Bits 0) e ls t w) (λ v ls' t' w'. Returned v ls' t' w')
+  run z m c p (t.return e) ls t w = with_value (evaluate_or z m c 0 e ls t w) (λ v ls' t' w'. Returned v ls' t' w')
   run z m c p (t.either e ss otherwise) ls t w =
       branched (evaluate z m c e ls t w) (in_block (run_all z m c p ss)) (in_block (run_all z m c p otherwise))
   run z m c p (t.while e ss) ls t w = tested (p (Some e) ss []) ls t w
@@ -317,7 +316,7 @@ abbrev mutual
 -- one pass of a loop: where the condition is true the body, which a `continue` ends, the steps, and the next pass
 abbrev pub pass_of : Setting → ℕ → Callees → Passes → Passes
 pass_of z m c p e ss steps ls t w =
-    branched (evaluate_or z m c (Bits (truth true)) e ls t w)
+    branched (evaluate_or z m c 1 e ls t w)
     (λ ls' t' w'. caught (length ls') (run_all z m c p ss ls' t' w')
     (λ l2 t2 w2. then_run (run_steps z m c steps l2 t2 w2) (tested (p e ss steps))))
     (λ ls' t' w'. Went ls' t' w')
@@ -427,35 +426,38 @@ codes_in ps g = code_or (slice_get (codes_of (slice_index_or ps g.home nothing))
 
 -- ---- a module's classes, methods and imports
 
-abbrev pub option_of : {A B : Type 0} → (A → B) → Option A → Option B
-option_of f None = None
-option_of f (Some a) = Some (f a)
-
 -- a class as its objects have it: it stands under itself, too
 abbrev pub class_of : ℕ → families.Class → Class
 class_of n c = record { number = n; rank = c.rank; fields = map kind_of c.fields; under = n ∷ c.above }
 
 -- the class of a number, in the modules by their numbers
 unfoldable pub class_in : List t.Program → ℕ → ℕ → Option Class
-class_in ps m n = option_of (class_of n) (slice_get (slice_index_or ps m nothing).classes n)
+class_in ps m n = option_map (class_of n) (slice_get (slice_index_or ps m nothing).classes n)
 
--- the body that stands in a slot, among the slots of a class
-abbrev pub body_in : ℕ → List (ℕ × ℕ) → Option ℕ
-body_in s [] = None
-body_in s (r ∷ rs) = if r.0 == s then Some r.1 else body_in s rs
+-- the body that a class has itself in a slot
+abbrev pub own_body : ℕ → List (ℕ × ℕ) → Option ℕ
+own_body s rows = option_map (λ (r : ℕ × ℕ). r.1) (find (λ (r : ℕ × ℕ). r.0 == s) rows)
 
-abbrev pub method_by : ℕ → ℕ → Option families.Class → Option Routine
-method_by m s None = None
-method_by m s (Some c) = option_of (λ k. record { home = m; number = k }) (body_in s c.chosen)
+-- The body that class c has in a slot: its own, or else that of its base class. The class and so many above it are asked.
+abbrev pub body_by : List families.Class → ℕ → ℕ → Option families.Class → Option ℕ
+body_by classes s n None = None
+body_by classes s zero (Some c) = own_body s c.chosen
+body_by classes s (suc n) (Some c) = option_or (own_body s c.chosen) (body_by classes s n (option_and_then (slice_get classes) c.base))
+
+abbrev pub routine : ℕ → ℕ → Routine
+routine m k = record { home = m; number = k }
+
+abbrev pub method_among : ℕ → List families.Class → ℕ → ℕ → Option Routine
+method_among m classes n s = option_map (routine m) (body_by classes s (length classes) (slice_get classes n))
 
 -- The method that a class has in a slot (the manual, "Inheritance and polymorphism").
 unfoldable pub method_in : List t.Program → ℕ → ℕ → ℕ → Option Routine
-method_in ps m n s = method_by m s (slice_get (slice_index_or ps m nothing).classes n)
+method_in ps m n s = method_among m (slice_index_or ps m nothing).classes n s
 
 -- how the methods of a slot take their arguments, the last one first; the receiver is the last of the list
 unfoldable pub slot_in : List t.Program → ℕ → ℕ → Option (List Passing)
-slot_in ps m s = option_of (λ (h : Heading). passings_of h.parameters) (slice_get (slice_index_or ps m nothing).methods s)
+slot_in ps m s = option_map (λ (h : Heading). passings_of h.parameters) (slice_get (slice_index_or ps m nothing).methods s)
 
 -- how an import takes its arguments, the last one first
 unfoldable pub imported_in : List t.Program → ℕ → ℕ → Option (List Passing)
-imported_in ps m i = option_of (λ (h : Heading). passings_of h.parameters) (slice_get (slice_index_or ps m nothing).imports i)
+imported_in ps m i = option_map (λ (h : Heading). passings_of h.parameters) (slice_get (slice_index_or ps m nothing).imports i)

@@ -3,7 +3,7 @@
 -- declared `const` is written, and `break` and `continue` stand in a loop. It says nothing else of types: operations are total, a field of no object and a
 -- slot that a class has not fault.
 use Rattle.std.specs.List.{list_any}
-use Rattle.std.specs.Prelude.{◌≡◌, ◌≢◌, ℕ, suc, ◌+◌, ◌<◌, ◌==◌, Bool, true, false, IsTrue, List, [], ◌∷◌, length, map, Option, Some, None, slice_get}
+use Rattle.std.specs.Prelude.{◌≡◌, ◌≢◌, ℕ, suc, ◌+◌, ◌<◌, ◌==◌, Bool, true, false, IsTrue, List, [], ◌∷◌, length, map, Option, Some, None, IfSome, slice_get}
 use Rattle.ang_kinds.specs.declared.types.Param.{Param}
 use Rattle.ang_kinds.specs.declared.types.Pass.{Pass}
 use Rattle.ang_kinds.specs.declared.types.Pass.TheVariants.{RefOut}
@@ -275,9 +275,10 @@ module _ (M : Module) where
   AreChosen [] = Unit {0}
   AreChosen (r ∷ rs) = IsChosen r.0 r.1 × AreChosen rs
 
-  -- all that a class chooses is so, and the families above it are there
+  -- all bodies that a class has are so, and its base class and the families above it are there
   pub record SoundClass (c : Class) : Type 0 where
     pub chosen : AreChosen c.chosen
+    pub base : IfSome c.base (λ b. b < M.classes)
     pub above : (n : ℕ) → list_any (λ k. k == n) c.above ≡ true → n < M.classes
 
   abbrev pub SoundClasses : List Class → Type 0

@@ -27,10 +27,12 @@ pub struct Typed {
 pub struct Class {
     /// The types of its fields, those of the base class first, in the order of declaration. An interface has none.
     pub fields: List<ArgType>,
+    /// The number of its base class.
+    pub base: Option<usize>,
     /// The numbers of the families above it, rising.
     pub above: List<usize>,
-    /// For each slot that it has, by slot: the slot, and the number in `Typed::functions` of the body that stands in it.
-    /// An interface has none.
+    /// For each method that it has itself: the slot, and the number in `Typed::functions` of the body that stands in it.
+    /// In any other slot it has what its base class has there. An interface has no bodies.
     pub chosen: List<(usize, usize)>,
     /// It falls along all that a field can reach.
     pub rank: usize,

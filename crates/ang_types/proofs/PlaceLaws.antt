@@ -3,7 +3,7 @@ use Rattle.std.specs.Prelude.{ℕ, ◌≡◌, ◌≢◌, ◌<◌, ◌≤◌, ◌
 use Rattle.std.proofs.Common.{arith, refl, sym, subst, inl, inr, zero, suc, length-append}
 use Rattle.ang_types.specs.declared.arg_type.ArgType.{ArgType}
 use Rattle.ang_types.specs.declared.candidate.Candidate.{Candidate}
-use Rattle.ang_types.specs.Ranks.{Lines}
+use Rattle.ang_types.specs.Ranks.{Ancestors}
 use Rattle.ang_types.specs.Overloads.{Params, params_at, IsViable, IsBetter, IsViableAt, IsBest}
 use Rattle.ang_types.specs.Best.{is_best}
 use Rattle.ang_types.proofs.BestLaws.{is_best-Decides}
@@ -29,7 +29,7 @@ range j n = grind arith
 order : (j n : ℕ) → (j < n) ⊎ ((j ≡ n) ⊎ (n < j))
 order j n = grind arith
 
-module _ (l : Lines) (before after : List Candidate) (c : Candidate) (args : List ArgType) where
+module _ (l : Ancestors) (before after : List Candidate) (c : Candidate) (args : List ArgType) where
   abbrev pub Placed : List Candidate
   Placed = before ++ c ∷ after
 

@@ -3,7 +3,7 @@ use Rattle.std.specs.Prelude.{ℕ, Bool, true, false, ◌≡◌, ◌≢◌, ◌<
 use Rattle.std.proofs.Common.{arith, refl, ap, sym, subst, inl, inr, zero, suc, below_more, ◌∙◌}
 use Rattle.ang_types.specs.declared.arg_type.ArgType.{ArgType}
 use Rattle.ang_types.specs.declared.candidate.Candidate.{Candidate}
-use Rattle.ang_types.specs.Ranks.{Lines}
+use Rattle.ang_types.specs.Ranks.{Ancestors}
 use Rattle.ang_types.specs.Overloads.{Params, params_at, rank_at, IsViable, IsLess, IsBetter, IsViableAt, IsBest}
 use Rattle.ang_types.specs.Best.{is_best}
 use Rattle.ang_types.specs.Rivals.{lesser, IsAtMost, least_at, AreLeast, AreRivals, IsAbreast}
@@ -47,13 +47,13 @@ all_or_one f g (suc n) =
       ]
     ]
 
-viable_up : (l : Lines) (c : Candidate) (cs : List Candidate) (args : List ArgType) (i : ℕ) → IsViableAt l cs args i → IsViableAt l (c ∷ cs) args (suc i)
+viable_up : (l : Ancestors) (c : Candidate) (cs : List Candidate) (args : List ArgType) (i : ℕ) → IsViableAt l cs args i → IsViableAt l (c ∷ cs) args (suc i)
 viable_up l c cs args i v = record { there = omega (arith, v.there); viable = v.viable }
 
-viable_down : (l : Lines) (c : Candidate) (cs : List Candidate) (args : List ArgType) (i : ℕ) → IsViableAt l (c ∷ cs) args (suc i) → IsViableAt l cs args i
+viable_down : (l : Ancestors) (c : Candidate) (cs : List Candidate) (args : List ArgType) (i : ℕ) → IsViableAt l (c ∷ cs) args (suc i) → IsViableAt l cs args i
 viable_down l c cs args i v = record { there = omega (arith, v.there); viable = v.viable }
 
-better_by : (l : Lines) (c : Candidate) (cs : List Candidate) (args : List ArgType) (r : List (Option ℕ) × Bool) → AreRivals r l cs args → IsAbreast l c.params args r
+better_by : (l : Ancestors) (c : Candidate) (cs : List Candidate) (args : List ArgType) (r : List (Option ℕ) × Bool) → AreRivals r l cs args → IsAbreast l c.params args r
     → (i : ℕ) → IsViableAt l cs args i → IsBetter l c.params (params_at cs i) args
 better_by l c cs args r rs b i v =
     let ds = params_at cs i in
@@ -73,7 +73,7 @@ better_by l c cs args r rs b i v =
       ];
     }
 
-best_by : (l : Lines) (c : Candidate) (cs : List Candidate) (args : List ArgType) (r : List (Option ℕ) × Bool) → AreRivals r l cs args → IsAbreast l c.params args r
+best_by : (l : Ancestors) (c : Candidate) (cs : List Candidate) (args : List ArgType) (r : List (Option ℕ) × Bool) → AreRivals r l cs args → IsAbreast l c.params args r
     → IsBest l (c ∷ cs) args 0
 best_by l c cs args r rs b = record { viable = record { there = omega arith; viable = b.viable }; better = better }
   where
@@ -86,7 +86,7 @@ above_some : (m c : Option ℕ) (P : ℕ → Type 0) → IfSome m P → IsLess m
 above_some None c P h l = absurd l
 above_some (Some q) c P h l = (q, refl, h)
 
-abreast_from : (l : Lines) (c : Candidate) (cs : List Candidate) (args : List ArgType) (r : List (Option ℕ) × Bool) → AreRivals r l cs args → IsBest l (c ∷ cs) args 0
+abreast_from : (l : Ancestors) (c : Candidate) (cs : List Candidate) (args : List ArgType) (r : List (Option ℕ) × Bool) → AreRivals r l cs args → IsBest l (c ∷ cs) args 0
     → IsAbreast l c.params args r
 abreast_from l c cs args r rs b =
     let better : (i : ℕ) → IsViableAt l cs args i → IsBetter l c.params (params_at cs i) args = λ i v. b.better (suc i) (λ e. absurd (omega (arith, e))) (viable_up l c cs args i v) in
@@ -101,7 +101,7 @@ abreast_from l c cs args r rs b =
           (one.0, one.1, subst (IsLess (rank_at l c.params args one.0)) (w.1.1 one.0 one.1) one.2);
     }
 
-pub abreast-IsBest : (l : Lines) (c : Candidate) (cs : List Candidate) (args : List ArgType) (r : List (Option ℕ) × Bool) → AreRivals r l cs args
+pub abreast-IsBest : (l : Ancestors) (c : Candidate) (cs : List Candidate) (args : List ArgType) (r : List (Option ℕ) × Bool) → AreRivals r l cs args
     → IsAbreast l c.params args r ↔ IsBest l (c ∷ cs) args 0
 abreast-IsBest l c cs args r rs = (best_by l c cs args r rs, abreast_from l c cs args r rs)
 
@@ -112,7 +112,7 @@ same_test true false A B d e h = let f : false ≡ true = e.1 (h.0 (d.0 refl)) i
 same_test false true A B d e h = let f : false ≡ true = d.1 (h.1 (e.0 refl)) in cc
 same_test false false A B d e h = refl
 
-pub tested : (x : Bool) (l : Lines) (ps : Params) (cs : List Candidate) (args : List ArgType) (r : List (Option ℕ) × Bool)
+pub tested : (x : Bool) (l : Ancestors) (ps : Params) (cs : List Candidate) (args : List ArgType) (r : List (Option ℕ) × Bool)
     → Decides x (IsAbreast l ps args r) → AreRivals r l cs args → (c : Candidate) → c.params ≡ ps → x ≡ is_best l (c ∷ cs) args 0
 tested x l ps cs args r d rs c e =
     same_test x (is_best l (c ∷ cs) args 0) (IsAbreast l c.params args r) _ (subst (λ p. Decides x (IsAbreast l p args r)) (sym e) d) (is_best-Decides l (c ∷ cs) args 0) (abreast-IsBest l c cs args r rs)
@@ -142,7 +142,7 @@ split_last : (i n : ℕ) → i < n + 1 → (i < n) ⊎ (i ≡ n)
 split_last i n lt = grind arith
 
 -- one candidate more that is not viable
-pub least_skip : (l : Lines) (cs : List Candidate) (args : List ArgType) (n : ℕ) (m : List (Option ℕ)) → AreLeast l cs args n m → ¬ IsViable l (params_at cs n) args
+pub least_skip : (l : Ancestors) (cs : List Candidate) (args : List ArgType) (n : ℕ) (m : List (Option ℕ)) → AreLeast l cs args n m → ¬ IsViable l (params_at cs n) args
     → AreLeast l cs args (n + 1) m
 least_skip l cs args n m h isnt =
     record {
@@ -155,7 +155,7 @@ least_skip l cs args n m h isnt =
     }
 
 -- one that is
-pub least_lower : (l : Lines) (cs : List Candidate) (args : List ArgType) (n : ℕ) (m m' : List (Option ℕ)) → AreLeast l cs args n m → n < length cs → IsViable l (params_at cs n) args
+pub least_lower : (l : Ancestors) (cs : List Candidate) (args : List ArgType) (n : ℕ) (m m' : List (Option ℕ)) → AreLeast l cs args n m → n < length cs → IsViable l (params_at cs n) args
     → length m' ≡ length args
     → ((k : ℕ) → k < length args → least_at m' k ≡ lesser (rank_at l (params_at cs n) args k) (least_at m k))
     → AreLeast l cs args (n + 1) m'
@@ -176,7 +176,7 @@ least_lower l cs args n m m' h there viable size lower =
           (here k (rank_at l (params_at cs n) args k) refl) (h.attained k kn));
     }
   where
-    attained_here : (l : Lines) (cs : List Candidate) (args : List ArgType) (n k : ℕ) (o : Option ℕ) → IsViableAt l cs args n → rank_at l (params_at cs n) args k ≡ o
+    attained_here : (l : Ancestors) (cs : List Candidate) (args : List ArgType) (n k : ℕ) (o : Option ℕ) → IsViableAt l cs args n → rank_at l (params_at cs n) args k ≡ o
         → IfSome o (λ r. (i : ℕ) × IsViableAt l cs args i × (rank_at l (params_at cs i) args k ≡ Some r))
     attained_here l cs args n k None v e = tt
     attained_here l cs args n k (Some r) v e = (n, v, e)
@@ -185,6 +185,6 @@ none_attained : (o : Option ℕ) (P : ℕ → Type 0) → o ≡ None → IfSome 
 none_attained None P e = tt
 none_attained (Some x) P e = cc
 
-pub least_start : (l : Lines) (cs : List Candidate) (args : List ArgType) (m : List (Option ℕ)) → length m ≡ length args → ((k : ℕ) → least_at m k ≡ None) → AreLeast l cs args 0 m
+pub least_start : (l : Ancestors) (cs : List Candidate) (args : List ArgType) (m : List (Option ℕ)) → length m ≡ length args → ((k : ℕ) → least_at m k ≡ None) → AreLeast l cs args 0 m
 least_start l cs args m size none =
     record { size = size; none_below = λ i lt. absurd (omega (arith, lt)); attained = λ k kn. none_attained (least_at m k) _ (none k) }

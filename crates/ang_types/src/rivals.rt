@@ -47,7 +47,7 @@ impl Rivals {
     /// Whether a candidate with these parameters, put in front of those that were looked at, is the best of all. Where it
     /// stands among them does not matter (`laws::best_anywhere`). The lineage and the arguments have to be those of `of`.
     /// It takes no memory.
-    pub fn beaten_by(&self, lineage: &Lineage, params: &[(ArgType, Pass)], args: &[ArgType]) -> bool
+    pub fn would_win(&self, lineage: &Lineage, params: &[(ArgType, Pass)], args: &[ArgType]) -> bool
         requires size { length self.now.0 ≡ length args.now }
         ensures exact { (candidates : List Candidate) →
             AreRivals self.now lineage.now candidates args.now → (c : Candidate) → c.params ≡ params.now →

@@ -98,7 +98,7 @@ pub data Judgement : Type 0 where
 -- Over a view and the names that the scripts declare:
 module _ (V : RegistrationList) (names : Names) where
   abbrev pub setting_in : List ℕ → Setting
-  setting_in text = record { view = V; names = names; lines = []; text = text }
+  setting_in text = record { view = V; names = names; ancestors = []; text = text }
 
   -- The parts one by one, where these are the functions and globals that they belong to, each kind in order.
   abbrev pub judged_from : List ScriptFunction → List ScriptGlobal → List Part → List Judgement

@@ -6,7 +6,7 @@ use Rattle.ang_kinds.specs.declared.error.ErrorKind.TheVariants as kind
 use Rattle.ang_lex.specs.declared.token.Token.{Token}
 use Rattle.ang_types.specs.declared.arg_type.ArgType.{ArgType}
 use Rattle.ang_types.specs.declared.arg_type.ArgType.TheVariants as type
-use Rattle.ang_types.specs.Ranks.{Lines}
+use Rattle.ang_types.specs.Ranks.{Ancestors}
 use Rattle.ang_tree.specs.declared.type_name.TypeName.{TypeName}
 use Rattle.ang_tree.specs.Tree.{Tree, Trees}
 use Rattle.ang_tree.specs.Stmt.{Init, absent, value, constructor, Var, Vars, Start, with_variables, with_expression, Stmt, Body, Stmts, block, variables, expression, break, continue, return, when, either, while, do_while, for, body, end}
@@ -113,7 +113,7 @@ abbrev pub initializer_typing : Setting → List Pair → TypeName → ArgType �
 initializer_typing s ps y ty absent = Ok None
 initializer_typing s ps y ty (value equals e) = do
   a ← typing_of s ps e
-  x ← fit s.lines ty a
+  x ← fit s.ancestors ty a
   Ok (Some x)
 initializer_typing s ps y ty (constructor es) = do
   operands ← typing_of_args s ps es
@@ -149,12 +149,12 @@ declaration_typing f start ps vs = do
 
 -- ---- `return`
 
-abbrev pub value_returned : Lines → ArgType → Operand → Judged t.Expr
-value_returned lines type.Void a = Err (fault_at kind.BadConversion a.place)
-value_returned lines type.Null a = fit lines type.Null a
-value_returned lines (type.Plain p) a = fit lines (type.Plain p) a
-value_returned lines (type.Object n c) a = fit lines (type.Object n c) a
-value_returned lines (type.Handle n c) a = fit lines (type.Handle n c) a
+abbrev pub value_returned : Ancestors → ArgType → Operand → Judged t.Expr
+value_returned ancestors type.Void a = Err (fault_at kind.BadConversion a.place)
+value_returned ancestors type.Null a = fit ancestors type.Null a
+value_returned ancestors (type.Plain p) a = fit ancestors (type.Plain p) a
+value_returned ancestors (type.Object n c) a = fit ancestors (type.Object n c) a
+value_returned ancestors (type.Handle n c) a = fit ancestors (type.Handle n c) a
 
 abbrev pub nothing_returned : ArgType → Token → Judged (Option t.Expr)
 nothing_returned type.Void word = Ok None
@@ -168,7 +168,7 @@ abbrev pub result_typing : Frame → List Pair → Token → Option Tree → Jud
 result_typing f ps word None = nothing_returned f.result word
 result_typing f ps word (Some e) = do
   a ← typing_of f.setting ps e
-  x ← value_returned f.setting.lines f.result a
+  x ← value_returned f.setting.ancestors f.result a
   Ok (Some x)
 
 abbrev pub return_typing : Frame → List Pair → Token → Option Tree → Judged t.Stmt

@@ -34,7 +34,7 @@ fn add_function(
     written: &written::Function,
     found: &mut Found<'_>,
 ) -> Result<(), AllocError>
-    requires lines { build.now.lineage.now ≡ [] }
+    requires ancestors { build.now.lineage.now ≡ [] }
     ensures judged { OnOk result (spec.Judges build.now.view.now build.now.names.now found.old found.new
         (bodies.a_body text.now written.now.name (view_body written.now.body) ∷ [])) }
 {
@@ -55,7 +55,7 @@ fn add_global(
     written: &Initializer,
     found: &mut Found<'_>,
 ) -> Result<(), AllocError>
-    requires lines { build.now.lineage.now ≡ [] }
+    requires ancestors { build.now.lineage.now ≡ [] }
     ensures judged { OnOk result (spec.Judges build.now.view.now build.now.names.now found.old found.new
         (bodies.an_initializer text.now declared.now (view_init written.now) ∷ [])) }
 {
@@ -75,7 +75,7 @@ fn add_globals(
     written: &Variables,
     found: &mut Found<'_>,
 ) -> Result<(), AllocError>
-    requires lines { build.now.lineage.now ≡ [] }
+    requires ancestors { build.now.lineage.now ≡ [] }
     ensures judged { OnOk result (spec.Judges build.now.view.now build.now.names.now found.old found.new
         (bodies.initializers_of text.now (view_vars written.now))) }
 {
@@ -99,7 +99,7 @@ fn add_declaration(
     declaration: &Declaration,
     found: &mut Found<'_>,
 ) -> Result<(), AllocError>
-    requires lines { build.now.lineage.now ≡ [] }
+    requires ancestors { build.now.lineage.now ≡ [] }
     ensures judged { OnOk result (spec.Judges build.now.view.now build.now.names.now found.old found.new
         (bodies.parts_in text.now (view_decl declaration.now))) }
 {
@@ -119,7 +119,7 @@ fn add_script(
     script: &Script,
     found: &mut Found<'_>,
 ) -> Result<(), AllocError>
-    requires lines { build.now.lineage.now ≡ [] }
+    requires ancestors { build.now.lineage.now ≡ [] }
     ensures judged { OnOk result (spec.Judges build.now.view.now build.now.names.now found.old found.new
         (bodies.parts_of (source_of script.now))) }
 {

@@ -9,7 +9,7 @@ use Rattle.ang_kinds.specs.declared.primitive.Primitive.TheVariants as p
 use Rattle.ang_types.specs.declared.arg_type.ArgType.{ArgType}
 use Rattle.ang_types.specs.declared.arg_type.ArgType.TheVariants as type
 use Rattle.ang_types.specs.Integers.{is_integer}
-use Rattle.ang_types.specs.Ranks.{Lines, rank_of}
+use Rattle.ang_types.specs.Ranks.{Ancestors, rank_of}
 use Rattle.ang_typed.specs.declared.expression.Variable.{Variable}
 use Rattle.ang_typed.specs.Typed as t
 use Rattle.ang_check_operators.specs.declared.operand.NamedVariable.{NamedVariable}
@@ -40,8 +40,8 @@ fit_by (Some zero) ty a = Ok a.tree
 fit_by (Some (suc n)) ty a = Ok (conversion a.ty ty a.tree)
 
 -- The operand as a value of this type; `BadConversion` where it does not convert by itself.
-unfoldable pub fit : Lines → ArgType → Operand → Judged t.Expr
-fit lines ty a = fit_by (rank_of lines a.ty ty) ty a
+unfoldable pub fit : Ancestors → ArgType → Operand → Judged t.Expr
+fit ancestors ty a = fit_by (rank_of ancestors a.ty ty) ty a
 
 -- ---- what an operator wants
 

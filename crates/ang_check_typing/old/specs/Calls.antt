@@ -6,7 +6,7 @@ use Rattle.ang_kinds.specs.declared.types.Pass.{Pass}
 use Rattle.ang_kinds.specs.declared.types.Pass.TheVariants as pass
 use Rattle.ang_lex.specs.declared.token.Token.{Token}
 use Rattle.ang_types.specs.declared.arg_type.ArgType.{ArgType}
-use Rattle.ang_types.specs.Ranks.{Lines}
+use Rattle.ang_types.specs.Ranks.{Ancestors}
 use Rattle.ang_typed.specs.declared.expression.Variable.{Variable}
 use Rattle.ang_typed.specs.declared.expression.Variable.TheVariants as variable
 use Rattle.ang_typed.specs.Typed as t
@@ -58,9 +58,9 @@ abbrev pub out_by : Place → Option NamedVariable → Judged Variable
 out_by place None = Err (fault_at kind.BadOut place)
 out_by place (Some x) = if is_out x then Ok x.variable else Err (fault_at kind.BadOut place)
 
-abbrev pub value_for : Lines → ArgType → Operand → Judged t.Arg
-value_for lines ty a = do
-  x ← fit lines ty a
+abbrev pub value_for : Ancestors → ArgType → Operand → Judged t.Arg
+value_for ancestors ty a = do
+  x ← fit ancestors ty a
   Ok (t.by_value ty x)
 
 abbrev pub out_for : ArgType → Operand → Judged t.Arg
@@ -68,23 +68,23 @@ out_for ty a = do
   x ← out_by a.place a.named
   Ok (t.out x ty a.ty)
 
-abbrev pub argument_by : Lines → Pass → ArgType → Operand → Judged t.Arg
-argument_by lines pass.Value ty a = value_for lines ty a
-argument_by lines pass.RefIn ty a = value_for lines ty a
-argument_by lines pass.RefOut ty a = out_for ty a
-argument_by lines pass.RefInOut ty a = value_for lines ty a
+abbrev pub argument_by : Ancestors → Pass → ArgType → Operand → Judged t.Arg
+argument_by ancestors pass.Value ty a = value_for ancestors ty a
+argument_by ancestors pass.RefIn ty a = value_for ancestors ty a
+argument_by ancestors pass.RefOut ty a = out_for ty a
+argument_by ancestors pass.RefInOut ty a = value_for ancestors ty a
 
 -- an argument for a parameter
-unfoldable pub argument : Lines → ArgType × Pass → Operand → Judged t.Arg
-argument lines param a = argument_by lines param.1 param.0 a
+unfoldable pub argument : Ancestors → ArgType × Pass → Operand → Judged t.Arg
+argument ancestors param a = argument_by ancestors param.1 param.0 a
 
 -- each argument for its parameter, from left to right
-abbrev pub arguments_for : Lines → List (ArgType × Pass) → List Operand → Judged (List t.Arg)
-arguments_for lines [] operands = Ok []
-arguments_for lines (p ∷ ps) [] = Ok []
-arguments_for lines (p ∷ ps) (a ∷ rest) = do
-  x ← argument lines p a
-  xs ← arguments_for lines ps rest
+abbrev pub arguments_for : Ancestors → List (ArgType × Pass) → List Operand → Judged (List t.Arg)
+arguments_for ancestors [] operands = Ok []
+arguments_for ancestors (p ∷ ps) [] = Ok []
+arguments_for ancestors (p ∷ ps) (a ∷ rest) = do
+  x ← argument ancestors p a
+  xs ← arguments_for ancestors ps rest
   Ok (x ∷ xs)
 
 -- ---- a bare call
@@ -93,22 +93,22 @@ abbrev pub call_of : Callee → ArgType → List t.Arg → t.Expr
 call_of (callee.Script n) result xs = t.call n result (t.args xs)
 call_of (callee.Host h) result xs = t.host_call h result (t.args xs)
 
-abbrev pub called : Lines → Place → Callable → List Operand → Judged Operand
-called lines place c operands = do
-  xs ← arguments_for lines c.candidate.params operands
+abbrev pub called : Ancestors → Place → Callable → List Operand → Judged Operand
+called ancestors place c operands = do
+  xs ← arguments_for ancestors c.candidate.params operands
   Ok (operand place c.result (call_of c.callee c.result xs))
 
 abbrev pub types_of : List Operand → List ArgType
 types_of operands = map (λ a. a.ty) operands
 
-abbrev pub called_by : Lines → Token → List Operand → Meant → Judged Operand
-called_by lines name operands (meant.Call c) = called lines name.place c operands
-called_by lines name operands (meant.Variable x ty read_only) = Err (use_refused kind.UnknownName name (asks.Call (types_of operands)))
-called_by lines name operands (meant.Type n) = Err (use_refused kind.UnknownName name (asks.Call (types_of operands)))
-called_by lines name operands (meant.Refused why) = Err (use_refused why name (asks.Call (types_of operands)))
+abbrev pub called_by : Ancestors → Token → List Operand → Meant → Judged Operand
+called_by ancestors name operands (meant.Call c) = called ancestors name.place c operands
+called_by ancestors name operands (meant.Variable x ty read_only) = Err (use_refused kind.UnknownName name (asks.Call (types_of operands)))
+called_by ancestors name operands (meant.Type n) = Err (use_refused kind.UnknownName name (asks.Call (types_of operands)))
+called_by ancestors name operands (meant.Refused why) = Err (use_refused why name (asks.Call (types_of operands)))
 
 -- A name with typed arguments: the use is resolved first, then each argument is put to its parameter. Parameters and locals of that
 -- name play no part.
 unfoldable pub call_typing : Setting → Token → List Operand → Judged Operand
 call_typing s x operands =
-    called_by s.lines x operands (resolve s [] (text_of s.text x) (asks.Call (types_of operands)))
+    called_by s.ancestors x operands (resolve s [] (text_of s.text x) (asks.Call (types_of operands)))

@@ -1,7 +1,7 @@
 -- The parameters and locals that are alive where an expression stands (docs/LANGUAGE.md, "Expressions": names; the AngelScript manual, "Variables").
 use Rattle.std.specs.Prelude.{ℕ, ◌+◌, bytes_eq, if◌then◌else◌, List, [], ◌∷◌, Option, Some, None}
 use Rattle.ang_registry.specs.Registration.{RegistrationList}
-use Rattle.ang_types.specs.Ranks.{Lines}
+use Rattle.ang_types.specs.Ranks.{Ancestors}
 use Rattle.ang_names.specs.declared.names.Names.{Names}
 use Rattle.ang_check_typing.specs.declared.scope.Pair.{Pair}
 
@@ -10,7 +10,7 @@ use Rattle.ang_check_typing.specs.declared.scope.Pair.{Pair}
 pub record Setting : Type 0 where
   pub view : RegistrationList
   pub names : Names
-  pub lines : Lines
+  pub ancestors : Ancestors
   pub text : List ℕ
 
 abbrev pub or_else : {A : Type 0} → Option A → Option A → Option A

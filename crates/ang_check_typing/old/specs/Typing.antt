@@ -23,7 +23,7 @@ module _ (s : Setting) (ps : List Pair) where
     typing_of (cast word less y greater left e right) = not_yet word.place
     typing_of (convert word left e right) = do
       a ← typing_of e
-      convert_typing s.lines word a
+      convert_typing s.ancestors word a
     typing_of (group left e right) = do
       a ← typing_of e
       Ok (group_typing left.place a)
@@ -34,20 +34,20 @@ module _ (s : Setting) (ps : List Pair) where
     typing_of (method_call e dot x es) = not_yet dot.place
     typing_of (prefix op e) = do
       a ← typing_of e
-      prefix_typing s.lines op a
+      prefix_typing s.ancestors op a
     typing_of (binary l op r) = do
       a ← typing_of l
       b ← typing_of r
-      binary_typing s.lines a op.kind b
+      binary_typing s.ancestors a op.kind b
     typing_of (conditional c question l colon r) = do
       x ← typing_of c
       a ← typing_of l
       b ← typing_of r
-      conditional_typing s.lines x a b
+      conditional_typing s.ancestors x a b
     typing_of (assignment l op r) = do
       a ← typing_of l
       b ← typing_of r
-      assignment_typing s.lines a op.kind b
+      assignment_typing s.ancestors a op.kind b
 
     pub typing_of_args : Args → Judged (List Operand)
     typing_of_args (arguments left es right) = typing_of_all es

@@ -88,7 +88,7 @@ picked cs (pick.One i) = called_at (slice_get cs i)
 abbrev pub best_callable : Setting → List Callable → List ArgType → Meant
 best_callable s cs args =
     if length cs == 0 then meant.Refused kind.UnknownName
-    else picked cs (best_of s.lines (map (λ c. c.candidate) cs) args)
+    else picked cs (best_of s.ancestors (map (λ c. c.candidate) cs) args)
 
 -- A type's name in a call makes an object, which is not built yet.
 unfoldable pub meaning_of_call : Setting → List ℕ → List ArgType → Meant

@@ -24,7 +24,7 @@ impl<'a> Model for Setting<'a> {
 
     ghost Value = { spec.Setting };
 
-    ghost view = { λ s. record { view = s.view.now; names = s.names.now; lines = s.lineage.now; text = s.text.now } };
+    ghost view = { λ s. record { view = s.view.now; names = s.names.now; ancestors = s.lineage.now; text = s.text.now } };
 }
 
 impl<'a> Setting<'a> {
@@ -38,7 +38,7 @@ impl<'a> Setting<'a> {
     ) -> Setting<'a>
         ensures view { result.view ≡ view.now }
         ensures names { result.names ≡ names.now }
-        ensures lines { result.lines ≡ lineage.now }
+        ensures ancestors { result.ancestors ≡ lineage.now }
         ensures text { result.text ≡ text.now }
     {
         Setting {
@@ -65,7 +65,7 @@ impl<'a> Setting<'a> {
 
     /// What stands above each object type.
     pub fn lineage(&self) -> &'a Lineage
-        ensures same { result.now ≡ self.now.lines }
+        ensures same { result.now ≡ self.now.ancestors }
     {
         self.lineage
     }

@@ -1,11 +1,10 @@
 -- What a use of a name means where no local and no member of a script's class has the name (docs/LANGUAGE.md, "Expressions": names and
 -- calls; the AngelScript manual, "Function overloading", "Object handles" and "Access masks"). A use is a name and what is asked of it.
 -- The denial report asks the same over a larger view.
-use Rattle.std.specs.Prelude.{ℕ, ◌==◌, Bool, true, false, not, ◌&&◌, if◌then◌else◌, length, List, [], ◌∷◌, ◌++◌, map, slice_get, option_to_list, Option, Some, None}
+use Rattle.std.specs.Prelude.{ℕ, Bool, true, false, not, ◌&&◌, if◌then◌else◌, List, [], ◌∷◌, ◌++◌, map, slice_get, option_to_list, Option, Some, None}
 use Rattle.std.specs.List.{flat_map}
 use Rattle.ang_kinds.specs.declared.error.ErrorKind.{ErrorKind}
 use Rattle.ang_kinds.specs.declared.error.ErrorKind.TheVariants as kind
-use Rattle.ang_kinds.specs.declared.types.Pass.{Pass}
 use Rattle.ang_kinds.specs.declared.types.Pass.TheVariants as pass
 use Rattle.ang_types.specs.declared.arg_type.ArgType.{ArgType}
 use Rattle.ang_types.specs.declared.arg_type.ArgType.TheVariants as type
@@ -15,7 +14,7 @@ use Rattle.ang_types.specs.declared.candidate.Candidate.{Candidate}
 use Rattle.ang_types.specs.declared.candidate.Pick.{Pick}
 use Rattle.ang_types.specs.declared.candidate.Pick.TheVariants as pick
 use Rattle.ang_types.specs.Best.{best_of}
-use Rattle.ang_types.specs.Ranks.{Lines}
+use Rattle.ang_types.specs.Ranks.{Ancestors}
 use Rattle.ang_typed.specs.declared.expression.Callee.TheVariants as callee
 use Rattle.ang_typed.specs.declared.expression.HostEntity.{HostEntity}
 use Rattle.ang_typed.specs.declared.expression.Variable.TheVariants as variable
@@ -30,7 +29,6 @@ use Rattle.ang_names_known.specs.declared.names.Names.{Names}
 use Rattle.ang_names_known.specs.declared.names.ScriptFunction.{ScriptFunction}
 use Rattle.ang_names_known.specs.declared.names.ScriptGlobal.{ScriptGlobal}
 use Rattle.ang_check_uses.specs.declared.uses.Callable.{Callable}
-use Rattle.ang_check_uses.specs.declared.uses.Called.{Called}
 use Rattle.ang_check_uses.specs.declared.uses.Called.TheVariants as called
 use Rattle.ang_check_uses.specs.declared.uses.Resolution.{Resolution}
 use Rattle.ang_check_uses.specs.declared.uses.Resolution.TheVariants as resolution
@@ -39,14 +37,20 @@ use Rattle.ang_names_known.specs.declared.host.WantedProperty.TheVariants as pro
 use Rattle.ang_names_known.specs.declared.space.Named.{Named}
 use Rattle.ang_names_known.specs.declared.space.Named.TheVariants as named
 use Rattle.ang_names_known.specs.Host.{host_where, property_where}
-use Rattle.ang_names_known.specs.Lookup.{FoundMethod, is_empty, is_read_only, functions_named, global_named, parameters_of, default_of, methods_named}
-use Rattle.ang_names_known.specs.Spaces.{family_type, family_of_type, named_in, space_of_names}
+use Rattle.ang_names_known.specs.Items.{is_empty}
+use Rattle.ang_names_known.specs.Lookup.{is_read_only, functions_named, global_named, parameters_of, default_of}
+use Rattle.ang_names_known.specs.Spaces.{family_type, family_of_type, type_of_name, space_of_names}
 
 -- what a use is asked over: what the module sees of the host, what the scripts declare, and what stands above each object type
 pub record Scope : Type 0 where
   pub view : RegistrationList
   pub names : Names
-  pub lines : Lines
+  pub ancestors : Ancestors
+
+-- why a use means nothing; where it means what can't stand there no such name is known
+abbrev pub why : Resolution → ErrorKind
+why (resolution.Refused k) = k
+why _ = kind.UnknownName
 
 -- ---- a bare name: a global of the script, else a global property that the module sees
 
@@ -61,12 +65,12 @@ abbrev pub variable_meant : ℕ → Option ScriptGlobal → Option HostProperty 
 variable_meant n None host = host_meant host
 variable_meant n (Some g) host = resolution.Variable (variable.Global n) g.written.ty (is_read_only g.written)
 
-abbrev pub global_by : List ScriptGlobal → Option ℕ → Option HostProperty → Resolution
-global_by gs None host = host_meant host
-global_by gs (Some n) host = variable_meant n (slice_get gs n) host
+abbrev pub global_or_host : List ScriptGlobal → Option ℕ → Option HostProperty → Resolution
+global_or_host gs None host = host_meant host
+global_or_host gs (Some n) host = variable_meant n (slice_get gs n) host
 
 unfoldable pub global_meant : Scope → List ℕ → Resolution
-global_meant s name = global_by s.names.globals (global_named s.names.globals name) (property_where (property.Global name) s.view)
+global_meant s name = global_or_host s.names.globals (global_named s.names.globals name) (property_where (property.Global name) s.view)
 
 -- ---- what can be called
 
@@ -135,13 +139,13 @@ makers_in fs c None = []
 makers_in fs c (Some f) =
     if f.is_class then (if is_empty f.constructors then default_maker c (default_of fs c) else map (constructor_of c) f.constructors) else []
 
-abbrev pub makers_by : Scope → ℕ → Option ℕ → List Callable
-makers_by s n None = factories_of s.view n
-makers_by s n (Some c) = makers_in s.names.families c (slice_get s.names.families c)
+abbrev pub makers_for : Scope → ℕ → Option ℕ → List Callable
+makers_for s n None = factories_of s.view n
+makers_for s n (Some c) = makers_in s.names.families c (slice_get s.names.families c)
 
 -- all that makes an object of the type of this number
 unfoldable pub makers_of : Scope → ℕ → List Callable
-makers_of s n = makers_by s n (family_of_type n)
+makers_of s n = makers_for s n (family_of_type n)
 
 -- ---- the best of them
 
@@ -150,31 +154,31 @@ called_at None = resolution.Refused kind.UnknownName
 called_at (Some c) = resolution.Call c
 
 abbrev pub picked : ErrorKind → List Callable → Pick → Resolution
-picked why cs pick.NoViable = resolution.Refused why
-picked why cs pick.Ambiguous = resolution.Refused kind.Ambiguous
-picked why cs (pick.One i) = called_at (slice_get cs i)
+picked unviable cs pick.NoViable = resolution.Refused unviable
+picked unviable cs pick.Ambiguous = resolution.Refused kind.Ambiguous
+picked unviable cs (pick.One i) = called_at (slice_get cs i)
 
 abbrev pub candidates_of : List Callable → List Candidate
 candidates_of cs = map (λ (c : Callable). c.candidate) cs
 
 -- The best for arguments of these types: this kind of error where none takes them, `Ambiguous` where none of those that do is the best.
-unfoldable pub best_of_those : Lines → ErrorKind → List Callable → List ArgType → Resolution
-best_of_those lines why cs args = picked why cs (best_of lines (candidates_of cs) args)
+unfoldable pub best_of_those : Ancestors → ErrorKind → List Callable → List ArgType → Resolution
+best_of_those ancestors unviable cs args = picked unviable cs (best_of ancestors (candidates_of cs) args)
 
 -- ---- a bare call: what makes an object of the type of the name, else the functions of the name
 
 abbrev pub functions_of : Scope → List ℕ → List Callable
 functions_of s name = script_callables s.names name ++ map host_callable (host_where (wanted.Function name) s.view)
 
-abbrev pub best_function : Lines → List Callable → List ArgType → Resolution
-best_function lines cs args = if is_empty cs then resolution.Refused kind.UnknownName else best_of_those lines kind.NoMatch cs args
+abbrev pub best_function : Ancestors → List Callable → List ArgType → Resolution
+best_function ancestors cs args = if is_empty cs then resolution.Refused kind.UnknownName else best_of_those ancestors kind.NoMatch cs args
 
 abbrev pub called_by : Scope → List ℕ → List ArgType → Named → Resolution
-called_by s name args (named.Object n) = best_of_those s.lines kind.NoMatch (makers_of s n) args
-called_by s name args named.Unknown = best_function s.lines (functions_of s name) args
+called_by s name args (named.Object n) = best_of_those s.ancestors kind.NoMatch (makers_of s n) args
+called_by s name args named.Unknown = best_function s.ancestors (functions_of s name) args
 
 unfoldable pub called_name : Scope → List ℕ → List ArgType → Resolution
-called_name s name args = called_by s name args (named_in (space_of_names s.view s.names) name)
+called_name s name args = called_by s name args (type_of_name (space_of_names s.view s.names) name)
 
 -- ---- a type's name
 
@@ -201,24 +205,24 @@ is_none_viable pick.Ambiguous = false
 is_none_viable (pick.One i) = false
 
 -- `Const` where some method would take the arguments on a receiver that may be changed
-abbrev pub unmatched : Lines → List Callable → ℕ → Bool → List ArgType → ErrorKind
-unmatched lines cs n c args =
-    if c && not (is_none_viable (best_of lines (candidates_of cs) (type.Object n false ∷ args))) then kind.Const else kind.NoMatch
+abbrev pub unmatched : Ancestors → List Callable → ℕ → Bool → List ArgType → ErrorKind
+unmatched ancestors cs n c args =
+    if c && not (is_none_viable (best_of ancestors (candidates_of cs) (type.Object n false ∷ args))) then kind.Const else kind.NoMatch
 
 -- The best of some methods on a receiver of this type, `const` or not, for arguments of these types.
-unfoldable pub best_method : Lines → List Callable → ℕ → Bool → List ArgType → Resolution
-best_method lines cs n c args =
+unfoldable pub best_method : Ancestors → List Callable → ℕ → Bool → List ArgType → Resolution
+best_method ancestors cs n c args =
     if is_empty cs then resolution.Refused kind.UnknownName
-    else best_of_those lines (unmatched lines cs n c args) cs (type.Object n c ∷ args)
+    else best_of_those ancestors (unmatched ancestors cs n c args) cs (type.Object n c ∷ args)
 
 -- ---- any use
 
 -- What a use means, over a view and the declarations of the scripts.
-abbrev pub meaning_of : Scope → List ℕ → Asks → Resolution
-meaning_of s name asks.Value = global_meant s name
-meaning_of s name asks.Type = type_meant (named_in (space_of_names s.view s.names) name)
-meaning_of s name (asks.Call args) = called_name s name args
-meaning_of s name (asks.Make n args) = best_of_those s.lines kind.NoMatch (factories_of s.view n) args
-meaning_of s name (asks.Default n) = best_of_those s.lines kind.NoDefault (factories_of s.view n) []
-meaning_of s name (asks.Property n) = property_meant (property_where (property.Member n name) s.view)
-meaning_of s name (asks.Method n c args) = best_method s.lines (host_methods s.view n name) n c args
+abbrev pub resolution_of : Scope → List ℕ → Asks → Resolution
+resolution_of s name asks.Value = global_meant s name
+resolution_of s name asks.Type = type_meant (type_of_name (space_of_names s.view s.names) name)
+resolution_of s name (asks.Call args) = called_name s name args
+resolution_of s name (asks.Make n args) = best_of_those s.ancestors kind.NoMatch (factories_of s.view n) args
+resolution_of s name (asks.Default n) = best_of_those s.ancestors kind.NoDefault (factories_of s.view n) []
+resolution_of s name (asks.Property n) = property_meant (property_where (property.Member n name) s.view)
+resolution_of s name (asks.Method n c args) = best_method s.ancestors (host_methods s.view n name) n c args

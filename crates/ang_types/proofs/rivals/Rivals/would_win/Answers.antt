@@ -2,7 +2,7 @@ use Rattle.std.specs.Prelude.{Decides}
 use Rattle.std.proofs.Common.{rules}
 use Rattle.ang_types.specs.Rivals.{IsAbreast}
 use Rattle.ang_types.proofs.RivalLaws.{tested}
-use Rattle.ang_types.proofs.rivals.Rivals.beaten_by.Goals as goal
+use Rattle.ang_types.proofs.rivals.Rivals.would_win.Goals as goal
 
 pub returns : goal.returns
 returns c =

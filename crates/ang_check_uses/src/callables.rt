@@ -1,0 +1,76 @@
+//! Functions that a call can mean.
+ghost use Rattle.std.specs.Prelude.{◌≡◌, [], ◌∷◌, ◌++◌, OnOk, OnErr};
+ghost use Rattle.ang_names_known.specs.Items.{is_empty};
+ghost use Rattle.ang_check_uses.specs.Uses.{candidates_of};
+
+use crate::uses::{Callable, Called, Reach};
+use ang_types::{ArgType, Candidate};
+use std::alloc::{AllocError, Global};
+use std::marker::Model;
+
+/// A function that a call can mean, but for its parameters.
+#[derive(Clone, Copy, PartialEq, Eq, Debug)]
+pub struct Head {
+    /// What runs.
+    pub called: Called,
+    /// The type of what the call gives.
+    pub result: ArgType,
+    /// From where it may be called, where it is a script's method.
+    pub reach: Option<Reach>,
+}
+
+/// Functions that a call can mean, in order. Their parameters stand beside them as candidates, so that the best is
+/// picked without a copy of any.
+#[derive(Drop)]
+pub struct Callables {
+    heads: Vec<Head>,
+    candidates: Vec<Candidate>,
+}
+
+impl Model for Callables {
+    ghost use Rattle.std.specs.Prelude.{◌≡◌, List, length};
+    ghost use Rattle.ang_check_uses.specs.declared.uses.Callable.{Callable};
+    ghost use Rattle.ang_check_uses.specs.Callables.{callables};
+
+    ghost Value = { List Callable };
+
+    ghost view = { λ c. callables c.heads.items c.candidates.items };
+
+    ghost invariant = { λ c. length c.heads.items ≡ length c.candidates.items };
+}
+
+impl Callables {
+    /// None yet. It takes no memory.
+    pub fn new(alloc: Global) -> Callables
+        ensures none { result ≡ [] }
+    {
+        Callables {
+            heads: Vec::new(alloc),
+            candidates: Vec::new(alloc),
+        }
+    }
+
+    /// Whether there are none. It takes no memory.
+    pub fn is_empty(&self) -> bool
+        ensures exact { result ≡ is_empty self.now }
+    {
+        self.heads.is_empty()
+    }
+
+    /// Their parameters, in order. It takes no memory.
+    pub fn candidates(&self) -> &[Candidate]
+        ensures exact { result.now ≡ candidates_of self.now }
+    {
+        self.candidates.as_slice()
+    }
+
+    /// Puts one more at the end. After want of memory they are as before.
+    ///
+    /// The only error is want of memory.
+    pub fn push(&mut self, callable: Callable) -> Result<(), AllocError>
+        ensures pushed { OnOk result (self.new ≡ self.old ++ callable ∷ []) }
+        ensures unchanged { OnErr result (self.new ≡ self.old) }
+    {
+        Err(AllocError)
+    }
+}

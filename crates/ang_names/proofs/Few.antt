@@ -1,0 +1,90 @@
+-- The families of names are few, and what stands above each is among them.
+use Rattle.std.specs.Prelude.{ℕ, zero, suc, ◌≡◌, ◌≤◌, ◌<◌, ◌+◌, Bool, true, false, if◌then◌else◌, All, List, [], ◌∷◌, ◌++◌, length, map, slice_index_or}
+use Rattle.std.proofs.Common.{arith, refl, sym, subst, length-append}
+use Rattle.std.proofs.lemmas.List.Elements.{All-append}
+use Rattle.ang_types.specs.declared.asks.Refused.{Refused}
+use Rattle.ang_view.specs.Registration.{RegistrationList}
+use Rattle.ang_names_heritage.specs.Graphs.{above, leads, numbers_below}
+use Rattle.ang_names_known.specs.declared.names.Family.{Family}
+use Rattle.ang_names_known.specs.Items.{each_after, list_or}
+use Rattle.ang_names_known.specs.Spaces.{AreFamilies, Space}
+use Rattle.ang_names_listed.specs.declared.listed.Declared.{Declared}
+use Rattle.ang_names_listed.specs.Declarations.{Declaring, declarations_of, families_of}
+use Rattle.ang_names_listed.specs.Taken.{name_refusals, plain_refusal}
+use Rattle.ang_names_listed.proofs.Few as listed
+use Rattle.ang_names_written.specs.NotYet.{not_yet}
+use Rattle.ang_names_written.specs.Sources.{Source}
+use Rattle.ang_names.specs.Meant.{space_of_declared}
+use Rattle.ang_names.specs.Phases.{all_phases, first_refusals, refusals_of}
+use Rattle.ang_names.specs.Resolved.{families_after, families_in, functions_in, is_parent, names_of, signatures_of}
+
+module _ {A B : Type 0} (f : List A → A → List B) where
+  -- where each item gives one there are as many
+  as_many : ((before : List A) (x : A) → length (f before x) ≡ 1) → (before xs : List A) → length (each_after f before xs) ≡ length xs
+  as_many one before [] = refl
+  as_many one before (x ∷ xs) =
+      omega (arith, length-append (f before x) (each_after f (before ++ x ∷ []) xs), one before x, as_many one (before ++ x ∷ []) xs)
+
+  -- what holds of all that each item gives
+  holds_of_all : (P : B → Type 0) → ((before : List A) (x : A) → All P (f before x)) → (before xs : List A) → All P (each_after f before xs)
+  holds_of_all P h before [] = λ k d lt. absurd (omega (arith, lt))
+  holds_of_all P h before (x ∷ xs) = All-append P (f before x) _ (h before x) (holds_of_all P h (before ++ x ∷ []) xs)
+
+one_small : (n m : ℕ) → n < m → (k : ℕ) (d : ℕ) → k < length (n ∷ []) → slice_index_or (n ∷ []) k d < m
+one_small n m lt zero d l = lt
+one_small n m lt (suc k) d l = absurd (omega (arith, l))
+
+own_small : (b : Bool) (n m : ℕ) → n < m → All (λ k. k < m) (if b then n ∷ [] else [])
+own_small true n m lt = one_small n m lt
+own_small false n m lt = λ k d l. absurd (omega (arith, l))
+
+numbers_small : (p : ℕ → Bool) (n m : ℕ) → n ≤ m → All (λ k. k < m) (numbers_below p n)
+numbers_small p zero m le = λ k d l. absurd (omega (arith, l))
+numbers_small p (suc n) m le = All-append (λ k. k < m) (numbers_below p n) _ (numbers_small p n m (omega arith)) (own_small (p n) n m le)
+
+above_small : (e : ℕ → ℕ → Bool) (n i : ℕ) → All (λ k. k < n) (above e n i)
+unfolding above
+above_small e n i = numbers_small (leads e n i) n n (omega arith)
+
+module _ (E : Space) (ds : List Declared) where
+  abbrev made : List Declaring → Declaring → List Family
+  made = families_after E (families_of ds) (signatures_of E (families_of ds)) (length (functions_in E ds))
+
+  family_number : length (families_in E ds) ≡ length (families_of ds)
+  unfolding families_in
+  family_number = as_many made (λ before d. refl) [] (families_of ds)
+
+  one_above : (n : ℕ) → length (families_of ds) ≡ n → (before : List Declaring) (d : Declaring) (k : ℕ) (x : Family) → k < length (made before d)
+      → All (λ j. j < n) (slice_index_or (made before d) k x).above
+  one_above n e before d zero x l = subst (λ n. All (λ j. j < n) (above (is_parent (families_of ds)) (length (families_of ds)) (length before))) e
+      (above_small (is_parent (families_of ds)) (length (families_of ds)) (length before))
+  one_above n e before d (suc k) x l = absurd (omega (arith, l))
+
+  all_above : (n : ℕ) → length (families_of ds) ≡ n → All (λ (f : Family). All (λ j. j < n) f.above) (families_in E ds)
+  unfolding families_in
+  all_above n e = holds_of_all made (λ (f : Family). All (λ j. j < n) f.above) (one_above n e) [] (families_of ds)
+
+  families_are : length (families_of ds) ≤ 256 → AreFamilies (families_in E ds)
+  families_are le = record {
+    few = subst (λ n. n ≤ 256) (sym family_number) le;
+    above = all_above (length (families_in E ds)) (sym family_number);
+  }
+
+pub are_families : (V : RegistrationList) (ds : List Declared) → length (families_of ds) ≤ 256 → AreFamilies (names_of V ds).families
+unfolding names_of
+are_families V ds le = families_are (space_of_declared V ds) ds le
+
+later_empty : {A : Type 0} (xs ys : List A) → list_or xs ys ≡ [] → ys ≡ []
+later_empty [] ys e = e
+later_empty (x ∷ xs) ys e = cc
+
+first_empty : {A : Type 0} (xs ys : List A) → list_or xs ys ≡ [] → xs ≡ []
+first_empty [] ys e = refl
+first_empty (x ∷ xs) ys e = cc
+
+pub accepted_families : (V : RegistrationList) (ss : List Source) → refusals_of V ss ≡ [] → AreFamilies (names_of V (declarations_of ss)).families
+unfolding refusals_of name_refusals
+accepted_families V ss e =
+    let phases = later_empty (map plain_refusal (not_yet V ss)) (first_refusals V (declarations_of ss) all_phases) e in
+    let names : name_refusals V (declarations_of ss) ≡ [] = first_empty (name_refusals V (declarations_of ss)) _ phases in
+    are_families V (declarations_of ss) (listed.few_families V (declarations_of ss) names)
