@@ -1,5 +1,5 @@
 -- The types that a declaration names, by name and by driver (docs/EMBEDDING.md, "Registration").
-use Rattle.std.specs.Prelude.{ℕ, Bool, true, false, not, ◌==◌, ◌&&◌, ◌||◌, nat_lt, is_some, List, Option, Some, None}
+use Rattle.std.specs.Prelude.{ℕ, Bool, true, false, not, ◌==◌, ◌&&◌, ◌||◌, nat_lt, is_some, Option, Some, None}
 use Rattle.std.specs.List.{list_any, list_all}
 use Rattle.ang_kinds.specs.declared.types.Signature.{Signature}
 use Rattle.ang_kinds.specs.declared.types.TypeRef.{TypeRef}
