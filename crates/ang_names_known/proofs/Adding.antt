@@ -11,9 +11,9 @@ use Rattle.ang_view.proofs.Seen.{length-seen}
 use Rattle.ang_names_known.specs.declared.host.HostFunction.{HostFunction}
 use Rattle.ang_names_known.specs.declared.host.Wanted.{Wanted}
 use Rattle.ang_names_known.specs.declared.host.Wanted.TheVariants as wanted
-use Rattle.ang_names_known.specs.Host.{host_type, host_parameters, host_function, function_in, is_factory, is_method, is_wanted, found, scan, host_where}
+use Rattle.ang_names_known.specs.Host.{host_type, host_parameters, host_function, function_of_entry, is_factory, is_method, is_wanted, found, scan, host_where}
 use Rattle.ang_names_known.specs.Added.{put_in, added}
-use Rattle.ang_names_known.proofs.Sights.{SameTypes, IsLookUp, IsOneMore, one_more, function_in-same, length-seen_with}
+use Rattle.ang_names_known.proofs.Sights.{SameTypes, IsLookUp, IsOneMore, one_more, function_of_entry-same, length-seen_with}
 
 -- ---- what is looked for
 
@@ -52,7 +52,7 @@ where_wanted true o q h = h refl
 where_wanted false o q h = refl
 
 found-same : (w : Wanted) (V W : RegistrationList) (n : ℕ) (y : Entry) → (is_type y.kind ≡ false → SameTypes V W (mentions y.signature)) → found w V n (Some y) ≡ found w W n (Some y)
-found-same w V W n y h = where_wanted (is_wanted w y) (function_in V n y) (function_in W n y) (λ e. function_in-same V W n y (h (no_type w y e)))
+found-same w V W n y h = where_wanted (is_wanted w y) (function_of_entry V n y) (function_of_entry W n y) (λ e. function_of_entry-same V W n y (h (no_type w y e)))
 
 type_not_wanted : (w : Wanted) (y : Entry) (b : Bool) → is_wanted w y ≡ b → is_type y.kind ≡ true → is_wanted w y ≡ false
 type_not_wanted w y true e t = let no' : true ≡ false = sym t ∙ no_type w y e in cc

@@ -1,6 +1,7 @@
 -- With a hidden entry added the property that is wanted is what it was, or that of the entry where its number is lower.
 use Rattle.std.proofs.Common.{◌≡◌, ◌≢◌, ◌⊎◌, inl, inr, ℕ, zero, suc, ◌+◌, ◌<◌, ◌≤◌, ◌==◌, Bool, true, false, cond, nat_lt, ◌&&◌, List, [], ◌∷◌, length, Option, Some, None, refl, sym, ap, subst, ◌∙◌, arith}
 use Rattle.std.specs.Prelude.{IfSome}
+use Rattle.std.specs.Option.{option_or}
 use Rattle.ang_view.specs.declared.entry.Entry.{Entry}
 use Rattle.ang_view.specs.declared.entry.EntryKind.{EntryKind}
 use Rattle.ang_view.specs.declared.entry.EntryKind.TheVariants as entry
@@ -12,7 +13,7 @@ use Rattle.std.specs.List.{list_any}
 use Rattle.ang_names_known.specs.declared.host.HostProperty.{HostProperty}
 use Rattle.ang_names_known.specs.declared.host.WantedProperty.{WantedProperty}
 use Rattle.ang_names_known.specs.declared.host.WantedProperty.TheVariants as wanted
-use Rattle.ang_names_known.specs.Host.{host_type, is_global, is_property, is_wanted_property, property_with, property_found, or_else, first_found, property_where}
+use Rattle.ang_names_known.specs.Host.{host_type, is_global, is_property, is_wanted_property, property_with, property_found, first_found, property_where}
 use Rattle.ang_names_known.specs.Added.{first_property, added_property}
 use Rattle.ang_names_known.proofs.Sights.{SameTypes, IsLookUp, IsOneMore, one_more, host_type-same, or_left, length-seen_with}
 
@@ -49,7 +50,7 @@ found-same w V W n y h =
     let s = y.signature in
     where_wanted (is_wanted_property w y) (property_with n y (host_type V s.result)) (property_with n y (host_type W s.result))
     (λ e. ap (property_with n y) (host_type-same V W s.result (λ name g. h (no_type w y e) name
-        (or_left (is_spelled_with name s.result) (list_any (λ p. is_spelled_with name p.ty) s.params) g))))
+    (or_left (is_spelled_with name s.result) (list_any (λ p. is_spelled_with name p.ty) s.params) g))))
 
 type_not_wanted : (w : WantedProperty) (y : Entry) (b : Bool) → is_wanted_property w y ≡ b → is_type y.kind ≡ true → is_wanted_property w y ≡ false
 type_not_wanted w y true e t = let no' : true ≡ false = sym t ∙ no_type w y e in cc
@@ -65,7 +66,7 @@ found-looks_up w = record { blank = λ V n. refl; of_type = found_no_type w; by_
 
 unfoldable first_n : (ℕ → Option HostProperty) → ℕ → ℕ → Option HostProperty
 first_n F n zero = None
-first_n F n (suc l) = or_else (F n) (first_n F (n + 1) l)
+first_n F n (suc l) = option_or (F n) (first_n F (n + 1) l)
 
 first_found-is : (f : ℕ → Option Entry → Option HostProperty) (R xs : RegistrationList) (n : ℕ) → ((j : ℕ) → entry_at xs j ≡ entry_at R (n + j))
     → first_found f n xs ≡ first_n (λ k. f k (entry_at R k)) n (length xs)
@@ -75,7 +76,7 @@ first_found-is f R (x ∷ xs) n h =
     let z : n + 0 ≡ n = omega arith in
     let here : x ≡ entry_at R n = h 0 ∙ ap (entry_at R) z in
     let rest = first_found-is f R xs (n + 1) (λ j. let e : n + suc j ≡ n + 1 + j = omega arith in h (suc j) ∙ ap (entry_at R) e) in
-    λ i. or_else (f n (here i)) (rest i)
+    λ i. option_or (f n (here i)) (rest i)
 
 property_where-is : (w : WantedProperty) (V : RegistrationList) → property_where w V ≡ first_n (λ k. property_found w V k (entry_at V k)) 0 (length V)
 unfolding property_where
@@ -87,7 +88,7 @@ first_n-same F G n zero h = refl
 first_n-same F G n (suc l) h =
     let here = h n (omega arith) in
     let rest = first_n-same F G (n + 1) l (λ k le. h k (omega arith)) in
-    λ i. or_else (here i) (rest i)
+    λ i. option_or (here i) (rest i)
 
 -- each is found under its number
 abbrev Numbered : (ℕ → Option HostProperty) → Type 0
@@ -103,7 +104,7 @@ not_lt_is a b h = search arith
 abbrev IsFrom : ℕ → Option HostProperty → Type 0
 IsFrom n o = IfSome o (λ h. n ≤ h.entity.0)
 
-or_from : (n : ℕ) (o rest : Option HostProperty) → IfSome o (λ h. h.entity.0 ≡ n) → IsFrom (n + 1) rest → IsFrom n (or_else o rest)
+or_from : (n : ℕ) (o rest : Option HostProperty) → IfSome o (λ h. h.entity.0 ≡ n) → IsFrom (n + 1) rest → IsFrom n (option_or o rest)
 or_from n (Some g) rest e h = omega (arith, e)
 or_from n None (Some g) e h = omega (arith, h)
 or_from n None None e h = tt
@@ -113,7 +114,7 @@ unfolding first_n
 first_n-from G h n zero = tt
 first_n-from G h n (suc l) = or_from n (G n) (first_n G (n + 1) l) (h n) (first_n-from G h (n + 1) l)
 
-front : (o rest : Option HostProperty) (x : ℕ) → IfSome o (λ h. h.entity.0 ≡ x) → IsFrom (x + 1) rest → or_else o rest ≡ added_property o rest
+front : (o rest : Option HostProperty) (x : ℕ) → IfSome o (λ h. h.entity.0 ≡ x) → IsFrom (x + 1) rest → option_or o rest ≡ added_property o rest
 front None rest x e h = refl
 front (Some p) None x e h = refl
 front (Some p) (Some q) x e h =
@@ -121,7 +122,7 @@ front (Some p) (Some q) x e h =
     rw (lt_is p.entity.0 q.entity.0 less) refl
 
 past : (o q rest : Option HostProperty) (n x : ℕ) → n < x → IfSome o (λ h. h.entity.0 ≡ n) → IfSome q (λ h. h.entity.0 ≡ x)
-    → or_else o (added_property q rest) ≡ added_property q (or_else o rest)
+    → option_or o (added_property q rest) ≡ added_property q (option_or o rest)
 past None q rest n x lt e f = refl
 past (Some g) None rest n x lt e f = refl
 past (Some g) (Some p) rest n x lt e f =
@@ -132,14 +133,14 @@ order : (n x : ℕ) → n ≤ x → (n ≡ x) ⊎ (n < x)
 order n x le = grind arith
 
 at_place : (F G : ℕ → Option HostProperty) (x : ℕ) → Numbered F → Numbered G → ((k : ℕ) → k ≢ x → F k ≡ G k) → G x ≡ None → (n l : ℕ) → n ≡ x
-    → or_else (F n) (first_n F (n + 1) l) ≡ added_property (F x) (or_else (G n) (first_n G (n + 1) l))
+    → option_or (F n) (first_n F (n + 1) l) ≡ added_property (F x) (option_or (G n) (first_n G (n + 1) l))
 at_place F G x a b same isnt n l is =
     let rest = first_n-same F G (n + 1) l (λ k le. same k (omega arith)) in
     let e : F n ≡ F x = ap F is in
     let g : G n ≡ None = ap G is ∙ isnt in
-    ap (or_else (F n)) rest
+    ap (option_or (F n)) rest
     ∙ front (F n) (first_n G (n + 1) l) n (a n) (first_n-from G b (n + 1) l)
-    ∙ (λ i. added_property (e i) (or_else (sym g i) (first_n G (n + 1) l)))
+    ∙ (λ i. added_property (e i) (option_or (sym g i) (first_n G (n + 1) l)))
 
 first_n-added : (F G : ℕ → Option HostProperty) (x : ℕ) → Numbered F → Numbered G → ((k : ℕ) → k ≢ x → F k ≡ G k) → G x ≡ None → (n l : ℕ) → n ≤ x → x < n + l
     → first_n F n l ≡ added_property (F x) (first_n G n l)
@@ -150,7 +151,7 @@ first_n-added F G x a b same isnt n (suc l) le lt =
       | inr less ↦
           let here = same n (omega arith) in
           let rest = first_n-added F G x a b same isnt (n + 1) l (omega arith) (omega arith) in
-          (λ i. or_else (here i) (rest i)) ∙ past (G n) (F x) (first_n G (n + 1) l) n x less (b n) (a x)
+          (λ i. option_or (here i) (rest i)) ∙ past (G n) (F x) (first_n G (n + 1) l) n x less (b n) (a x)
       | inl is ↦ at_place F G x a b same isnt n l is
     ]
 

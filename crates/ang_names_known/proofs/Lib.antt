@@ -3,3 +3,4 @@ pub mod SoFar
 pub mod Sights
 pub mod Adding
 pub mod AddingProperty
+pub mod NearestMethods

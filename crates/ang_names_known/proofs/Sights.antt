@@ -12,7 +12,7 @@ use Rattle.ang_view.specs.Hidden.{names_entry, is_with, shown_from, seen_entry_w
 use Rattle.ang_view.proofs.Lists.{and_gives}
 use Rattle.ang_view.proofs.Seen.{length-seen, entry_at-seen}
 use Rattle.ang_view.proofs.ViewTypes.{named_from, has_mask-named, shown, hidden_too}
-use Rattle.ang_names_known.specs.Host.{object_with, host_type, in_front, host_parameters, host_function, function_in}
+use Rattle.ang_names_known.specs.Host.{object_with, host_type, in_front, host_parameters, host_function, function_of_entry}
 
 -- ---- the entries of the view
 
@@ -135,8 +135,8 @@ host_parameters-same V W (p ∷ ps) h =
     let rest = host_parameters-same V W ps (λ name e. h name (or_right (is_spelled_with name p.ty) (list_any (λ q. is_spelled_with name q.ty) ps) e)) in
     λ i. in_front (here i) p.pass (rest i)
 
-pub function_in-same : (V W : RegistrationList) (n : ℕ) (y : Entry) → SameTypes V W (mentions y.signature) → function_in V n y ≡ function_in W n y
-function_in-same V W n y h =
+pub function_of_entry-same : (V W : RegistrationList) (n : ℕ) (y : Entry) → SameTypes V W (mentions y.signature) → function_of_entry V n y ≡ function_of_entry W n y
+function_of_entry-same V W n y h =
     let s = y.signature in
     let result = host_type-same V W s.result (λ name e. h name (or_left (is_spelled_with name s.result) (list_any (λ p. is_spelled_with name p.ty) s.params) e)) in
     let params = host_parameters-same V W s.params (λ name e. h name (or_right (is_spelled_with name s.result) (list_any (λ p. is_spelled_with name p.ty) s.params) e)) in

@@ -3,3 +3,4 @@ pub mod Host
 pub mod Items
 pub mod Lookup
 pub mod Spaces
+pub mod Nearest

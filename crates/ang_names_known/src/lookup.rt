@@ -145,7 +145,7 @@ pub fn may_use(families: &[Family], within: Option<usize>, owner: usize, access:
 }
 
 /// The families of which a family has members, itself first, by number.
-fn order_of(families: &[Family], family: usize) -> &[usize]
+pub(crate) fn order_of(families: &[Family], family: usize) -> &[usize]
     ensures exact { spec.families_at families.now result.now ≡ spec.kin_of families.now family }
 {
     match families.get(family) {
@@ -228,9 +228,11 @@ pub fn has_member(families: &[Family], family: usize, name: &[u8]) -> bool
 fn default_among(constructors: &[Constructor]) -> Option<usize>
     ensures exact { result ≡ option_map (λ k. k.body) (spec.default_among constructors.now) }
 {
-    let found = constructors
-        .iter()
-        .find(|constructor| constructor.function.params.as_slice().is_empty())?;
+    let found = constructors.iter().find(|constructor| constructor
+        .function
+        .params
+        .as_slice()
+        .is_empty())?;
     Some(found.body)
 }
 

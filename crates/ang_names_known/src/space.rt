@@ -10,7 +10,7 @@ use ang_view::View;
 use std::marker::Model;
 
 /// The number of the first family as a type, above those of all entries.
-const FIRST_FAMILY: u32 = 1024;
+pub const FIRST_FAMILY: u32 = 1024;
 
 /// What a name means as a type.
 #[derive(Clone, Copy, PartialEq, Eq, Debug)]
