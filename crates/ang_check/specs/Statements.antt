@@ -1,15 +1,10 @@
 -- What is to be proved of the definitions, stated here and claimed by no contract yet.
-use Rattle.std.specs.Prelude.{◌≡◌, ◌<◌, ◌↔◌, ℕ, true, List, [], length, Contains, Some, None}
+use Rattle.std.specs.Prelude.{◌≡◌, ◌<◌, ◌↔◌, ℕ, true, List, [], length, Contains, Some}
 use Rattle.ang_kinds.specs.declared.error.Denial.{Denial}
 use Rattle.ang_types.specs.declared.asks.Asks.{Asks}
 use Rattle.ang_types.specs.declared.asks.Refused.{Refused}
-use Rattle.ang_view.specs.Hidden.{seen_with}
-use Rattle.ang_view.specs.Registration.{RegistrationList, entry_at, seen}
-use Rattle.ang_names_known.specs.declared.host.Wanted.{Wanted}
-use Rattle.ang_names_known.specs.declared.host.WantedProperty.{WantedProperty}
+use Rattle.ang_view.specs.Registration.{RegistrationList, seen}
 use Rattle.ang_names_known.specs.declared.names.Names.{Names}
-use Rattle.ang_names_known.specs.Added.{added, added_property}
-use Rattle.ang_names_known.specs.Host.{found, host_where, property_found, property_where}
 use Rattle.ang_names_written.specs.Sources.{Source}
 use Rattle.ang_names_listed.specs.Declarations.{declarations_of}
 use Rattle.ang_names.specs.Resolved.{names_of}
@@ -33,15 +28,6 @@ EachHelpIsListed = (R : RegistrationList) (m : ℕ) (ss : List Source) (d : Deni
 abbrev pub AskedAgain : Type 0
 AskedAgain = (V : RegistrationList) (ss : List Source) (r : Refused) (a : Asks) →
     Contains (script_refusals V ss) r → r.asks ≡ Some a → resolution_of (scope_over V ss) r.error.name a ≡ resolution.Refused r.error.kind
-
--- With an entry that a module does not see, what is looked for is what was found without it, and the entry at its place.
-abbrev pub OneIsAdded : Type 0
-OneIsAdded = (R : RegistrationList) (m x : ℕ) (w : Wanted) → entry_at (seen R m) x ≡ None →
-    host_where w (seen_with R m x) ≡ added (found w R x (entry_at R x)) (host_where w (seen R m))
-
-abbrev pub OnePropertyIsAdded : Type 0
-OnePropertyIsAdded = (R : RegistrationList) (m x : ℕ) (w : WantedProperty) → entry_at (seen R m) x ≡ None →
-    property_where w (seen_with R m x) ≡ added_property (property_found w R x (entry_at R x)) (property_where w (seen R m))
 
 -- ---- bodies
 

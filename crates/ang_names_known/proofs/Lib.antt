@@ -1,2 +1,4 @@
+pub mod Adding
+pub mod AddingProperties
 pub mod Kin
 pub mod SoFar

@@ -1,29 +1,13 @@
 //! What the scripts declare and what a module sees of the host, by name.
-ghost use Rattle.std.specs.Prelude.{◌≡◌, ◌≤◌, IfOk, length};
+ghost use Rattle.std.specs.Prelude.{◌≡◌, IfOk};
 ghost use Rattle.ang_names_known.specs.Spaces as spaces;
 ghost use Rattle.ang_names_known.specs.Lookup as spec;
 
 use crate::names::{Family, Method, Names, ScriptFunction};
-use crate::space::Space;
 use ang_kinds::{List, Pass};
 use ang_types::{ArgType, Lineage};
-use ang_view::View;
 use std::alloc::{AllocError, Global};
 use std::marker::Model;
-
-/// The object types of a build whose names are there.
-///
-/// The only error is want of memory.
-pub fn space_of_names<'a>(
-    alloc: Global,
-    view: &'a View,
-    names: &'a Names,
-) -> Result<Space<'a>, AllocError>
-    requires few { length names.now.families ≤ 256 }
-    ensures exact { IfOk result (λ s. s ≡ spaces.space_of_names view.now names.now) }
-{
-    Err(AllocError)
-}
 
 /// What stands above each object type.
 ///

@@ -8,12 +8,13 @@
 mod api;
 mod borrowed;
 mod host;
+pub mod laws;
 mod lookup;
 mod names;
 mod space;
 
 pub use api::{
-    FoundMethod, functions_named, lineage_of, methods_named, parameters_of, space_of_names,
+    FoundMethod, functions_named, lineage_of, methods_named, parameters_of,
 };
 pub use borrowed::Text;
 pub use host::{
