@@ -1,16 +1,12 @@
 -- What is to be proved of the definitions, stated here and claimed by no contract yet.
-use Rattle.std.specs.Prelude.{◌≡◌, ◌<◌, ◌↔◌, ℕ, true, List, [], length, Contains, Some}
+use Rattle.std.specs.Prelude.{◌≡◌, ◌<◌, ◌↔◌, ℕ, true, List, length, Contains, Some}
 use Rattle.ang_kinds.specs.declared.error.Denial.{Denial}
 use Rattle.ang_types.specs.declared.asks.Asks.{Asks}
 use Rattle.ang_types.specs.declared.asks.Refused.{Refused}
 use Rattle.ang_view.specs.Registration.{RegistrationList, seen}
-use Rattle.ang_names_known.specs.declared.names.Names.{Names}
 use Rattle.ang_names_written.specs.Sources.{Source}
-use Rattle.ang_names_listed.specs.Declarations.{declarations_of}
-use Rattle.ang_names.specs.Resolved.{names_of}
 use Rattle.ang_check_uses.specs.declared.uses.Resolution.TheVariants as resolution
 use Rattle.ang_check_uses.specs.Uses.{resolution_of}
-use Rattle.ang_check_bodies.specs.Bodies.{body_refusals, program_of, HasBodies}
 use Rattle.ang_check.specs.Denials.{script_refusals, scope_over, denied, row, denials_of}
 
 -- ---- denials
@@ -28,10 +24,3 @@ EachHelpIsListed = (R : RegistrationList) (m : ℕ) (ss : List Source) (d : Deni
 abbrev pub AskedAgain : Type 0
 AskedAgain = (V : RegistrationList) (ss : List Source) (r : Refused) (a : Asks) →
     Contains (script_refusals V ss) r → r.asks ≡ Some a → resolution_of (scope_over V ss) r.error.name a ≡ resolution.Refused r.error.kind
-
--- ---- bodies
-
--- Where nothing is refused the resolved tree has each body at the number that the names give it.
-abbrev pub BodiesHaveTheirNumbers : Type 0
-BodiesHaveTheirNumbers = (V : RegistrationList) (names : Names) (ss : List Source) → names ≡ names_of V (declarations_of ss) →
-    body_refusals V names ss ≡ [] → HasBodies V names ss (program_of V names ss)

@@ -243,7 +243,11 @@ fn property_in(view: &View, entity: EntityNo, entry: &Entry) -> Option<HostPrope
 }
 
 /// The property of the entry of this number, if it is wanted. It takes no memory.
-pub fn property_at(view: &View, wanted: &WantedProperty<'_>, entity: EntityNo) -> Option<HostProperty>
+pub fn property_at(
+    view: &View,
+    wanted: &WantedProperty<'_>,
+    entity: EntityNo,
+) -> Option<HostProperty>
     ensures exact { result
         ≡ spec.property_found wanted.now view.now entity.0 (entry_at view.now entity.0) }
 {

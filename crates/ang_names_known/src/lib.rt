@@ -13,9 +13,7 @@ mod lookup;
 mod names;
 mod space;
 
-pub use api::{
-    FoundMethod, functions_named, lineage_of, methods_named, parameters_of,
-};
+pub use api::{FoundMethod, functions_named, lineage_of, methods_named, parameters_of};
 pub use borrowed::Text;
 pub use host::{
     HostFunction, HostProperty, Wanted, WantedProperty, found_at, host_where, property_at,
