@@ -1,17 +1,22 @@
 -- What is found in the families of some numbers, by the first of them and the others.
-use Rattle.std.specs.Prelude.{ℕ, ◌≡◌, Bool, true, false, cond, find, not, ◌||◌, List, length, map, position, Option, Some, None, option_and_then, if◌then◌else◌}
+use Rattle.std.specs.Prelude.{ℕ, ◌≡◌, Bool, true, false, cond, find, not, ◌||◌, ◌==◌, List, [], ◌∷◌, length, map, position, bytes_eq, Option, Some, None, option_map, option_and_then, if◌then◌else◌}
 use Rattle.std.specs.List.{list_any}
 use Rattle.std.specs.Option.{option_or, option_map_or}
 use Rattle.std.proofs.Common.{refl}
 use Rattle.ang_view.proofs.Lists.{length-map, position-map}
 use Rattle.ang_names_known.specs.declared.names.Family.{Family}
+use Rattle.ang_names_known.specs.declared.names.Field.{Field}
 use Rattle.ang_names_known.specs.Items.{is_empty}
-use Rattle.ang_names_known.specs.Lookup.{Numbered, with_family, own_field, first_field, declares_method, constructors_in, default_among, has_constructors, nearest_default}
+use Rattle.ang_names_known.specs.Lookup.{Numbered, with_family, field_of, fields_in, first_field, declares_method, constructors_in, default_among, has_constructors, nearest_default}
 
 pub first_field_with : (name : List ℕ) (n : ℕ) (o : Option Family) (rest : List Numbered)
-    → first_field name (with_family n o rest) ≡ option_or (option_and_then (λ f. own_field name (n, f)) o) (first_field name rest)
+    → first_field name (with_family n o rest) ≡ option_or (option_map (field_of n) (find (λ (x : Field). bytes_eq x.name name) (fields_in o))) (first_field name rest)
 first_field_with name n None rest = refl
 first_field_with name n (Some f) rest = refl
+
+pub empty_is : {A : Type 0} (xs : List A) → is_empty xs ≡ (length xs == 0)
+empty_is [] = refl
+empty_is (x ∷ xs) = refl
 
 pub any_method_with : (name : List ℕ) (n : ℕ) (o : Option Family) (rest : List Numbered)
     → list_any (declares_method name) (with_family n o rest)

@@ -131,6 +131,10 @@ field_of owner x = record { owner = owner; number = x.number; written = x.writte
 abbrev pub own_field : List ℕ → Numbered → Option FoundField
 own_field name f = option_map (field_of f.0) (find (λ (x : Field). bytes_eq x.name name) f.1.fields)
 
+abbrev pub fields_in : Option Family → List Field
+fields_in None = []
+fields_in (Some f) = f.fields
+
 abbrev pub first_field : List ℕ → List Numbered → Option FoundField
 first_field name [] = None
 first_field name (f ∷ fs) = option_or (own_field name f) (first_field name fs)

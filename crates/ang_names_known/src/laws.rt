@@ -11,7 +11,6 @@ ghost use Rattle.ang_names_known.specs.Host.{found, host_where, property_found, 
 
 /// With an entry added that a module does not see, what is looked for is what was found without it, and the entry at its
 /// place where it is wanted. Its types are looked up in the whole list, so no view with an entry more has to be made.
-#[tactic(auto, using(crate::proofs::Adding::one_added, crate::proofs::AddingProperties::one_property_added))]
 pub fn one_is_added()
     ensures function { (R : RegistrationList) (m x : ℕ) (w : Wanted) → entry_at (seen R m) x ≡ None →
         host_where w (seen_with R m x) ≡ added (found w R x (entry_at R x)) (host_where w (seen R m)) }
@@ -22,7 +21,6 @@ pub fn one_is_added()
 
 /// The types that a seen declaration names keep their numbers in the larger view, which are those of the whole list, and so
 /// have the types that the added one names.
-#[tactic(auto, using(crate::proofs::Adding::types_of_seen_with, crate::proofs::Adding::types_of_added))]
 pub fn types_stay()
     ensures seen { (R : RegistrationList) (m x : ℕ) (y : Entry) → is_seen R m y ≡ true → is_type y.kind ≡ false →
         (name : List ℕ) → mentions y.signature name ≡ true → type_named (seen_with R m x) name ≡ type_named R name }

@@ -1,5 +1,5 @@
 //! What the scripts declare, by name, as far as it takes no memory.
-ghost use Rattle.std.specs.Prelude.{◌≡◌, false, bytes_eq, find, option_map, option_and_then, slice_get};
+ghost use Rattle.std.specs.Prelude.{◌≡◌, false, bytes_eq, find, option_map, slice_get};
 ghost use Rattle.std.specs.List.{list_any};
 ghost use Rattle.std.specs.Option.{option_map_or};
 ghost use Rattle.ang_names_known.specs.Lookup as spec;
@@ -180,14 +180,13 @@ fn field_among(fields: &[Field], owner: usize, name: &[u8]) -> Option<FoundField
     None
 }
 
-/// The field of this name that a family declares itself.
-fn own_field(families: &[Family], family: usize, name: &[u8]) -> Option<FoundField>
-    ensures exact { result ≡ option_and_then (λ f. spec.own_field name.now (family, f))
-        (slice_get families.now family) }
+/// The fields that a family declares itself.
+fn fields_of(families: &[Family], family: usize) -> &[Field]
+    ensures exact { result.now ≡ spec.fields_in (slice_get families.now family) }
 {
     match families.get(family) {
-        None => None,
-        Some(declaring) => field_among(declaring.fields.as_slice(), family, name),
+        None => &[],
+        Some(family) => family.fields.as_slice(),
     }
 }
 
@@ -198,7 +197,7 @@ pub fn field_named(families: &[Family], family: usize, name: &[u8]) -> Option<Fo
 {
     let order = order_of(families, family);
     for number in order {
-        let found = own_field(families, *number, name);
+        let found = field_among(fields_of(families, *number), *number, name);
         if found.is_some() {
             return found;
         }
@@ -247,12 +246,19 @@ pub fn has_member(families: &[Family], family: usize, name: &[u8]) -> bool
     field_named(families, family, name).is_some() || has_method(families, family, name)
 }
 
+#[tactic(auto, using(crate::proofs::Kin::empty_is))]
+fn takes_nothing(constructor: &Constructor) -> bool
+    ensures exact { result ≡ spec.takes_nothing constructor.now }
+{
+    constructor.function.params.as_slice().is_empty()
+}
+
 /// The body of the constructor without parameters among some.
 fn default_among(constructors: &[Constructor]) -> Option<usize>
     ensures exact { result ≡ spec.default_among constructors.now }
 {
     for constructor in constructors {
-        if constructor.function.params.as_slice().is_empty() {
+        if takes_nothing(constructor) {
             return Some(constructor.body);
         }
     }

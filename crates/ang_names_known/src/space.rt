@@ -1,5 +1,5 @@
 //! The object types that a name can mean.
-ghost use Rattle.std.specs.Prelude.{◌≡◌, ◌≤◌, ◌<◌, length, bytes_eq, IfSome, map as list_map};
+ghost use Rattle.std.specs.Prelude.{◌≡◌, ◌≤◌, ◌<◌, length, bytes_eq, IfSome};
 ghost use Rattle.std.specs.List.{position};
 ghost use Rattle.ang_view.specs.Types.{type_named};
 ghost use Rattle.ang_names_known.specs.Spaces as spaces;
@@ -90,7 +90,7 @@ impl<'a> Space<'a> {
     }
 
     /// The number of the script's family of this name.
-    #[tactic(auto, using(crate::proofs::Kin::number_of_names))]
+    #[tactic(auto, using(crate::proofs::Kin::number_of_names, crate::proofs::Kin::position_of_name))]
     fn family_named(&self, name: &[u8]) -> Option<usize>
         ensures exact { result ≡ position (bytes_eq name.now) self.now.families }
         ensures few { IfSome result (λ c. c < 256) }
@@ -118,9 +118,8 @@ fn listed_as(names: &[Text<'_>], name: &[u8]) -> Option<usize>
     names.iter().position(|family| name == family.bytes())
 }
 
-#[tactic(auto, using(crate::proofs::Kin::position_of_name))]
 fn known_as(families: &[Family], name: &[u8]) -> Option<usize>
-    ensures exact { result ≡ position (bytes_eq name.now) (list_map (λ f. f.name) families.now) }
+    ensures exact { result ≡ position (λ f. bytes_eq name.now f.name) families.now }
     ensures within { IfSome result (λ c. c < length families.now) }
 {
     families
