@@ -60,12 +60,12 @@ module _ (R : RegistrationList) (m : ℕ) (s : Scope) (r : Refused) (a : Asks) (
       let parts = and_parts (is_unmet R m y) (list_any brings (range_with_len 0 (length R))) e in
       let x = found_from brings 0 (length R) parts.1 in
       let both_parts = and_parts (helps R m s r a x.0) (is_with R x.0 y) x.2 in
-      (parts.0, x.0, omega (arith, x.1), both_parts.0, both_parts.1)
+      (parts.0, (x.0, omega (arith, x.1), both_parts.0, both_parts.1))
 
   listed : (is_unmet R m y ≡ true) × Helped → denied R m s r a y ≡ true
   listed h =
       both (is_unmet R m y) (list_any brings (range_with_len 0 (length R))) h.0
-      (found_at brings 0 (length R) h.1 (omega arith) (omega (arith, h.2)) (both (helps R m s r a h.1) (is_with R h.1 y) h.3 h.4))
+      (found_at brings 0 (length R) h.1.0 (omega arith) (omega (arith, h.1.1)) (both (helps R m s r a h.1.0) (is_with R h.1.0 y) h.1.2 h.1.3))
 
   pub row_helps : (denied R m s r a y ≡ true) ↔ ((is_unmet R m y ≡ true) × Helped)
   row_helps = (told, listed)

@@ -1,6 +1,6 @@
 -- The denials of a build (docs/LANGUAGE.md, "Denials"; the AngelScript manual, "Access masks and exposing different interfaces"): for each
 -- refused use the hidden entries by which it would have been resolved, told by the same resolver over a larger view.
-use Rattle.std.specs.Prelude.{◌≡◌, ◌≢◌, ℕ, ◌==◌, Bool, true, false, not, ◌&&◌, ◌||◌, List, [], map, filter, Option, Some, None}
+use Rattle.std.specs.Prelude.{◌≡◌, ◌≢◌, ◌<◌, ℕ, Contains, length, ◌==◌, Bool, true, false, not, ◌&&◌, ◌||◌, List, [], map, filter, Option, Some, None}
 use Rattle.std.specs.List.{list_any, flat_map}
 use Rattle.ang_kinds.specs.declared.error.Denial.{Denial}
 use Rattle.ang_kinds.specs.declared.error.Error.{Error}
@@ -133,3 +133,8 @@ rows_for R m s r = rows_asked R m s r r.asks
 -- The denials of these scripts for a module of mask m, in the order of errors.
 unfoldable pub denials_of : RegistrationList → ℕ → List Source → List Denial
 denials_of R m ss = flat_map (rows_for R m (scope_over (seen R m) ss)) (script_refusals (seen R m) ss)
+
+-- a row for a refused use of these scripts
+abbrev pub IsRowOf : RegistrationList → ℕ → List Source → Denial → Type 0
+IsRowOf R m ss d = (r : Refused) × (a : Asks) × (y : ℕ) × Contains (script_refusals (seen R m) ss) r × (r.asks ≡ Some a) × (y < length R)
+    × (denied R m (scope_over (seen R m) ss) r a y ≡ true) × (d ≡ row R m r y)

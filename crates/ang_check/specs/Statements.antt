@@ -1,51 +1,14 @@
 -- What is to be proved of the definitions, stated here and claimed by no contract yet.
-use Rattle.std.specs.Prelude.{◌≡◌, ◌<◌, ◌↔◌, ℕ, true, List, [], length, Contains, Some, None}
-use Rattle.ang_kinds.specs.declared.error.Denial.{Denial}
+use Rattle.std.specs.Prelude.{◌≡◌, List, Contains, Some}
 use Rattle.ang_types.specs.declared.asks.Asks.{Asks}
 use Rattle.ang_types.specs.declared.asks.Refused.{Refused}
-use Rattle.ang_view.specs.Hidden.{seen_with}
-use Rattle.ang_view.specs.Registration.{RegistrationList, entry_at, seen}
-use Rattle.ang_names_known.specs.declared.host.Wanted.{Wanted}
-use Rattle.ang_names_known.specs.declared.host.WantedProperty.{WantedProperty}
-use Rattle.ang_names_known.specs.declared.names.Names.{Names}
-use Rattle.ang_names_known.specs.Added.{added, added_property}
-use Rattle.ang_names_known.specs.Host.{found, host_where, property_found, property_where}
+use Rattle.ang_view.specs.Registration.{RegistrationList}
 use Rattle.ang_names_written.specs.Sources.{Source}
-use Rattle.ang_names_listed.specs.Declarations.{declarations_of}
-use Rattle.ang_names.specs.Resolved.{names_of}
 use Rattle.ang_check_uses.specs.declared.uses.Resolution.TheVariants as resolution
 use Rattle.ang_check_uses.specs.Uses.{resolution_of}
-use Rattle.ang_check_bodies.specs.Bodies.{body_refusals, program_of, HasBodies}
-use Rattle.ang_check.specs.Denials.{script_refusals, scope_over, denied, row, denials_of}
-
--- ---- denials
-
--- a row that is listed for a refused use of these scripts
-abbrev pub IsListed : RegistrationList → ℕ → List Source → Denial → Type 0
-IsListed R m ss d = (r : Refused) × (a : Asks) × (y : ℕ) × Contains (script_refusals (seen R m) ss) r × (r.asks ≡ Some a) × (y < length R)
-    × (denied R m (scope_over (seen R m) ss) r a y ≡ true) × (d ≡ row R m r y)
-
--- The denials of a build are the rows of its refused uses, and no others.
-abbrev pub EachHelpIsListed : Type 0
-EachHelpIsListed = (R : RegistrationList) (m : ℕ) (ss : List Source) (d : Denial) → Contains (denials_of R m ss) d ↔ IsListed R m ss d
+use Rattle.ang_check.specs.Denials.{script_refusals, scope_over}
 
 -- What a refusal asks was asked: over the same view it means just that refusal.
 abbrev pub AskedAgain : Type 0
 AskedAgain = (V : RegistrationList) (ss : List Source) (r : Refused) (a : Asks) →
     Contains (script_refusals V ss) r → r.asks ≡ Some a → resolution_of (scope_over V ss) r.error.name a ≡ resolution.Refused r.error.kind
-
--- With an entry that a module does not see, what is looked for is what was found without it, and the entry at its place.
-abbrev pub OneIsAdded : Type 0
-OneIsAdded = (R : RegistrationList) (m x : ℕ) (w : Wanted) → entry_at (seen R m) x ≡ None →
-    host_where w (seen_with R m x) ≡ added (found w R x (entry_at R x)) (host_where w (seen R m))
-
-abbrev pub OnePropertyIsAdded : Type 0
-OnePropertyIsAdded = (R : RegistrationList) (m x : ℕ) (w : WantedProperty) → entry_at (seen R m) x ≡ None →
-    property_where w (seen_with R m x) ≡ added_property (property_found w R x (entry_at R x)) (property_where w (seen R m))
-
--- ---- bodies
-
--- Where nothing is refused the resolved tree has each body at the number that the names give it.
-abbrev pub BodiesHaveTheirNumbers : Type 0
-BodiesHaveTheirNumbers = (V : RegistrationList) (names : Names) (ss : List Source) → names ≡ names_of V (declarations_of ss) →
-    body_refusals V names ss ≡ [] → HasBodies V names ss (program_of V names ss)

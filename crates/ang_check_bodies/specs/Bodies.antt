@@ -204,7 +204,7 @@ pub data Part : Type 0 where
 
 -- the initializers of a declaration of globals, before which so many globals stand
 abbrev pub initializer_parts : ℕ → List ℕ → TypeName → List Var → Var → List Part
-initializer_parts globals text y before v = a_global (globals + length before) text y v.initializer ∷ []
+initializer_parts first text y before v = a_global (first + length before) text y v.initializer ∷ []
 
 abbrev pub is_method_tree : MemberTree → Bool
 is_method_tree (method a y x ps constant attributes b) = true

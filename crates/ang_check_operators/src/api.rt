@@ -5,8 +5,8 @@ ghost use Rattle.ang_check_operand.specs.View.{view_operand};
 ghost use Rattle.ang_check_operators.specs.Operations as spec;
 
 use ang_check_operand::{Operand, Stop, Target};
-use ang_lex::{Token, TokenKind};
 use ang_kinds::Place;
+use ang_lex::{Token, TokenKind};
 use ang_types::Lineage;
 use std::alloc::Global;
 

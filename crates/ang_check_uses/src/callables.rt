@@ -51,6 +51,7 @@ impl Callables {
     }
 
     /// Whether there are none. It takes no memory.
+    #[tactic(auto, using(crate::proofs::Beside::none_are))]
     pub fn is_empty(&self) -> bool
         ensures exact { result ≡ is_empty self.now }
     {
@@ -58,6 +59,7 @@ impl Callables {
     }
 
     /// Their parameters, in order. It takes no memory.
+    #[tactic(auto, using(crate::proofs::Beside::candidates_are))]
     pub fn candidates(&self) -> &[Candidate]
         ensures exact { result.now ≡ candidates_of self.now }
     {

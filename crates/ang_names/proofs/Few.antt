@@ -1,6 +1,7 @@
 -- The families of names are few, and what stands above each is among them.
-use Rattle.std.specs.Prelude.{ℕ, zero, suc, ◌≡◌, ◌≤◌, ◌<◌, ◌+◌, Bool, true, false, if◌then◌else◌, All, List, [], ◌∷◌, ◌++◌, length, map, slice_index_or}
-use Rattle.std.proofs.Common.{arith, refl, sym, subst, length-append}
+use Rattle.std.specs.Prelude.{ℕ, zero, suc, ◌≡◌, ◌≤◌, ◌<◌, ◌+◌, ◌⊎◌, Bool, true, false, if◌then◌else◌, All, Contains, List, [], ◌∷◌, ◌++◌, length, map, slice_index_or, Option, Some, None, IsSome, is_some, option_to_list}
+use Rattle.std.proofs.Common.{arith, refl, sym, subst, ap, inl, inr, ◌∙◌, length-append}
+use Rattle.ang_kinds.specs.declared.error.Error.{Error}
 use Rattle.std.proofs.lemmas.List.Elements.{All-append}
 use Rattle.ang_types.specs.declared.asks.Refused.{Refused}
 use Rattle.ang_view.specs.Registration.{RegistrationList}
@@ -10,10 +11,11 @@ use Rattle.ang_names_known.specs.Items.{each_after, list_or}
 use Rattle.ang_names_known.specs.Spaces.{AreFamilies, Space}
 use Rattle.ang_names_listed.specs.declared.listed.Declared.{Declared}
 use Rattle.ang_names_listed.specs.Declarations.{Declaring, declarations_of, families_of}
-use Rattle.ang_names_listed.specs.Taken.{name_refusals, plain_refusal}
+use Rattle.ang_names_listed.specs.Taken.{is_first_above, is_taken, name_refusal, name_refusals, plain_refusal}
 use Rattle.ang_names_listed.proofs.Few as listed
 use Rattle.ang_names_written.specs.NotYet.{not_yet}
 use Rattle.ang_names_written.specs.Sources.{Source}
+use Rattle.ang_names.specs.declared.phase.Phase.TheVariants as phase
 use Rattle.ang_names.specs.Meant.{space_of_declared}
 use Rattle.ang_names.specs.Phases.{all_phases, first_refusals, refusals_of}
 use Rattle.ang_names.specs.Resolved.{families_after, families_in, functions_in, is_parent, names_of, signatures_of}
@@ -88,3 +90,56 @@ accepted_families V ss e =
     let phases = later_empty (map plain_refusal (not_yet V ss)) (first_refusals V (declarations_of ss) all_phases) e in
     let names : name_refusals V (declarations_of ss) ≡ [] = first_empty (name_refusals V (declarations_of ss)) _ phases in
     are_families V (declarations_of ss) (listed.few_families V (declarations_of ss) names)
+
+-- ---- what asks is refused after the first phase
+
+abbrev AsksNothing : Refused → Type 0
+AsksNothing r = r.asks ≡ None
+
+one_silent : (r : Refused) → AsksNothing r → (k : ℕ) (d : Refused) → k < length (r ∷ []) → AsksNothing (slice_index_or (r ∷ []) k d)
+one_silent r h zero d l = h
+one_silent r h (suc k) d l = absurd (omega (arith, l))
+
+choice_silent : (taken above : Bool) (e f : Error) → All AsksNothing (option_to_list (if taken then Some (plain_refusal e) else (if above then Some (plain_refusal f) else None)))
+choice_silent true above e f = one_silent (plain_refusal e) refl
+choice_silent false true e f = one_silent (plain_refusal f) refl
+choice_silent false false e f = λ k d l. absurd (omega (arith, l))
+
+names_silent : (V : RegistrationList) (all : List Declared) → All AsksNothing (name_refusals V all)
+unfolding name_refusals name_refusal
+names_silent V all =
+    holds_of_all (λ before d. option_to_list (name_refusal V before d)) AsksNothing
+    (λ before d. choice_silent (is_taken V before d) (is_first_above before d.part) _ _) [] all
+
+plain_silent : (es : List Error) → All AsksNothing (map plain_refusal es)
+plain_silent [] = λ k d l. absurd (omega (arith, l))
+plain_silent (e ∷ es) = All-append AsksNothing (plain_refusal e ∷ []) (map plain_refusal es) (one_silent (plain_refusal e) refl) (plain_silent es)
+
+silent_in : (rs : List Refused) (r : Refused) → All AsksNothing rs → Contains rs r → IsSome r.asks → ⊥
+silent_in rs r h c asks =
+    let none : r.asks ≡ None = subst AsksNothing c.2 (h c.0 r c.1) in
+    let no' : true ≡ false = sym asks ∙ ap is_some none in
+    cc
+
+either_list : {A : Type 0} (xs ys : List A) → (list_or xs ys ≡ xs) ⊎ ((xs ≡ []) × (list_or xs ys ≡ ys))
+either_list [] ys = inr (refl, refl)
+either_list (x ∷ xs) ys = inl refl
+
+abbrev later_phases : RegistrationList → List Declared → List Refused
+later_phases V ds = first_refusals V ds (phase.Types ∷ phase.Ancestors ∷ phase.Heirs ∷ phase.Cycles ∷ [])
+
+pub asked_families : (V : RegistrationList) (ss : List Source) (r : Refused) → Contains (refusals_of V ss) r → IsSome r.asks → length (families_of (declarations_of ss)) ≤ 256
+unfolding refusals_of name_refusals
+asked_families V ss r c asks =
+    let ds = declarations_of ss in
+    let early = map plain_refusal (not_yet V ss) in
+    let later = first_refusals V ds all_phases in
+    elim (either_list early later) [
+      | inl e ↦ absurd (silent_in early r (plain_silent (not_yet V ss)) (subst (λ rs. Contains rs r) e c) asks)
+      | inr none ↦
+          let c' : Contains later r = subst (λ rs. Contains rs r) none.1 c in
+          elim (either_list (name_refusals V ds) (later_phases V ds)) [
+            | inl e ↦ absurd (silent_in (name_refusals V ds) r (names_silent V ds) (subst (λ rs. Contains rs r) e c') asks)
+            | inr free ↦ listed.few_families V ds free.0
+          ]
+    ]

@@ -29,9 +29,8 @@ pub fn declare(alloc: Global, view: &View, scripts: &[Script]) -> Result<Names, 
     Err(Unbuilt::Memory)
 }
 
-/// The names of all declarations, whatever is refused of them: denials ask over these. Where the first phase refuses nothing
-/// there are few enough classes and interfaces (`ang_names_listed::laws::few_families`), and where it refuses some no denial asks
-/// for a name.
+/// The names of all declarations, whatever is refused of them: denials ask over these. There are few enough classes and
+/// interfaces wherever a refused declaration asks for a name (`laws::few_families`).
 ///
 /// The only error is want of memory.
 pub fn names_over(alloc: Global, view: &View, scripts: &[Script]) -> Result<Names, AllocError>

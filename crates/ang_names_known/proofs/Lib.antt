@@ -1,6 +1,6 @@
-pub mod Kin
-pub mod SoFar
-pub mod Sights
 pub mod Adding
-pub mod AddingProperty
+pub mod AddingProperties
+pub mod Kin
 pub mod NearestMethods
+pub mod SoFar
+pub mod Turns

@@ -9,7 +9,7 @@ use Rattle.ang_names_known.specs.declared.names.Family.{Family}
 use Rattle.ang_names_known.specs.declared.names.Method.{Method}
 use Rattle.ang_names_known.specs.Items.{each_after}
 use Rattle.ang_names_known.specs.Lookup.{FoundMethod, with_family, families_at, methods_in, stands_in, is_named, if_nearest}
-use Rattle.ang_names_known.specs.Nearest.{methods_with, own_methods, nearest_named}
+use Rattle.ang_names_known.specs.Nearest.{methods_declared, of_owner, named_among, nearest_named}
 
 -- ---- the nearest of some
 
@@ -89,25 +89,19 @@ one_more name before x = by_name (is_named name x)
 
 -- ---- a loop over the methods of a family
 
-abbrev of_owner : ℕ → Method → FoundMethod
-of_owner n m = record { owner = n; method = m }
-
-abbrev pub named_in : List ℕ → ℕ → List Method → List FoundMethod
-named_in name n ms = filter (is_named name) (map (of_owner n) ms)
-
 pub method_more : (name : List ℕ) (before : List FoundMethod) (n : ℕ) (ms : List Method) (i : ℕ) (m : Method) (old new : List FoundMethod)
-    → i < length ms → m ≡ get_or ms i m → old ≡ nearest (before ++ named_in name n (take i ms)) → new ≡ old ++ nearest_named name old (of_owner n m)
-    → new ≡ nearest (before ++ named_in name n (take (i + 1) ms))
+    → i < length ms → m ≡ get_or ms i m → old ≡ nearest (before ++ named_among name n (take i ms)) → new ≡ old ++ nearest_named name old (of_owner n m)
+    → new ≡ nearest (before ++ named_among name n (take (i + 1) ms))
 method_more name before n ms i m old new lt is so_far pushed =
     let taken : take (i + 1) ms ≡ take i ms ++ m ∷ [] = take_more ms i m lt ∙ ap (λ y. take i ms ++ y ∷ []) (sym is) in
-    let front : List FoundMethod = before ++ named_in name n (take i ms) in
-    let split : named_in name n (take (i + 1) ms) ≡ named_in name n (take i ms) ++ filter (is_named name) (of_owner n m ∷ []) =
-    ap (named_in name n) taken ∙ ap (filter (is_named name)) (map-append (of_owner n) (take i ms) (m ∷ []))
+    let front : List FoundMethod = before ++ named_among name n (take i ms) in
+    let split : named_among name n (take (i + 1) ms) ≡ named_among name n (take i ms) ++ filter (is_named name) (of_owner n m ∷ []) =
+    ap (named_among name n) taken ∙ ap (filter (is_named name)) (map-append (of_owner n) (take i ms) (m ∷ []))
     ∙ filter-append (is_named name) (map (of_owner n) (take i ms)) (of_owner n m ∷ []) in
     pushed
     ∙ ap (λ o. o ++ nearest_named name o (of_owner n m)) so_far
     ∙ one_more name front (of_owner n m)
-    ∙ ap nearest (append_assoc (before) (named_in name n (take i ms)) (filter (is_named name) (of_owner n m ∷ [])))
+    ∙ ap nearest (append_assoc (before) (named_among name n (take i ms)) (filter (is_named name) (of_owner n m ∷ [])))
     ∙ ap (λ r. nearest (before ++ r)) (sym split)
 
 -- ---- a loop over families
@@ -115,27 +109,29 @@ method_more name before n ms i m old new lt is so_far pushed =
 abbrev pub methods_at : List Family → List ℕ → List FoundMethod
 methods_at fs ns = flat_map methods_in (families_at fs ns)
 
-methods_at-cons : (fs : List Family) (n : ℕ) (ns : List ℕ) → methods_at fs (n ∷ ns) ≡ own_methods fs n ++ methods_at fs ns
+methods_at-cons : (fs : List Family) (n : ℕ) (ns : List ℕ) → methods_at fs (n ∷ ns) ≡ map (of_owner n) (methods_declared (slice_get fs n)) ++ methods_at fs ns
 methods_at-cons fs n ns = by_family (slice_get fs n)
   where
-    by_family : (o : Option Family) → flat_map methods_in (with_family n o (families_at fs ns)) ≡ methods_with n o ++ methods_at fs ns
+    by_family : (o : Option Family) → flat_map methods_in (with_family n o (families_at fs ns)) ≡ map (of_owner n) (methods_declared o) ++ methods_at fs ns
     by_family None = refl
     by_family (Some f) = refl
 
 methods_at-append : (fs : List Family) (ns ms : List ℕ) → methods_at fs (ns ++ ms) ≡ methods_at fs ns ++ methods_at fs ms
 methods_at-append fs [] ms = refl
 methods_at-append fs (n ∷ ns) ms =
+    let own : List FoundMethod = map (of_owner n) (methods_declared (slice_get fs n)) in
     methods_at-cons fs n (ns ++ ms)
-    ∙ ap (λ r. own_methods fs n ++ r) (methods_at-append fs ns ms)
-    ∙ sym (append_assoc (own_methods fs n) (methods_at fs ns) (methods_at fs ms))
+    ∙ ap (λ r. own ++ r) (methods_at-append fs ns ms)
+    ∙ sym (append_assoc own (methods_at fs ns) (methods_at fs ms))
     ∙ ap (λ r. r ++ methods_at fs ms) (sym (methods_at-cons fs n ns))
 
 pub family_more : (fs : List Family) (name : List ℕ) (order : List ℕ) (i : ℕ) → i < length order
-    → filter (is_named name) (methods_at fs (take i order)) ++ filter (is_named name) (own_methods fs (get_or order i 0))
+    → filter (is_named name) (methods_at fs (take i order)) ++ named_among name (get_or order i 0) (methods_declared (slice_get fs (get_or order i 0)))
     ≡ filter (is_named name) (methods_at fs (take (i + 1) order))
 family_more fs name order i lt =
     let n : ℕ = get_or order i 0 in
-    sym (filter-append (is_named name) (methods_at fs (take i order)) (own_methods fs n))
-    ∙ ap (λ r. filter (is_named name) (methods_at fs (take i order) ++ r)) (sym (append-nil (own_methods fs n)) ∙ sym (methods_at-cons fs n []))
+    let own : List FoundMethod = map (of_owner n) (methods_declared (slice_get fs n)) in
+    sym (filter-append (is_named name) (methods_at fs (take i order)) own)
+    ∙ ap (λ r. filter (is_named name) (methods_at fs (take i order) ++ r)) (sym (append-nil own) ∙ sym (methods_at-cons fs n []))
     ∙ ap (filter (is_named name)) (sym (methods_at-append fs (take i order) (n ∷ [])))
     ∙ ap (λ ns. filter (is_named name) (methods_at fs ns)) (sym (take_more order i 0 lt))

@@ -131,6 +131,10 @@ field_of owner x = record { owner = owner; number = x.number; written = x.writte
 abbrev pub own_field : List ℕ → Numbered → Option FoundField
 own_field name f = option_map (field_of f.0) (find (λ (x : Field). bytes_eq x.name name) f.1.fields)
 
+abbrev pub fields_in : Option Family → List Field
+fields_in None = []
+fields_in (Some f) = f.fields
+
 abbrev pub first_field : List ℕ → List Numbered → Option FoundField
 first_field name [] = None
 first_field name (f ∷ fs) = option_or (own_field name f) (first_field name fs)
@@ -185,35 +189,37 @@ has_member fs c name = is_some (field_named fs c name) || has_method fs c name
 abbrev pub takes_nothing : Constructor → Bool
 takes_nothing k = is_empty k.function.params
 
--- the constructor without parameters among some
-abbrev pub default_among : List Constructor → Option Constructor
-default_among ks = find takes_nothing ks
+-- the body of the one without parameters among some
+abbrev pub default_among : List Constructor → Option ℕ
+default_among ks = option_map (λ (k : Constructor). k.body) (find takes_nothing ks)
 
 -- what a class with constructors is made by
-abbrev pub own_default : Option Constructor → Default
+abbrev pub own_default : Option ℕ → Default
 own_default None = default.Missing
-own_default (Some k) = default.Written k.body
+own_default (Some body) = default.Written body
 
 -- what one without constructors is made by: it runs that of its base class, if one is written
-abbrev pub written_default : Option Constructor → Default
+abbrev pub written_default : Option ℕ → Default
 written_default None = default.Unwritten
-written_default (Some k) = default.Written k.body
+written_default (Some body) = default.Written body
 
 abbrev pub has_constructors : Numbered → Bool
 has_constructors f = not (is_empty f.1.constructors)
 
--- the constructor without parameters of the nearest of these families that has constructors
-abbrev pub nearest_default : List Numbered → Option Constructor
+-- the one without parameters of the nearest of these families that has constructors
+abbrev pub nearest_default : List Numbered → Option ℕ
 nearest_default kin = option_and_then (λ (f : Numbered). default_among f.1.constructors) (find has_constructors kin)
 
-abbrev pub default_in : List Family → ℕ → Option Family → Default
-default_in fs c None = default.Unwritten
-default_in fs c (Some f) = if is_empty f.constructors then written_default (nearest_default (kin_of fs c)) else own_default (default_among f.constructors)
+abbrev pub constructors_in : Option Family → List Constructor
+constructors_in None = []
+constructors_in (Some f) = f.constructors
 
 -- How an object of a class is made without arguments. A class without a constructor has a default one: where its base class has none
 -- without parameters it is refused at its own name, and nowhere else.
 unfoldable pub default_of : List Family → ℕ → Default
-default_of fs c = default_in fs c (slice_get fs c)
+default_of fs c =
+    let own = constructors_in (slice_get fs c) in
+    if is_empty own then written_default (nearest_default (kin_of fs c)) else own_default (default_among own)
 
 -- ---- who may use a member
 

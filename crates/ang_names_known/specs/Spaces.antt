@@ -7,6 +7,8 @@ use Rattle.ang_view.specs.Types.{type_named}
 use Rattle.ang_types.specs.Ranks.{Ancestors}
 use Rattle.ang_names_known.specs.declared.names.Family.{Family}
 use Rattle.ang_names_known.specs.declared.names.Names.{Names}
+use Rattle.ang_names_known.specs.declared.space.FamilyNames.{FamilyNames}
+use Rattle.ang_names_known.specs.declared.space.FamilyNames.TheVariants as listing
 use Rattle.ang_names_known.specs.declared.space.Named.{Named}
 use Rattle.ang_names_known.specs.declared.space.Named.TheVariants as named
 
@@ -14,6 +16,10 @@ use Rattle.ang_names_known.specs.declared.space.Named.TheVariants as named
 pub record Space : Type 0 where
   pub view : RegistrationList
   pub families : List (List ℕ)
+
+abbrev pub family_names : FamilyNames → List (List ℕ)
+family_names (listing.Listed names) = names.items
+family_names (listing.Known families) = map (λ (f : Family). f.name) families.now
 
 -- the number of the first family as a type, which is above those of all entries
 abbrev pub first_family : ℕ

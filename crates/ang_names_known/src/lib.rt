@@ -21,7 +21,7 @@ pub use host::{
     HostFunction, HostProperty, Wanted, WantedProperty, found_at, host_where, property_at,
     property_where,
 };
-pub use lineage::{lineage_of, space_of_names};
+pub use lineage::lineage_of;
 pub use lookup::{
     default_of, field_named, function_with, global_named, has_member, has_method, is_declared,
     is_read_only, is_under, may_use, same_call, same_heading, same_parameters, same_type,

@@ -1,40 +1,11 @@
-//! The object types of a build whose names are there, and what stands above each of them.
-ghost use Rattle.std.specs.Prelude.{◌≡◌, ◌≤◌, ◌<◌, All, map, replicate, [], IfOk, length};
+//! What stands above each object type of a build whose names are there.
+ghost use Rattle.std.specs.Prelude.{◌≡◌, ◌<◌, All, map, replicate, [], IfOk};
 ghost use Rattle.ang_names_known.specs.Spaces as spaces;
-ghost use Rattle.ang_names_known.specs.declared.names.Family.{Family};
 
-use crate::borrowed::Text;
-use crate::names::{Family, Names};
-use crate::space::{FIRST_FAMILY, Space};
+use crate::names::Names;
+use crate::space::FIRST_FAMILY;
 use ang_types::Lineage;
-use ang_view::View;
 use std::alloc::{AllocError, Global};
-
-/// The object types of a build whose names are there.
-///
-/// The only error is want of memory.
-pub fn space_of_names<'a>(
-    alloc: Global,
-    view: &'a View,
-    names: &'a Names,
-) -> Result<Space<'a>, AllocError>
-    requires few { length names.now.families ≤ 256 }
-    ensures exact { IfOk result (λ s. s ≡ spaces.space_of_names view.now names.now) }
-{
-    let families = names_of(alloc, names.families.as_slice())?;
-    Ok(Space::new(view, families))
-}
-
-fn names_of(alloc: Global, families: &[Family]) -> Result<Vec<Text<'_>>, AllocError>
-    ensures exact { IfOk result
-        (λ names. names.items ≡ map (λ (f : Family). f.name) families.now) }
-{
-    let mut names = Vec::new(alloc);
-    for family in families {
-        names.push(Text::new(family.name.as_slice()))?;
-    }
-    Ok(names)
-}
 
 /// What stands above each object type.
 ///

@@ -1,10 +1,11 @@
 //! What the scripts declare, by name, as far as it takes no memory.
-ghost use Rattle.std.specs.Prelude.{◌≡◌, false, [], option_map, option_and_then, slice_get};
+ghost use Rattle.std.specs.Prelude.{◌≡◌, false, bytes_eq, find, option_map, slice_get};
+ghost use Rattle.std.specs.List.{list_any};
 ghost use Rattle.std.specs.Option.{option_map_or};
 ghost use Rattle.ang_names_known.specs.Lookup as spec;
 
 use crate::names::{
-    Access, Constructor, Default, Family, Field, FoundField, ScriptFunction, ScriptGlobal,
+    Access, Constructor, Default, Family, Field, FoundField, Method, ScriptFunction, ScriptGlobal,
     ScriptParameter, Written,
 };
 use ang_kinds::List;
@@ -115,15 +116,21 @@ pub fn function_with(functions: &[ScriptFunction], heading: &ScriptFunction) -> 
         .position(|function| same_heading(heading, function))
 }
 
+/// The families above a family, by number.
+fn above_of(families: &[Family], family: usize) -> &[usize]
+    ensures exact { result.now ≡ spec.above_in (slice_get families.now family) }
+{
+    match families.get(family) {
+        None => &[],
+        Some(family) => family.above.as_slice(),
+    }
+}
+
 /// Whether a family is another one, or stands under it. It takes no memory.
 pub fn is_under(families: &[Family], family: usize, other: usize) -> bool
     ensures exact { result ≡ spec.is_under families.now family other }
 {
-    family == other
-        || match families.get(family) {
-            None => false,
-            Some(family) => family.above.as_slice().iter().any(|above| *above == other),
-        }
+    family == other || above_of(families, family).contains(&other)
 }
 
 /// Whether a member of the family `owner` may be used in a body of the class `within`, or in one of no class. It takes no
@@ -145,6 +152,7 @@ pub fn may_use(families: &[Family], within: Option<usize>, owner: usize, access:
 }
 
 /// The families of which a family has members, itself first, by number.
+#[tactic(auto, unfolding(crate::specs::Lookup::kin_of))]
 pub(crate) fn order_of(families: &[Family], family: usize) -> &[usize]
     ensures exact { spec.families_at families.now result.now ≡ spec.kin_of families.now family }
 {
@@ -154,38 +162,55 @@ pub(crate) fn order_of(families: &[Family], family: usize) -> &[usize]
     }
 }
 
-/// The field of this name that a family declares itself.
-fn own_field(families: &[Family], family: usize, name: &[u8]) -> Option<FoundField>
-    ensures exact { result ≡ option_and_then (λ f. spec.own_field name.now (family, f))
-        (slice_get families.now family) }
+/// The field of this name among some, of the family of this number.
+fn field_among(fields: &[Field], owner: usize, name: &[u8]) -> Option<FoundField>
+    ensures exact { result
+        ≡ option_map (spec.field_of owner) (find (λ x. bytes_eq x.name name.now) fields.now) }
 {
-    let field = families
-        .get(family)?
-        .fields
-        .as_slice()
-        .iter()
-        .find(|field| field.name.as_slice() == name)?;
-    Some(FoundField {
-        owner: family,
-        number: field.number,
-        written: field.written,
-        access: field.access,
-    })
+    for field in fields {
+        if field.name.as_slice() == name {
+            return Some(FoundField {
+                owner,
+                number: field.number,
+                written: field.written,
+                access: field.access,
+            });
+        }
+    }
+    None
+}
+
+/// The fields that a family declares itself.
+fn fields_of(families: &[Family], family: usize) -> &[Field]
+    ensures exact { result.now ≡ spec.fields_in (slice_get families.now family) }
+{
+    match families.get(family) {
+        None => &[],
+        Some(family) => family.fields.as_slice(),
+    }
 }
 
 /// The field of this name that objects of a family have. It takes no memory.
-#[tactic(auto, unfolding(crate::specs::Lookup::field_named))]
+#[tactic(auto, unfolding(crate::specs::Lookup::field_named), using(crate::proofs::Kin::first_field_with))]
 pub fn field_named(families: &[Family], family: usize, name: &[u8]) -> Option<FoundField>
     ensures exact { result ≡ spec.field_named families.now family name.now }
 {
     let order = order_of(families, family);
     for number in order {
-        let found = own_field(families, *number, name);
-        if found.is_some() {
-            return found;
+        if let Some(found) = field_among(fields_of(families, *number), *number, name) {
+            return Some(found);
         }
     }
     None
+}
+
+/// Whether some method has this name.
+fn is_among(methods: &[Method], name: &[u8]) -> bool
+    ensures exact { result ≡ list_any (λ x. bytes_eq x.function.name name.now) methods.now }
+{
+    methods
+        .iter()
+        .any(|method| method.function.name.as_slice() == name)
 }
 
 /// Whether a family declares a method of this name itself.
@@ -195,16 +220,12 @@ fn has_own_method(families: &[Family], family: usize, name: &[u8]) -> bool
 {
     match families.get(family) {
         None => false,
-        Some(family) => family
-            .methods
-            .as_slice()
-            .iter()
-            .any(|method| method.function.name.as_slice() == name),
+        Some(declaring) => is_among(declaring.methods.as_slice(), name),
     }
 }
 
 /// Whether a family has a method of this name, own or inherited. It takes no memory.
-#[tactic(auto, unfolding(crate::specs::Lookup::has_method))]
+#[tactic(auto, unfolding(crate::specs::Lookup::has_method), using(crate::proofs::Kin::any_method_with))]
 pub fn has_method(families: &[Family], family: usize, name: &[u8]) -> bool
     ensures exact { result ≡ spec.has_method families.now family name.now }
 {
@@ -224,21 +245,28 @@ pub fn has_member(families: &[Family], family: usize, name: &[u8]) -> bool
     field_named(families, family, name).is_some() || has_method(families, family, name)
 }
 
-/// The constructor without parameters among some, by the number of its body.
-fn default_among(constructors: &[Constructor]) -> Option<usize>
-    ensures exact { result ≡ option_map (λ k. k.body) (spec.default_among constructors.now) }
+#[tactic(auto, using(crate::proofs::Kin::empty_is))]
+fn takes_nothing(constructor: &Constructor) -> bool
+    ensures exact { result ≡ spec.takes_nothing constructor.now }
 {
-    let found = constructors.iter().find(|constructor| constructor
-        .function
-        .params
-        .as_slice()
-        .is_empty())?;
-    Some(found.body)
+    constructor.function.params.as_slice().is_empty()
+}
+
+/// The body of the constructor without parameters among some.
+fn default_among(constructors: &[Constructor]) -> Option<usize>
+    ensures exact { result ≡ spec.default_among constructors.now }
+{
+    for constructor in constructors {
+        if takes_nothing(constructor) {
+            return Some(constructor.body);
+        }
+    }
+    None
 }
 
 /// The constructors that a family declares itself.
 fn constructors_of(families: &[Family], family: usize) -> &[Constructor]
-    ensures exact { result.now ≡ option_map_or (λ f. f.constructors) (slice_get families.now family) [] }
+    ensures exact { result.now ≡ spec.constructors_in (slice_get families.now family) }
 {
     match families.get(family) {
         None => &[],
@@ -246,10 +274,10 @@ fn constructors_of(families: &[Family], family: usize) -> &[Constructor]
     }
 }
 
-/// The constructor without parameters of the nearest of a family and those above it that has constructors.
+/// The body of the constructor without parameters of the nearest class, from this one on upwards, that has constructors.
+#[tactic(auto, using(crate::proofs::Kin::default_with))]
 fn nearest_default(families: &[Family], family: usize) -> Option<usize>
-    ensures exact { result
-        ≡ option_map (λ k. k.body) (spec.nearest_default (spec.kin_of families.now family)) }
+    ensures exact { result ≡ spec.nearest_default (spec.kin_of families.now family) }
 {
     let order = order_of(families, family);
     for number in order {
@@ -261,6 +289,24 @@ fn nearest_default(families: &[Family], family: usize) -> Option<usize>
     None
 }
 
+fn own_default(body: Option<usize>) -> Default
+    ensures exact { result ≡ spec.own_default body }
+{
+    match body {
+        None => Default::Missing,
+        Some(body) => Default::Written(body),
+    }
+}
+
+fn written_default(body: Option<usize>) -> Default
+    ensures exact { result ≡ spec.written_default body }
+{
+    match body {
+        None => Default::Unwritten,
+        Some(body) => Default::Written(body),
+    }
+}
+
 /// How an object of a class is made without arguments. It takes no memory.
 #[tactic(auto, unfolding(crate::specs::Lookup::default_of))]
 pub fn default_of(families: &[Family], family: usize) -> Default
@@ -268,13 +314,8 @@ pub fn default_of(families: &[Family], family: usize) -> Default
 {
     let own = constructors_of(families, family);
     if own.is_empty() {
-        return match nearest_default(families, family) {
-            None => Default::Unwritten,
-            Some(body) => Default::Written(body),
-        };
-    }
-    match default_among(own) {
-        None => Default::Missing,
-        Some(body) => Default::Written(body),
+        written_default(nearest_default(families, family))
+    } else {
+        own_default(default_among(own))
     }
 }

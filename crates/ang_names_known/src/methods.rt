@@ -1,9 +1,9 @@
 //! The methods that a family has, own and inherited.
-ghost use Rattle.std.specs.Prelude.{◌≡◌, ◌++◌, List, [], filter, IfOk, OnOk};
+ghost use Rattle.std.specs.Prelude.{◌≡◌, ◌++◌, List, [], slice_get, IfOk, OnOk};
 ghost use Rattle.std.specs.List.{list_any};
 ghost use Rattle.ang_names_known.specs.Items.{each_after};
 ghost use Rattle.ang_names_known.specs.Lookup as spec;
-ghost use Rattle.ang_names_known.specs.Nearest.{own_methods, nearest_named};
+ghost use Rattle.ang_names_known.specs.Nearest.{methods_declared, named_among, nearest_named};
 
 use crate::lookup::order_of;
 use crate::names::{Family, Method};
@@ -56,29 +56,36 @@ pub fn methods_named<'a>(
     let mut found = Vec::new(alloc);
     let order = order_of(families, family);
     for number in order {
-        push_methods(&mut found, families, *number, name)?;
+        let methods = own_methods(families, *number);
+        push_methods(&mut found, *number, methods, name)?;
     }
     Ok(found)
 }
 
-/// Puts the methods of this name that a family declares itself behind those of the families below it.
+/// The methods that a family declares itself.
+fn own_methods(families: &[Family], number: usize) -> &[Method]
+    ensures exact { result.now ≡ methods_declared (slice_get families.now number) }
+{
+    match families.get(number) {
+        None => &[],
+        Some(family) => family.methods.as_slice(),
+    }
+}
+
+/// Puts the methods of this name that a family declares behind those of the families below it.
 fn push_methods<'a>(
     found: &mut Vec<FoundMethod<'a>>,
-    families: &'a [Family],
-    number: usize,
+    owner: usize,
+    methods: &'a [Method],
     name: &[u8],
 ) -> Result<(), AllocError>
     ensures pushed { OnOk result ((before : List spec.FoundMethod) →
         found.old.items ≡ each_after spec.if_nearest [] before →
-        found.new.items ≡ each_after spec.if_nearest []
-        (before ++ filter (spec.is_named name.now) (own_methods families.now number))) }
+        found.new.items
+        ≡ each_after spec.if_nearest [] (before ++ named_among name.now owner methods.now)) }
 {
-    let Some(family) = families.get(number) else {
-        return Ok(());
-    };
-    let methods = family.methods.as_slice();
     for method in methods {
-        push_method(found, number, method, name)?;
+        push_method(found, owner, method, name)?;
     }
     Ok(())
 }

@@ -1,4 +1,4 @@
-use Rattle.ang_names_known.proofs.Sights.{types_of_seen_with, types_of_added}
+use Rattle.ang_names_known.proofs.Adding.{types_of_added, types_of_seen_with}
 use Rattle.ang_names_known.proofs.laws.types_stay.Goals as goal
 
 pub returns : goal.returns
