@@ -10,7 +10,7 @@ use Rattle.ang_tree.specs.declared.declaration.Parameter.{Parameter}
 use Rattle.ang_tree.specs.declared.type_name.TypeName.{TypeName}
 use Rattle.ang_types.specs.declared.arg_type.ArgType.{ArgType}
 use Rattle.ang_types.specs.declared.arg_type.ArgType.TheVariants as type
-use Rattle.ang_names_heritage.specs.Graphs.{above, order_of, rank_of}
+use Rattle.ang_names_heritage.specs.Graphs.{above, order_of, reach_of}
 use Rattle.ang_names_known.specs.declared.names.Constructor.{Constructor}
 use Rattle.ang_names_known.specs.declared.names.Family.{Family}
 use Rattle.ang_names_known.specs.declared.names.Field.{Field}
@@ -266,7 +266,7 @@ module _ (E : Space) (ds : List Declaring) (all : List (ScriptFunction × Bool))
     base = first_below (is_base ds c) (length ds);
     above = above (is_parent ds) (length ds) c;
     order = order_of (gives_members ds d.shape.is_class) (length ds) c;
-    rank = rank_of (holds E ds) (length ds) c;
+    rank = reach_of (holds E ds) (length ds) c;
     fields = each_after (fields_after E d (inherited_fields c)) [] d.shape.members;
     methods = each_after (methods_after E all d first) [] d.shape.members;
     constructors = each_after (constructors_after E all d first) [] d.shape.members;

@@ -1,7 +1,7 @@
 -- The closure is the least relation that holds the edges and the ways, and ranks fall along it.
 use Rattle.std.specs.Prelude.{ℕ, zero, suc, Bool, true, false, ◌≡◌, ◌<◌, ◌≤◌, ◌&&◌, ◌||◌, ◌⊎◌, ◌↔◌, if◌then◌else◌}
 use Rattle.std.proofs.Common.{arith, refl, subst, inl, inr}
-use Rattle.ang_names_heritage.specs.Graphs.{leads, Way, IsWithin, count_below, rank_of}
+use Rattle.ang_names_heritage.specs.Graphs.{leads, Way, IsWithin, count_below, reach_of}
 
 or_left : (a b : Bool) → a ≡ true → (a || b) ≡ true
 or_left true b e = refl
@@ -137,7 +137,7 @@ count_less p q (suc n) j h lt isnt yes' =
       | inr same ↦ count_strict_here (p n) (q n) (count_below p n) (count_below q n) (subst (λ x. p x ≡ false) same isnt) (subst (λ x. q x ≡ true) same yes') (count_more p q n h)
     ]
 
-pub falls : (e : ℕ → ℕ → Bool) (n : ℕ) → IsWithin e n → (i j : ℕ) → leads e n i j ≡ true → leads e n j j ≡ false → rank_of e n j < rank_of e n i
+pub falls : (e : ℕ → ℕ → Bool) (n : ℕ) → IsWithin e n → (i j : ℕ) → leads e n i j ≡ true → leads e n j j ≡ false → reach_of e n j < reach_of e n i
 falls e n w i j h isnt =
     let lt : j < n = leads_within e n n w i j h in
     count_less (leads e n j) (leads e n i) n j (λ k g. leads_join e n i j k lt h g) lt isnt h

@@ -5,7 +5,7 @@ use Rattle.std.proofs.Common.{arith, refl, ap, sym, subst, inl, inr, ◌∙◌}
 use Rattle.std.proofs.lemmas.List.{append-nil, drop_all, take_all, get_or-set_same, get_or-set_other, get_or-replicate, length-set, length-replicate}
 use Rattle.std.proofs.lemmas.Grind.{get_or-set_at}
 use Rattle.std.proofs.lemmas.List.Folds.{list_any-append}
-use Rattle.ang_names_heritage.specs.Graphs.{numbers_below, some_below, is_near, ring, rings, leads, above, order_of}
+use Rattle.ang_names_heritage.specs.Graphs.{count_below, reach_of, numbers_below, some_below, is_near, ring, rings, leads, above, order_of}
 use Rattle.ang_names_heritage.specs.Tables.{Shows, at, edges_of, is_next, is_reached}
 use Rattle.ang_names_heritage.proofs.Rows.{lt_true, first_entry}
 
@@ -294,3 +294,26 @@ pub written_back : (n len : ℕ) (more near : List Bool) → length more ≡ n �
 written_back n len more near a b c =
     let none : drop (length more) near ≡ [] = drop_all (length more) near (omega arith) in
     ap (λ xs. take len (more ++ xs)) none ∙ ap (take len) (append-nil more) ∙ take_all len more (omega arith)
+
+-- ---- counts
+
+pub counted_more : (p : ℕ → Bool) (j : ℕ) → p j ≡ true → count_below p (j + 1) ≡ count_below p j + 1
+counted_more p j h =
+    let s : suc j ≡ j + 1 = omega arith in
+    let t : suc (count_below p j) ≡ count_below p j + 1 = omega arith in
+    subst (λ m. count_below p m ≡ count_below p j + 1) s (ap (λ b. if b then suc (count_below p j) else count_below p j) h ∙ t)
+
+pub counted_same : (p : ℕ → Bool) (j : ℕ) → p j ≡ false → count_below p (j + 1) ≡ count_below p j
+counted_same p j h =
+    let s : suc j ≡ j + 1 = omega arith in
+    subst (λ m. count_below p m ≡ count_below p j) s (ap (λ b. if b then suc (count_below p j) else count_below p j) h)
+
+counts_agree : (p q : ℕ → Bool) (n : ℕ) → ((j : ℕ) → j < n → p j ≡ q j) → count_below p n ≡ count_below q n
+counts_agree p q zero h = refl
+counts_agree p q (suc n) h =
+    let a : count_below p n ≡ count_below q n = counts_agree p q n (λ j lt. h j (omega arith)) in
+    let b : p n ≡ q n = h n (omega arith) in
+    ap (λ k. if p n then suc k else k) a ∙ ap (λ c. if c then suc (count_below q n) else count_below q n) b
+
+pub reach_shown : (t : List Bool) (n i : ℕ) (e : ℕ → ℕ → Bool) → Shows t n (leads e n) → i < n → count_below (edges_of t n i) n ≡ reach_of e n i
+reach_shown t n i e s lt = counts_agree (edges_of t n i) (leads e n i) n (λ j jn. edge_shown t n (leads e n) s i j lt jn)

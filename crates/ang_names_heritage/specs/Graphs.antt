@@ -28,8 +28,8 @@ count_below p zero = zero
 count_below p (suc n) = if p n then suc (count_below p n) else count_below p n
 
 -- to how many places one leads
-abbrev pub rank_of : (ℕ → ℕ → Bool) → ℕ → ℕ → ℕ
-rank_of e n i = count_below (leads e n i) n
+abbrev pub reach_of : (ℕ → ℕ → Bool) → ℕ → ℕ → ℕ
+reach_of e n i = count_below (leads e n i) n
 
 -- ---- what stands above a place, and how near
 

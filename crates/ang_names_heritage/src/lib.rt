@@ -6,13 +6,13 @@
 #![tactic(auto)]
 
 ghost use Rattle.std.specs.Prelude.{ℕ, Bool, true, false, length, ◌≡◌, ◌+◌, ◌*◌, ◌<◌, ◌≤◌, ◌⊎◌, ◌||◌, ◌↔◌, slice_index_or};
-ghost use Rattle.ang_names_heritage.specs.Graphs.{leads, through, IsWithin, Way, rank_of};
+ghost use Rattle.ang_names_heritage.specs.Graphs.{leads, through, IsWithin, Way, reach_of};
 ghost use Rattle.ang_names_heritage.specs.Tables.{Shows, at, edges_of};
 
 pub mod laws;
 mod orders;
 
-pub use orders::{above_of, order_of};
+pub use orders::{above_of, order_of, reach_of};
 
 /// Closes a table of `n` rows and columns, 256 at most: entry (i, j) then says whether some way of one edge or
 /// more leads from i to j. It takes no memory, and some `n`³ steps.

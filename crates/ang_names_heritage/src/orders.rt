@@ -31,6 +31,23 @@ pub fn above_of(
     Ok(places)
 }
 
+/// To how many places place `i` leads, by a table that `close` has closed. It takes no memory.
+pub fn reach_of(closed: &[bool], n: usize, i: usize) -> usize
+    requires small { n ≤ 256 }
+    requires there { i < n }
+    requires size { length closed.now ≡ n * n }
+    ensures exact { (e : ℕ → ℕ → Bool) → Shows closed.now n (leads e n) → result ≡ spec.reach_of e n i }
+    ensures most { result ≤ n }
+{
+    let mut count = 0;
+    for j in 0..n {
+        if has_edge(closed, n, i, j) {
+            count += 1;
+        }
+    }
+    count
+}
+
 /// Place `i` and all that stands above it, the nearest first, of equally near ones the lowest number first, by the
 /// table of edges. It goes up ring by ring, and so looks at each edge once.
 ///
