@@ -1,4 +1,4 @@
-use Rattle.std.proofs.Common.{◌≡◌, ◌≤◌, ◌++◌, ℕ, List, [], Vec, Global, length, drop, map as list_map, arith, ap, sym, ◌∙◌}
+use Rattle.std.proofs.Common.{◌≤◌, ◌++◌, ℕ, List, [], Vec, Global, length, map as list_map, arith, ap, sym, ◌∙◌}
 use Rattle.std.specs.Prelude.{replicate}
 use Rattle.std.proofs.lemmas.List.{append-nil, drop_all}
 use Rattle.ang_names_known.specs.declared.names.Family.{Family}

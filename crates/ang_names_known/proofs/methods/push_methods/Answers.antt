@@ -1,4 +1,4 @@
-use Rattle.std.proofs.Common.{◌≡◌, ◌≤◌, ◌++◌, length, take, arith, ap, ◌∙◌}
+use Rattle.std.proofs.Common.{◌≤◌, ◌++◌, length, arith, ap, ◌∙◌}
 use Rattle.std.proofs.lemmas.List.{take_all}
 use Rattle.ang_names_known.specs.Nearest.{named_among}
 use Rattle.ang_names_known.proofs.NearestMethods.{nearest, method_more}

@@ -1,4 +1,4 @@
-use Rattle.std.proofs.Common.{◌≡◌, List, map as list_map, rules, ap, sym, ◌∙◌}
+use Rattle.std.proofs.Common.{◌≡◌, map as list_map, rules, ap, sym, ◌∙◌}
 use Rattle.std.specs.Prelude.{bytes_eq}
 use Rattle.std.specs.List.{position}
 use Rattle.ang_names_known.specs.declared.names.Family.{Family}
