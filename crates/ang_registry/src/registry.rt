@@ -17,7 +17,7 @@ use crate::overload::is_duplicate;
 use crate::refusal::{MOST_ENTRIES, check_room, gives_own};
 use ang_kinds::{EntityNo, Mask, Signature};
 use ang_view::{
-    Entry, EntryKind, View, find_type, function_index, hidden_of, number_of_type, view_of,
+    Entry, EntryKind, View, find_type, function_index, hidden_of, number_of_type, view_of, whole_of,
 };
 use std::alloc::{AllocError, Global};
 use std::marker::Model;
@@ -384,6 +384,17 @@ impl Registry {
         ensures exact { IfOk result (λ view. view ≡ hidden self.now.entries mask.0) }
     {
         hidden_of(alloc, &self.entries, mask)
+    }
+
+    /// The whole list, whatever the masks.
+    ///
+    /// # Errors
+    ///
+    /// Want of memory alone. The registry stays as it was.
+    pub fn whole(&self, alloc: Global) -> Result<View, AllocError>
+        ensures exact { IfOk result (λ view. view ≡ self.now.entries) }
+    {
+        whole_of(alloc, &self.entries)
     }
 
     /// The number of entries, blanks included: at most 1,024.

@@ -83,3 +83,27 @@ pub fn copy_entry(alloc: Global, entry: &Entry) -> Result<Entry, AllocError>
         mask: entry.mask,
     })
 }
+
+fn copy_of(alloc: Global, entry: &Option<Entry>) -> Result<Option<Entry>, AllocError>
+    ensures exact { IfOk result (λ copy. copy ≡ entry.now) }
+{
+    match entry {
+        None => Ok(None),
+        Some(entry) => Ok(Some(copy_entry(alloc, entry)?)),
+    }
+}
+
+/// Entries and blanks like these.
+pub fn copy_entries(
+    alloc: Global,
+    entries: &[Option<Entry>],
+) -> Result<Vec<Option<Entry>>, AllocError>
+    ensures exact { IfOk result (λ copies. copies.items ≡ entries.now) }
+{
+    let mut copies = Vec::new(alloc);
+    for entry in entries {
+        let copy = copy_of(alloc, entry)?;
+        copies.push(copy)?;
+    }
+    Ok(copies)
+}

@@ -13,4 +13,4 @@ mod view;
 
 pub use entry::{Entry, EntryKind};
 pub use lookup::{FoundType, find_type, number_of_type, type_index};
-pub use view::{View, function_index, hidden_of, mentions_type, spells, view_of};
+pub use view::{View, function_index, hidden_of, mentions_type, spells, view_of, whole_of};

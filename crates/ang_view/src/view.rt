@@ -6,7 +6,7 @@ ghost use Rattle.ang_view.specs.Hidden.{hidden, hidden_entry};
 ghost use Rattle.ang_view.specs.Types.{type_named};
 ghost use Rattle.ang_view.specs.Registration.{entry_at, is_type, is_function, is_spelled_with, mentions, is_number, is_named_by, named, has_mask_for, is_seen, seen_entry, seen, is_function_named, function_named};
 
-use crate::copy::copy_entry;
+use crate::copy::{copy_entries, copy_entry};
 use crate::lookup::number_of_type;
 use crate::{Entry, EntryKind};
 use ang_kinds::{EntityNo, Mask, Signature, TypeRef};
@@ -143,6 +143,17 @@ fn rest_of(
         return Ok(None);
     }
     Ok(Some(copy_entry(alloc, entry)?))
+}
+
+/// The whole list as a view, whatever the masks. Denials look up in it the types of what is hidden.
+///
+/// The only error is want of memory.
+pub fn whole_of(alloc: Global, entries: &[Option<Entry>]) -> Result<View, AllocError>
+    requires few { length entries.now ≤ 1024 }
+    ensures exact { IfOk result (λ view. view ≡ entries.now) }
+{
+    let view = copy_entries(alloc, entries)?;
+    Ok(View { entries: view })
 }
 
 /// The index of the first function of the name that the mask sees.
