@@ -19,7 +19,6 @@ pub fn each_row_helps()
 {}
 
 /// The denials of a build are the rows of its refused uses, and no others.
-#[tactic(auto, using(crate::proofs::Listed::each_help_is_listed))]
 pub fn each_help_is_listed()
     ensures rows { (R : RegistrationList) (m : ℕ) (ss : List Source) (d : Denial) →
         Contains (denials_of R m ss) d ↔ IsRowOf R m ss d }

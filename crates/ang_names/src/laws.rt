@@ -12,7 +12,6 @@ ghost use Rattle.ang_names.specs.Resolved.{names_of};
 /// The families of a build are few enough for each to have a number as a type, and what stands above one is among them:
 /// where there are few, as the first phase sees to (`ang_names_listed::laws::few_families`), so of all that is accepted, and
 /// where a declaration is refused for the use of a name, as no phase before that is.
-#[tactic(auto, using(crate::proofs::Few::are_families, crate::proofs::Few::accepted_families, crate::proofs::Few::asked_families))]
 pub fn few_families()
     ensures few { (V : RegistrationList) (ds : List Declared) →
         length (families_of ds) ≤ 256 → AreFamilies (names_of V ds).families }

@@ -2,7 +2,8 @@
 use Rattle.std.specs.Prelude.{ℕ, ◌≡◌, Bool, true, false, cond, find, not, ◌||◌, ◌==◌, List, [], ◌∷◌, length, map, position, bytes_eq, Option, Some, None, option_map, option_and_then, if◌then◌else◌}
 use Rattle.std.specs.List.{list_any}
 use Rattle.std.specs.Option.{option_or, option_map_or}
-use Rattle.std.proofs.Common.{refl}
+use Rattle.std.proofs.Common.{refl, sym}
+use Rattle.std.proofs.Math.Dec.{eqb-suc-zero}
 use Rattle.ang_view.proofs.Lists.{length-map, position-map}
 use Rattle.ang_names_known.specs.declared.names.Family.{Family}
 use Rattle.ang_names_known.specs.declared.names.Field.{Field}
@@ -16,7 +17,7 @@ first_field_with name n (Some f) rest = refl
 
 pub empty_is : {A : Type 0} (xs : List A) → is_empty xs ≡ (length xs == 0)
 empty_is [] = refl
-empty_is (x ∷ xs) = refl
+empty_is (x ∷ xs) = sym (eqb-suc-zero (length xs))
 
 pub any_method_with : (name : List ℕ) (n : ℕ) (o : Option Family) (rest : List Numbered)
     → list_any (declares_method name) (with_family n o rest)
@@ -36,8 +37,8 @@ pub default_with : (n : ℕ) (o : Option Family) (rest : List Numbered)
 default_with n None rest = refl
 default_with n (Some f) rest = test_turned (is_empty f.constructors) (n, f) rest
 
-pub position_of_name : (p : List ℕ → Bool) (fs : List Family) → position p (map (λ (f : Family). f.name) fs) ≡ position (λ (f : Family). p f.name) fs
-position_of_name p fs = position-map p (λ (f : Family). f.name) fs
+pub position_of_name : (name : List ℕ) (fs : List Family) → position (λ (f : Family). bytes_eq name f.name) fs ≡ position (bytes_eq name) (map (λ (f : Family). f.name) fs)
+position_of_name name fs = sym (position-map (bytes_eq name) (λ (f : Family). f.name) fs)
 
 pub number_of_names : (fs : List Family) → length (map (λ (f : Family). f.name) fs) ≡ length fs
 number_of_names fs = length-map (λ (f : Family). f.name) fs

@@ -197,9 +197,8 @@ pub fn field_named(families: &[Family], family: usize, name: &[u8]) -> Option<Fo
 {
     let order = order_of(families, family);
     for number in order {
-        let found = field_among(fields_of(families, *number), *number, name);
-        if found.is_some() {
-            return found;
+        if let Some(found) = field_among(fields_of(families, *number), *number, name) {
+            return Some(found);
         }
     }
     None

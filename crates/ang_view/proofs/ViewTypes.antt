@@ -27,7 +27,7 @@ inside list x k None e h = cc
 inside list x k (Some t) e h = entry_at-lt list k t e
 
 -- a seen entry's named types have masks that meet
-has_mask-named : (list : RegistrationList) (m : ℕ) (x : Entry) (k : ℕ) → is_seen list m x ≡ true → is_named_by x k (entry_at list k) ≡ true → has_mask_for m (entry_at list k) ≡ true
+pub has_mask-named : (list : RegistrationList) (m : ℕ) (x : Entry) (k : ℕ) → is_seen list m x ≡ true → is_named_by x k (entry_at list k) ≡ true → has_mask_for m (entry_at list k) ≡ true
 unfolding is_seen named
 has_mask-named list m x k s h =
     let all : list_all (λ n. has_mask_for m (entry_at list n)) (named list x) ≡ true = (and_gives (meets x.mask.0 m) _ s).1 in
@@ -43,7 +43,7 @@ unfolding is_seen named
 type_is_seen list m t h e =
     and_from _ _ e ((Decides-list_all-filter (λ n. is_named_by t n (entry_at list n)) (λ n. has_mask_for m (entry_at list n)) 0 (length list)).1 (λ k low high n. let no : is_named_by t k (entry_at list k) ≡ false = names_nothing t k (entry_at list k) h in cc))
 
-shown : (list : RegistrationList) (m : ℕ) (x : Entry) (k : ℕ) (here : Option Entry) → is_named_by x k here ≡ true → has_mask_for m here ≡ true → seen_entry list m here ≡ here
+pub shown : (list : RegistrationList) (m : ℕ) (x : Entry) (k : ℕ) (here : Option Entry) → is_named_by x k here ≡ true → has_mask_for m here ≡ true → seen_entry list m here ≡ here
 shown list m x k None h e = refl
 shown list m x k (Some t) h e =
     let r = and_gives _ _ h in
@@ -67,7 +67,7 @@ prefix_len-same p q (x ∷ xs) d h =
 position-same : {X : Type 0} (p q : X → Bool) (xs : List X) (d : X) → ((k : ℕ) → k < length xs → p (get_or xs k d) ≡ q (get_or xs k d)) → position p xs ≡ position q xs
 position-same p q xs d h = rw (prefix_len-same (λ x. not (p x)) (λ x. not (q x)) xs d (λ k l. ap not (h k l)))
 
-named_from : (x t : Entry) (k : ℕ) (name : List ℕ) → is_type x.kind ≡ false → mentions x.signature name ≡ true → is_type_named name (Some t) ≡ true → is_named_by x k (Some t) ≡ true
+pub named_from : (x t : Entry) (k : ℕ) (name : List ℕ) → is_type x.kind ≡ false → mentions x.signature name ≡ true → is_type_named name (Some t) ≡ true → is_named_by x k (Some t) ≡ true
 named_from x t k name f h e =
     let r = and_gives (is_type t.kind) (bytes_eq t.signature.name name) e in
     let same : t.signature.name ≡ name = (bytes_eq-Decides t.signature.name name).0 r.1 in
@@ -79,7 +79,7 @@ named_from x t k name f h e =
     or_true true c e = refl
     or_true false c e = e
 
-hidden_too : (name : List ℕ) (b : Bool) (t : Entry) → is_type_named name (Some t) ≡ false → is_type_named name (cond b (Some t) None) ≡ false
+pub hidden_too : (name : List ℕ) (b : Bool) (t : Entry) → is_type_named name (Some t) ≡ false → is_type_named name (cond b (Some t) None) ≡ false
 hidden_too name true t e = e
 hidden_too name false t e = refl
 
