@@ -36,8 +36,11 @@ misplaced place = Err (fault kind.BadConversion place)
 
 -- ---- literals
 
+abbrev pub number_operand : Place → List ℕ → Operand
+number_operand place text = let n = number_of text in operand place (type.Plain n.ty) (t.number n.ty n.value)
+
 abbrev pub literal_by : Token → List ℕ → TokenKind → Typing Operand
-literal_by x text k.Number = let n = number_of text in Ok (operand x.place (type.Plain n.ty) (t.number n.ty n.value))
+literal_by x text k.Number = Ok (number_operand x.place text)
 literal_by x text k.True = Ok (operand x.place (type.Plain p.Bool) (t.truth true))
 literal_by x text k.False = Ok (operand x.place (type.Plain p.Bool) (t.truth false))
 literal_by x text k.Null = Ok (operand x.place type.Null t.null)
@@ -198,7 +201,7 @@ unfoldable pub stepped : StepKind → Place → Operand → Typing Operand
 stepped kind place a = do
   x ← target a
   q ← integer a
-  Ok (operand place a.ty (t.step x q kind))
+  Ok (operand place (type.Plain q) (t.step x q kind))
 
 abbrev pub prefix_by : Ancestors → Token → TokenKind → Operand → Typing Operand
 prefix_by ancestors op k.Not a = opposite op.place a
@@ -243,25 +246,18 @@ group_typing place a = record { place = place; ty = a.ty; tree = a.tree; target 
 
 -- ---- `?:`
 
--- One of two values of one type.
-abbrev pub choice_in : Ancestors → Primitive → Place → t.Expr → Operand → Operand → Typing Operand
-choice_in ancestors r place c a b = do
-  x ← fit ancestors (type.Plain r) a
-  y ← fit ancestors (type.Plain r) b
-  Ok (operand place (type.Plain r) (t.choose c x y))
-
-abbrev pub choice_of_integers : Ancestors → Place → t.Expr → Operand → Operand → Typing Operand
-choice_of_integers ancestors place c a b = do
-  q ← integer a
-  r ← integer b
-  choice_in ancestors (common_type q r) place c a b
-
--- One of two objects or handles, as a value of this type.
+-- One of two values, as a value of this type.
 abbrev pub choice_as : Ancestors → ArgType → Place → t.Expr → Operand → Operand → Typing Operand
 choice_as ancestors ty place c a b = do
   x ← fit ancestors ty a
   y ← fit ancestors ty b
   Ok (operand place ty (t.choose c x y))
+
+abbrev pub choice_of_integers : Ancestors → Place → t.Expr → Operand → Operand → Typing Operand
+choice_of_integers ancestors place c a b = do
+  q ← integer a
+  r ← integer b
+  choice_as ancestors (type.Plain (common_type q r)) place c a b
 
 -- Whether a value of the one type can stand for the other: a handle becomes an object in a parameter alone, and here in none.
 abbrev pub stands_for : Ancestors → ArgType → ArgType → Bool
@@ -280,7 +276,7 @@ choice_of_objects ancestors place c a b (Some x) = choice_of ancestors place c a
 
 -- two truth values, two integers, or two objects or handles
 abbrev pub choice_by : Ancestors → Place → t.Expr → Operand → Operand → ArgType → Typing Operand
-choice_by ancestors place c a b (type.Plain p.Bool) = choice_in ancestors p.Bool place c a b
+choice_by ancestors place c a b (type.Plain p.Bool) = choice_as ancestors (type.Plain p.Bool) place c a b
 choice_by ancestors place c a b (type.Object n read_only) = choice_of_objects ancestors place c a b (object_of b.ty)
 choice_by ancestors place c a b (type.Handle n read_only) = choice_of_objects ancestors place c a b (object_of b.ty)
 choice_by ancestors place c a b _ = choice_of_integers ancestors place c a b
@@ -297,17 +293,17 @@ conditional_typing ancestors c a b = do
 -- ---- assignments
 
 -- Objects and handles are not assigned by value: `NoAssign` at the operator.
-abbrev pub assign_in : Ancestors → Place → t.Site → Operand → Operand → ArgType → Typing Operand
-assign_in ancestors at x a b (type.Plain q) = do
+abbrev pub assign_in : Ancestors → Place → Place → t.Site → Operand → ArgType → Typing Operand
+assign_in ancestors at place x b (type.Plain q) = do
   y ← fit ancestors (type.Plain q) b
-  Ok (operand a.place (type.Plain q) (t.assign x (type.Plain q) y))
-assign_in ancestors at x a b _ = Err (fault kind.NoAssign at)
+  Ok (operand place (type.Plain q) (t.assign x (type.Plain q) y))
+assign_in ancestors at place x b _ = Err (fault kind.NoAssign at)
 
 -- the value is converted to the site's type
 unfoldable pub assigned : Ancestors → Place → Operand → Operand → Typing Operand
 assigned ancestors at a b = do
   x ← target a
-  assign_in ancestors at x a b a.ty
+  assign_in ancestors at a.place x b a.ty
 
 -- `@t = e`: the handle is put in its place
 unfoldable pub reseated : Ancestors → Operand → Operand → Typing Operand
@@ -321,24 +317,24 @@ assigned_by ancestors at a b None = assigned ancestors at a b
 assigned_by ancestors at a b (Some s) = reseated ancestors a b
 
 -- The operator works in a type of its own, and its result is converted back to the site's.
-abbrev pub compound_in : Ancestors → Operator → t.Site → Primitive → Primitive → Operand → Operand → Typing Operand
-compound_in ancestors op x q r a b = do
+abbrev pub compound_in : Ancestors → Operator → Place → t.Site → Primitive → Primitive → Operand → Typing Operand
+compound_in ancestors op place x q r b = do
   y ← fit ancestors (type.Plain r) b
-  Ok (operand a.place a.ty (t.compound x q op r y))
+  Ok (operand place (type.Plain q) (t.compound x q op r y))
 
 unfoldable pub compound_arithmetic : Ancestors → Operator → Operand → Operand → Typing Operand
 compound_arithmetic ancestors op a b = do
   x ← target a
   q ← integer a
   r ← integer b
-  compound_in ancestors op x q (common_type q r) a b
+  compound_in ancestors op a.place x q (common_type q r) b
 
 unfoldable pub compound_shift : Ancestors → Operator → Operand → Operand → Typing Operand
 compound_shift ancestors op a b = do
   x ← target a
   q ← integer a
   r ← integer b
-  compound_in ancestors op x q (raised_type q) a b
+  compound_in ancestors op a.place x q (raised_type q) b
 
 abbrev pub assignment_by : Ancestors → Place → Option Work → Operand → Operand → Typing Operand
 assignment_by ancestors at None a b = assigned_by ancestors at a b a.seat

@@ -5,8 +5,16 @@
 //! operand again, or the first refusal in the order of the text (docs/LANGUAGE.md, "Expressions"). No name is looked up here.
 #![tactic(auto)]
 
-mod api;
+mod assignments;
+mod conditionals;
 mod forms;
+mod literals;
+mod one_operand;
+mod trees;
+mod two_operands;
 
-pub use api::{assignment, binary, conditional, convert, group, literal, postfix, prefix};
-pub use forms::{Form, Work, binary_form, compound_work};
+pub use assignments::assignment;
+pub use conditionals::conditional;
+pub use literals::literal;
+pub use one_operand::{convert, group, postfix, prefix};
+pub use two_operands::binary;
