@@ -24,7 +24,6 @@ use Rattle.ang_source.specs.Meaning.{Codes, code_or, passings_in, called_with, i
 use Rattle.ang_source.specs.Sound.{module_of}
 use Rattle.ang_lower.specs.Same.{AreBodies, AreLowered, MeansSame}
 use Rattle.ang_lower.proofs.Follows.{everywhere}
-use Rattle.ang_lower.proofs.Methods.{methods_fit}
 use Rattle.ang_lower.proofs.Modules.{params_are, lowers_program, keeps_sound, sound_together}
 use Rattle.ang_gen_body.specs.Programs.{IsBodyCode, items_in, statement_in, text_in, height_in, texts_of}
 use Rattle.ang_gen.specs.Compiled.{IsCompiled}

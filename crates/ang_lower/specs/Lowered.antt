@@ -141,6 +141,11 @@ initial ty = initial_by (kind_of ty)
 abbrev pub made : ℕ → c.Expr
 made family = c.apply (Make family) c.none
 
+-- It is the first argument of its constructor, where one runs.
+abbrev pub made_by : ℕ → Option ℕ → List c.Expr → List Target → c.Expr
+made_by family None values outs = made family
+made_by family (Some k) values outs = c.call (Own k) (c.exprs (made family ∷ values)) outs
+
 abbrev mutual
   pub lowered : ℕ → t.Expr → c.Expr
   lowered n (t.number ty x) = c.number x
@@ -158,17 +163,12 @@ abbrev mutual
   lowered n (t.choose a l r) = c.choose (lowered n a) (lowered n l) (lowered n r)
   lowered n (t.same l r) = binary Same (lowered n l) (lowered n r)
   lowered n (t.cast family e) = unary (Cast family) (lowered n e)
-  lowered n (t.make family constructor args) = lowered_make n family constructor args
+  lowered n (t.make family constructor args) = made_by family constructor (lowered_args n args) (targets_of n args)
   lowered n (t.assign x ty e) = lowered_store n x (lowered n e)
   lowered n (t.compound x ty op at e) = lowered_change n x (compound_of ty op at) (lowered n e)
   lowered n (t.step x ty kind) = lowered_change n x (step_of ty kind) (c.number 1)
   lowered n (t.call f ty args) = c.call (callee_of f) (c.exprs (lowered_args n args)) (targets_of n args)
   lowered n (t.host_call h ty args) = c.apply (Ask h.entity) (c.exprs (lowered_args n args))
-
-  -- a new object, which is the first argument of its constructor
-  pub lowered_make : ℕ → ℕ → Option ℕ → t.Args → c.Expr
-  lowered_make n family None args = made family
-  lowered_make n family (Some k) args = c.call (Own k) (c.exprs (made family ∷ lowered_args n args)) (targets_of n args)
 
   -- what stands at a site
   pub lowered_read : ℕ → t.Site → c.Expr

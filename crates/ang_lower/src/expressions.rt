@@ -345,7 +345,8 @@ fn lower_make(
     constructor: Option<usize>,
 ) -> Result<Expression, AllocError>
     ensures exact { IfOk result (λ x. plain_expr x
-        ≡ spec.lowered_make alive family constructor (view_args arguments.now)) }
+        ≡ spec.made_by family constructor (spec.lowered_args alive (view_args arguments.now))
+            (spec.targets_of alive (view_args arguments.now))) }
 {
     match constructor {
         None => made(alloc, family),
