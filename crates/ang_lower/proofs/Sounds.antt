@@ -319,9 +319,11 @@ module _ (z : Setting) (m : ℕ) (M : Module) (callees : HasCallees z m M) (view
     lowered_sound (tree.same a b) n h = binary_sound n Same (low.lowered n a) (low.lowered n b) (refl, refl) (lowered_sound a n h.0) (lowered_sound b n h.1)
     lowered_sound (tree.cast family e) n h = unary_sound n (Cast family) (low.lowered n e) (refl, refl) (lowered_sound e n h.1)
     lowered_sound (tree.make family None args) n h = nullary_sound n (Make family) (refl, callees.classes family h.0)
-    lowered_sound (tree.make family (Some f) args) n h =
-        (make_fits n f h.1.0 h.1.1 args h.1.2 h.1.3 h.1.4, spots_are M n h.1.1 args [] h.1.4 tt,
-        (nullary_sound n (Make family) (refl, callees.classes family h.0), args_sound args n (each_argument M n h.1.1 args h.1.4)))
+    lowered_sound (tree.make family (Some f) args) n h = (
+      make_fits n f h.1.0 h.1.1 args h.1.2 h.1.3 h.1.4,
+      spots_are M n h.1.1 args [] h.1.4 tt,
+      (nullary_sound n (Make family) (refl, callees.classes family h.0), args_sound args n (each_argument M n h.1.1 args h.1.4)),
+    )
     lowered_sound (tree.assign (tree.named x) ty e) n h = stored_sound n x (low.lowered n e) h.0 (lowered_sound e n h.1)
     lowered_sound (tree.assign (tree.member_of o a) ty e) n h = member_stored_sound n a (low.lowered n e) (low.lowered n o) h.0 (lowered_sound e n h.2) (lowered_sound o n h.1)
     lowered_sound (tree.compound (tree.named x) ty op at e) n h = changed_sound n x (compound_of ty op at) (low.lowered n e) h.0 (lowered_sound e n h.1)

@@ -303,7 +303,9 @@ fn lower_call(alloc: Global, alive: usize, e: &typed::Expression) -> Result<Expr
             arguments,
         } => lower_make(alloc, alive, arguments.as_slice(), *family, *constructor),
         typed::Expression::Call {
-            callee, arguments, ..
+            callee,
+            arguments,
+            ..
         } => {
             let called = code_callee(*callee)?;
             let values = lower_arguments(alloc, alive, arguments.as_slice())?;
@@ -346,7 +348,7 @@ fn lower_make(
 ) -> Result<Expression, AllocError>
     ensures exact { IfOk result (λ x. plain_expr x
         ≡ spec.made_by family constructor (spec.lowered_args alive (view_args arguments.now))
-            (spec.targets_of alive (view_args arguments.now))) }
+        (spec.targets_of alive (view_args arguments.now))) }
 {
     match constructor {
         None => made(alloc, family),

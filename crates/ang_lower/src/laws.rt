@@ -39,7 +39,6 @@ pub fn everywhere_same()
 {}
 
 /// A method that a class of a sound tree has in a slot takes what the methods of the slot take.
-#[tactic(auto, using(crate::proofs::Methods::methods_fit))]
 pub fn methods_fit()
     ensures fit { (V : RegistrationList) (z : Setting) (m : ℕ) (p : Program)
         → SoundProgram V p
