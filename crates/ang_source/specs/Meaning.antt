@@ -430,9 +430,12 @@ codes_in ps g = code_or (slice_get (codes_of (slice_index_or ps g.home nothing))
 abbrev pub class_of : ℕ → families.Class → Class
 class_of n c = record { number = n; rank = c.rank; fields = map kind_of c.fields; under = n ∷ c.above }
 
+abbrev pub class_among : List families.Class → ℕ → Option Class
+class_among classes n = option_map (class_of n) (slice_get classes n)
+
 -- the class of a number, in the modules by their numbers
 unfoldable pub class_in : List t.Program → ℕ → ℕ → Option Class
-class_in ps m n = option_map (class_of n) (slice_get (slice_index_or ps m nothing).classes n)
+class_in ps m n = class_among (slice_index_or ps m nothing).classes n
 
 -- the body that a class has itself in a slot
 abbrev pub own_body : ℕ → List (ℕ × ℕ) → Option ℕ
@@ -454,10 +457,14 @@ method_among m classes n s = option_map (routine m) (body_by classes s (length c
 unfoldable pub method_in : List t.Program → ℕ → ℕ → ℕ → Option Routine
 method_in ps m n s = method_among m (slice_index_or ps m nothing).classes n s
 
+-- how a function of that heading takes its arguments, the last one first
+abbrev pub heading_among : List Heading → ℕ → Option (List Passing)
+heading_among headings i = option_map (λ (h : Heading). passings_of h.parameters) (slice_get headings i)
+
 -- how the methods of a slot take their arguments, the last one first; the receiver is the last of the list
 unfoldable pub slot_in : List t.Program → ℕ → ℕ → Option (List Passing)
-slot_in ps m s = option_map (λ (h : Heading). passings_of h.parameters) (slice_get (slice_index_or ps m nothing).methods s)
+slot_in ps m s = heading_among (slice_index_or ps m nothing).methods s
 
 -- how an import takes its arguments, the last one first
 unfoldable pub imported_in : List t.Program → ℕ → ℕ → Option (List Passing)
-imported_in ps m i = option_map (λ (h : Heading). passings_of h.parameters) (slice_get (slice_index_or ps m nothing).imports i)
+imported_in ps m i = heading_among (slice_index_or ps m nothing).imports i
