@@ -39,3 +39,9 @@ one_at [] cs i e = refl
 one_at (h ∷ hs) [] i e = absurd (omega (arith, e))
 one_at (h ∷ hs) (c ∷ cs) zero e = refl
 one_at (h ∷ hs) (c ∷ cs) (suc i) e = one_at hs cs i (omega (arith, e))
+
+pub none_at : (hs : List Head) (cs : List Candidate) (i : ℕ) → length hs ≤ i → slice_get (callables hs cs) i ≡ None
+none_at [] cs i past = refl
+none_at (h ∷ hs) [] i past = refl
+none_at (h ∷ hs) (c ∷ cs) zero past = absurd (omega (arith, past))
+none_at (h ∷ hs) (c ∷ cs) (suc i) past = none_at hs cs i (omega (arith, past))

@@ -1,7 +1,7 @@
 //! Functions that a call can mean.
 ghost use Rattle.std.specs.Prelude.{◌≡◌, ◌<◌, [], ◌∷◌, ◌++◌, OnOk, OnErr, length, option_to_list, slice_get, Some};
 ghost use Rattle.ang_names_known.specs.Items.{is_empty};
-ghost use Rattle.ang_check_uses.specs.Callables.{callable, callables};
+ghost use Rattle.ang_check_uses.specs.Callables as beside;
 ghost use Rattle.ang_check_uses.specs.Uses.{candidates_of};
 
 use crate::uses::{Callable, Called, Reach};
@@ -93,7 +93,7 @@ impl Callables {
     }
 
     /// The one at a place, which is taken out of the others. It takes no memory.
-    #[tactic(auto, using(crate::proofs::Beside::one_at))]
+    #[tactic(auto, using(crate::proofs::Beside::one_at, crate::proofs::Beside::none_at))]
     pub fn take(self, place: usize) -> Option<Callable>
         ensures exact { result ≡ slice_get self place }
     {
@@ -123,7 +123,7 @@ fn candidate_at(candidates: Vec<Candidate>, place: usize) -> Candidate
 }
 
 fn joined(head: Head, candidate: Candidate) -> Callable
-    ensures exact { result ≡ callable head candidate }
+    ensures exact { result ≡ beside.callable head candidate }
 {
     Callable {
         called: head.called,

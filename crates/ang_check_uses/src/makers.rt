@@ -1,5 +1,6 @@
 //! What makes an object, as functions that a call can mean.
-ghost use Rattle.std.specs.Prelude.{◌≡◌, ◌++◌, IfOk, IfSome, OnOk, option_to_list, slice_get, map as list_map};
+ghost use Rattle.std.specs.Prelude.{◌≡◌, IfOk, IfSome, option_to_list, slice_get, map as list_map};
+ghost use Rattle.ang_names_known.specs.Lookup as lookup;
 ghost use Rattle.ang_names_known.specs.Spaces as spaces;
 ghost use Rattle.ang_check_uses.specs.CallableKinds as kinds;
 ghost use Rattle.ang_check_uses.specs.Uses as spec;
@@ -69,22 +70,40 @@ fn constructor_of(
     Ok(maker(family, number, Some(constructor.body), params))
 }
 
-fn push_constructors(
+/// These constructors of a class.
+fn constructors_of(
     alloc: Global,
-    found: &mut Callables,
     family: usize,
     number: u32,
     constructors: &[Constructor],
-) -> Result<(), AllocError>
+) -> Result<Callables, AllocError>
     requires same { spaces.family_type family ≡ number }
-    ensures pushed { OnOk result
-        (found.new ≡ found.old ++ list_map (spec.constructor_of family) constructors.now) }
+    ensures exact { IfOk result
+        (λ c. c ≡ list_map (spec.constructor_of family) constructors.now) }
 {
+    let mut found = Callables::new(alloc);
     for constructor in constructors {
         let callable = constructor_of(alloc, family, number, constructor)?;
         found.push(callable)?;
     }
-    Ok(())
+    Ok(found)
+}
+
+/// What makes an object of a class by its default constructor, if anything does.
+fn default_makers(
+    alloc: Global,
+    families: &[Family],
+    family: usize,
+    number: u32,
+) -> Result<Callables, AllocError>
+    requires same { spaces.family_type family ≡ number }
+    ensures exact { IfOk result
+        (λ c. c ≡ spec.default_maker family (lookup.default_of families.now family)) }
+{
+    let mut found = Callables::new(alloc);
+    let maker = default_maker(alloc, family, number, default_of(families, family));
+    push_callable(&mut found, maker)?;
+    Ok(found)
 }
 
 /// The constructors of a class, or the default one where it has none; an interface has none.
@@ -99,21 +118,18 @@ fn makers_in(
     ensures exact { IfOk result
         (λ c. c ≡ spec.makers_in families.now family (slice_get families.now family)) }
 {
-    let mut found = Callables::new(alloc);
     let Some(declared) = families.get(family) else {
-        return Ok(found);
+        return Ok(Callables::new(alloc));
     };
     if !declared.is_class {
-        return Ok(found);
+        return Ok(Callables::new(alloc));
     }
     let constructors = declared.constructors.as_slice();
     if constructors.is_empty() {
-        let default = default_of(families, family);
-        push_callable(&mut found, default_maker(alloc, family, number, default))?;
+        default_makers(alloc, families, family, number)
     } else {
-        push_constructors(alloc, &mut found, family, number, constructors)?;
+        constructors_of(alloc, family, number, constructors)
     }
-    Ok(found)
 }
 
 /// All that makes an object of the type of this number.

@@ -1,5 +1,5 @@
 //! The best of the functions that a call can mean.
-ghost use Rattle.std.specs.Prelude.{◌≡◌, ◌∷◌, IfOk};
+ghost use Rattle.std.specs.Prelude.{◌≡◌, ◌∷◌, false, IfOk};
 ghost use Rattle.ang_types.specs.declared.arg_type.ArgType.TheVariants.{Object};
 ghost use Rattle.ang_types.specs.Best.{best_of};
 ghost use Rattle.ang_check_uses.specs.Uses as spec;
