@@ -1,5 +1,5 @@
 //! Calls by a name alone, and those of a class above.
-ghost use Rattle.std.specs.Prelude.{◌≡◌, ◌<◌, ◌==◌, ◌&&◌, ◌∷◌, not, bytes_eq, option_map, Some, IfOk, map as list_map};
+ghost use Rattle.std.specs.Prelude.{◌≡◌, ◌<◌, ◌==◌, ◌&&◌, ◌∷◌, not, bytes_eq, option_map, Some, IfOk, IfSome, map as list_map};
 ghost use Rattle.std.specs.List.{flat_map, position};
 ghost use Rattle.ang_names_known.specs.Lookup as lookup;
 ghost use Rattle.ang_names_known.specs.Spaces as spaces;
@@ -48,6 +48,7 @@ fn named_methods<'a>(
 ) -> Result<Option<(Within, Vec<FoundMethod<'a>>)>, AllocError>
     ensures exact { IfOk result (λ found. option_map (λ m. (m.0, m.1.items)) found
         ≡ spec.named_methods context.now context.now.within name.now) }
+    ensures few { IfOk result (λ found. IfSome found (λ m. m.0.family < 256)) }
 {
     let Some(within) = context.within() else {
         return Ok(None);

@@ -31,7 +31,6 @@ pub struct BodyContext<'a> {
 }
 
 impl<'a> Model for BodyContext<'a> {
-    ghost use Rattle.std.specs.Prelude.{◌≤◌, ◌<◌, ◌×◌, length, IfSome};
     ghost use Rattle.ang_check_typing.specs.Scope as spec;
 
     ghost Value = { spec.BodyContext };
@@ -104,6 +103,7 @@ impl<'a> BodyContext<'a> {
     }
 
     /// The class whose method or constructor the body is.
+    #[tactic(auto, using(crate::proofs::Classes::class_is_few))]
     pub fn within(&self) -> Option<Within>
         ensures same { result ≡ self.now.within }
         ensures few { IfSome result (λ w. w.family < 256) }

@@ -9,7 +9,7 @@ ghost use Rattle.ang_check_typing.specs.Typing as spec;
 use crate::calls::{call, scoped_call};
 use crate::casts::{cast, cast_type};
 use crate::context::BodyContext;
-use crate::members::{member, method_call};
+use crate::members::{member_of, method_call};
 use crate::names::{named, this};
 use crate::scope::LocalVariable;
 use ang_check_operand::{Operand, Stop};
@@ -149,7 +149,7 @@ fn typing_over_object(
         }
         Expression::Member { object, name, .. } => {
             let object = typing(alloc, context, locals, object)?;
-            member(alloc, context, object, name)
+            member_of(alloc, context, object, name)
         }
         Expression::MethodCall {
             object,

@@ -117,7 +117,7 @@ fn member_of_type(
 
 /// A field or a property of an object.
 #[tactic(auto, unfolding(crate::specs::Calls::member_typing))]
-pub fn member(
+pub fn member_of(
     alloc: Global,
     context: &BodyContext<'_>,
     object: Operand,
