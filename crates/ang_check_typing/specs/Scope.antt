@@ -1,6 +1,6 @@
 -- What expressions stand in: a body's class, and the parameters and locals that are alive (docs/LANGUAGE.md, "Expressions": names; the
 -- AngelScript manual, "Variables" and "Script classes").
-use Rattle.std.specs.Prelude.{ℕ, ◌+◌, Bool, false, ◌||◌, bytes_eq, if◌then◌else◌, List, [], ◌∷◌, Option, Some, None}
+use Rattle.std.specs.Prelude.{ℕ, ◌+◌, ◌≤◌, ◌<◌, Bool, false, ◌||◌, bytes_eq, if◌then◌else◌, List, [], ◌∷◌, length, Option, Some, None, IfSome}
 use Rattle.std.specs.List.{list_any}
 use Rattle.std.specs.Option.{option_or}
 use Rattle.ang_view.specs.Registration.{RegistrationList}
@@ -43,3 +43,8 @@ has_in s (Some c) name = has_member s.names.families c name
 -- a local, a parameter, or a field or method of the class has the name
 abbrev pub is_there : BodyContext → List LocalVariable → List ℕ → Bool
 is_there s ps name = list_any (λ (p : LocalVariable). bytes_eq p.name name) ps || has_in s (family_of s.within) name
+
+-- There are few enough families for each to have a number as a type, and the class is one of them.
+pub record IsWithin (names : Names) (within : Option Within) : Type 0 where
+  pub few : length names.families ≤ 256
+  pub there : IfSome within (λ (w : Within). w.family < length names.families)

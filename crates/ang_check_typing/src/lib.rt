@@ -2,11 +2,20 @@
 //! resolved tree; or the first refusal in reading order (docs/LANGUAGE.md, "Expressions").
 #![tactic(auto)]
 
-mod api;
+mod arguments;
+mod called;
+mod calls;
+mod casts;
+mod context;
+mod expressions;
+mod made;
+mod members;
+mod methods;
+mod names;
 mod scope;
 
-pub use api::{
-    BodyContext, arguments_for, default_typing, is_there, made_typing, type_or_refusal, typing,
-    typing_of_all,
-};
+pub use arguments::arguments_for;
+pub use context::{BodyContext, is_there, type_or_refusal};
+pub use expressions::{typing, typing_of_all};
+pub use made::{default_typing, made_typing};
 pub use scope::{LocalVariable, Within};

@@ -1,4 +1,7 @@
 //! The parameters and locals that are alive, and their names.
+ghost use Rattle.std.specs.Prelude.{◌≡◌};
+ghost use Rattle.ang_check_typing.specs.Scope as spec;
+
 use ang_names_known::Text;
 use ang_types::ArgType;
 
@@ -20,4 +23,17 @@ pub struct Within {
     pub family: usize,
     /// Whether `this` may not be changed.
     pub read_only: bool,
+}
+
+/// The number of the innermost local or parameter of the name. The innermost one is the last.
+pub fn last_named(locals: &[LocalVariable<'_>], name: &[u8]) -> Option<usize>
+    ensures exact { result ≡ spec.last_named name.now 0 locals.now }
+{
+    let mut found = None;
+    for number in 0..locals.len() {
+        if locals[number].name.bytes() == name {
+            found = Some(number);
+        }
+    }
+    found
 }

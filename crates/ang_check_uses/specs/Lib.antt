@@ -1,2 +1,3 @@
+pub mod CallableKinds
 pub mod Callables
 pub mod Uses

@@ -4,12 +4,20 @@
 //! declarations of the scripts, and nothing else does: denials ask it again over a larger view.
 #![tactic(auto)]
 
-mod api;
 mod callables;
+mod hosts;
+mod makers;
+mod picking;
+mod resolving;
+mod scope;
+mod scripts;
 mod uses;
 
-pub use api::{
-    Scope, best_method, best_of_those, functions_of, host_methods, makers_of, resolution_of,
-};
 pub use callables::{Callables, Head};
+pub use hosts::{entity_of, host_methods};
+pub use makers::{family_of_type, makers_of};
+pub use picking::{best_method, best_of_those};
+pub use resolving::{resolution_of, why};
+pub use scope::Scope;
+pub use scripts::functions_of;
 pub use uses::{Callable, Called, Reach, Resolution};

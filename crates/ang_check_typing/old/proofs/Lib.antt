@@ -1,3 +1,0 @@
-pub mod SoFar
-pub mod Arguments
-pub mod Operands
