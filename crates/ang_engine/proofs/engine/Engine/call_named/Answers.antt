@@ -48,8 +48,8 @@ returns-in_default-loaded-clause-asked g c =
 
 -- ---- the budget is none
 
-pub returns-then-may_run-clause-done : goal.returns-then-may_run-clause-done
-returns-then-may_run-clause-done g c =
+pub returns-then-not-may_run-clause-done : goal.returns-then-not-may_run-clause-done
+returns-then-not-may_run-clause-done g c =
     let m = c.args.self.now.modules in
     let w = world_in (λ v. (g.dyn-1.0.entry v).1.meaning) c.args.self.now in
     let found : Some c.in-Some.home ≡ module_named c.args.name.now w = found-same _ _ _ m.code _ _ (c.in-Some.ensures.exact m.code) c.deref.ensures.value refl in
@@ -62,8 +62,8 @@ returns-then-may_run-clause-done g c =
       refl,
     )
 
-pub returns-then-may_run-clause-asked : goal.returns-then-may_run-clause-asked
-returns-then-may_run-clause-asked g c =
+pub returns-then-not-may_run-clause-asked : goal.returns-then-not-may_run-clause-asked
+returns-then-not-may_run-clause-asked g c =
     asked-nothing (λ v. (g.dyn-1.0.entry v).1.meaning) (registrations c.args.self.now) (world_in (λ v. (g.dyn-1.0.entry v).1.meaning) c.args.self.now) c.args.self.now.machine.store
     c.requires.sound.kept c.requires.sound.counted
 
