@@ -3,10 +3,9 @@ use Rattle.std.specs.Prelude.{Ok, Err}
 use Rattle.ang_heap.specs.Stores.{world_of}
 use Rattle.ang_vm.specs.Machines.{lent}
 use Rattle.ang_engine_modules.specs.Loaded.{modules_of}
-use Rattle.ang_engine.specs.World.{module_named, module_at}
-use Rattle.ang_engine.specs.Engines.{registrations, world_in, drivers_in, states_in, program_in}
+use Rattle.ang_engine.specs.World.{module_named}
+use Rattle.ang_engine.specs.Engines.{registrations, world_in, states_in, program_in}
 use Rattle.ang_engine.specs.Step.{is_budget, choice_of, call}
-use Rattle.ang_engine.specs.Sound.{IsSoundModule}
 use Rattle.ang_engine.proofs.Worlds.{states_built}
 use Rattle.ang_engine.proofs.Entries.{drivers_there}
 use Rattle.ang_engine.proofs.Finding.{found-same, on_module-none}

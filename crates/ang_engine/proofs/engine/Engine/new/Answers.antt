@@ -1,4 +1,4 @@
-use Rattle.std.proofs.Common.{◌≡◌, sym, ap, subst, length, true, rules}
+use Rattle.std.proofs.Common.{◌≡◌, sym, subst, length, true, rules}
 use Rattle.ang_host.specs.Boxes.{members}
 use Rattle.ang_heap.specs.Stores.{world_of}
 use Rattle.ang_engine.specs.Sound.{HaveDrivers}
