@@ -87,10 +87,10 @@ module _ (R : RegistrationList) (w : World) (i : ℕ) (m : ModuleState) (budget 
   -- ---- by the words of the code
 
   -- what a build is refused by that comes to no program
-  pub build-refused : {U : Type 0} (e : Unbuilt) → IsCompiled (Err e) (build_of (seen R m.mask) m.sections)
+  pub build-refused : (U : Type 0) (e : Unbuilt) → IsCompiled (Err e) (build_of (seen R m.mask) m.sections)
       → Leads (build R w i m budget) (reply_to_build {U = U} (Err (refused_by e)) u.events) (left_to (placed w i (emptied m)) u)
-  build-refused (unbuilt.Errors es) c = build-errors es c
-  build-refused unbuilt.Memory c = build-memory
+  build-refused U (unbuilt.Errors es) c = build-errors es c
+  build-refused U unbuilt.Memory c = build-memory
 
   module _ (l : LoadedModule) (view : l.view ≡ seen R m.mask) (unbound : l.links ≡ []) (c : IsCompiled (Ok l) (build_of (seen R m.mask) m.sections)) where
     loaded-over : program_over (seen R m.mask) (resolved_in l) ≡ program_in l
