@@ -145,17 +145,18 @@ module _ {V : Type 0} {P : V → Type 0} (m : (v : V) → Meaning (P v)) (R : Re
 
     -- ---- its sections build to no program
 
-    pub refused-leads : (U : Type 0) (e : Unbuilt) → IsCompiled (Err e) (build_of (seen R d.mask.0) d.sections.items)
-        → Leads (build R old home (module_at old home) budget) (reply_to_build {U = U} (Err (refused_by e)) fs.items) (left_to (module_states (slice_set ms home n) cs) now)
-    refused-leads U e c =
-        subst (λ x. Leads (build R old home x budget) (reply_to_build {U = U} (Err (refused_by e)) fs.items) (left_to (module_states (slice_set ms home n) cs) now)) (sym it_stood)
+    pub refused-leads : (U : Type 0) (e : Unbuilt) (x : BuildRefused) → x ≡ refused_by e → IsCompiled (Err e) (build_of (seen R d.mask.0) d.sections.items)
+        → Leads (build R old home (module_at old home) budget) (reply_to_build {U = U} (Err x) fs.items) (left_to (module_states (slice_set ms home n) cs) now)
+    refused-leads U e x is c =
+        subst (λ q. Leads (build R old home (module_at old home) budget) (reply_to_build {U = U} (Err q) fs.items) (left_to (module_states (slice_set ms home n) cs) now)) (sym is)
+        (subst (λ q. Leads (build R old home q budget) (reply_to_build {U = U} (Err (refused_by e)) fs.items) (left_to (module_states (slice_set ms home n) cs) now)) (sym it_stood)
         (subst (λ ss. Leads (build R old home it budget) (reply_to_build {U = U} (Err (refused_by e)) fs.items) (left_to ss now)) (sym left_emptied)
-        (build-refused R old home it budget now has_ended silent U e (subst (λ (q : Module). IsCompiled (Err e) (build_of (seen R q.mask.0) q.sections.items)) at c)))
+        (build-refused R old home it budget now has_ended silent U e (subst (λ (q : Module). IsCompiled (Err e) (build_of (seen R q.mask.0) q.sections.items)) at c))))
 
-    pub refused-asked : (U : Type 0) (e : Unbuilt) (w : World) → IsReady m (record s { events = es }) → IsCounted [] (world_of m s)
-        → HasAsked m R w (reply_to_build {U = U} (Err (refused_by e)) fs.items).events s t
-    refused-asked U e w ready counted =
-        subst (λ l. HasAsked m R w l s t) (sym (refused_events U e fs.items))
+    pub refused-asked : (U : Type 0) (e : Unbuilt) (x : BuildRefused) → x ≡ refused_by e → (w : World) → IsReady m (record s { events = es }) → IsCounted [] (world_of m s)
+        → HasAsked m R w (reply_to_build {U = U} (Err x) fs.items).events s t
+    refused-asked U e x is w ready counted =
+        subst (λ l. HasAsked m R w l s t) (sym (ap (λ q. (reply_to_build {U = U} (Err q) fs.items).events) is ∙ refused_events U e fs.items))
         (asked-ends m R s t es fs first ready counted w (run-ended m [] home (record s { events = es }) (record t { events = fs }) (ended []) moves))
 
     pub refused-sound : AllZip (IsSoundModule R) (slice_set ms home n) cs
