@@ -26,8 +26,8 @@ returns-in_default-clause-asked g c =
     asked-nothing (λ v. (g.dyn-1.0.entry v).1.meaning) c.args.registry.now.entries _ c.args.machine.now.store
     (kept-same (λ v. (g.dyn-1.0.entry v).1.meaning) c.args.machine.now.store c.args.events.now c.requires.ready.kept) c.requires.counted
 
-pub returns-then-may_run-clause-done : goal.returns-then-may_run-clause-done
-returns-then-may_run-clause-done g c =
+pub returns-then-not-may_run-clause-done : goal.returns-then-not-may_run-clause-done
+returns-then-not-may_run-clause-done g c =
     let R = c.args.registry.now.entries in
     let ls = c.args.list.now.code in
     let b : is_budget c.args.budget ≡ false = search rules in
@@ -35,8 +35,8 @@ returns-then-may_run-clause-done g c =
     leads-at_once (building R c.args.name.now c.args.budget w) (Refused BadBudget) w
     (λ rest. building-refused R c.args.name.now c.args.budget w c.in-Some.home rest (found-same _ _ _ ls _ _ (c.in-Some.ensures.exact ls) c.deref.ensures.value refl) b)
 
-pub returns-then-may_run-clause-asked : goal.returns-then-may_run-clause-asked
-returns-then-may_run-clause-asked g c =
+pub returns-then-not-may_run-clause-asked : goal.returns-then-not-may_run-clause-asked
+returns-then-not-may_run-clause-asked g c =
     asked-nothing (λ v. (g.dyn-1.0.entry v).1.meaning) c.args.registry.now.entries _ c.args.machine.now.store
     (kept-same (λ v. (g.dyn-1.0.entry v).1.meaning) c.args.machine.now.store c.args.events.now c.requires.ready.kept) c.requires.counted
 

@@ -37,7 +37,7 @@ returns-in-Ok-clause-done c = λ r rest.
     added-done c.args.name c.args.mask.0 c.args.list.now.modules.items _ ls _ r (values_in c.args.globals.now) _ _ rest b
     (found-same _ _ _ ls _ _ (c.in_default.ensures.exact ls) c.deref.ensures.value c.as_slice-2.ensures.same) few c.requires.zipped
     c.in-Ok.ensures.modules c.in-Ok.ensures.code c.in-Ok.ensures.globals
-    (ap (λ ss. record { name = c.args.name; mask = c.args.mask.0; built_mask = c.args.mask.0; sections = ss; program = None }) c.new-sections.ensures.items)
+    (ap (λ ss. record { name = c.args.name; mask = c.args.mask.0; built_mask = c.args.mask.0; sections = ss; program = None }) c.new.ensures.items)
 
 pub returns-in-Ok-clause-sound : goal.returns-in-Ok-clause-sound
 returns-in-Ok-clause-sound c = λ R h.
