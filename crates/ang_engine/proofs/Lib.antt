@@ -1,6 +1,7 @@
 pub mod Lists
 pub mod Worlds
 pub mod States
+pub mod Beginning
 pub mod Entries
 pub mod Finding
 pub mod Leading

@@ -39,8 +39,8 @@ returns-in-Err-initialize-clause-started g c =
     let x : World = world_of (λ v. (g.dyn-1.0.entry v).1.meaning) (lent c.initialize.new.machine c.initialize.new.events) in (
       x,
       started-by (Err c.in-Err-initialize.fault) _ (slice_set c.args.code.now c.args.home (Some c.args.loaded)) c.args.home c.args.budget (program_in c.args.loaded) u _ x c.in-Ok.ensures.loaded
-      (begun-world u _ c.args.code.now _ c.args.home c.args.loaded c.in-Ok.values.items c.requires.within c.in-Ok.ensures.loaded c.in-Ok.ensures.values c.put_globals.ensures.set)
-      c.in-Err-initialize.ensures.means,
+          (begun-world u _ c.args.code.now _ c.args.home c.args.loaded c.in-Ok.values.items c.requires.within c.in-Ok.ensures.loaded c.in-Ok.ensures.values c.put_globals.ensures.set)
+          c.in-Err-initialize.ensures.means,
       c.end_globals.ensures.ended,
     )
 
