@@ -28,7 +28,7 @@ use Rattle.ang_engine.specs.declared.building.BuildRefused.{BuildRefused}
 use Rattle.ang_engine.specs.declared.building.BuildRefused.TheVariants as why
 use Rattle.ang_engine.specs.declared.module.Module.{Module}
 use Rattle.ang_engine.specs.declared.reply.Refusal.TheVariants.{BadBudget}
-use Rattle.ang_engine.specs.World.{Program, ModuleState, World, module_named, module_at, built_in, no_module, placed, running, left_to, globals_ended}
+use Rattle.ang_engine.specs.World.{Program, ModuleState, World, module_named, module_at, built_in, placed, running, left_to, globals_ended}
 use Rattle.ang_engine.specs.Engines.{program_in, state_of, module_states}
 use Rattle.ang_engine.specs.Step.{Leads, emptied, with_program, build, build_within, is_budget, refused}
 use Rattle.ang_engine.specs.Sound.{IsBuiltBy, IsSoundModule, HaveDrivers}

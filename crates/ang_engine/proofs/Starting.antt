@@ -1,19 +1,18 @@
 -- A module that is loaded, and whose initializers run.
-use Rattle.std.proofs.Common.{◌≡◌, ◌<◌, refl, ap, sym, ◌∙◌, subst, ℕ, zero, suc, ◌+◌, List, [], ◌∷◌, length, arith, map, Option, Some, None}
-use Rattle.std.specs.Prelude.{Result, Ok, Err, slice_index_or, slice_set}
+use Rattle.std.proofs.Common.{◌≡◌, ◌<◌, refl, ap, sym, ◌∙◌, subst, ℕ, zero, suc, List, [], ◌∷◌, length, arith, map, Option, Some, None}
+use Rattle.std.specs.Prelude.{Result, slice_index_or, slice_set}
 use Rattle.std.specs.List.{AllByRecursion}
 use Rattle.ang_kinds.specs.declared.fault.Fault.{Fault}
 use Rattle.ang_host.specs.declared.event.Role.{Role}
 use Rattle.ang_host.specs.Boxes.{members}
 use Rattle.ang_host.specs.Laws.{Meaning}
 use Rattle.ang_typed.specs.Typed as t
-use Rattle.ang_typed.specs.View.{view_typed}
 use Rattle.ang_meaning.specs.declared.class.ValueKind.{ValueKind}
 use Rattle.ang_meaning.specs.declared.class.ValueKind.TheVariants.{Number, Handle}
 use Rattle.ang_meaning.specs.declared.slot.Slot.{Slot}
 use Rattle.ang_meaning.specs.Setting.{default_of}
 use Rattle.ang_meaning.specs.Counting.{Thing, names, how_many, IsCounted}
-use Rattle.ang_meaning.specs.World.{World as RunWorld, with_inputs}
+use Rattle.ang_meaning.specs.World.{World as RunWorld}
 use Rattle.ang_meaning.specs.Told.{answers_listed}
 use Rattle.ang_meaning.proofs.Counting.{bits_name_none, null_names_none}
 use Rattle.ang_heap.specs.declared.globals.Globals.{Globals}
@@ -26,13 +25,13 @@ use Rattle.ang_engine_modules.specs.Loaded.{module_of, modules_of}
 use Rattle.ang_engine_modules.specs.Modules.{Module as RunModule, unbuilt, module_at, AgreesWith, IsAskedIn}
 use Rattle.ang_source.specs.Meaning.{kind_of}
 use Rattle.ang_engine_modules.specs.Executed.{first_globals, initialization_of}
-use Rattle.ang_engine_modules.specs.Ends.{Ends, completed}
+use Rattle.ang_engine_modules.specs.Ends.{Ends}
 use Rattle.ang_engine.specs.World.{Program, globals_ended}
 use Rattle.ang_engine.specs.Step.{globals_begun}
 use Rattle.ang_engine.specs.Asked.{HasRunOn}
 use Rattle.ang_engine.specs.Engines.{program_in}
 use Rattle.ang_engine.proofs.Lists.{map_at, set_at}
-use Rattle.ang_engine.proofs.GlobalsEnd.{ListsEnds, globals_ends, ends_listed, ended_globals, begun_counted}
+use Rattle.ang_engine.proofs.GlobalsEnd.{globals_ends, ends_listed, ended_globals, begun_counted}
 
 -- ---- first values
 

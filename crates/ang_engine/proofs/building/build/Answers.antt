@@ -1,4 +1,4 @@
-use Rattle.std.proofs.Common.{◌≡◌, rules, refl, sym, ◌∙◌, true, false}
+use Rattle.std.proofs.Common.{◌≡◌, rules, refl, true, false}
 use Rattle.ang_heap.specs.Stores.{world_of}
 use Rattle.ang_vm.specs.Machines.{lent}
 use Rattle.ang_engine.specs.declared.reply.Outcome.TheVariants.{Refused}
@@ -6,7 +6,7 @@ use Rattle.ang_engine.specs.declared.reply.Refusal.TheVariants.{NoModule, BadBud
 use Rattle.ang_engine.specs.World.{World, left_to}
 use Rattle.ang_engine.specs.Engines.{states_in}
 use Rattle.ang_engine.specs.Outcomes.{building}
-use Rattle.ang_engine.specs.Step.{build, build_within, is_budget}
+use Rattle.ang_engine.specs.Step.{build_within, is_budget}
 use Rattle.ang_engine.proofs.Finding.{found-same, on_module-none}
 use Rattle.ang_engine.proofs.Leading.{leads-at_once, leads-same}
 use Rattle.ang_engine.proofs.Asking.{asked-nothing, kept-same}

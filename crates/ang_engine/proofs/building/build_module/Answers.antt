@@ -1,7 +1,3 @@
-use Rattle.ang_heap.specs.Stores.{world_of}
-use Rattle.ang_vm.specs.Machines.{lent}
-use Rattle.ang_engine.specs.World.{left_to}
-use Rattle.ang_engine.specs.Engines.{states_in}
 use Rattle.ang_engine.proofs.Rebuilding.{none-there, ready-there, counted-there, within-there, few-there, refused-leads, refused-asked, refused-sound, begun-drivers, begun-leads, begun-asked, begun-sound}
 use Rattle.ang_engine.proofs.building.build_module.Goals as goal
 

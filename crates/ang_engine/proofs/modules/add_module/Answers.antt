@@ -1,4 +1,4 @@
-use Rattle.std.proofs.Common.{rules, inl, inr, refl, true, [], None, length, ◌≡◌, ◌≤◌, ◌∙◌, ap, sym, subst, arith}
+use Rattle.std.proofs.Common.{rules, inl, inr, refl, true, [], None, length, ◌≡◌, ◌≤◌, ap, sym, subst, arith}
 use Rattle.ang_meaning.specs.Counting.{IsCounted}
 use Rattle.ang_lex.specs.Spelling.{is_identifier}
 use Rattle.ang_heap.specs.Globals.{values_in}
