@@ -1,29 +1,23 @@
 -- An engine that begins: nothing lives, and nothing is held.
-use Rattle.std.proofs.Common.{◌≡◌, ◌≤◌, ◌+◌, ℕ, refl, sym, ap, ◌∙◌, subst, List, [], length, arith}
-use Rattle.std.specs.Prelude.{Vec, vec_len, vec_capacity}
+use Rattle.std.proofs.Common.{◌≡◌, ℕ, refl, sym, ap, ◌∙◌, subst, List, [], length, arith}
 use Rattle.std.specs.FinMap as map
 use Rattle.std.specs.FinMap.{get-empty}
 use Rattle.std.specs.Ordering.{nat_cmp}
 use Rattle.std.specs.List.{AllZip}
-use Rattle.std.specs.declared.alloc.Global.{Global}
 use Rattle.ang_host.specs.declared.event.HostEvent.{HostEvent}
-use Rattle.ang_host.specs.State.{State, count_at, count_of}
-use Rattle.ang_host.specs.Laws.{Meaning}
-use Rattle.ang_host.specs.Boxes.{members}
-use Rattle.ang_host.specs.Members.{states_of, AreFresh}
+use Rattle.ang_host.specs.State.{State, count_of}
+use Rattle.ang_host.specs.Members.{AreFresh}
 use Rattle.ang_registry.specs.Registration.{RegistrationList}
 use Rattle.ang_meaning.specs.declared.slot.Slot.{Slot}
 use Rattle.ang_meaning.specs.World.{World as RunWorld, ScriptObjects}
 use Rattle.ang_meaning.specs.Counting.{IsCounted, counts_by}
 use Rattle.ang_meaning.proofs.Roots.{nothing_counted}
-use Rattle.ang_heap.specs.declared.store.Store.{Store}
 use Rattle.ang_heap.specs.Parts.{world_by, AreReady}
-use Rattle.ang_heap.specs.Stores.{world_of, IsKept}
 use Rattle.ang_engine.specs.declared.module.ModuleList.{ModuleList}
 use Rattle.ang_engine.specs.World.{no_modules, running, left_to}
 use Rattle.ang_engine.specs.Engines.{module_states, states_in}
 use Rattle.ang_engine.specs.Sound.{IsSoundModule, AreSoundModules}
-use Rattle.ang_engine.proofs.States.{counts-fresh, live-fresh, ready-fresh}
+use Rattle.ang_engine.proofs.States.{counts-fresh, ready-fresh}
 
 -- ---- a machine on fresh drivers, without script objects and globals
 

@@ -1,5 +1,5 @@
 -- How a call leads to its reply.
-use Rattle.std.proofs.Common.{◌≡◌, ◌<◌, refl, ap, sym, ◌∙◌, subst, ℕ, zero, suc, ◌+◌, Bool, true, false, List, [], ◌∷◌, ◌++◌, length, get_or, arith, Option, Some, None, map}
+use Rattle.std.proofs.Common.{◌≡◌, ◌<◌, refl, ap, sym, ◌∙◌, subst, ℕ, zero, suc, Bool, true, false, List, [], ◌∷◌, ◌++◌, length, get_or, arith, Option, Some, None, map}
 use Rattle.std.specs.Prelude.{Result, Ok, Err, reverse, slice_get, if◌then◌else◌}
 use Rattle.std.proofs.lemmas.List.{length-map, reverse-append}
 use Rattle.std.proofs.lemmas.Option.{slice_get_read}
@@ -32,7 +32,7 @@ use Rattle.ang_engine.specs.declared.reply.Outcome.{Outcome}
 use Rattle.ang_engine.specs.declared.reply.Refusal.{Refusal}
 use Rattle.ang_engine.specs.declared.reply.Refusal.TheVariants.{NotCallable}
 use Rattle.ang_engine.specs.World.{Program, ModuleState, World, built_in, running, left_to}
-use Rattle.ang_engine.specs.Step.{Stepped, Chosen, Not, choice_of, of_number, of_function, with_arguments, Leads, reply_of, call_chosen, call_ended, called}
+use Rattle.ang_engine.specs.Step.{Chosen, Not, choice_of, of_number, of_function, with_arguments, Leads, reply_of, call_chosen, call_ended, called}
 use Rattle.ang_engine.specs.Outcomes.{IsChosen, NameNothing, HasCalled, outcome_by}
 use Rattle.ang_engine.proofs.Leading.{told_by}
 

@@ -8,6 +8,7 @@ pub mod Leading
 pub mod Builds
 pub mod Starting
 pub mod Emptied
+pub mod Rebuilding
 pub mod Calls
 pub mod Named
 pub mod Asking

@@ -20,7 +20,7 @@ use Rattle.ang_engine.specs.declared.reply.Refusal.TheVariants.{NotBuilt, BadBud
 use Rattle.ang_engine.specs.World.{Program, World, module_named, module_at, no_module}
 use Rattle.ang_engine.specs.Engines.{resolved_in, program_in, module_states}
 use Rattle.ang_engine.specs.Sound.{IsSoundModule}
-use Rattle.ang_engine.specs.Step.{Stepped, Choice, choice_of, refused, call, call_chosen, call_program, is_budget}
+use Rattle.ang_engine.specs.Step.{Choice, choice_of, refused, call, call_chosen, call_program, is_budget}
 use Rattle.ang_engine.specs.Outcomes.{IsRefused, IsChosen, IsCalled, calling}
 use Rattle.ang_engine.proofs.Calls.{choice-one, takes-named}
 use Rattle.ang_engine.proofs.Finding.{on_module-found}
