@@ -1,16 +1,16 @@
 use Rattle.std.proofs.lemmas.Result.{err_from_is_err_and}
 use Rattle.ang_engine.specs.Engines.{registrations, drivers_in}
-use Rattle.asrun_session.proofs.Taking.{ends_long, stops_unread}
+use Rattle.asrun_session.proofs.Taking.{runs_long, stops_long, stops_unread, runs_lines, stops_lines}
 use Rattle.asrun_session.proofs.whole.run_text.Goals as goal
 
 pub returns-in_err-text-clause-cut : goal.returns-in_err-text-clause-cut
 returns-in_err-text-clause-cut g c =
     let p = err_from_is_err_and c.from_residual.result c.from_residual.ensures.1 in
-    rw p.1 (stops_unread (λ v. (g.dyn-1.0.entry v).1.meaning) (registrations c.args.engine.now) (drivers_in c.args.engine.now) (g.W.Write.contents c.args.writer.now)
-    (g.R.Read.remaining c.args.reader.now) c.args.budget)
+    rw p.1 (stops_unread (λ v. (g.dyn-1.0.entry v).1.meaning) (registrations c.args.engine.now) _ c.requires.new (drivers_in c.args.engine.now)
+    (g.W.Write.contents c.args.writer.now) (g.R.Read.remaining c.args.reader.now) c.args.budget)
 
 pub returns-in_ok-write_text-in-TooLong-clause-done : goal.returns-in_ok-write_text-in-TooLong-clause-done
 returns-in_ok-write_text-in-TooLong-clause-done g c =
-    ends_long (λ v. (g.dyn-1.0.entry v).1.meaning) (registrations c.args.engine.now) (drivers_in c.args.engine.now) (g.W.Write.contents c.args.writer.now)
+    runs_long (λ v. (g.dyn-1.0.entry v).1.meaning) (registrations c.args.engine.now) _ c.requires.new (drivers_in c.args.engine.now) (g.W.Write.contents c.args.writer.now)
     (g.W.Write.contents c.write_text.new.writer) (g.R.Read.remaining c.args.reader.now) c.args.budget (rw c.in-TooLong.is at c.in_ok-text.ensures.text)
     c.in_ok-write_text-in-TooLong.ensures.whole
