@@ -9,13 +9,13 @@ use Rattle.std.specs.declared.dyn_box.DynBox.{DynBox}
 use Rattle.std.proofs.lemmas.List.{length-map}
 use Rattle.std.proofs.lemmas.Bool.{eqb-true}
 use Rattle.ang_host.specs.declared.event.HostEvent.{HostEvent}
-use Rattle.ang_host.specs.declared.event.HostEvent.TheVariants.{Called, Ended}
+use Rattle.ang_host.specs.declared.event.HostEvent.TheVariants.{Ended}
 use Rattle.ang_host.specs.Events.{events_of, live_after, live_along, DriversFollow}
 use Rattle.ang_host.specs.Laws.{Meaning}
 use Rattle.ang_host.specs.Members.{state_at, states_of, AreFresh}
 use Rattle.ang_meaning.specs.declared.slot.Slot.{Slot}
 use Rattle.ang_meaning.specs.declared.slot.Slot.TheVariants.{Bits, Script, Host}
-use Rattle.ang_meaning.specs.World.{World, HostCounts, HostLowered, Lowered, Gone, Kept, host_put, host_less, host_lowered, host_given, script_lowered, script_given, each_given, given, give}
+use Rattle.ang_meaning.specs.World.{World, HostCounts, Lowered, Gone, Kept, host_put, host_less, host_lowered, script_lowered, script_given, each_given, given, give}
 use Rattle.ang_meaning.specs.Counting.{counts_by}
 use Rattle.ang_meaning.specs.Results.{give_back}
 use Rattle.ang_meaning.proofs.Tables.{get_inserted, get_without}
@@ -24,7 +24,7 @@ use Rattle.ang_registry.specs.Roles.{roles_of}
 use Rattle.ang_engine.specs.Ending.{ends_of}
 use Rattle.ang_engine.specs.World.{World as EngineWorld, running, globals_ended, all_ended, engine_ended}
 use Rattle.ang_engine.proofs.GlobalsEnd.{ending_lists_ends}
-use Rattle.asrun_session.specs.LastEnds.{is_end, ends_in, AreLastEnds}
+use Rattle.asrun_session.specs.LastEnds.{ends_in, AreLastEnds}
 
 ends_append : (d k : ℕ) (xs ys : List HostEvent) → ends_in d k (xs ++ ys) ≡ ends_in d k xs + ends_in d k ys
 ends_append d k [] ys = omega arith

@@ -1,5 +1,5 @@
 -- Engines that take drivers, and give them back.
-use Rattle.std.proofs.Common.{◌≡◌, ℕ, ◌<◌, ◌≤◌, ◌⊎◌, List, [], ◌++◌, length, Option, Some, None, IfSome, Result, Ok, Err, inl, inr, refl, sym, subst, ◌∙◌}
+use Rattle.std.proofs.Common.{◌≡◌, ℕ, ◌<◌, ◌≤◌, ◌⊎◌, List, [], length, Option, Some, None, IfSome, Result, Ok, Err, inl, inr, refl, sym, subst}
 use Rattle.std.specs.Io.KnownBytes.{Appends}
 use Rattle.std.specs.Result.{IfOk, IfErr, OnOk, OnErr}
 use Rattle.std.specs.declared.alloc.Global.{Global}
@@ -15,7 +15,7 @@ use Rattle.ang_registry.specs.Roles.{roles_of}
 use Rattle.ang_engine.specs.Sound.{HaveDrivers}
 use Rattle.ang_engine.specs.World.{World, no_modules, engine_ended}
 use Rattle.asrun_session.specs.Deeds.{IsDone, IsCut}
-use Rattle.asrun_session.specs.Drivers.{AreListed, AreTaken, AreBack, ByEvents, WasDiscarded, DidNothing, EngineRefusal, IsRefused, AreRefused, engine_text}
+use Rattle.asrun_session.specs.Drivers.{AreListed, AreBack, ByEvents, WasDiscarded, DidNothing, EngineRefusal, IsRefused, AreRefused, engine_text}
 use Rattle.asrun_session.specs.Reading.{unread}
 use Rattle.asrun_session.specs.Whole.{Ends, Stops, Unread, RunsSession, StopsSession, most_session, long_session_text}
 use Rattle.asrun_session.specs.Writing.{HasFront, unwritten}
@@ -43,14 +43,14 @@ module _ {V : Type 0} {P : V → Type 0} (m : (v : V) → Meaning (P v)) (R : Re
       → IfSome text (λ s. most_session < length s) → Appends old new long_session_text
       → IfSome text (λ s. ByEvents m R xs (λ es. RunsSession R s budget old new BadInput es w) xs)
   runs_long xs old new None budget long printed = tt
-  runs_long xs old new (Some s) budget long printed = ([], inl (long, printed, refl, refl, new_engine), follow_nothing m R xs)
+  runs_long xs old new (Some s) budget long printed = ([], inl (long, printed, refl, (refl, new_engine)), follow_nothing m R xs)
 
   -- the text that says so was cut short
   pub stops_long : (xs : List (DynBox V Global P)) (old new text : Option (List ℕ)) (budget : ℕ)
       → IfSome text (λ s. most_session < length s) → HasFront old new long_session_text
       → IfSome text (λ s. ByEvents m R xs (λ es. StopsSession R s budget old new es w) xs)
   stops_long xs old new None budget long front = tt
-  stops_long xs old new (Some s) budget long front = ([], inl (long, front, refl, new_engine), follow_nothing m R xs)
+  stops_long xs old new (Some s) budget long front = ([], inl (long, front, (refl, new_engine)), follow_nothing m R xs)
 
   -- its lines were done
   pub runs_lines : (xs ys : List (DynBox V Global P)) (old new text : Option (List ℕ)) (bytes : List ℕ) (budget : ℕ) (ended : Result Status Stop) (after : World)
