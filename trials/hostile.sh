@@ -19,7 +19,7 @@
 set -eu
 here=$(pwd)
 cd "$(dirname "$0")/.."
-program=crates/asrun/out/asrun
+program=$(pwd)/crates/asrun/out/asrun
 if [ $# -gt 0 ]; then
     case $1 in
     /*) program=$1 ;;

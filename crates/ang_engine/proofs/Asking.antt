@@ -1,9 +1,8 @@
 -- What commands ask of the drivers.
-use Rattle.std.proofs.Common.{◌≡◌, ◌≤◌, refl, ap, sym, ◌∙◌, subst, ℕ, List, [], ◌++◌, length, Option}
+use Rattle.std.proofs.Common.{◌≡◌, ◌≤◌, ap, sym, ◌∙◌, subst, ℕ, List, [], ◌++◌, length, Option}
 use Rattle.std.specs.Prelude.{All, Vec}
 use Rattle.std.specs.List.{AllByRecursion, AllZip}
 use Rattle.std.specs.declared.alloc.Global.{Global}
-use Rattle.std.specs.declared.dyn_box.DynBox.{DynBox}
 use Rattle.std.proofs.lemmas.List.Elements.{All-nil}
 use Rattle.ang_host.specs.declared.event.HostEvent.{HostEvent}
 use Rattle.ang_host.specs.declared.event.Role.{Role}
@@ -31,7 +30,7 @@ use Rattle.ang_engine.specs.Sound.{IsSoundModule}
 use Rattle.ang_engine.specs.Asked.{HasRunOn, HasAsked}
 use Rattle.ang_engine.specs.Applied.{Applied}
 use Rattle.ang_engine.proofs.Entries.{roles_agree, all_entitled, ends_entitled, agrees_none}
-use Rattle.ang_engine.proofs.GlobalsEnd.{ListsEnds, globals_ends, ends_all, ended_counted}
+use Rattle.ang_engine.proofs.GlobalsEnd.{globals_ends, ends_all, ended_counted}
 
 module _ {V : Type 0} {P : V → Type 0} (m : (v : V) → Meaning (P v)) where
   -- ---- pieces of a command

@@ -1,11 +1,11 @@
 -- Values given up one after the other, the last one first.
-use Rattle.std.proofs.Common.{◌≡◌, ℕ, zero, suc, ◌+◌, ◌-◌, ◌<◌, ◌≤◌, List, [], ◌∷◌, ◌++◌, length, take, refl, sym, ap, ◌∙◌, subst, arith}
+use Rattle.std.proofs.Common.{◌≡◌, ℕ, zero, suc, ◌-◌, ◌<◌, ◌≤◌, List, [], ◌∷◌, ◌++◌, length, take, refl, sym, ap, ◌∙◌, subst, arith}
 use Rattle.std.specs.Prelude.{slice_index_or}
-use Rattle.std.proofs.Math.Seq.{take-suc, take-length}
+use Rattle.std.proofs.Math.Seq.{take-suc}
 use Rattle.ang_meaning.specs.declared.slot.Slot.{Slot}
 use Rattle.ang_meaning.specs.World.{World, ScriptObjects, HostCounts, give}
 use Rattle.ang_meaning.specs.Results.{give_back}
-use Rattle.ang_meaning.specs.Counting.{Thing, how_many, EnoughIn, CanGive}
+use Rattle.ang_meaning.specs.Counting.{how_many, EnoughIn, CanGive}
 use Rattle.ang_meaning.proofs.Counting.{many_append}
 use Rattle.ang_meaning.proofs.Enough.{enough_as, give_can}
 use Rattle.ang_engine.specs.World.{globals_ended, all_ended}

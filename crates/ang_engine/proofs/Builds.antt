@@ -1,18 +1,17 @@
 -- How a build of a module leads to its reply.
-use Rattle.std.proofs.Common.{◌≡◌, ◌<◌, refl, ap, sym, ◌∙◌, subst, inl, inr, ℕ, true, false, List, [], ◌∷◌, ◌++◌, length, Some, None}
-use Rattle.std.specs.Prelude.{Result, Ok, Err, slice_set, slice_index_or}
+use Rattle.std.proofs.Common.{◌≡◌, refl, ap, sym, ◌∙◌, subst, inl, inr, ℕ, true, false, List, [], ◌∷◌, ◌++◌, Some, None}
+use Rattle.std.specs.Prelude.{Result, Ok, Err}
 use Rattle.ang_kinds.specs.declared.error.Error.{Error}
 use Rattle.ang_kinds.specs.declared.error.Unbuilt.{Unbuilt}
 use Rattle.ang_kinds.specs.declared.error.Unbuilt.TheVariants as unbuilt
 use Rattle.ang_kinds.specs.declared.fault.Fault.{Fault}
-use Rattle.ang_host.specs.declared.event.HostEvent.{HostEvent}
 use Rattle.ang_registry.specs.Registration.{RegistrationList, seen}
 use Rattle.ang_typed.specs.View.{view_typed}
 use Rattle.ang_meaning.specs.declared.slot.Slot.{Slot}
 use Rattle.ang_meaning.specs.declared.slot.Slot.TheVariants.{Bits}
 use Rattle.ang_meaning.specs.World.{Input, Room, World as RunWorld, with_inputs}
 use Rattle.ang_meaning.specs.Told.{answers_told, answers_listed}
-use Rattle.ang_engine_build.specs.Build.{Built, Errors, Compiled, build_of}
+use Rattle.ang_engine_build.specs.Build.{Errors, build_of}
 use Rattle.ang_engine_modules.specs.declared.modules.LoadedModule.{LoadedModule}
 use Rattle.ang_engine_modules.specs.Modules.{Module}
 use Rattle.ang_engine_modules.specs.Executed.{initialization_of}
@@ -24,7 +23,7 @@ use Rattle.ang_engine.specs.declared.reply.Outcome.TheVariants.{Done, Refused}
 use Rattle.ang_engine.specs.declared.reply.Refusal.TheVariants.{BuildMemory, BuildErrors, InitFailed}
 use Rattle.ang_engine.specs.World.{Program, ModuleState, World, placed, built_in, running, left_to, globals_ended}
 use Rattle.ang_engine.specs.Engines.{resolved_in, program_in}
-use Rattle.ang_engine.specs.Step.{Stepped, Leads, after_run, reply_of, emptied, with_program, program_over, globals_begun, started, initialized, after_build, build}
+use Rattle.ang_engine.specs.Step.{Leads, after_run, reply_of, emptied, with_program, program_over, globals_begun, started, initialized, after_build, build}
 use Rattle.ang_engine.specs.Outcomes.{IsCompiled, HasStarted, refused_by, reply_to_build}
 use Rattle.ang_engine.proofs.Leading.{told_by}
 
@@ -87,10 +86,10 @@ module _ (R : RegistrationList) (w : World) (i : ℕ) (m : ModuleState) (budget 
   -- ---- by the words of the code
 
   -- what a build is refused by that comes to no program
-  pub build-refused : {U : Type 0} (e : Unbuilt) → IsCompiled (Err e) (build_of (seen R m.mask) m.sections)
+  pub build-refused : (U : Type 0) (e : Unbuilt) → IsCompiled (Err e) (build_of (seen R m.mask) m.sections)
       → Leads (build R w i m budget) (reply_to_build {U = U} (Err (refused_by e)) u.events) (left_to (placed w i (emptied m)) u)
-  build-refused (unbuilt.Errors es) c = build-errors es c
-  build-refused unbuilt.Memory c = build-memory
+  build-refused U (unbuilt.Errors es) c = build-errors es c
+  build-refused U unbuilt.Memory c = build-memory
 
   module _ (l : LoadedModule) (view : l.view ≡ seen R m.mask) (unbound : l.links ≡ []) (c : IsCompiled (Ok l) (build_of (seen R m.mask) m.sections)) where
     loaded-over : program_over (seen R m.mask) (resolved_in l) ≡ program_in l

@@ -1,7 +1,8 @@
 -- How a call leads to its reply.
-use Rattle.std.proofs.Common.{◌≡◌, refl, ap, sym, ◌∙◌, subst, ℕ, zero, suc, ◌+◌, Bool, true, false, List, [], ◌∷◌, ◌++◌, length, arith, Option, Some, None, map}
+use Rattle.std.proofs.Common.{◌≡◌, ◌<◌, refl, ap, sym, ◌∙◌, subst, ℕ, zero, suc, Bool, true, false, List, [], ◌∷◌, ◌++◌, length, get_or, arith, Option, Some, None, map}
 use Rattle.std.specs.Prelude.{Result, Ok, Err, reverse, slice_get, if◌then◌else◌}
 use Rattle.std.proofs.lemmas.List.{length-map, reverse-append}
+use Rattle.std.proofs.lemmas.Option.{slice_get_read}
 use Rattle.ang_kinds.specs.declared.fault.Fault.{Fault}
 use Rattle.ang_kinds.specs.declared.primitive.Primitive.{Primitive}
 use Rattle.ang_kinds.specs.declared.primitive.Primitive.TheVariants.{I8, I16, I32, I64, U8, U16, U32, U64, Bool as TruthType}
@@ -28,10 +29,11 @@ use Rattle.ang_engine_modules.specs.Executed.{call_of}
 use Rattle.ang_engine_modules.specs.Ends.{end_of}
 use Rattle.ang_engine.specs.declared.calling.ChosenCall.{ChosenCall}
 use Rattle.ang_engine.specs.declared.reply.Outcome.{Outcome}
+use Rattle.ang_engine.specs.declared.reply.Refusal.{Refusal}
 use Rattle.ang_engine.specs.declared.reply.Refusal.TheVariants.{NotCallable}
 use Rattle.ang_engine.specs.World.{Program, ModuleState, World, built_in, running, left_to}
-use Rattle.ang_engine.specs.Step.{Stepped, Chosen, Not, choice_of, of_number, of_function, with_arguments, Leads, reply_of, call_chosen, call_ended, called}
-use Rattle.ang_engine.specs.Outcomes.{NameNothing, HasCalled, outcome_by}
+use Rattle.ang_engine.specs.Step.{Chosen, Not, choice_of, of_number, of_function, with_arguments, Leads, reply_of, call_chosen, call_ended, called}
+use Rattle.ang_engine.specs.Outcomes.{IsChosen, NameNothing, HasCalled, outcome_by}
 use Rattle.ang_engine.proofs.Leading.{told_by}
 
 -- ---- the function of a call
@@ -39,6 +41,16 @@ use Rattle.ang_engine.proofs.Leading.{told_by}
 pub chosen-found : (n : ℕ) (f : ScriptFunction) (vs : List Value) (slots : List Slot) → is_callable f ≡ true → arguments_of f vs ≡ Some slots
     → of_function n (Some f) vs ≡ Chosen n f slots
 chosen-found n f vs slots c a = ap (λ b. if b then (with_arguments n f (arguments_of f vs)) else (Not NotCallable)) c ∙ ap (with_arguments n f) a
+
+-- what stands at a place of a list, which was read as this one
+pub function-at : (xs ys : List ScriptFunction) (n : ℕ) (f : ScriptFunction) → xs ≡ ys → n < length ys → f ≡ get_or xs n f → slice_get ys n ≡ Some f
+function-at xs ys n f same within h = slice_get_read ys (length ys) n f refl within (h ∙ ap (λ l. get_or l n f) same)
+
+-- a choice of the function that a declaration names
+pub choice-by : (p : Program) (decl : List ℕ) (vs : List Value) (n : ℕ) (f : ScriptFunction) (r : Result ChosenCall Refusal) → Some n ≡ function_named_by p.view p.names decl
+    → slice_get p.names.functions n ≡ Some f → IsChosen r (of_function n (Some f) vs) → IsChosen r (choice_of p decl vs)
+choice-by p decl vs n f r named at h =
+    subst (λ q. IsChosen r q) (ap (λ o. of_function n o vs) (sym at) ∙ ap (λ o. of_number o p.names.functions vs) named) h
 
 -- a choice of a function is one of the list, with an argument for each parameter
 pub record IsOneOf (fs : List ScriptFunction) (n : ℕ) (f : ScriptFunction) (slots : List Slot) : Type 0 where

@@ -1,12 +1,12 @@
 -- A module that is built anew, among the others.
-use Rattle.std.proofs.Common.{◌≡◌, ◌<◌, refl, ap, sym, ◌∙◌, subst, ℕ, List, length, Option, Some, None}
+use Rattle.std.proofs.Common.{◌≡◌, ap, sym, ◌∙◌, subst, ℕ, List, Option, Some, None}
 use Rattle.std.specs.Prelude.{slice_index_or, slice_set}
 use Rattle.std.specs.List.{AllZip}
 use Rattle.ang_registry.specs.Registration.{RegistrationList}
 use Rattle.ang_engine_modules.specs.declared.modules.LoadedModule.{LoadedModule}
 use Rattle.ang_engine_modules.specs.Loaded.{modules_of}
 use Rattle.ang_engine.specs.declared.module.Module.{Module}
-use Rattle.ang_engine.specs.World.{ModuleState, no_module, built_in}
+use Rattle.ang_engine.specs.World.{ModuleState, built_in}
 use Rattle.ang_engine.specs.Engines.{program_in, state_of, module_states}
 use Rattle.ang_engine.specs.Sound.{IsBuiltBy, IsSoundModule}
 use Rattle.ang_engine.specs.Step.{emptied, with_program}

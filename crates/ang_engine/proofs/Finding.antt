@@ -1,12 +1,16 @@
 -- The module of a name.
-use Rattle.std.proofs.Common.{◌≡◌, ◌<◌, ◌≤◌, ◌+◌, refl, ap, sym, ◌∙◌, subst, inl, inr, arith, ℕ, zero, suc, Bool, true, false, List, [], ◌∷◌, ◌++◌, length, drop, Option, Some, None}
+use Rattle.std.proofs.Common.{◌≡◌, ◌<◌, ◌≤◌, ◌+◌, refl, ap, sym, ◌∙◌, subst, inl, inr, arith, ℕ, zero, suc, Bool, true, false, List, [], ◌∷◌, ◌++◌, length, length-append, drop, Option, Some, None}
 use Rattle.std.specs.Prelude.{Result, Ok, Err, bytes_eq, nat_le, if◌then◌else◌, slice_index_or, slice_set}
+use Rattle.std.specs.List.{AllZip}
 use Rattle.std.proofs.lemmas.Bool.{le-leb}
 use Rattle.std.proofs.lemmas.Slice.Eq.{bytes_eq-Decides}
 use Rattle.ang_lex.specs.Spelling.{is_identifier}
+use Rattle.ang_registry.specs.Registration.{RegistrationList}
+use Rattle.ang_meaning.specs.declared.slot.Slot.{Slot}
 use Rattle.ang_meaning.specs.World.{Input, World as RunWorld}
 use Rattle.ang_engine_modules.specs.declared.modules.LoadedModule.{LoadedModule}
 use Rattle.ang_engine.specs.declared.module.Module.{Module}
+use Rattle.ang_engine.specs.declared.module.ModuleList.{ModuleList}
 use Rattle.ang_engine.specs.declared.reply.Outcome.TheVariants.{Done}
 use Rattle.ang_engine.specs.declared.reply.Refusal.{Refusal}
 use Rattle.ang_engine.specs.declared.reply.Refusal.TheVariants.{NoModule, ModuleExists, BadName, Limit}
@@ -14,8 +18,9 @@ use Rattle.ang_engine.specs.World.{ModuleState, World, index_from, module_named,
 use Rattle.ang_engine.specs.Engines.{state_of, module_states}
 use Rattle.ang_engine.specs.Step.{Stepped, on_module, answered, refused, add_section, or_limit, added_module, where_free, fresh_module, with_new_module}
 use Rattle.ang_engine.specs.Outcomes.{IsDone, IsAdded}
+use Rattle.ang_engine.specs.Sound.{IsSoundModule, AreSoundModules}
 use Rattle.ang_engine.proofs.Lists.{set_same}
-use Rattle.ang_engine.proofs.Worlds.{states_length, states_at, states_put, states_push}
+use Rattle.ang_engine.proofs.Worlds.{states_length, states_at, states_put, states_push, zip_push}
 
 -- ---- where it stands
 
@@ -87,13 +92,13 @@ module _ (ms : List Module) (ls : List (Option LoadedModule)) (r : RunWorld) whe
   section-same i d m lt same =
       ap (λ xs. left_to xs r) (states_put ms ls i m ∙ set_same (module_states ms ls) i no_module (state_of m (slice_index_or ls i None)) (omega (arith, lt, states_length ms ls)) (same ∙ sym (states_at ms ls i d lt)))
 
-  section-refused : {U : Type 0} (why : Refusal) (name text : List ℕ) (i : ℕ) (d m : Module)
+  section-refused : (U : Type 0) (why : Refusal) (name text : List ℕ) (i : ℕ) (d m : Module)
       → Some i ≡ index_from 0 name (module_states ms ls) → i < length ms
       → IsAdded {U = U} (Err why) text (state_of (slice_index_or ms i d) (slice_index_or ls i None)) (state_of m (slice_index_or ls i None))
       → IsDone {U = U} (Err why) (λ inputs. on_module (module_named name (left_to (module_states ms ls) r)) (left_to (module_states ms ls) r) inputs (add_section text (left_to (module_states ms ls) r)))
       (left_to (module_states ms ls) r) (left_to (module_states (slice_set ms i m) ls) r)
-  section-refused why name text i d m found lt (inl memory, same) = (inl memory, section-same i d m lt same)
-  section-refused why name text i d m found lt (inr p, same) =
+  section-refused U why name text i d m found lt (inl memory, same) = (inl memory, section-same i d m lt same)
+  section-refused U why name text i d m found lt (inr p, same) =
       let w = left_to (module_states ms ls) r in (
         inr (λ rest.
             on_module-found name w i rest (add_section text w) found
@@ -114,7 +119,7 @@ module _ (ms : List Module) (ls : List (Option LoadedModule)) (r : RunWorld) whe
       ∙ ap (λ s. add_section text w i s rest) (states_at ms ls i d lt)
       ∙ ap (λ o. or_limit o w i rest) (h (slice_index_or ls i None))
       ∙ ap (λ xs. answered (Done None) (left_to xs r) rest) (sym (states_put ms ls i m))
-  section-pushed (Err why) name text i d m found lt h = section-refused why name text i d m found lt (h (slice_index_or ls i None))
+  section-pushed {U} (Err why) name text i d m found lt h = section-refused U why name text i d m found lt (h (slice_index_or ls i None))
 
 -- ---- a new module
 
@@ -152,3 +157,38 @@ added-states ms ns ls ks x name mask zip modules code fresh =
 pub states-none : (ms : List Module) (ls : List (Option LoadedModule)) → length ms ≤ 0 → module_states ms ls ≡ []
 states-none [] ls few = refl
 states-none (m ∷ ms) ls few = absurd (omega (arith, few))
+
+-- ---- a new module, as it was pushed
+
+-- a module that was added
+pub added-done : (name : List ℕ) (mask : ℕ) (ms ns : List Module) (ls ks : List (Option LoadedModule)) (r : RunWorld) (gs hs : List (List Slot)) (x : Module) (rest : List Input)
+    → is_identifier name ≡ true → None ≡ index_from 0 name (module_states ms ls) → length ms ≤ 0 → length ls ≡ length ms
+    → ns ≡ ms ++ x ∷ [] → ks ≡ ls ++ None ∷ [] → hs ≡ gs ++ [] ∷ [] → state_of x None ≡ fresh_module name mask
+    → added_module name mask (left_to (module_states ms ls) (record r { globals = gs })) rest ≡ answered (Done None) (left_to (module_states ns ks) (record r { globals = hs })) rest
+added-done name mask ms ns ls ks r gs hs x rest named none few zip modules code globals fresh =
+    added-new name mask (left_to (module_states ms ls) (record r { globals = gs })) rest named none (states-none ms ls few)
+    ∙ ap (λ ss. answered (Done None) (left_to ss (record r { globals = gs ++ [] ∷ [] })) rest) (sym (added-states ms ns ls ks x name mask zip modules code fresh))
+    ∙ ap (λ l. answered (Done None) (left_to (module_states ns ks) (record r { globals = l })) rest) (sym globals)
+
+-- the modules are as they were
+pub added-same : (ms ns : List Module) (ls ks : List (Option LoadedModule)) (r : RunWorld) (gs hs : List (List Slot)) → ns ≡ ms → ks ≡ ls → hs ≡ gs
+    → left_to (module_states ns ks) (record r { globals = hs }) ≡ left_to (module_states ms ls) (record r { globals = gs })
+added-same ms ns ls ks r gs hs modules code globals =
+    ap (λ l. left_to (module_states l ks) (record r { globals = hs })) modules
+    ∙ ap (λ l. left_to (module_states ms l) (record r { globals = hs })) code
+    ∙ ap (λ l. left_to (module_states ms ls) (record r { globals = l })) globals
+
+-- it is not built, and the others are what they were
+pub added-sound : (R : RegistrationList) (x y : ModuleList) (m : Module) → length x.modules.items ≤ 0 → y.modules.items ≡ x.modules.items ++ m ∷ [] → y.code ≡ x.code ++ None ∷ []
+    → AreSoundModules R x → AreSoundModules R y
+added-sound R x y m few modules code h = record {
+  each = subst (λ l. AllZip (IsSoundModule R) l y.code) (sym modules)
+      (subst (λ l. AllZip (IsSoundModule R) (x.modules.items ++ m ∷ []) l) (sym code) (zip_push (IsSoundModule R) x.modules.items x.code m None h.each tt));
+  few = omega (arith, few, ap length modules, length-append x.modules.items (m ∷ []));
+}
+
+pub same-sound : (R : RegistrationList) (x y : ModuleList) → y.modules.items ≡ x.modules.items → y.code ≡ x.code → AreSoundModules R x → AreSoundModules R y
+same-sound R x y modules code h = record {
+  each = subst (λ l. AllZip (IsSoundModule R) l y.code) (sym modules) (subst (λ l. AllZip (IsSoundModule R) x.modules.items l) (sym code) h.each);
+  few = omega (arith, h.few, ap length modules);
+}

@@ -1,6 +1,6 @@
 -- Globals that end: what is given up, what is listed, and what is left.
-use Rattle.std.proofs.Common.{◌≡◌, ℕ, zero, suc, ◌+◌, ◌<◌, List, [], ◌∷◌, ◌++◌, length, refl, sym, ap, ◌∙◌, subst, arith, append-nil, append_assoc, drop}
-use Rattle.std.specs.Prelude.{slice_index_or, slice_set, map as list_map}
+use Rattle.std.proofs.Common.{◌≡◌, ℕ, zero, suc, ◌+◌, List, [], ◌∷◌, ◌++◌, length, refl, sym, ap, ◌∙◌, subst, arith, append-nil, append_assoc, drop}
+use Rattle.std.specs.Prelude.{slice_index_or, slice_set}
 use Rattle.std.specs.List.{AllByRecursion}
 use Rattle.ang_host.specs.declared.event.HostEvent.{HostEvent}
 use Rattle.ang_host.specs.declared.event.HostEvent.TheVariants.{Called, Ended}
@@ -17,7 +17,7 @@ use Rattle.ang_meaning.proofs.Counting.{many_append, give_globals}
 use Rattle.ang_meaning.proofs.Counted.{counted_as, give_counted}
 use Rattle.ang_meaning.proofs.Moving.{give_moves, give_back_moves}
 use Rattle.ang_meaning.proofs.Driving.{all_balanced}
-use Rattle.ang_engine.specs.World.{World, running, globals_ended, all_ended, engine_ended}
+use Rattle.ang_engine.specs.World.{running, globals_ended, all_ended}
 use Rattle.ang_engine.specs.Ending.{ends_of, GivingListsEnds, EndingListsEnds}
 
 -- ---- values that are given up, the last one first

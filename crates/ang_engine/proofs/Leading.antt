@@ -1,6 +1,6 @@
 -- How commands lead to their replies.
 use Rattle.std.proofs.Common.{◌≡◌, refl, ap, sym, ◌∙◌, subst, inl, inr, ◌⊎◌, true, false, List, [], ◌∷◌, ◌++◌, Option, Some, None}
-use Rattle.std.specs.Prelude.{Result, Ok, Err, Bool, IsSome, is_some, if◌then◌else◌}
+use Rattle.std.specs.Prelude.{Result, Ok, Err, IsSome, is_some}
 use Rattle.ang_kinds.specs.declared.fault.Fault.{Fault}
 use Rattle.ang_host.specs.declared.event.HostEvent.{HostEvent}
 use Rattle.ang_registry.specs.Registration.{RegistrationList}
@@ -16,7 +16,7 @@ use Rattle.ang_engine.specs.declared.reply.Outcome.TheVariants.{Done, Refused}
 use Rattle.ang_engine.specs.declared.reply.Refusal.{Refusal}
 use Rattle.ang_engine.specs.declared.reply.Refusal.TheVariants.{Memory}
 use Rattle.ang_engine.specs.World.{World}
-use Rattle.ang_engine.specs.Step.{Stepped, Leads, Takes, judged, granted, step, answered, refused, reply_of}
+use Rattle.ang_engine.specs.Step.{Stepped, Leads, Takes, judged, granted, step, answered, reply_of}
 use Rattle.ang_engine.specs.Outcomes.{IsRefused, IsDone, IsCalled, outcome_of, reply_to_call}
 
 -- ---- what was told

@@ -1,12 +1,14 @@
 pub mod Lists
 pub mod Worlds
 pub mod States
+pub mod Beginning
 pub mod Entries
 pub mod Finding
 pub mod Leading
 pub mod Builds
 pub mod Starting
 pub mod Emptied
+pub mod Rebuilding
 pub mod Calls
 pub mod Named
 pub mod Asking

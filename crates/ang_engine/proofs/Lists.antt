@@ -1,5 +1,5 @@
 -- Items put into lists.
-use Rattle.std.proofs.Common.{◌≡◌, ◌<◌, ◌≤◌, refl, ap, ℕ, zero, suc, List, [], ◌∷◌, length, arith, map}
+use Rattle.std.proofs.Common.{◌≡◌, ◌<◌, refl, ap, ℕ, zero, suc, List, [], ◌∷◌, length, arith, map}
 use Rattle.std.specs.Prelude.{slice_index_or, slice_set}
 
 -- an item put in the place of one of a list, seen through a function

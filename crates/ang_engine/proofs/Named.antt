@@ -1,26 +1,66 @@
 -- A call on the module of a name.
-use Rattle.std.proofs.Common.{◌≡◌, ◌<◌, refl, ap, sym, ◌∙◌, subst, inl, inr, ℕ, Bool, true, false, List, length, Option, Some, None, option_map}
+use Rattle.std.proofs.Common.{◌≡◌, ◌<◌, refl, ap, sym, ◌∙◌, subst, inl, inr, ℕ, zero, suc, Bool, true, false, List, [], ◌∷◌, length, arith, Option, Some, None, option_map}
 use Rattle.std.specs.Prelude.{Result, Ok, Err, if◌then◌else◌, slice_index_or}
+use Rattle.std.specs.List.{AllZip}
 use Rattle.ang_kinds.specs.declared.value.Value.{Value}
 use Rattle.ang_host.specs.declared.event.HostEvent.{HostEvent}
+use Rattle.ang_registry.specs.Registration.{RegistrationList}
+use Rattle.ang_typed.specs.View.{view_typed}
+use Rattle.ang_check_sound.specs.Checked.{HasNames}
 use Rattle.ang_meaning.specs.World.{Input}
+use Rattle.ang_engine_build.proofs.Programs.{program-named}
 use Rattle.ang_engine_modules.specs.declared.modules.LoadedModule.{LoadedModule}
+use Rattle.ang_engine_modules.specs.Loaded.{module_of, modules_of}
+use Rattle.ang_engine_modules.specs.Modules.{module_at as run_module_at, TakesSoMany}
+use Rattle.ang_engine.specs.declared.calling.ChosenCall.{ChosenCall}
 use Rattle.ang_engine.specs.declared.module.Module.{Module}
 use Rattle.ang_engine.specs.declared.reply.Outcome.{Outcome}
 use Rattle.ang_engine.specs.declared.reply.Refusal.{Refusal}
 use Rattle.ang_engine.specs.declared.reply.Refusal.TheVariants.{NotBuilt, BadBudget}
 use Rattle.ang_engine.specs.World.{Program, World, module_named, module_at, no_module}
-use Rattle.ang_engine.specs.Engines.{program_in, module_states}
-use Rattle.ang_engine.specs.Step.{Stepped, choice_of, refused, call, call_chosen, call_program, is_budget}
-use Rattle.ang_engine.specs.Outcomes.{IsCalled, calling}
+use Rattle.ang_engine.specs.Engines.{resolved_in, program_in, module_states}
+use Rattle.ang_engine.specs.Sound.{IsSoundModule}
+use Rattle.ang_engine.specs.Step.{Choice, choice_of, refused, call, call_chosen, call_program, is_budget}
+use Rattle.ang_engine.specs.Outcomes.{IsRefused, IsChosen, IsCalled, calling}
+use Rattle.ang_engine.proofs.Calls.{choice-one, takes-named}
 use Rattle.ang_engine.proofs.Finding.{on_module-found}
 use Rattle.ang_engine.proofs.Leading.{leads-same}
-use Rattle.ang_engine.proofs.Worlds.{states_at}
 
 -- what a module of the list has
-pub program_at : (ms : List Module) (ls : List (Option LoadedModule)) (i : ℕ) (d : Module) (o : Option LoadedModule) → i < length ms → o ≡ slice_index_or ls i None
+pub program_there : (ms : List Module) (ls : List (Option LoadedModule)) (i : ℕ) (o : Option LoadedModule) → i < length ms → o ≡ slice_index_or ls i None
     → (slice_index_or (module_states ms ls) i no_module).program ≡ option_map program_in o
-program_at ms ls i d o lt e = ap (λ s. s.program) (states_at ms ls i d lt) ∙ ap (λ x. option_map program_in x) (sym e)
+program_there [] ls i o lt e = absurd (omega (arith, lt))
+program_there (m ∷ ms) [] zero o lt e = ap (λ x. option_map program_in x) (sym e)
+program_there (m ∷ ms) [] (suc i) o lt e = program_there ms [] i o (omega (arith, lt)) e
+program_there (m ∷ ms) (l ∷ ls) zero o lt e = ap (λ x. option_map program_in x) (sym e)
+program_there (m ∷ ms) (l ∷ ls) (suc i) o lt e = program_there ms ls i o (omega (arith, lt)) e
+
+-- the functions of its tree are those of its names
+loaded_named : (R : RegistrationList) (m : Module) (o : Option LoadedModule) (l : LoadedModule) → IsSoundModule R m o → Some l ≡ o → HasNames l.names (module_of o).tree
+loaded_named R m None l h e = cc
+loaded_named R m (Some k) l h e =
+    let same : k ≡ l = cc in
+    subst (λ x. HasNames x.names (view_typed k.tree)) same (program-named k.view h.sections (resolved_in k) h.built)
+
+there_named : (R : RegistrationList) (ms : List Module) (ls : List (Option LoadedModule)) (i : ℕ) (l : LoadedModule) → AllZip (IsSoundModule R) ms ls → Some l ≡ slice_index_or ls i None
+    → HasNames l.names (run_module_at (modules_of ls) i).tree
+there_named R [] [] i l h e = cc
+there_named R [] (k ∷ ls) i l h e = absurd h
+there_named R (m ∷ ms) [] i l h e = absurd h
+there_named R (m ∷ ms) (k ∷ ls) zero l h e = loaded_named R m k l h.0 e
+there_named R (m ∷ ms) (k ∷ ls) (suc i) l h e = there_named R ms ls i l h.1 e
+
+-- a function that was chosen takes the arguments that were chosen
+pub takes_chosen : (R : RegistrationList) (ms : List Module) (ls : List (Option LoadedModule)) (i : ℕ) (l : LoadedModule) (decl : List ℕ) (vs : List Value) (c : ChosenCall)
+    → AllZip (IsSoundModule R) ms ls → Some l ≡ slice_index_or ls i None → IsChosen (Ok c) (choice_of (program_in l) decl vs)
+    → TakesSoMany (modules_of ls) i c.number (length c.args.items)
+takes_chosen R ms ls i l decl vs c h e chosen =
+    takes-named l.names (modules_of ls) i c.number chosen.0 c.args.items (there_named R ms ls i l h e) (choice-one (program_in l) decl vs c.number chosen.0 c.args.items chosen.1)
+
+-- no function was chosen
+pub chosen_refused : (why : Refusal) (q : Choice) (w : World) (i budget : ℕ) → IsChosen (Err why) q → IsRefused why (call_chosen q w i budget) w w
+chosen_refused why q w i budget (inl memory) = (inl memory, refl)
+chosen_refused why q w i budget (inr so) = (inr (λ rest. ap (λ x. call_chosen x w i budget rest) so), refl)
 
 module _ (w : World) (name decl : List ℕ) (args : List Value) (budget i : ℕ) (found : Some i ≡ module_named name w) where
   pub calling-unbuilt : (rest : List Input) → (module_at w i).program ≡ None → calling name decl args budget w rest ≡ refused NotBuilt w rest

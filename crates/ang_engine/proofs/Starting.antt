@@ -1,19 +1,18 @@
 -- A module that is loaded, and whose initializers run.
-use Rattle.std.proofs.Common.{◌≡◌, ◌<◌, refl, ap, sym, ◌∙◌, subst, ℕ, zero, suc, ◌+◌, List, [], ◌∷◌, length, arith, map, Option, Some, None}
-use Rattle.std.specs.Prelude.{Result, Ok, Err, slice_index_or, slice_set}
+use Rattle.std.proofs.Common.{◌≡◌, ◌<◌, refl, ap, sym, ◌∙◌, subst, ℕ, zero, suc, List, [], ◌∷◌, length, arith, map, Option, Some, None}
+use Rattle.std.specs.Prelude.{Result, slice_index_or, slice_set}
 use Rattle.std.specs.List.{AllByRecursion}
 use Rattle.ang_kinds.specs.declared.fault.Fault.{Fault}
 use Rattle.ang_host.specs.declared.event.Role.{Role}
 use Rattle.ang_host.specs.Boxes.{members}
 use Rattle.ang_host.specs.Laws.{Meaning}
 use Rattle.ang_typed.specs.Typed as t
-use Rattle.ang_typed.specs.View.{view_typed}
 use Rattle.ang_meaning.specs.declared.class.ValueKind.{ValueKind}
 use Rattle.ang_meaning.specs.declared.class.ValueKind.TheVariants.{Number, Handle}
 use Rattle.ang_meaning.specs.declared.slot.Slot.{Slot}
 use Rattle.ang_meaning.specs.Setting.{default_of}
 use Rattle.ang_meaning.specs.Counting.{Thing, names, how_many, IsCounted}
-use Rattle.ang_meaning.specs.World.{World as RunWorld, with_inputs}
+use Rattle.ang_meaning.specs.World.{World as RunWorld}
 use Rattle.ang_meaning.specs.Told.{answers_listed}
 use Rattle.ang_meaning.proofs.Counting.{bits_name_none, null_names_none}
 use Rattle.ang_heap.specs.declared.globals.Globals.{Globals}
@@ -26,12 +25,13 @@ use Rattle.ang_engine_modules.specs.Loaded.{module_of, modules_of}
 use Rattle.ang_engine_modules.specs.Modules.{Module as RunModule, unbuilt, module_at, AgreesWith, IsAskedIn}
 use Rattle.ang_source.specs.Meaning.{kind_of}
 use Rattle.ang_engine_modules.specs.Executed.{first_globals, initialization_of}
-use Rattle.ang_engine_modules.specs.Ends.{Ends, completed}
+use Rattle.ang_engine_modules.specs.Ends.{Ends}
 use Rattle.ang_engine.specs.World.{Program, globals_ended}
 use Rattle.ang_engine.specs.Step.{globals_begun}
 use Rattle.ang_engine.specs.Asked.{HasRunOn}
+use Rattle.ang_engine.specs.Engines.{program_in}
 use Rattle.ang_engine.proofs.Lists.{map_at, set_at}
-use Rattle.ang_engine.proofs.GlobalsEnd.{ListsEnds, globals_ends, ends_listed, ended_globals, begun_counted}
+use Rattle.ang_engine.proofs.GlobalsEnd.{globals_ends, ends_listed, ended_globals, begun_counted}
 
 -- ---- first values
 
@@ -50,6 +50,10 @@ set_long : {A : Type 0} (xs : List A) (i : ℕ) (x : A) → length (slice_set xs
 set_long [] i x = refl
 set_long (y ∷ ys) zero x = refl
 set_long (y ∷ ys) (suc i) x = ap suc (set_long ys i x)
+
+-- the values with which a module's globals begin name nothing
+pub first_values : (ls : List (Option LoadedModule)) (home : ℕ) (values : List Slot) → values ≡ first_globals (module_at (modules_of ls) home).tree → (x : Thing) → how_many x values ≡ 0
+first_values ls home values e x = ap (how_many x) e ∙ first_none (module_at (modules_of ls) home).tree x
 
 -- what is loaded at its place
 pub loaded_here : (ls : List (Option LoadedModule)) (home : ℕ) (l : LoadedModule) → home < length ls → module_at (modules_of (slice_set ls home (Some l))) home ≡ module_of (Some l)
@@ -70,6 +74,15 @@ pub ended_silent : (i : ℕ) (u v : RunWorld) → globals_ended i u ≡ v → an
 ended_silent i u v e = sym (ap (λ (w : RunWorld). answers_listed w.events) (sym e) ∙ ends_listed u (globals_ended i u) (globals_ends i u))
 
 -- ---- its run
+
+-- the world in which its globals have begun
+pub begun-world : (u : RunWorld) (gs : List (List Slot)) (ls ks : List (Option LoadedModule)) (home : ℕ) (l : LoadedModule) (values : List Slot) → home < length ls
+    → ks ≡ slice_set ls home (Some l) → values ≡ first_globals (module_at (modules_of ks) home).tree → gs ≡ slice_set u.globals home values
+    → record u { globals = gs } ≡ globals_begun home (program_in l) u
+begun-world u gs ls ks home l values lt code first set =
+    ap (λ q. record u { globals = q }) set
+    ∙ ap (λ (vs : List Slot). record u { globals = slice_set u.globals home vs }) (first ∙ ap (λ q. first_globals (module_at (modules_of q) home).tree) code)
+    ∙ ap (λ (x : RunModule). record u { globals = slice_set u.globals home (first_globals x.tree) }) (loaded_here ls home l lt)
 
 pub started-by : (r : Result Slot Fault) (ls ks : List (Option LoadedModule)) (home budget : ℕ) (p : Program) (u v x : RunWorld) → ls ≡ ks → v ≡ globals_begun home p u
     → Ends (initialization_of (modules_of ls) budget home) v r x → Ends (initialization_of (modules_of ks) budget home) (globals_begun home p u) r x
@@ -94,3 +107,9 @@ module _ {V : Type 0} {P : V → Type 0} (m : (v : V) → Meaning (P v)) (ms : L
   pub run-done : (s t : Store V P) → (AllByRecursion (IsAskedIn ms) s.events.items → AllByRecursion (IsAskedIn ms) t.events.items)
       → ((roles : List Role) → AgreesWith roles ms → StoreMoves m roles s t) → IsReady m t → IsCounted [] (world_of m t) → HasRunOn m ms s t
   run-done s t asked moves ready counted = record { asked = asked; moves = moves; ready = λ q. ready; counted = λ q. counted }
+
+-- the same of modules by other words
+pub run-loaded : {V : Type 0} {P : V → Type 0} (m : (v : V) → Meaning (P v)) (ls ks : List (Option LoadedModule)) (s t : Store V P) → ls ≡ ks
+    → (AllByRecursion (IsAskedIn (modules_of ls)) s.events.items → AllByRecursion (IsAskedIn (modules_of ls)) t.events.items)
+    → ((roles : List Role) → AgreesWith roles (modules_of ls) → StoreMoves m roles s t) → IsReady m t → IsCounted [] (world_of m t) → HasRunOn m (modules_of ks) s t
+run-loaded m ls ks s t code asked moves ready counted = subst (λ q. HasRunOn m (modules_of q) s t) code (run-done m (modules_of ls) s t asked moves ready counted)

@@ -1,15 +1,14 @@
 -- Facts of each state of a list of drivers.
-use Rattle.std.proofs.Common.{◌≡◌, ℕ, zero, suc, ◌<◌, ◌+◌, refl, sym, ap, ◌∙◌, List, [], ◌∷◌, length, arith, All, Option, Some, None}
+use Rattle.std.proofs.Common.{◌≡◌, ℕ, zero, suc, ◌<◌, refl, sym, ap, ◌∙◌, List, [], ◌∷◌, length, arith, All, Option, Some, None}
 use Rattle.std.specs.FinMap as map
 use Rattle.std.specs.FinMap.{get-empty, len-empty, same_map, nat_cmp-IsAntisymmetric}
 use Rattle.std.specs.Ordering.{nat_cmp}
 use Rattle.std.proofs.lemmas.Cmp.{nat_cmp_total}
 use Rattle.std.proofs.lemmas.List.Elements.{All-cons}
-use Rattle.ang_host.specs.State.{State, count_of, count_at}
+use Rattle.ang_host.specs.State.{State, count_of}
 use Rattle.ang_host.specs.Laws.{IsSound}
-use Rattle.ang_host.specs.Members.{state_at, nothing, AreFresh}
+use Rattle.ang_host.specs.Members.{state_at, AreFresh}
 use Rattle.ang_host.specs.Counts.{IsBalanced}
-use Rattle.ang_meaning.specs.World.{HostCounts}
 use Rattle.ang_meaning.specs.Counting.{counts_by}
 use Rattle.ang_heap.specs.Parts.{live_in, AreReady}
 

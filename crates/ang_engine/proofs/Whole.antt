@@ -1,15 +1,21 @@
 -- Whole commands on an engine.
-use Rattle.std.proofs.Common.{◌≡◌, refl, sym, ap, ◌∙◌, subst, ℕ, List, []}
+use Rattle.std.proofs.Common.{◌≡◌, refl, sym, ap, ◌∙◌, subst, ℕ, List, [], length}
 use Rattle.std.specs.Prelude.{Result}
+use Rattle.std.proofs.lemmas.List.{length-map}
 use Rattle.ang_kinds.specs.declared.value.Value.{Value}
 use Rattle.ang_host.specs.declared.event.HostEvent.{HostEvent}
+use Rattle.ang_host.specs.declared.event.Role.{Role}
+use Rattle.ang_host.specs.State.{State}
 use Rattle.ang_host.specs.Boxes.{members}
-use Rattle.ang_host.specs.Laws.{Meaning}
+use Rattle.ang_host.specs.Laws.{Fits, Meaning}
+use Rattle.ang_host.specs.Events.{AllFollow}
 use Rattle.ang_registry.specs.Registration.{RegistrationList}
+use Rattle.ang_registry.specs.Roles.{roles_of}
 use Rattle.ang_meaning.specs.Counting.{IsCounted}
 use Rattle.ang_heap.specs.declared.store.Store.{Store}
 use Rattle.ang_heap.specs.Stores.{world_of, IsKept}
 use Rattle.ang_engine.specs.declared.building.BuildRefused.{BuildRefused}
+use Rattle.ang_engine.specs.declared.engine.Engine.{Engine}
 use Rattle.ang_engine.specs.declared.command.Command.{Command}
 use Rattle.ang_engine.specs.declared.command.Command.TheVariants.{Build, Call}
 use Rattle.ang_engine.specs.declared.reply.Outcome.{Outcome}
@@ -20,10 +26,29 @@ use Rattle.ang_engine.specs.declared.reply.Reply.{Reply}
 use Rattle.ang_engine.specs.World.{World}
 use Rattle.ang_engine.specs.Step.{Leads, judged, reply_of}
 use Rattle.ang_engine.specs.Outcomes.{IsDone, IsCalled, outcome_of, building, calling, reply_to_build, reply_to_call}
+use Rattle.ang_engine.specs.Engines.{registrations, drivers_in}
+use Rattle.ang_engine.specs.Sound.{HaveDrivers, AreSoundModules, IsSound}
 use Rattle.ang_engine.specs.Asked.{HasAsked}
 use Rattle.ang_engine.specs.Applied.{Applied}
 use Rattle.ang_engine.proofs.Asking.{asked-nothing, applied-asked}
 use Rattle.ang_engine.proofs.Leading.{takes-done, takes-judged, takes-memory, takes-called}
+
+-- there are as many drivers as before
+follow_count : {B V : Type 0} (st : B → State) (kind : B → V) (rule : V → Fits) (roles : List Role) (xs : List B) (es : List HostEvent) (ys : List B)
+    → AllFollow st kind rule roles xs es ys → length ys ≡ length xs
+follow_count st kind rule roles xs es ys h = sym (length-map ys st) ∙ h.follow.same_length ∙ length-map xs st
+
+-- what an engine keeps, behind a command that has asked
+pub sound-asked : {V : Type 0} {P : V → Type 0} (m : (v : V) → Meaning (P v)) (e f : Engine V P) (v : World) (es : List HostEvent) → IsSound m e → registrations f ≡ registrations e
+    → AreSoundModules (registrations e) f.modules → HasAsked m (registrations e) v es e.machine.store f.machine.store → IsSound m f
+sound-asked m e f v es sound same modules asked = record {
+  modules = subst (λ R. AreSoundModules R f.modules) (sym same) modules;
+  in_list = subst (λ R. HaveDrivers R (length (drivers_in f))) (sym same)
+      (subst (λ n. HaveDrivers (registrations e) n)
+      (sym (follow_count (λ b. (m b.vtable).state b.value) (λ b. b.vtable) (λ x. (m x).fits) (roles_of (registrations e)) (drivers_in e) es (drivers_in f) asked.follow)) sound.in_list);
+  kept = asked.kept;
+  counted = asked.counted;
+}
 
 module _ {V : Type 0} {P : V → Type 0} (m : (v : V) → Meaning (P v)) (R : RegistrationList) where
   -- one that asks nothing

@@ -1,17 +1,15 @@
 -- The modules of an engine, seen as a world.
-use Rattle.std.proofs.Common.{◌≡◌, ◌<◌, refl, ap, sym, ◌∙◌, ℕ, zero, suc, ◌+◌, List, [], ◌∷◌, ◌++◌, length, arith, map, Option, Some, None}
+use Rattle.std.proofs.Common.{◌≡◌, ◌<◌, refl, ap, sym, ◌∙◌, ℕ, zero, suc, List, [], ◌∷◌, ◌++◌, length, arith, Option, Some, None}
 use Rattle.std.specs.Prelude.{slice_index_or, slice_set}
 use Rattle.std.specs.List.{AllZip}
 use Rattle.ang_registry.specs.Registration.{RegistrationList, seen}
 use Rattle.ang_typed.specs.View.{view_typed}
 use Rattle.ang_engine_modules.specs.declared.modules.LoadedModule.{LoadedModule}
-use Rattle.ang_engine_modules.specs.Modules.{Module as RunModule}
 use Rattle.ang_engine_modules.specs.Loaded.{module_of, modules_of}
 use Rattle.ang_engine.specs.declared.module.Module.{Module}
-use Rattle.ang_engine.specs.World.{ModuleState, no_module, built_of, built_in}
-use Rattle.ang_engine.specs.Engines.{program_in, state_of, module_states}
-use Rattle.ang_engine.specs.Sound.{IsBuiltBy, IsSoundModule}
-use Rattle.ang_engine.proofs.Lists.{map_set}
+use Rattle.ang_engine.specs.World.{no_module, built_of, built_in}
+use Rattle.ang_engine.specs.Engines.{state_of, module_states}
+use Rattle.ang_engine.specs.Sound.{IsSoundModule}
 
 pub states_length : (ms : List Module) (ls : List (Option LoadedModule)) → length (module_states ms ls) ≡ length ms
 states_length [] ls = refl

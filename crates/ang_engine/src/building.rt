@@ -70,7 +70,12 @@ fn take_sections(alloc: Global, from: &mut Module) -> Vec<List<u8>>
 }
 
 /// A program with its name and its view.
-fn with_view(alloc: Global, name: &[u8], view: View, program: Program) -> Result<LoadedModule, AllocError>
+fn with_view(
+    alloc: Global,
+    name: &[u8],
+    view: View,
+    program: Program,
+) -> Result<LoadedModule, AllocError>
     ensures name { IfOk result (λ l. l.name ≡ name.now) }
     ensures view { IfOk result (λ l. l.view ≡ view) }
     ensures program { IfOk result (λ l. resolved_in l ≡ resolved_of program) }
@@ -229,15 +234,7 @@ fn build_module(
     end_globals(alloc, machine, events, home as usize);
     list.code.clear(alloc, home);
     match compile_waiting(alloc, registry, &mut list.modules[home as usize]) {
-        Ok(loaded) => start(
-            alloc,
-            &mut list.code,
-            machine,
-            events,
-            home,
-            loaded,
-            budget,
-        ),
+        Ok(loaded) => start(alloc, &mut list.code, machine, events, home, loaded, budget),
         Err(unbuilt) => Err(refused_by(unbuilt)),
     }
 }

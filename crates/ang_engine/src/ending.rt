@@ -22,12 +22,7 @@ use std::mem;
 
 /// Values are given up, the last one first. The end of each host object that ends is listed, in the room
 /// that is kept for it.
-fn give_back(
-    heap: &mut Heap,
-    drivers: &mut Drivers,
-    events: &mut Vec<HostEvent>,
-    values: &[Slot],
-)
+fn give_back(heap: &mut Heap, drivers: &mut Drivers, events: &mut Vec<HostEvent>, values: &[Slot])
     requires ready { AreReady (states_of (λ v. (⟦<dyn Driver as Driver>⟧ v).meaning) (members drivers.old)) (vec_len events.old) (vec_capacity events.old) }
     requires enough { EnoughIn values.now (objects_of heap.old) (counts_of (λ v. (⟦<dyn Driver as Driver>⟧ v).meaning) (members drivers.old)) }
     ensures gives { (gs : List (List Slot)) (is : List Input)
@@ -106,12 +101,7 @@ pub fn end_all(
 }
 
 /// The globals of a module end in a command, which lists what ends.
-pub fn end_globals(
-    alloc: Global,
-    machine: &mut Machine,
-    events: &mut Vec<HostEvent>,
-    home: usize,
-)
+pub fn end_globals(alloc: Global, machine: &mut Machine, events: &mut Vec<HostEvent>, home: usize)
     requires ready { IsReady (λ v. (⟦<dyn Driver as Driver>⟧ v).meaning) (lent machine.old events.old) }
     requires counted { IsCounted [] (world_of (λ v. (⟦<dyn Driver as Driver>⟧ v).meaning) (lent machine.old events.old)) }
     ensures ended { (is : List Input) → globals_ended home (with_inputs is (world_of (λ v. (⟦<dyn Driver as Driver>⟧ v).meaning) (lent machine.old events.old)))

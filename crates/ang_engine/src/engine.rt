@@ -63,15 +63,16 @@ fn machine_of(alloc: Global, drivers: Drivers) -> Machine
     ensures kept { IsKept (λ v. (⟦<dyn Driver as Driver>⟧ v).meaning) result.store }
     ensures counted { IsCounted [] (world_of (λ v. (⟦<dyn Driver as Driver>⟧ v).meaning) result.store) }
 {
+    let heap = Heap::new(alloc);
+    let modules = Vec::new(alloc);
+    let ends = Vec::new(alloc);
     Machine {
         store: Store {
-            heap: Heap::new(alloc),
-            globals: Globals {
-                modules: Vec::new(alloc),
-            },
+            heap,
+            globals: Globals { modules },
             drivers,
             events: Vec::new(alloc),
-            ends: Vec::new(alloc),
+            ends,
             live: 0,
         },
     }

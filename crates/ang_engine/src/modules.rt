@@ -109,10 +109,10 @@ pub fn add_module(
         built_mask: mask,
         sections: Vec::new(alloc),
     };
-    if push_module(alloc, list, globals, module).is_err() {
-        return Err(Refusal::Memory);
+    match push_module(alloc, list, globals, module) {
+        Ok(()) => Ok(()),
+        Err(_) => Err(Refusal::Memory),
     }
-    Ok(())
 }
 
 fn push_section(into: &mut Module, text: List<u8>) -> Result<(), Refusal>

@@ -46,11 +46,7 @@ pub fn ended(done: Result<(), Refusal>) -> Outcome
 }
 
 /// The reply to a build, with what it has listed.
-pub fn build_reply(
-    alloc: Global,
-    done: Result<(), BuildRefused>,
-    events: Vec<HostEvent>,
-) -> Reply
+pub fn build_reply(alloc: Global, done: Result<(), BuildRefused>, events: Vec<HostEvent>) -> Reply
     ensures exact { result ≡ reply_to_build done events.items }
 {
     match done {
@@ -60,7 +56,12 @@ pub fn build_reply(
             with_events(alloc, Outcome::Refused(Refusal::BuildMemory), events)
         }
         Err(BuildRefused::Errors(errors)) => {
-            reply(alloc, Outcome::Refused(Refusal::BuildErrors), events, errors)
+            reply(
+                alloc,
+                Outcome::Refused(Refusal::BuildErrors),
+                events,
+                errors,
+            )
         }
         Err(BuildRefused::Initializer(fault)) => {
             with_events(alloc, Outcome::Refused(Refusal::InitFailed(fault)), events)
@@ -69,11 +70,7 @@ pub fn build_reply(
 }
 
 /// The reply to a call, with what it has listed.
-pub fn call_reply(
-    alloc: Global,
-    done: Result<Outcome, Refusal>,
-    events: Vec<HostEvent>,
-) -> Reply
+pub fn call_reply(alloc: Global, done: Result<Outcome, Refusal>, events: Vec<HostEvent>) -> Reply
     ensures exact { result ≡ reply_to_call done events.items }
 {
     match done {

@@ -95,6 +95,7 @@ module _ (t : Table) (budget m first end : ℕ) (before : World) where
     module _ (ms : List Module) (is : IsTableOf t ms) (all : Numbered ms) (lt : n < end) where
       abbrev begun : Setting → List Input → Config
       begun z = beginning t z ticks m n now
+
       known : slice_get (passings_in (module_at ms m).tree) n ≡ Some []
       known = takes_nothing m (module_at ms m).tree at.gone rest n (there lt (initializers_of m (module_at ms m).tree) all)
 

@@ -15,6 +15,7 @@ use Rattle.ang_engine.specs.Step.{Runs}
 use Rattle.ang_engine.specs.World.{World}
 use Rattle.asrun_session.specs.Session.{Session, behind_action}
 use Rattle.asrun_session.specs.Deeds.{Deed, Ran, Set, Does, action_of, commands_in, replies_in, deed_events, events_in, deed_text, text_in, is_ok, bad_line_text, IsDone, IsCut, IsPrinted, IsHalfPrinted}
+use Rattle.asrun_session.specs.Drivers.{ByEvents}
 use Rattle.asrun_session.specs.Writing.{HasFront}
 use Rattle.asrun_session.specs.declared.action.Action.{Action}
 use Rattle.asrun_session.specs.declared.ending.Status.TheVariants.{AllOk, SomeRefused, BadInput}
@@ -73,6 +74,10 @@ appends_nothing : (o : Option (List ℕ)) → Appends o o []
 appends_nothing None = tt
 appends_nothing (Some xs) = sym (append-nil xs)
 
+-- a session that was not begun
+pub cut_nothing : (R : RegistrationList) (w : World) (s : Session) (o : Option (List ℕ)) → IsCut R w s o o [] w
+cut_nothing R w s o = record { deeds = []; left = s.actions; actions = refl; replies = refl; events = refl; count = 0; printed = appends_nothing o }
+
 module _ {V : Type 0} {P : V → Type 0} (m : (v : V) → Meaning (P v)) (R : RegistrationList) where
   follow_more : (xs ys zs : List (DynBox V Global P)) (ds : List Deed) (d : Deed)
       → DriversFollow m (roles_of R) xs (events_in ds) ys → DriversFollow m (roles_of R) ys (deed_events d) zs
@@ -87,11 +92,6 @@ module _ {V : Type 0} {P : V → Type 0} (m : (v : V) → Meaning (P v)) (R : Re
   pub done_nothing : (w : World) (xs : List (DynBox V Global P)) (s : Session) (o : Option (List ℕ)) → HasDone m R w xs s s o o true w xs
   done_nothing w xs s o =
       record { deeds = []; actions = refl; bad_line = refl; does = refl; follow = follow_nothing xs; printed = appends_nothing o; all_ok = refl }
-
-  -- a session that was not begun
-  pub cut_nothing : (w : World) (xs : List (DynBox V Global P)) (s : Session) (o : Option (List ℕ)) → IsCut m R w xs s o o w xs
-  cut_nothing w xs s o =
-      record { deeds = []; left = s.actions; actions = refl; replies = refl; follow = follow_nothing xs; count = 0; printed = appends_nothing o }
 
   -- one action more
   pub done_more : (w v after : World) (xs ys zs : List (DynBox V Global P)) (whole left next : Session) (old mid new : Option (List ℕ)) (ok one : Bool) (a : Action)
@@ -110,82 +110,99 @@ module _ {V : Type 0} {P : V → Type 0} (m : (v : V) → Meaning (P v)) (R : Re
   -- an action was cut short
   pub done_half : (w v after : World) (xs ys zs : List (DynBox V Global P)) (whole left next : Session) (old mid new : Option (List ℕ)) (ok : Bool) (a : Action)
       → HasDone m R w xs whole left old mid ok v ys → left ≡ behind_action a next → IsHalfPrinted m R v ys a mid new after zs
-      → IsCut m R w xs whole old new after zs
-  done_half w v after xs ys zs whole left next old mid new ok a h e p = record {
-    deeds = h.deeds ++ p.deed ∷ [];
-    left = next.actions;
-    actions = h.actions ∙ ap (λ s. map action_of h.deeds ++ s.actions) e ∙ ap (λ x. map action_of h.deeds ++ x ∷ next.actions) (sym p.action) ∙ sym (actions_more h.deeds p.deed next.actions);
-    replies = runs_of R w after (h.deeds ++ p.deed ∷ []) (does_more R w v after h.deeds p.deed h.does p.does);
-    follow = follow_more xs ys zs h.deeds p.deed h.follow p.follow;
-    count = length (text_in h.deeds) + p.front.count;
-    printed = rw (
-      text_more h.deeds p.deed,
-      append_assoc,
-      take-append-add (text_in h.deeds) (deed_text p.deed ++ bad_line_text whole.bad_line) p.front.count,
-      take-append-le p.front.count (deed_text p.deed) (bad_line_text whole.bad_line) p.front.within,
-    )
-        (appends_both old mid new (text_in h.deeds) (take p.front.count (deed_text p.deed)) h.printed p.front.printed);
-  }
+      → ByEvents m R xs (λ es. IsCut R w whole old new es after) zs
+  done_half w v after xs ys zs whole left next old mid new ok a h e p = (
+    events_in (h.deeds ++ p.deed ∷ []),
+    record {
+      deeds = h.deeds ++ p.deed ∷ [];
+      left = next.actions;
+      actions = h.actions ∙ ap (λ s. map action_of h.deeds ++ s.actions) e ∙ ap (λ x. map action_of h.deeds ++ x ∷ next.actions) (sym p.action) ∙ sym (actions_more h.deeds p.deed next.actions);
+      replies = runs_of R w after (h.deeds ++ p.deed ∷ []) (does_more R w v after h.deeds p.deed h.does p.does);
+      events = refl;
+      count = length (text_in h.deeds) + p.front.count;
+      printed = rw (
+        text_more h.deeds p.deed,
+        append_assoc,
+        take-append-add (text_in h.deeds) (deed_text p.deed ++ bad_line_text whole.bad_line) p.front.count,
+        take-append-le p.front.count (deed_text p.deed) (bad_line_text whole.bad_line) p.front.within,
+      )
+          (appends_both old mid new (text_in h.deeds) (take p.front.count (deed_text p.deed)) h.printed p.front.printed);
+    },
+    follow_more xs ys zs h.deeds p.deed h.follow p.follow,
+  )
 
   -- nothing more was done
   pub done_cut : (w after : World) (xs ys : List (DynBox V Global P)) (whole left : Session) (old new : Option (List ℕ)) (ok : Bool)
-      → HasDone m R w xs whole left old new ok after ys → IsCut m R w xs whole old new after ys
-  done_cut w after xs ys whole left old new ok h = record {
-    deeds = h.deeds;
-    left = left.actions;
-    actions = h.actions;
-    replies = runs_of R w after h.deeds h.does;
-    follow = h.follow;
-    count = length (text_in h.deeds);
-    printed = rw (take-append_seam (text_in h.deeds) (bad_line_text whole.bad_line)) h.printed;
-  }
+      → HasDone m R w xs whole left old new ok after ys → ByEvents m R xs (λ es. IsCut R w whole old new es after) ys
+  done_cut w after xs ys whole left old new ok h = (
+    events_in h.deeds,
+    record {
+      deeds = h.deeds;
+      left = left.actions;
+      actions = h.actions;
+      replies = runs_of R w after h.deeds h.does;
+      events = refl;
+      count = length (text_in h.deeds);
+      printed = rw (take-append_seam (text_in h.deeds) (bad_line_text whole.bad_line)) h.printed;
+    },
+    h.follow,
+  )
 
   -- a line of another form ends it
   pub done_bad : (w after : World) (xs ys : List (DynBox V Global P)) (whole left : Session) (old mid new : Option (List ℕ)) (ok : Bool) (n : ℕ)
       → HasDone m R w xs whole left old mid ok after ys → left ≡ record { actions = []; bad_line = Some n } → Appends mid new (bad_line_text (Some n))
-      → IsDone m R w xs whole old new BadInput after ys
+      → ByEvents m R xs (λ es. IsDone R w whole old new BadInput es after) ys
   done_bad w after xs ys whole left old mid new ok n h e p =
-      let bad : whole.bad_line ≡ Some n = h.bad_line ∙ ap (λ s. s.bad_line) e in
-      record {
-        deeds = h.deeds;
-        actions = h.actions ∙ ap (λ s. map action_of h.deeds ++ s.actions) e ∙ append-nil (map action_of h.deeds);
-        replies = runs_of R w after h.deeds h.does;
-        follow = h.follow;
-        printed = rw bad (appends_both old mid new (text_in h.deeds) (bad_line_text (Some n)) h.printed p);
-        ending = rw bad refl;
-      }
+      let bad : whole.bad_line ≡ Some n = h.bad_line ∙ ap (λ s. s.bad_line) e in (
+        events_in h.deeds,
+        record {
+          deeds = h.deeds;
+          actions = h.actions ∙ ap (λ s. map action_of h.deeds ++ s.actions) e ∙ append-nil (map action_of h.deeds);
+          replies = runs_of R w after h.deeds h.does;
+          events = refl;
+          printed = rw bad (appends_both old mid new (text_in h.deeds) (bad_line_text (Some n)) h.printed p);
+          ending = rw bad refl;
+        },
+        h.follow,
+      )
 
   -- the text that says so was cut short
   pub done_bad_cut : (w after : World) (xs ys : List (DynBox V Global P)) (whole left : Session) (old mid new : Option (List ℕ)) (ok : Bool) (n : ℕ)
       → HasDone m R w xs whole left old mid ok after ys → left ≡ record { actions = []; bad_line = Some n } → HasFront mid new (bad_line_text (Some n))
-      → IsCut m R w xs whole old new after ys
+      → ByEvents m R xs (λ es. IsCut R w whole old new es after) ys
   done_bad_cut w after xs ys whole left old mid new ok n h e p =
-      let bad : whole.bad_line ≡ Some n = h.bad_line ∙ ap (λ s. s.bad_line) e in
-      record {
-        deeds = h.deeds;
-        left = left.actions;
-        actions = h.actions;
-        replies = runs_of R w after h.deeds h.does;
-        follow = h.follow;
-        count = length (text_in h.deeds) + p.count;
-        printed = rw (bad, take-append-add (text_in h.deeds) (bad_line_text (Some n)) p.count)
-            (appends_both old mid new (text_in h.deeds) (take p.count (bad_line_text (Some n))) h.printed p.printed);
-      }
+      let bad : whole.bad_line ≡ Some n = h.bad_line ∙ ap (λ s. s.bad_line) e in (
+        events_in h.deeds,
+        record {
+          deeds = h.deeds;
+          left = left.actions;
+          actions = h.actions;
+          replies = runs_of R w after h.deeds h.does;
+          events = refl;
+          count = length (text_in h.deeds) + p.count;
+          printed = rw (bad, take-append-add (text_in h.deeds) (bad_line_text (Some n)) p.count)
+              (appends_both old mid new (text_in h.deeds) (take p.count (bad_line_text (Some n))) h.printed p.printed);
+        },
+        h.follow,
+      )
 
   -- no line is left
   pub done_all : (w after : World) (xs ys : List (DynBox V Global P)) (whole left : Session) (old new : Option (List ℕ)) (ok : Bool)
       → HasDone m R w xs whole left old new ok after ys → left ≡ record { actions = []; bad_line = None }
-      → IsDone m R w xs whole old new (cond ok AllOk SomeRefused) after ys
+      → ByEvents m R xs (λ es. IsDone R w whole old new (cond ok AllOk SomeRefused) es after) ys
   done_all w after xs ys whole left old new ok h e =
-      let good : whole.bad_line ≡ None = h.bad_line ∙ ap (λ s. s.bad_line) e in
-      record {
-        deeds = h.deeds;
-        actions = h.actions ∙ ap (λ s. map action_of h.deeds ++ s.actions) e ∙ append-nil (map action_of h.deeds);
-        replies = runs_of R w after h.deeds h.does;
-        follow = h.follow;
-        printed = rw (good, append-nil (text_in h.deeds)) h.printed;
-        ending = rw (good, ← h.all_ok) refl;
-      }
+      let good : whole.bad_line ≡ None = h.bad_line ∙ ap (λ s. s.bad_line) e in (
+        events_in h.deeds,
+        record {
+          deeds = h.deeds;
+          actions = h.actions ∙ ap (λ s. map action_of h.deeds ++ s.actions) e ∙ append-nil (map action_of h.deeds);
+          replies = runs_of R w after h.deeds h.does;
+          events = refl;
+          printed = rw (good, append-nil (text_in h.deeds)) h.printed;
+          ending = rw (good, ← h.all_ok) refl;
+        },
+        h.follow,
+      )
 
 pub front_none : (o : Option (List ℕ)) (text : List ℕ) → HasFront o o text
 front_none o text = record { count = 0; within = omega arith; printed = appends_nothing o }

@@ -3,6 +3,7 @@ pub mod Arguments
 pub mod Cuts
 pub mod Doing
 pub mod FirstLines
+pub mod LastEnds
 pub mod Loading
 pub mod Numerals
 pub mod ReadBytes

@@ -1,16 +1,23 @@
 -- Engines that take drivers, and give them back.
-use Rattle.std.proofs.Common.{◌≡◌, ℕ, ◌<◌, ◌⊎◌, List, length, Option, Some, None, IfSome, Result, Ok, Err, inl, inr, refl, subst, ◌∙◌}
+use Rattle.std.proofs.Common.{◌≡◌, ℕ, ◌<◌, ◌≤◌, ◌⊎◌, List, [], length, Option, Some, None, IfSome, Result, Ok, Err, inl, inr, refl, sym, subst}
 use Rattle.std.specs.Io.KnownBytes.{Appends}
 use Rattle.std.specs.Result.{IfOk, IfErr, OnOk, OnErr}
 use Rattle.std.specs.declared.alloc.Global.{Global}
 use Rattle.std.specs.declared.dyn_box.DynBox.{DynBox}
+use Rattle.ang_host.specs.Events.{DriversFollow}
 use Rattle.ang_host.specs.Laws.{Meaning}
+use Rattle.ang_host.specs.Members.{states_of}
+use Rattle.ang_host.specs.declared.event.HostEvent.{HostEvent}
+use Rattle.ang_host.proofs.Events.{AllFollow-join}
+use Rattle.ang_meaning.specs.Counting.{counts_by}
 use Rattle.ang_registry.specs.Registration.{RegistrationList}
+use Rattle.ang_registry.specs.Roles.{roles_of}
 use Rattle.ang_engine.specs.Sound.{HaveDrivers}
-use Rattle.ang_engine.specs.World.{World, no_modules}
-use Rattle.asrun_session.specs.Drivers.{AreListed, AreTaken, IsDiscarded, EngineRefusal, IsRefused, AreRefused, engine_text}
+use Rattle.ang_engine.specs.World.{World, no_modules, engine_ended}
+use Rattle.asrun_session.specs.Deeds.{IsDone, IsCut}
+use Rattle.asrun_session.specs.Drivers.{AreListed, AreBack, ByEvents, WasDiscarded, DidNothing, EngineRefusal, IsRefused, AreRefused, engine_text}
 use Rattle.asrun_session.specs.Reading.{unread}
-use Rattle.asrun_session.specs.Whole.{Untouched, Unread, Ends, Stops, RunsSession, StopsSession, most_session, long_session_text}
+use Rattle.asrun_session.specs.Whole.{Ends, Stops, Unread, RunsSession, StopsSession, most_session, long_session_text}
 use Rattle.asrun_session.specs.Writing.{HasFront, unwritten}
 use Rattle.asrun_session.specs.declared.ending.Status.{Status}
 use Rattle.asrun_session.specs.declared.ending.Status.TheVariants.{BadInput}
@@ -18,22 +25,61 @@ use Rattle.asrun_session.specs.declared.ending.Stop.{Stop}
 use Rattle.asrun_session.specs.declared.ending.Stop.TheVariants.{Memory}
 use Rattle.asrun_session.specs.Lines.{lines_of}
 use Rattle.asrun_session.specs.Session.{session_from}
-use Rattle.asrun_session.proofs.Doing.{cut_nothing}
+use Rattle.asrun_session.proofs.Doing.{cut_nothing, follow_nothing}
+use Rattle.asrun_session.proofs.LastEnds.{last_ends}
 
--- the session could not be read
-pub stops_unread : {V : Type 0} {P : V → Type 0} (m : (v : V) → Meaning (P v)) (R : RegistrationList) (xs : List (DynBox V Global P)) (o text : Option (List ℕ)) (budget : ℕ)
-    → IfSome text (λ s. StopsSession m xs xs o o R s budget no_modules)
-stops_unread m R xs o None budget = tt
-stops_unread m R xs o (Some s) budget = inr (cut_nothing m R no_modules xs (session_from 1 budget 0 (lines_of s)) o)
+-- ---- the text of a session, over a new engine, which has the world w
 
--- the session was too long
-pub ends_long : {V : Type 0} {P : V → Type 0} (m : (v : V) → Meaning (P v)) (R : RegistrationList) (xs : List (DynBox V Global P)) (old new text : Option (List ℕ))
-    (budget : ℕ) → IfSome text (λ s. most_session < length s) → Appends old new long_session_text
-    → IfSome text (λ s. RunsSession m xs xs old new R s budget BadInput no_modules)
-ends_long m R xs old new None budget long printed = tt
-ends_long m R xs old new (Some s) budget long printed = inl (long, printed, refl, refl, refl)
+module _ {V : Type 0} {P : V → Type 0} (m : (v : V) → Meaning (P v)) (R : RegistrationList) (w : World) (new_engine : w ≡ no_modules) where
+  -- it could not be read
+  pub stops_unread : (xs : List (DynBox V Global P)) (o text : Option (List ℕ)) (budget : ℕ)
+      → IfSome text (λ s. ByEvents m R xs (λ es. StopsSession R s budget o o es w) xs)
+  stops_unread xs o None budget = tt
+  stops_unread xs o (Some s) budget =
+      ([], inr (subst (λ v. IsCut R v (session_from 1 budget 0 (lines_of s)) o o [] w) new_engine (cut_nothing R w (session_from 1 budget 0 (lines_of s)) o)), follow_nothing m R xs)
 
--- no engine took the drivers
+  -- it was too long
+  pub runs_long : (xs : List (DynBox V Global P)) (old new text : Option (List ℕ)) (budget : ℕ)
+      → IfSome text (λ s. most_session < length s) → Appends old new long_session_text
+      → IfSome text (λ s. ByEvents m R xs (λ es. RunsSession R s budget old new BadInput es w) xs)
+  runs_long xs old new None budget long printed = tt
+  runs_long xs old new (Some s) budget long printed = ([], inl (long, printed, refl, (refl, new_engine)), follow_nothing m R xs)
+
+  -- the text that says so was cut short
+  pub stops_long : (xs : List (DynBox V Global P)) (old new text : Option (List ℕ)) (budget : ℕ)
+      → IfSome text (λ s. most_session < length s) → HasFront old new long_session_text
+      → IfSome text (λ s. ByEvents m R xs (λ es. StopsSession R s budget old new es w) xs)
+  stops_long xs old new None budget long front = tt
+  stops_long xs old new (Some s) budget long front = ([], inl (long, front, (refl, new_engine)), follow_nothing m R xs)
+
+  -- its lines were done
+  pub runs_lines : (xs ys : List (DynBox V Global P)) (old new text : Option (List ℕ)) (bytes : List ℕ) (budget : ℕ) (ended : Result Status Stop) (after : World)
+      → IfSome text (λ s. (bytes ≡ s) × (length s ≤ most_session))
+      → IfOk ended (λ status. ByEvents m R xs (λ es. IsDone R w (session_from 1 budget 0 (lines_of bytes)) old new status es after) ys)
+      → IfOk ended (λ status. IfSome text (λ s. ByEvents m R xs (λ es. RunsSession R s budget old new status es after) ys))
+  runs_lines xs ys old new text bytes budget (Err stop) after is h = tt
+  runs_lines xs ys old new None bytes budget (Ok status) after is h = tt
+  runs_lines xs ys old new (Some s) bytes budget (Ok status) after is h =
+      let done : IsDone R no_modules (session_from 1 budget 0 (lines_of s)) old new status h.0 after =
+      subst (λ v. IsDone R v (session_from 1 budget 0 (lines_of s)) old new status h.0 after) new_engine
+      (subst (λ b. IsDone R w (session_from 1 budget 0 (lines_of b)) old new status h.0 after) is.0 h.1) in
+      (h.0, inr (is.1, done), h.2)
+
+  -- some of them were
+  pub stops_lines : (xs ys : List (DynBox V Global P)) (old new text : Option (List ℕ)) (bytes : List ℕ) (budget : ℕ) (ended : Result Status Stop) (after : World)
+      → IfSome text (λ s. (bytes ≡ s) × (length s ≤ most_session))
+      → OnErr ended (ByEvents m R xs (λ es. IsCut R w (session_from 1 budget 0 (lines_of bytes)) old new es after) ys)
+      → OnErr ended (IfSome text (λ s. ByEvents m R xs (λ es. StopsSession R s budget old new es after) ys))
+  stops_lines xs ys old new text bytes budget (Ok status) after is h = tt
+  stops_lines xs ys old new None bytes budget (Err stop) after is h = tt
+  stops_lines xs ys old new (Some s) bytes budget (Err stop) after is h =
+      let cut : IsCut R no_modules (session_from 1 budget 0 (lines_of s)) old new h.0 after =
+      subst (λ v. IsCut R v (session_from 1 budget 0 (lines_of s)) old new h.0 after) new_engine
+      (subst (λ b. IsCut R w (session_from 1 budget 0 (lines_of b)) old new h.0 after) is.0 h.1) in
+      (h.0, inr cut, h.2)
+
+-- ---- no engine took the drivers
+
 pub ends_refused : {V : Type 0} {P : V → Type 0} (m : (v : V) → Meaning (P v)) (R : RegistrationList) (xs ys : List (DynBox V Global P)) (old new text : Option (List ℕ))
     (budget : ℕ) (why : EngineRefusal) (ended : Result Status Stop) → ys ≡ xs → IsRefused m R xs why → OnOk ended (Appends old new (engine_text why))
     → IfOk ended (λ status. status ≡ BadInput) → IfOk ended (λ status. IfSome text (λ s. Ends m xs ys old new (Ok R) s budget status))
@@ -62,38 +108,49 @@ memory_written e = cc
 pub read_memory : (A : Type 0) (ended : Result Status Stop) → ended ≡ Err Memory → IfErr ended (λ e. e ≡ unwritten → A)
 read_memory A ended is = rw is (λ e. absurd (memory_written e))
 
--- an engine over the list R' that has the drivers xs', and that was left with this world and the drivers zs and then discarded
-module _ {V : Type 0} {P : V → Type 0} (m : (v : V) → Meaning (P v)) (R R' : RegistrationList) (xs xs' zs ys : List (DynBox V Global P)) (w : World) where
-  -- an engine over the list that it was given has the drivers that it was given
-  taken_by : R' ≡ R → xs' ≡ xs → AreListed m xs → HaveDrivers R' (length xs') → AreTaken m R xs
-  taken_by list same listed in_list = record { listed = listed; in_list = rw (← list, ← same) in_list }
+-- ---- an engine over the list R' took the drivers, which it has as xs'; it was left with this world and the drivers zs, and discarded
 
-  -- it took the drivers, the session was done, and it was discarded
-  pub ends_taken : (old new text : Option (List ℕ)) (budget : ℕ) (ended : Result Status Stop) → R' ≡ R → xs' ≡ xs
-      → AreListed m xs → HaveDrivers R' (length xs') → IsDiscarded m R w zs ys
-      → IfOk ended (λ status. IfSome text (λ s. RunsSession m xs' zs old new R' s budget status w))
+module _ {V : Type 0} {P : V → Type 0} (m : (v : V) → Meaning (P v)) (R R' : RegistrationList) (xs xs' zs ys : List (DynBox V Global P)) (w : World)
+    (list : R' ≡ R) (same : xs' ≡ xs) (listed : AreListed m xs) (in_list : HaveDrivers R' (length xs'))
+    (hosts : w.hosts ≡ counts_by (states_of m zs)) (ends : DriversFollow m (roles_of R) zs (engine_ended w).events ys) (back : AreBack m ys) where
+  -- what was done with it, by the events that the drivers followed meanwhile
+  discarded : (S : RegistrationList → List HostEvent → World → Type 0) → ByEvents m R' xs' (λ es. S R' es w) zs → WasDiscarded m R xs ys (S R)
+  discarded S h =
+      let first : DriversFollow m (roles_of R) xs h.0 zs =
+      subst (λ l. DriversFollow m (roles_of l) xs h.0 zs) list (subst (λ l. DriversFollow m (roles_of R') l h.0 zs) same h.2) in
+      record {
+        taken = record { listed = listed; in_list = subst (λ l. HaveDrivers l (length xs)) list (subst (λ l. HaveDrivers R' (length l)) same in_list) };
+        events = h.0;
+        after = w;
+        did = subst (λ l. S l h.0 w) list h.1;
+        follow = AllFollow-join (λ b. (m b.vtable).state b.value) (λ b. b.vtable) (λ v. (m v).fits) (roles_of R) xs zs ys h.0 (engine_ended w).events first ends;
+        last = last_ends m R xs zs ys h.0 w hosts listed.idle back.fresh first ends;
+        back = back;
+      }
+
+  -- the session was done
+  pub ends_taken : (old new text : Option (List ℕ)) (budget : ℕ) (ended : Result Status Stop)
+      → IfOk ended (λ status. IfSome text (λ s. ByEvents m R' xs' (λ es. RunsSession R' s budget old new status es w) zs))
       → IfOk ended (λ status. IfSome text (λ s. Ends m xs ys old new (Ok R) s budget status))
-  ends_taken old new text budget (Err stop) list same listed in_list gone h = tt
-  ends_taken old new None budget (Ok status) list same listed in_list gone h = tt
-  ends_taken old new (Some s) budget (Ok status) list same listed in_list gone h =
-      let runs : RunsSession m xs zs old new R s budget status w = rw (← list, ← same) h in
-      inr (taken_by list same listed in_list, w, zs, runs, gone)
+  ends_taken old new text budget (Err stop) h = tt
+  ends_taken old new None budget (Ok status) h = tt
+  ends_taken old new (Some s) budget (Ok status) h = inr (discarded (λ l. RunsSession l s budget old new status) h)
 
-  -- the session was cut short
-  pub stops_taken : (old new text : Option (List ℕ)) (budget : ℕ) (ended : Result Status Stop) → R' ≡ R → xs' ≡ xs
-      → AreListed m xs → HaveDrivers R' (length xs') → IsDiscarded m R w zs ys
-      → OnErr ended (IfSome text (λ s. StopsSession m xs' zs old new R' s budget w))
+  -- it was cut short
+  pub stops_taken : (old new text : Option (List ℕ)) (budget : ℕ) (ended : Result Status Stop)
+      → OnErr ended (IfSome text (λ s. ByEvents m R' xs' (λ es. StopsSession R' s budget old new es w) zs))
       → OnErr ended (IfSome text (λ s. Stops m xs ys old new (Ok R) s budget))
-  stops_taken old new text budget (Ok status) list same listed in_list gone h = tt
-  stops_taken old new None budget (Err stop) list same listed in_list gone h = tt
-  stops_taken old new (Some s) budget (Err stop) list same listed in_list gone h =
-      let stops : StopsSession m xs zs old new R s budget w = rw (← list, ← same) h in
-      inr (inr (taken_by list same listed in_list, w, zs, stops, gone))
+  stops_taken old new text budget (Ok status) h = tt
+  stops_taken old new None budget (Err stop) h = tt
+  stops_taken old new (Some s) budget (Err stop) h = inr (inr (discarded (λ l. StopsSession l s budget old new) h))
 
-  -- the session could not be read, and the engine was discarded
-  pub unread_taken : (old new : Option (List ℕ)) (ended : Result Status Stop) → R' ≡ R → xs' ≡ xs → AreListed m xs → HaveDrivers R' (length xs') → IsDiscarded m R w zs ys
-      → IfErr ended (λ e. e ≡ unread → Untouched m xs' zs old new) → IfErr ended (λ e. e ≡ unread → w ≡ no_modules) → IfErr ended (λ e. e ≡ unread → Unread m xs ys old new)
-  unread_taken old new (Ok status) list same listed in_list gone h k = tt
-  unread_taken old new (Err stop) list same listed in_list gone h k = λ is.
-      let back : zs ≡ xs = (h is).1 ∙ same in
-      inr ((h is).0, R, taken_by list same listed in_list, subst (λ l. IsDiscarded m R no_modules l ys) back (subst (λ v. IsDiscarded m R v zs ys) (k is) gone))
+  -- nothing was done with it
+  pub unused : w ≡ no_modules → zs ≡ xs' → WasDiscarded m R xs ys DidNothing
+  unused new_engine kept = discarded (λ l. DidNothing) ([], (refl, new_engine), subst (λ l. DriversFollow m (roles_of R') xs' [] l) (sym kept) (follow_nothing m R' xs'))
+
+-- the session could not be read
+pub unread_taken : {V : Type 0} {P : V → Type 0} (m : (v : V) → Meaning (P v)) (R : RegistrationList) (xs ys : List (DynBox V Global P)) (old new : Option (List ℕ))
+    (A : Type 0) (ended : Result Status Stop) → (A → WasDiscarded m R xs ys DidNothing)
+    → IfErr ended (λ e. e ≡ unread → new ≡ old) → IfErr ended (λ e. e ≡ unread → A) → IfErr ended (λ e. e ≡ unread → Unread m xs ys old new (Ok R))
+unread_taken m R xs ys old new A (Ok status) go h k = tt
+unread_taken m R xs ys old new A (Err stop) go h k = λ is. inr (h is, go (k is))

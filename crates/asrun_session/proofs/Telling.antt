@@ -5,10 +5,12 @@ use Rattle.std.specs.List.{list_all}
 use Rattle.std.specs.declared.alloc.Global.{Global}
 use Rattle.std.specs.declared.dyn_box.DynBox.{DynBox}
 use Rattle.ang_host.specs.Laws.{Meaning}
+use Rattle.ang_host.specs.declared.event.HostEvent.{HostEvent}
 use Rattle.ang_registry.specs.Registration.{RegistrationList}
+use Rattle.ang_engine.specs.World.{World}
 use Rattle.asrun_session.specs.Deeds.{Deed, is_ok, status_of}
 use Rattle.asrun_session.specs.Reading.{unread}
-use Rattle.asrun_session.specs.Whole.{Unread, Ends, Stops, Tells, Starts, StartStops, start_of, outcome_of}
+use Rattle.asrun_session.specs.Whole.{RunsSession, Unread, Ends, Stops, Tells, Starts, StartStops, start_of, outcome_of}
 use Rattle.asrun_session.specs.declared.ending.IoFault.TheVariants as io
 use Rattle.asrun_session.specs.declared.ending.Status.{Status}
 use Rattle.asrun_session.specs.declared.ending.Status.TheVariants.{AllOk, SomeRefused, BadInput, Memory}
@@ -23,11 +25,15 @@ no_memory : (bad : Option ℕ) (deeds : List Deed) → Memory ≡ status_of bad 
 no_memory None deeds e = no_status (list_all is_ok deeds) e
 no_memory (Some n) deeds e = cc
 
+unsaid : (R : RegistrationList) (s : List ℕ) (budget : ℕ) (old new : Option (List ℕ)) (es : List HostEvent) (w : World)
+    → RunsSession R s budget old new Memory es w → ⊥
+unsaid R s budget old new es w (inl h) = let e : Memory ≡ BadInput = h.2 in cc
+unsaid R s budget old new es w (inr h) = no_memory _ h.1.deeds h.1.ending
+
 module _ {V : Type 0} {P : V → Type 0} (m : (v : V) → Meaning (P v)) (xs ys : List (DynBox V Global P)) where
   never : (R : RegistrationList) (s : List ℕ) (budget : ℕ) (old new : Option (List ℕ)) → Ends m xs ys old new (Ok R) s budget Memory → ⊥
   never R s budget old new (inl h) = let e : Memory ≡ BadInput = h.3 in cc
-  never R s budget old new (inr (taken, w, zs, inl h, gone)) = let e : Memory ≡ BadInput = h.2 in cc
-  never R s budget old new (inr (taken, w, zs, inr h, gone)) = no_memory _ h.1.deeds h.1.ending
+  never R s budget old new (inr gone) = unsaid R s budget old new gone.events gone.after gone.did
 
   ends : (R : RegistrationList) (s : List ℕ) (budget : ℕ) (old new : Option (List ℕ)) (status : Status)
       → Ends m xs ys old new (Ok R) s budget status → Tells m xs ys old new (Ok R) s budget (Ok status)
@@ -39,7 +45,7 @@ module _ {V : Type 0} {P : V → Type 0} (m : (v : V) → Meaning (P v)) (xs ys 
   -- over a profile that was taken
   tells_taken : (R : RegistrationList) (s : List ℕ) (budget : ℕ) (old new : Option (List ℕ)) (ended : Result Status Stop)
       → IfOk ended (λ status. Ends m xs ys old new (Ok R) s budget status) → OnErr ended (Stops m xs ys old new (Ok R) s budget)
-      → IfErr ended (λ e. e ≡ unread → Unread m xs ys old new)
+      → IfErr ended (λ e. e ≡ unread → Unread m xs ys old new (Ok R))
       → Tells m xs ys old new (Ok R) s budget (outcome_of ended)
   tells_taken R s budget old new (Ok status) h k u = ends R s budget old new status h
   tells_taken R s budget old new (Err stop.Memory) h k u = k
@@ -52,7 +58,7 @@ module _ {V : Type 0} {P : V → Type 0} (m : (v : V) → Meaning (P v)) (xs ys 
   untaken (Ok R) s budget old new (stop.Fault io.Read) back h u = inl (u refl, back)
   untaken (Ok R) s budget old new (stop.Fault io.Write) back h u = inl (h, back)
   untaken (Ok R) s budget old new stop.Memory back h u = inl (h, back)
-  untaken (Err text) s budget old new (stop.Fault io.Read) back h u = inl (u refl, back)
+  untaken (Err text) s budget old new (stop.Fault io.Read) back h u = (u refl, back)
   untaken (Err text) s budget old new (stop.Fault io.Write) back h u = (h, back)
   untaken (Err text) s budget old new stop.Memory back h u = (h, back)
 
@@ -68,7 +74,7 @@ module _ {V : Type 0} {P : V → Type 0} (m : (v : V) → Meaning (P v)) (xs ys 
       → IfSome profile (λ p. Starts (start_of p) R old mid true)
       → IfOk ended (λ status. IfSome session (λ s. Ends m xs ys mid new (Ok R) s budget status))
       → OnErr ended (IfSome session (λ s. Stops m xs ys mid new (Ok R) s budget))
-      → IfErr ended (λ e. e ≡ unread → Unread m xs ys mid new)
+      → IfErr ended (λ e. e ≡ unread → Unread m xs ys mid new (Ok R))
       → IfSome profile (λ p. IfSome session (λ s. Tells m xs ys old new (start_of p) s budget (outcome_of ended)))
   tells R None session budget old mid new ended a h k u = tt
   tells R (Some p) None budget old mid new ended a h k u = tt

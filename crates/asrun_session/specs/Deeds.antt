@@ -85,25 +85,22 @@ abbrev pub Does : RegistrationList → World → Deed → World → Type 0
 Does R w (Ran c r) after = Takes R w c r after
 Does R w (Set ticks) after = w ≡ after
 
--- The session was done whole: its commands ran in their order, each with its reply, the drivers followed the events of all replies, and the text of all was
--- printed.
-pub record IsDone {V : Type 0} {P : V → Type 0} (m : (v : V) → Meaning (P v)) (R : RegistrationList) (w : World) (xs : List (DynBox V Global P))
-    (session : Session) (old new : Option (List ℕ)) (status : Status) (after : World) (ys : List (DynBox V Global P)) : Type 0 where
+-- The session was done whole: its commands ran in their order, each with its reply, these are the events of all replies, and the text of all was printed.
+pub record IsDone (R : RegistrationList) (w : World) (session : Session) (old new : Option (List ℕ)) (status : Status) (es : List HostEvent) (after : World) : Type 0 where
   pub deeds : List Deed
   pub actions : session.actions ≡ map action_of deeds
   pub replies : Runs R w (commands_in deeds) (replies_in deeds) after
-  pub follow : DriversFollow m (roles_of R) xs (events_in deeds) ys
+  pub events : es ≡ events_in deeds
   pub printed : Appends old new (text_in deeds ++ bad_line_text session.bad_line)
   pub ending : status ≡ status_of session.bad_line deeds
 
--- The session was cut short: its first commands ran, the drivers followed their events, and a front of their text was printed.
-pub record IsCut {V : Type 0} {P : V → Type 0} (m : (v : V) → Meaning (P v)) (R : RegistrationList) (w : World) (xs : List (DynBox V Global P))
-    (session : Session) (old new : Option (List ℕ)) (after : World) (ys : List (DynBox V Global P)) : Type 0 where
+-- The session was cut short: its first commands ran, these are the events of their replies, and a front of their text was printed.
+pub record IsCut (R : RegistrationList) (w : World) (session : Session) (old new : Option (List ℕ)) (es : List HostEvent) (after : World) : Type 0 where
   pub deeds : List Deed
   pub left : List Action
   pub actions : session.actions ≡ map action_of deeds ++ left
   pub replies : Runs R w (commands_in deeds) (replies_in deeds) after
-  pub follow : DriversFollow m (roles_of R) xs (events_in deeds) ys
+  pub events : es ≡ events_in deeds
   pub count : ℕ
   pub printed : Appends old new (take count (text_in deeds ++ bad_line_text session.bad_line))
 

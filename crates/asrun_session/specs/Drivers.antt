@@ -1,5 +1,5 @@
 -- The drivers of a run.
-use Rattle.std.specs.Prelude.{ℕ, ◌≤◌, List, All, length, codes, map as list_map}
+use Rattle.std.specs.Prelude.{◌≡◌, ℕ, ◌≤◌, List, [], ◌++◌, All, length, codes, map as list_map}
 use Rattle.std.specs.declared.alloc.Global.{Global}
 use Rattle.std.specs.declared.dyn_box.DynBox.{DynBox}
 use Rattle.ang_host.specs.Counts.{IsBalanced}
@@ -9,10 +9,12 @@ use Rattle.ang_host.specs.Members.{states_of, AreFresh}
 use Rattle.ang_host.specs.Refusal.{IsRefusal}
 use Rattle.ang_host.specs.declared.drivers.DriversError.{DriversError}
 use Rattle.ang_host.specs.declared.drivers.DriversError.TheVariants.{TooMany, Busy}
+use Rattle.ang_host.specs.declared.event.HostEvent.{HostEvent}
 use Rattle.ang_registry.specs.Registration.{RegistrationList}
 use Rattle.ang_registry.specs.Roles.{roles_of}
 use Rattle.ang_engine.specs.Sound.{HaveDrivers}
-use Rattle.ang_engine.specs.World.{World, engine_ended}
+use Rattle.ang_engine.specs.World.{World, no_modules, engine_ended}
+use Rattle.asrun_session.specs.LastEnds.{AreLastEnds}
 
 -- which driver stands at each place
 abbrev pub kinds_of : {V : Type 0} {P : V → Type 0} → List (DynBox V Global P) → List V
@@ -47,12 +49,27 @@ engine_text (NotListed TooMany) = codes "engine TooMany\n"
 engine_text (NotListed Busy) = codes "engine Busy\n"
 engine_text NoDriver = codes "engine NoDriver\n"
 
--- They come back with nothing alive.
-abbrev pub AreBalanced : {V : Type 0} {P : V → Type 0} → ((v : V) → Meaning (P v)) → List (DynBox V Global P) → Type 0
-AreBalanced m xs = All IsBalanced (states_of m xs)
+-- By some events, of which S is said, the drivers xs became ys.
+abbrev pub ByEvents : {V : Type 0} {P : V → Type 0} → ((v : V) → Meaning (P v)) → RegistrationList → List (DynBox V Global P) → (List HostEvent → Type 0) → List (DynBox V Global P) → Type 0
+ByEvents m R xs S ys = (es : List HostEvent) × S es × DriversFollow m (roles_of R) xs es ys
 
--- An engine over the list R that was left with this world and the drivers zs was discarded: what its globals held was given up, so that nothing is alive, and
--- the drivers, which come back as ys, follow the ends.
-pub record IsDiscarded {V : Type 0} {P : V → Type 0} (m : (v : V) → Meaning (P v)) (R : RegistrationList) (w : World) (zs ys : List (DynBox V Global P)) : Type 0 where
-  pub ends : DriversFollow m (roles_of R) zs (engine_ended w).events ys
-  pub balanced : AreBalanced m ys
+-- They come back with nothing alive, so that another engine can take them.
+pub record AreBack {V : Type 0} {P : V → Type 0} (m : (v : V) → Meaning (P v)) (xs : List (DynBox V Global P)) : Type 0 where
+  pub balanced : All IsBalanced (states_of m xs)
+  pub fresh : AreFresh (states_of m xs)
+
+-- An engine over the list R took the drivers. What was done with it, of which S is said, listed some events and left a world; and then it was discarded. The
+-- drivers followed these events and then the ends of what the world still held, which are one for each object that was alive, and came back with nothing alive.
+pub record WasDiscarded {V : Type 0} {P : V → Type 0} (m : (v : V) → Meaning (P v)) (R : RegistrationList) (xs ys : List (DynBox V Global P))
+    (S : List HostEvent → World → Type 0) : Type 0 where
+  pub taken : AreTaken m R xs
+  pub events : List HostEvent
+  pub after : World
+  pub did : S events after
+  pub follow : DriversFollow m (roles_of R) xs (events ++ (engine_ended after).events) ys
+  pub last : AreLastEnds (length xs) events (engine_ended after).events
+  pub back : AreBack m ys
+
+-- nothing was done with an engine
+abbrev pub DidNothing : List HostEvent → World → Type 0
+DidNothing es after = (es ≡ []) × (after ≡ no_modules)

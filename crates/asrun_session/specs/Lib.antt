@@ -1,6 +1,8 @@
 pub mod Acts
 pub mod Deeds
 pub mod Drivers
+pub mod Engines
+pub mod LastEnds
 pub mod Fields
 pub mod Values
 pub mod Lines

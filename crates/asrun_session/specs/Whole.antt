@@ -4,12 +4,13 @@ use Rattle.std.specs.Io.KnownBytes.{Appends}
 use Rattle.std.specs.declared.alloc.Global.{Global}
 use Rattle.std.specs.declared.dyn_box.DynBox.{DynBox}
 use Rattle.ang_host.specs.Laws.{Meaning}
+use Rattle.ang_host.specs.declared.event.HostEvent.{HostEvent}
 use Rattle.ang_registry.specs.declared.error.RegError.{RegError}
 use Rattle.ang_registry.specs.declared.error.RegError.TheVariants.{Limit, EmptyMask, BadDeclaration, UnknownType, WrongDriver, Duplicate, Memory as NoMemory}
 use Rattle.ang_registry.specs.Registration.{RegistrationList, Registrations}
 use Rattle.ang_engine.specs.World.{World, no_modules}
 use Rattle.asrun_session.specs.Deeds.{IsDone, IsCut}
-use Rattle.asrun_session.specs.Drivers.{AreTaken, IsDiscarded, EngineRefusal, IsRefused, engine_text}
+use Rattle.asrun_session.specs.Drivers.{EngineRefusal, IsRefused, engine_text, WasDiscarded, DidNothing}
 use Rattle.asrun_session.specs.Lines.{lines_of}
 use Rattle.asrun_session.specs.Profile.{loaded}
 use Rattle.asrun_session.specs.Session.{session_from}
@@ -63,6 +64,20 @@ abbrev pub start_of : List ℕ → Result RegistrationList (List ℕ)
 start_of profile =
     if nat_lt most_profile (length profile) then Err long_profile_text else registered_by (loaded 1 fresh (lines_of profile))
 
+-- What a session does over the list R, with a writer that has the bytes old and then new: which events its replies list, and the world that it leaves.
+module _ (R : RegistrationList) (session : List ℕ) (budget : ℕ) (old new : Option (List ℕ)) where
+  -- It was read and done.
+  abbrev pub RunsSession : Status → List HostEvent → World → Type 0
+  RunsSession status es after =
+      ((most_session < length session) × Appends old new long_session_text × (status ≡ BadInput) × DidNothing es after)
+      ⊎ ((length session ≤ most_session) × IsDone R no_modules (session_from 1 budget 0 (lines_of session)) old new status es after)
+
+  -- It was not done to its end.
+  abbrev pub StopsSession : List HostEvent → World → Type 0
+  StopsSession es after =
+      ((most_session < length session) × HasFront old new long_session_text × DidNothing es after)
+      ⊎ IsCut R no_modules (session_from 1 budget 0 (lines_of session)) old new es after
+
 -- A run with the drivers xs that come back as ys, and with a writer that has the bytes old and then new. Here m is the meaning of what is behind each vtable.
 module _ {V : Type 0} {P : V → Type 0} (m : (v : V) → Meaning (P v)) (xs ys : List (DynBox V Global P)) (old new : Option (List ℕ)) where
   -- Nothing was printed, and the drivers are as they were.
@@ -73,41 +88,24 @@ module _ {V : Type 0} {P : V → Type 0} (m : (v : V) → Meaning (P v)) (xs ys 
   abbrev pub EngineRefused : RegistrationList → Status → Type 0
   EngineRefused R status = (why : EngineRefusal) × IsRefused m R xs why × Appends old new (engine_text why) × (status ≡ BadInput) × (ys ≡ xs)
 
-  -- The session was read and done, and left the engine with this world.
-  abbrev pub RunsSession : RegistrationList → List ℕ → ℕ → Status → World → Type 0
-  RunsSession R session budget status after =
-      ((most_session < length session) × Appends old new long_session_text × (status ≡ BadInput) × (after ≡ no_modules) × (ys ≡ xs))
-      ⊎ ((length session ≤ most_session) × IsDone m R no_modules xs (session_from 1 budget 0 (lines_of session)) old new status after ys)
-
   -- The text that says why no engine takes the drivers was cut short.
   abbrev pub EngineStops : RegistrationList → Type 0
   EngineStops R = (why : EngineRefusal) × IsRefused m R xs why × HasFront old new (engine_text why) × (ys ≡ xs)
 
-  -- The session was not done to its end, and left the engine with this world.
-  abbrev pub StopsSession : RegistrationList → List ℕ → ℕ → World → Type 0
-  StopsSession R session budget after =
-      ((most_session < length session) × HasFront old new long_session_text × (after ≡ no_modules) × (ys ≡ xs))
-      ⊎ IsCut m R no_modules xs (session_from 1 budget 0 (lines_of session)) old new after ys
-
-module _ {V : Type 0} {P : V → Type 0} (m : (v : V) → Meaning (P v)) (xs ys : List (DynBox V Global P)) (old new : Option (List ℕ)) where
-  -- A run that came to its end: what it printed is all. An engine that took the drivers was discarded behind the session.
+  -- A run that came to its end: what it printed is all.
   abbrev pub Ends : Result RegistrationList (List ℕ) → List ℕ → ℕ → Status → Type 0
   Ends (Err text) session budget status = Appends old new text × (status ≡ BadInput) × (ys ≡ xs)
-  Ends (Ok R) session budget status =
-      EngineRefused m xs ys old new R status
-      ⊎ (AreTaken m R xs × (after : World) × (zs : List (DynBox V Global P)) × RunsSession m xs zs old new R session budget status after × IsDiscarded m R after zs ys)
+  Ends (Ok R) session budget status = EngineRefused R status ⊎ WasDiscarded m R xs ys (RunsSession R session budget old new status)
 
   -- A run that was cut short: what it printed is a front. It may have been cut before there was an engine.
   abbrev pub Stops : Result RegistrationList (List ℕ) → List ℕ → ℕ → Type 0
   Stops (Err text) session budget = HasFront old new text × (ys ≡ xs)
-  Stops (Ok R) session budget =
-      Untouched m xs ys old new
-      ⊎ (EngineStops m xs ys old new R
-      ⊎ (AreTaken m R xs × (after : World) × (zs : List (DynBox V Global P)) × StopsSession m xs zs old new R session budget after × IsDiscarded m R after zs ys))
+  Stops (Ok R) session budget = Untouched ⊎ (EngineStops R ⊎ WasDiscarded m R xs ys (StopsSession R session budget old new))
 
-  -- A text that can't be read is found before anything is printed and anyone is asked. There may have been an engine, which was discarded.
-  abbrev pub Unread : Type 0
-  Unread = Untouched m xs ys old new ⊎ ((new ≡ old) × (R : RegistrationList) × AreTaken m R xs × IsDiscarded m R no_modules xs ys)
+  -- A text that can't be read is found before anything is printed and any driver is asked. There may have been an engine.
+  abbrev pub Unread : Result RegistrationList (List ℕ) → Type 0
+  Unread (Err text) = Untouched
+  Unread (Ok R) = Untouched ⊎ ((new ≡ old) × WasDiscarded m R xs ys DidNothing)
 
   -- What a run over these texts prints and asks, by its outcome.
   abbrev pub Tells : Result RegistrationList (List ℕ) → List ℕ → ℕ → Result Status IoFault → Type 0
@@ -116,7 +114,7 @@ module _ {V : Type 0} {P : V → Type 0} (m : (v : V) → Meaning (P v)) (xs ys 
   Tells start session budget (Ok BadInput) = Ends start session budget BadInput
   Tells start session budget (Ok Memory) = Stops start session budget
   Tells start session budget (Err io.Write) = Stops start session budget
-  Tells start session budget (Err io.Read) = Unread
+  Tells start session budget (Err io.Read) = Unread start
 
 -- a profile that was loaded printed nothing, and one that wasn't said why
 abbrev pub Starts : Result RegistrationList (List ℕ) → RegistrationList → Option (List ℕ) → Option (List ℕ) → Bool → Type 0

@@ -1,10 +1,11 @@
 //! Running what a session says.
 ghost use Rattle.std.specs.Prelude.{◌≡◌, ◌≢◌, ◌<◌, ◌≤◌, ◌^◌, [], length, Some, IfOk, IfErr, OnOk, OnErr};
 ghost use Rattle.std.specs.Io.KnownBytes.{Appends};
-ghost use Rattle.ang_engine.specs.Engines.{registrations, world_in, drivers_in};
+ghost use Rattle.ang_engine.specs.Engines.{registrations, drivers_in};
 ghost use Rattle.ang_engine.specs.Sound.{IsSound};
-ghost use Rattle.asrun_session.specs.Deeds.{IsDone, IsCut, IsPrinted, IsHalfPrinted, bad_line_text, is_done};
+ghost use Rattle.asrun_session.specs.Deeds.{bad_line_text, is_done};
 ghost use Rattle.asrun_session.specs.Drivers.{kinds_of};
+ghost use Rattle.asrun_session.specs.Engines.{Prints, HalfPrints, RunsLines, StopsLines};
 ghost use Rattle.asrun_session.specs.Lines.{lines_of};
 ghost use Rattle.asrun_session.specs.Reading.{unread};
 ghost use Rattle.asrun_session.specs.Session.{session_from, budget_after};
@@ -68,8 +69,10 @@ fn run_command<W: Write>(
     ensures sound { IsSound (λ v. (⟦<dyn Driver as Driver>⟧ v).meaning) engine.new }
     ensures registrations { registrations engine.new ≡ registrations engine.old }
     ensures order { kinds_of (drivers_in engine.new) ≡ kinds_of (drivers_in engine.old) }
-    ensures done { IfOk result (λ ok. IsPrinted (λ v. (⟦<dyn Driver as Driver>⟧ v).meaning) (registrations engine.old) (world_in (λ v. (⟦<dyn Driver as Driver>⟧ v).meaning) engine.old) (drivers_in engine.old) (action.Command command) (W.contents writer.old) (W.contents writer.new) ok (world_in (λ v. (⟦<dyn Driver as Driver>⟧ v).meaning) engine.new) (drivers_in engine.new)) }
-    ensures cut { OnErr result (IsHalfPrinted (λ v. (⟦<dyn Driver as Driver>⟧ v).meaning) (registrations engine.old) (world_in (λ v. (⟦<dyn Driver as Driver>⟧ v).meaning) engine.old) (drivers_in engine.old) (action.Command command) (W.contents writer.old) (W.contents writer.new) (world_in (λ v. (⟦<dyn Driver as Driver>⟧ v).meaning) engine.new) (drivers_in engine.new)) }
+    ensures done { IfOk result (λ ok. Prints (λ v. (⟦<dyn Driver as Driver>⟧ v).meaning) engine.old engine.new
+        (action.Command command) (W.contents writer.old) (W.contents writer.new) ok) }
+    ensures cut { OnErr result (HalfPrints (λ v. (⟦<dyn Driver as Driver>⟧ v).meaning) engine.old engine.new
+        (action.Command command) (W.contents writer.old) (W.contents writer.new)) }
     ensures fault { IfErr result (λ e. e ≢ unread) }
 {
     let reply = engine.apply(command);
@@ -90,8 +93,10 @@ fn perform<W: Write>(
     ensures registrations { registrations engine.new ≡ registrations engine.old }
     ensures order { kinds_of (drivers_in engine.new) ≡ kinds_of (drivers_in engine.old) }
     ensures budget { IfOk result (λ x. x.1 ≡ budget_after budget action) }
-    ensures done { IfOk result (λ x. IsPrinted (λ v. (⟦<dyn Driver as Driver>⟧ v).meaning) (registrations engine.old) (world_in (λ v. (⟦<dyn Driver as Driver>⟧ v).meaning) engine.old) (drivers_in engine.old) action (W.contents writer.old) (W.contents writer.new) x.0 (world_in (λ v. (⟦<dyn Driver as Driver>⟧ v).meaning) engine.new) (drivers_in engine.new)) }
-    ensures cut { OnErr result (IsHalfPrinted (λ v. (⟦<dyn Driver as Driver>⟧ v).meaning) (registrations engine.old) (world_in (λ v. (⟦<dyn Driver as Driver>⟧ v).meaning) engine.old) (drivers_in engine.old) action (W.contents writer.old) (W.contents writer.new) (world_in (λ v. (⟦<dyn Driver as Driver>⟧ v).meaning) engine.new) (drivers_in engine.new)) }
+    ensures done { IfOk result (λ x. Prints (λ v. (⟦<dyn Driver as Driver>⟧ v).meaning) engine.old engine.new
+        action (W.contents writer.old) (W.contents writer.new) x.0) }
+    ensures cut { OnErr result (HalfPrints (λ v. (⟦<dyn Driver as Driver>⟧ v).meaning) engine.old engine.new
+        action (W.contents writer.old) (W.contents writer.new)) }
     ensures fault { IfErr result (λ e. e ≢ unread) }
 {
     match action {
@@ -119,8 +124,10 @@ pub fn run_session<W: Write>(
     ensures sound { IsSound (λ v. (⟦<dyn Driver as Driver>⟧ v).meaning) engine.new }
     ensures registrations { registrations engine.new ≡ registrations engine.old }
     ensures order { kinds_of (drivers_in engine.new) ≡ kinds_of (drivers_in engine.old) }
-    ensures done { IfOk result (λ status. IsDone (λ v. (⟦<dyn Driver as Driver>⟧ v).meaning) (registrations engine.old) (world_in (λ v. (⟦<dyn Driver as Driver>⟧ v).meaning) engine.old) (drivers_in engine.old) (session_from 1 budget 0 (lines_of text.now)) (W.contents writer.old) (W.contents writer.new) status (world_in (λ v. (⟦<dyn Driver as Driver>⟧ v).meaning) engine.new) (drivers_in engine.new)) }
-    ensures cut { OnErr result (IsCut (λ v. (⟦<dyn Driver as Driver>⟧ v).meaning) (registrations engine.old) (world_in (λ v. (⟦<dyn Driver as Driver>⟧ v).meaning) engine.old) (drivers_in engine.old) (session_from 1 budget 0 (lines_of text.now)) (W.contents writer.old) (W.contents writer.new) (world_in (λ v. (⟦<dyn Driver as Driver>⟧ v).meaning) engine.new) (drivers_in engine.new)) }
+    ensures done { IfOk result (λ status. RunsLines (λ v. (⟦<dyn Driver as Driver>⟧ v).meaning) engine.old engine.new
+        (session_from 1 budget 0 (lines_of text.now)) (W.contents writer.old) (W.contents writer.new) status) }
+    ensures cut { OnErr result (StopsLines (λ v. (⟦<dyn Driver as Driver>⟧ v).meaning) engine.old engine.new
+        (session_from 1 budget 0 (lines_of text.now)) (W.contents writer.old) (W.contents writer.new)) }
     ensures fault { IfErr result (λ e. e ≢ unread) }
 {
     let mut rest = text;

@@ -2,14 +2,15 @@
 ghost use Rattle.std.specs.Prelude.{◌≡◌, ◌≢◌, ◌<◌, ◌^◌, ◌⊎◌, length, Ok, IfOk, IfErr, IfSome, OnOk, OnErr};
 ghost use Rattle.std.specs.Io.KnownBytes.{Appends};
 ghost use Rattle.ang_host.specs.Boxes.{members};
-ghost use Rattle.ang_engine.specs.Engines.{registrations, world_in, drivers_in};
+ghost use Rattle.ang_engine.specs.Engines.{world_in, drivers_in};
 ghost use Rattle.ang_engine.specs.Sound.{IsSound};
 ghost use Rattle.ang_engine.specs.World.{no_modules};
-ghost use Rattle.asrun_session.specs.Drivers.{kinds_of, AreListed, AreRefused, AreBalanced, NotListed, NoDriver, engine_text};
+ghost use Rattle.asrun_session.specs.Drivers.{kinds_of, AreListed, AreRefused, AreBack, NotListed, NoDriver, engine_text};
+ghost use Rattle.asrun_session.specs.Engines.{RunsText, StopsText};
 ghost use Rattle.asrun_session.specs.Lines.{lines_of};
 ghost use Rattle.asrun_session.specs.Profile.{loaded};
 ghost use Rattle.asrun_session.specs.Reading.{unread, IsReadThrough};
-ghost use Rattle.asrun_session.specs.Whole.{profile_fault_text, registered_by, most_profile, most_session, start_of, Starts, Tells, RunsSession, StopsSession, StartStops, Ends, Stops, Untouched, Unread, outcome_of, fresh};
+ghost use Rattle.asrun_session.specs.Whole.{profile_fault_text, registered_by, most_profile, most_session, start_of, Starts, Tells, StartStops, Ends, Stops, Unread, outcome_of, fresh};
 ghost use Rattle.asrun_session.specs.Writing.{HasFront, unwritten};
 
 use crate::ending::{IoFault, Status, Stop};
@@ -113,11 +114,15 @@ fn run_text<R: Read, W: Write>(
     requires new { world_in (λ v. (⟦<dyn Driver as Driver>⟧ v).meaning) engine.old ≡ no_modules }
     ensures sound { IsSound (λ v. (⟦<dyn Driver as Driver>⟧ v).meaning) engine.new }
     ensures order { kinds_of (drivers_in engine.new) ≡ kinds_of (drivers_in engine.old) }
-    ensures done { IfOk result (λ status. IfSome (R.remaining reader.old) (λ text. RunsSession (λ v. (⟦<dyn Driver as Driver>⟧ v).meaning) (drivers_in engine.old) (drivers_in engine.new) (W.contents writer.old) (W.contents writer.new) (registrations engine.old) text budget status (world_in (λ v. (⟦<dyn Driver as Driver>⟧ v).meaning) engine.new))) }
-    ensures cut { OnErr result (IfSome (R.remaining reader.old) (λ text. StopsSession (λ v. (⟦<dyn Driver as Driver>⟧ v).meaning) (drivers_in engine.old) (drivers_in engine.new) (W.contents writer.old) (W.contents writer.new) (registrations engine.old) text budget (world_in (λ v. (⟦<dyn Driver as Driver>⟧ v).meaning) engine.new))) }
+    ensures done { IfOk result (λ status. IfSome (R.remaining reader.old) (λ text.
+        RunsText (λ v. (⟦<dyn Driver as Driver>⟧ v).meaning) engine.old engine.new
+        text budget (W.contents writer.old) (W.contents writer.new) status)) }
+    ensures cut { OnErr result (IfSome (R.remaining reader.old) (λ text.
+        StopsText (λ v. (⟦<dyn Driver as Driver>⟧ v).meaning) engine.old engine.new
+        text budget (W.contents writer.old) (W.contents writer.new))) }
     ensures read { IfErr result (λ e. e ≡ unwritten → IsReadThrough most_session (R.remaining reader.old) (R.remaining reader.new)) }
-    ensures fault { IfErr result (λ e. e ≡ unread → Untouched (λ v. (⟦<dyn Driver as Driver>⟧ v).meaning) (drivers_in engine.old) (drivers_in engine.new) (W.contents writer.old) (W.contents writer.new)) }
-    ensures unread_world { IfErr result (λ e. e ≡ unread → world_in (λ v. (⟦<dyn Driver as Driver>⟧ v).meaning) engine.new ≡ no_modules) }
+    ensures fault { IfErr result (λ e. e ≡ unread → W.contents writer.new ≡ W.contents writer.old) }
+    ensures unused { IfErr result (λ e. e ≡ unread → engine.new ≡ engine.old) }
 {
     match read_text(alloc, reader, MOST_SESSION)? {
         Text::Whole(text) => run_session(alloc, engine, writer, &text, budget),
@@ -163,13 +168,21 @@ fn run_engine<R: Read, W: Write>(
     budget: u64,
 ) -> (Result<Status, Stop>, Vec<Box<dyn Driver>>)
     requires listed { AreListed (λ v. (⟦<dyn Driver as Driver>⟧ v).meaning) (members drivers) }
-    ensures done { IfOk result.0 (λ status. IfSome (R.remaining reader.old) (λ text. Ends (λ v. (⟦<dyn Driver as Driver>⟧ v).meaning) (members drivers) result.1.items (W.contents writer.old) (W.contents writer.new) (Ok registry.entries) text budget status)) }
-    ensures cut { OnErr result.0 (IfSome (R.remaining reader.old) (λ text. Stops (λ v. (⟦<dyn Driver as Driver>⟧ v).meaning) (members drivers) result.1.items (W.contents writer.old) (W.contents writer.new) (Ok registry.entries) text budget)) }
-    ensures read { IfErr result.0 (λ e. e ≡ unwritten → IsReadThrough most_session (R.remaining reader.old) (R.remaining reader.new) ⊎ AreRefused (λ v. (⟦<dyn Driver as Driver>⟧ v).meaning) registry.entries (members drivers)) }
+    ensures done { IfOk result.0 (λ status. IfSome (R.remaining reader.old) (λ text.
+        Ends (λ v. (⟦<dyn Driver as Driver>⟧ v).meaning) (members drivers) result.1.items
+        (W.contents writer.old) (W.contents writer.new) (Ok registry.entries) text budget status)) }
+    ensures cut { OnErr result.0 (IfSome (R.remaining reader.old) (λ text.
+        Stops (λ v. (⟦<dyn Driver as Driver>⟧ v).meaning) (members drivers) result.1.items
+        (W.contents writer.old) (W.contents writer.new) (Ok registry.entries) text budget)) }
+    ensures read { IfErr result.0 (λ e. e ≡ unwritten →
+        IsReadThrough most_session (R.remaining reader.old) (R.remaining reader.new)
+        ⊎ AreRefused (λ v. (⟦<dyn Driver as Driver>⟧ v).meaning) registry.entries (members drivers)) }
     ensures order { kinds_of result.1.items ≡ kinds_of (members drivers) }
     ensures returned { (result.1.items ≡ members drivers)
-        ⊎ AreBalanced (λ v. (⟦<dyn Driver as Driver>⟧ v).meaning) result.1.items }
-    ensures fault { IfErr result.0 (λ e. e ≡ unread → Unread (λ v. (⟦<dyn Driver as Driver>⟧ v).meaning) (members drivers) result.1.items (W.contents writer.old) (W.contents writer.new)) }
+        ⊎ AreBack (λ v. (⟦<dyn Driver as Driver>⟧ v).meaning) result.1.items }
+    ensures fault { IfErr result.0 (λ e. e ≡ unread →
+        Unread (λ v. (⟦<dyn Driver as Driver>⟧ v).meaning) (members drivers) result.1.items
+        (W.contents writer.old) (W.contents writer.new) (Ok registry.entries)) }
 {
     match Engine::new(alloc, registry, drivers) {
         Ok(mut engine) => {
@@ -203,13 +216,22 @@ fn run_drivers<R: Read, W: Write>(
     budget: u64,
 ) -> (Result<Status, Stop>, Vec<Box<dyn Driver>>)
     requires few { length drivers.items < 2 ^ 60 }
-    ensures done { IfOk result.0 (λ status. IfSome (R.remaining reader.old) (λ text. Ends (λ v. (⟦<dyn Driver as Driver>⟧ v).meaning) drivers.items result.1.items (W.contents writer.old) (W.contents writer.new) (Ok registry.entries) text budget status)) }
-    ensures cut { OnErr result.0 (IfSome (R.remaining reader.old) (λ text. Stops (λ v. (⟦<dyn Driver as Driver>⟧ v).meaning) drivers.items result.1.items (W.contents writer.old) (W.contents writer.new) (Ok registry.entries) text budget)) }
-    ensures read { IfErr result.0 (λ e. e ≡ unwritten → IsReadThrough most_session (R.remaining reader.old) (R.remaining reader.new) ⊎ AreRefused (λ v. (⟦<dyn Driver as Driver>⟧ v).meaning) registry.entries drivers.items) }
+    ensures done { IfOk result.0 (λ status. IfSome (R.remaining reader.old) (λ text.
+        Ends (λ v. (⟦<dyn Driver as Driver>⟧ v).meaning) drivers.items result.1.items
+        (W.contents writer.old) (W.contents writer.new) (Ok registry.entries) text budget status)) }
+    ensures cut { OnErr result.0 (IfSome (R.remaining reader.old) (λ text.
+        Stops (λ v. (⟦<dyn Driver as Driver>⟧ v).meaning) drivers.items result.1.items
+        (W.contents writer.old) (W.contents writer.new) (Ok registry.entries) text budget)) }
+    ensures read { IfErr result.0 (λ e. e ≡ unwritten →
+        IsReadThrough most_session (R.remaining reader.old) (R.remaining reader.new)
+        ⊎ AreRefused (λ v. (⟦<dyn Driver as Driver>⟧ v).meaning) registry.entries drivers.items) }
     ensures order { kinds_of result.1.items ≡ kinds_of drivers.items }
     ensures returned { (result.1.items ≡ drivers.items)
-        ⊎ (AreListed (λ v. (⟦<dyn Driver as Driver>⟧ v).meaning) drivers.items × AreBalanced (λ v. (⟦<dyn Driver as Driver>⟧ v).meaning) result.1.items) }
-    ensures fault { IfErr result.0 (λ e. e ≡ unread → Unread (λ v. (⟦<dyn Driver as Driver>⟧ v).meaning) drivers.items result.1.items (W.contents writer.old) (W.contents writer.new)) }
+        ⊎ (AreListed (λ v. (⟦<dyn Driver as Driver>⟧ v).meaning) drivers.items
+        × AreBack (λ v. (⟦<dyn Driver as Driver>⟧ v).meaning) result.1.items) }
+    ensures fault { IfErr result.0 (λ e. e ≡ unread →
+        Unread (λ v. (⟦<dyn Driver as Driver>⟧ v).meaning) drivers.items result.1.items
+        (W.contents writer.old) (W.contents writer.new) (Ok registry.entries)) }
 {
     match Drivers::new(drivers) {
         Ok(drivers) => run_engine(alloc, reader, writer, registry, drivers, budget),
@@ -263,7 +285,8 @@ pub fn session<P: Read, S: Read, W: Write>(
     ensures order { kinds_of result.drivers.items ≡ kinds_of drivers.items }
     // They come back as they were, or, where an engine may have taken them, with nothing alive.
     ensures returned { (result.drivers.items ≡ drivers.items)
-        ⊎ (AreListed (λ v. (⟦<dyn Driver as Driver>⟧ v).meaning) drivers.items × AreBalanced (λ v. (⟦<dyn Driver as Driver>⟧ v).meaning) result.drivers.items) }
+        ⊎ (AreListed (λ v. (⟦<dyn Driver as Driver>⟧ v).meaning) drivers.items
+        × AreBack (λ v. (⟦<dyn Driver as Driver>⟧ v).meaning) result.drivers.items) }
 {
     let mut registry = Registry::new(alloc);
     match load_profile(alloc, profile, out, &mut registry) {

@@ -1,10 +1,9 @@
-//! Tests of the way from resolved trees to code, by public calls: core trees, the generator, numbers, plain entries.
+//! Tests of the way from resolved trees to code, by public calls: core trees, the generator, numbers, and how
+//! code asks entries.
 #![tactic(auto)]
 
 #[cfg(test)]
 mod bodies;
-#[cfg(test)]
-mod entries;
 #[cfg(test)]
 mod forms;
 #[cfg(test)]

@@ -1,8 +1,8 @@
 -- A machine of the tests may run code, before its first run and behind each that was not lost.
-use Rattle.std.proofs.Common.{◌≡◌, ◌≢◌, ◌<◌, ◌≤◌, ◌+◌, ℕ, zero, suc, List, [], ◌∷◌, refl, sym, ap, ◌∙◌, subst, inl, inr, Bool, true, false, Option, Some, None, Result, Ok, Err, length, arith}
+use Rattle.std.proofs.Common.{◌≡◌, ◌≢◌, ◌<◌, ℕ, zero, suc, List, [], ◌∷◌, refl, sym, ap, ◌∙◌, subst, inl, inr, Bool, true, false, Option, Some, None, Result, Ok, Err, length, arith}
 use Rattle.std.proofs.lemmas.Bool.{ltb-true}
 use Rattle.std.specs.Prelude.{◌&&◌, ltb, slice_get, Vec, map as list_map}
-use Rattle.std.specs.Option.{option_flatten}
+use Rattle.std.specs.Option.{option_flatten, IfSome}
 use Rattle.std.specs.List.{list_all}
 use Rattle.std.specs.Ordering.{nat_cmp}
 use Rattle.std.specs.FinMap as map
@@ -16,12 +16,12 @@ use Rattle.ang_meaning.specs.declared.host.HostUse.{HostUse}
 use Rattle.ang_meaning.specs.declared.slot.Slot.{Slot}
 use Rattle.ang_meaning.specs.declared.slot.Slot.TheVariants.{Bits, Script, Host}
 use Rattle.ang_meaning.specs.declared.routine.Routine.{Routine}
-use Rattle.ang_meaning.specs.World.{World, give, with_inputs}
+use Rattle.ang_meaning.specs.World.{World, with_inputs}
 use Rattle.ang_meaning.specs.Setting.{Setting}
 use Rattle.ang_meaning.specs.Counting.{Thing, KeyOf, NumberOf, names, how_many, in_lists, counts_by, IsCounted}
 use Rattle.ang_meaning.proofs.Counted.{give_counted}
 use Rattle.ang_code.specs.Machine.{Texts, call_begins, initializer_begins}
-use Rattle.ang_code.specs.Runs.{Runs, Gives, Stops}
+use Rattle.ang_code.specs.Runs.{Gives, Stops}
 use Rattle.ang_code_laws.proofs.Counting.{call_runs_count, initializer_runs_count}
 use Rattle.ang_heap.specs.Parts.{live_in, AreReady}
 use Rattle.ang_vm_stack.specs.declared.table.ModuleCode.{ModuleCode}
@@ -38,6 +38,10 @@ both_left false b h = cc
 both_right : (a b : Bool) → a && b ≡ true → b ≡ true
 both_right true b h = h
 both_right false b h = cc
+
+-- what holds of the value in an option
+pub value_there : {X : Type 0} (P : X → Type 0) (r : Option X) (x : X) → r ≡ Some x → IfSome r P → P x
+value_there P r x e h = subst (λ o. IfSome o P) e h
 
 -- ---- drivers
 

@@ -1,6 +1,5 @@
 -- What a machine of the tests needs to run code, as a test can see it.
-use Rattle.std.specs.Prelude.{ℕ, ltb, Bool, true, false, Option, Some, None, List, Vec, []}
-use Rattle.std.specs.List.{list_all}
+use Rattle.std.specs.Prelude.{ℕ, ltb, Bool, true, false, Option, Some, None, Vec, []}
 use Rattle.std.specs.declared.alloc.Global.{Global}
 use Rattle.ang_host.specs.Laws.{Meaning}
 use Rattle.ang_host.specs.declared.event.HostEvent.{HostEvent}

@@ -98,7 +98,8 @@ fn class(alloc: Global, number: u32, row: &ClassRow) -> Result<Class, AllocError
 fn classes(alloc: Global, home: u32, rows: &[ClassRow]) -> Result<Vec<ClassCode>, AllocError> {
     let mut classes = Vec::new(alloc);
     for (number, row) in rows.iter().enumerate() {
-        let class = class(alloc, number as u32, row)?;
+        let number = u32::try_from(number).unwrap_or(u32::MAX);
+        let class = class(alloc, number, row)?;
         let methods = methods(alloc, home, row.3)?;
         classes.push(ClassCode { class, methods })?;
     }

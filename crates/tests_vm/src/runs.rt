@@ -48,7 +48,7 @@ pub enum Wrong {
 const DRIVERS: u32 = 3;
 
 /// What became of a turn.
-#[derive(Clone, Copy, PartialEq, Eq, Debug)]
+#[derive(Clone, Copy, PartialEq, Eq)]
 enum Verdict {
     /// It gave something else.
     Wrong,

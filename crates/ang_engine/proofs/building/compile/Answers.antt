@@ -1,9 +1,7 @@
 use Rattle.std.proofs.Common.{sym, subst}
 use Rattle.ang_source.specs.Sound.{SoundProgram}
-use Rattle.ang_typed.specs.View.{view_typed}
 use Rattle.ang_engine_build.specs.Build.{Resolved, resolved_of}
 use Rattle.ang_engine_build.proofs.Programs.{program-sound}
-use Rattle.ang_engine.specs.Engines.{resolved_in}
 use Rattle.ang_engine.proofs.building.compile.Goals as goal
 
 pub returns-in-Ok-with_view-clause-sound : goal.returns-in-Ok-with_view-clause-sound

@@ -12,3 +12,11 @@ call-ended-requires-clause-counted g c =
     let w = world_of (λ v. (g.dyn-1.0.entry v).1.meaning) (lent c.args.machine.now c.args.events.now) in
     let vs = c.args.chosen.now.args.items in
     subst (λ l. IsCounted (reverse l) w) (sym c.deref.ensures.value) (counted_as [] (reverse vs) w (λ x. sym (reverse-plain vs c.requires.plain x)) c.requires.counted)
+
+pub returns-clause-asked : goal.returns-clause-asked
+returns-clause-asked g c = record {
+  asked = c.call-ended.ensures.asked;
+  moves = c.call-ended.ensures.moves;
+  ready = λ q. c.call-ended.ensures.ready;
+  counted = λ q. c.call-ended.ensures.counted;
+}

@@ -1,5 +1,4 @@
-use Rattle.std.proofs.Common.{◌≡◌, ◌-◌, suc, [], length, refl, sym, ap, ◌∙◌, subst, arith}
-use Rattle.std.specs.Prelude.{map as list_map}
+use Rattle.std.proofs.Common.{◌-◌, [], sym, ap, ◌∙◌, subst}
 use Rattle.ang_host.specs.Boxes.{members}
 use Rattle.ang_meaning.specs.World.{World}
 use Rattle.ang_meaning.specs.Counting.{IsCounted}
@@ -7,7 +6,7 @@ use Rattle.ang_heap.specs.Globals.{values_in}
 use Rattle.ang_heap.specs.Parts.{counts_of, world_by}
 use Rattle.ang_heap.specs.Heaps.{objects_of}
 use Rattle.ang_heap.proofs.Hosting.{parts_none, parts_join}
-use Rattle.ang_engine.specs.World.{globals_ended, all_ended}
+use Rattle.ang_engine.specs.World.{all_ended}
 use Rattle.ang_engine.proofs.Lists.{map_length}
 use Rattle.ang_engine.proofs.GlobalsEnd.{ended_counted}
 use Rattle.ang_engine.proofs.Backwards.{turn_ends, none_ends}

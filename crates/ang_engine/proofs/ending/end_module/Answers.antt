@@ -3,7 +3,7 @@ use Rattle.std.specs.Prelude.{slice_index_or, slice_set}
 use Rattle.ang_host.specs.Boxes.{members}
 use Rattle.ang_meaning.specs.World.{World}
 use Rattle.ang_meaning.specs.Results.{give_back}
-use Rattle.ang_meaning.specs.Counting.{IsCounted, EnoughIn}
+use Rattle.ang_meaning.specs.Counting.{EnoughIn}
 use Rattle.ang_meaning.proofs.Enough.{counted_enough}
 use Rattle.ang_heap.specs.Globals.{values_in}
 use Rattle.ang_heap.specs.Parts.{counts_of, world_by}

@@ -1,4 +1,4 @@
-use Rattle.std.proofs.Common.{inr, refl, ap, ◌∙◌}
+use Rattle.std.proofs.Common.{inr, refl}
 use Rattle.ang_engine.specs.World.{left_to}
 use Rattle.ang_engine.specs.Engines.{module_states}
 use Rattle.ang_engine.proofs.Worlds.{zip_keep}
@@ -16,5 +16,4 @@ returns-clause-done c = λ code r.
 
 pub returns-clause-sound : goal.returns-clause-sound
 returns-clause-sound c = λ R code h.
-    zip_keep R c.args.modules.now code c.in-Some.i c.push_section.new.into c.index-modules-i.result h c.in-Some.ensures.within
-    (c.push_section.ensures.name ∙ ap (λ m. m.name) c.index-modules-i.is) (c.push_section.ensures.built_mask ∙ ap (λ m. m.built_mask) c.index-modules-i.is)
+    zip_keep R c.args.modules.now code c.in-Some.i c.push_section.new.into c.index-modules-i.result h c.in-Some.ensures.within c.push_section.ensures.name c.push_section.ensures.built_mask

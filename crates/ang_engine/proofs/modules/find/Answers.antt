@@ -1,4 +1,4 @@
-use Rattle.std.proofs.Common.{rules, ◌≡◌, ◌∙◌, ◌<◌, false, length, ap, arith}
+use Rattle.std.proofs.Common.{rules, ◌≡◌, ◌∙◌, false}
 use Rattle.std.specs.Prelude.{bytes_eq}
 use Rattle.ang_engine.proofs.Finding.{find-turn}
 use Rattle.ang_engine.proofs.modules.find.Goals as goal

@@ -1,27 +1,36 @@
-use Rattle.std.proofs.Common.{rules, length}
+use Rattle.std.proofs.Common.{rules, length, map, ap, [], refl, ◌∙◌}
 use Rattle.ang_host.specs.Boxes.{members}
 use Rattle.ang_registry.specs.Roles.{roles_of}
+use Rattle.ang_engine.specs.Engines.{world_in, drivers_in}
 use Rattle.ang_engine.specs.Sound.{HaveDrivers}
 use Rattle.asrun_session.specs.Drivers.{NoDriver}
-use Rattle.asrun_session.proofs.Taking.{ends_taken, stops_taken, unread_taken, read_refused, read_memory}
+use Rattle.asrun_session.proofs.Taking.{ends_taken, stops_taken, unread_taken, unused, read_refused, read_memory}
 use Rattle.asrun_session.proofs.whole.run_engine.Goals as goal
 use Rattle.asrun_session.proofs.whole.run_engine.Goals.{in-NoDriver, in-Memory}
 
 pub returns-in-Ok-clause-done : goal.returns-in-Ok-clause-done
 returns-in-Ok-clause-done g c =
-    ends_taken (λ v. (g.dyn-1.0.entry v).1.meaning) _ _ _ _ _ _ _ _ _ _ _ _ c.in-Ok.ensures.registrations c.in-Ok.ensures.drivers
-    c.requires.listed c.in-Ok.ensures.sound.in_list (record { ends = c.discard.ensures.ended (roles_of c.args.registry.entries); balanced = c.discard.ensures.balanced }) c.run_text-ended.ensures.done
+    ends_taken (λ v. (g.dyn-1.0.entry v).1.meaning) _ _ _ _ _ _ _ c.in-Ok.ensures.registrations c.in-Ok.ensures.drivers c.requires.listed c.in-Ok.ensures.sound.in_list refl
+    (c.discard.ensures.ended (roles_of c.args.registry.entries)) (record { balanced = c.discard.ensures.balanced; fresh = c.discard.ensures.fresh })
+    _ _ _ _ _ c.run_text-ended.ensures.done
 
 pub returns-in-Ok-clause-cut : goal.returns-in-Ok-clause-cut
 returns-in-Ok-clause-cut g c =
-    stops_taken (λ v. (g.dyn-1.0.entry v).1.meaning) _ _ _ _ _ _ _ _ _ _ _ _ c.in-Ok.ensures.registrations c.in-Ok.ensures.drivers
-    c.requires.listed c.in-Ok.ensures.sound.in_list (record { ends = c.discard.ensures.ended (roles_of c.args.registry.entries); balanced = c.discard.ensures.balanced }) c.run_text-ended.ensures.cut
+    stops_taken (λ v. (g.dyn-1.0.entry v).1.meaning) _ _ _ _ _ _ _ c.in-Ok.ensures.registrations c.in-Ok.ensures.drivers c.requires.listed c.in-Ok.ensures.sound.in_list refl
+    (c.discard.ensures.ended (roles_of c.args.registry.entries)) (record { balanced = c.discard.ensures.balanced; fresh = c.discard.ensures.fresh })
+    _ _ _ _ _ c.run_text-ended.ensures.cut
+
+pub returns-in-Ok-clause-order : goal.returns-in-Ok-clause-order
+returns-in-Ok-clause-order g c =
+    (c.discard.ensures.ended []).kinds ∙ c.run_text-ended.ensures.order ∙ ap (map (λ b. b.vtable)) c.in-Ok.ensures.drivers
 
 pub returns-in-Ok-clause-fault : goal.returns-in-Ok-clause-fault
 returns-in-Ok-clause-fault g c =
-    unread_taken (λ v. (g.dyn-1.0.entry v).1.meaning) _ _ _ _ _ _ _ _ _ _ c.in-Ok.ensures.registrations c.in-Ok.ensures.drivers
-    c.requires.listed c.in-Ok.ensures.sound.in_list (record { ends = c.discard.ensures.ended (roles_of c.args.registry.entries); balanced = c.discard.ensures.balanced })
-    c.run_text-ended.ensures.fault c.run_text-ended.ensures.unread_world
+    unread_taken (λ v. (g.dyn-1.0.entry v).1.meaning) _ _ _ _ _ _ _ (λ is.
+    unused (λ v. (g.dyn-1.0.entry v).1.meaning) _ _ _ _ _ _ _ c.in-Ok.ensures.registrations c.in-Ok.ensures.drivers c.requires.listed c.in-Ok.ensures.sound.in_list refl
+    (c.discard.ensures.ended (roles_of c.args.registry.entries)) (record { balanced = c.discard.ensures.balanced; fresh = c.discard.ensures.fresh })
+    (ap (world_in (λ v. (g.dyn-1.0.entry v).1.meaning)) is ∙ c.in-Ok.ensures.world) (ap drivers_in is))
+    c.run_text-ended.ensures.fault c.run_text-ended.ensures.unused
 
 pub returns-after-why-clause-read : goal.returns-after-why-clause-read
 returns-after-why-clause-read g c = elim c.match-why.branch [

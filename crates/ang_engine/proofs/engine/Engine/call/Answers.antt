@@ -1,6 +1,8 @@
+use Rattle.std.proofs.Common.{sym, subst}
 use Rattle.ang_engine.specs.Engines.{registrations, world_in}
 use Rattle.ang_engine.specs.declared.command.Command.TheVariants.{Call}
-use Rattle.ang_engine.proofs.Whole.{applied-call, applied-memory}
+use Rattle.ang_engine.specs.Sound.{AreSoundModules}
+use Rattle.ang_engine.proofs.Whole.{applied-call, applied-memory, sound-asked}
 use Rattle.ang_engine.proofs.engine.Engine.call.Goals as goal
 
 pub returns-in_default-clause-applied : goal.returns-in_default-clause-applied
@@ -14,3 +16,8 @@ returns-clause-applied g c =
     c.args.self.now.machine.store c.call_named-done.new.self.machine.store c.as_slice.result.now c.args.name c.as_slice-2.result.now c.args.decl c.as_slice-3.result.now c.args.args c.args.budget _
     c.call_named-done.result c.call_named-done.new.events.items c.as_slice.ensures.same c.as_slice-2.ensures.same c.as_slice-3.ensures.same
     c.call_reply.ensures.exact c.call_named-done.ensures.done c.call_named-done.ensures.asked
+
+pub returns-clause-sound : goal.returns-clause-sound
+returns-clause-sound g c =
+    sound-asked (λ v. (g.dyn-1.0.entry v).1.meaning) c.args.self.now c.call_named-done.new.self _ _ c.requires.sound c.call_named-done.ensures.registrations
+    (subst (λ x. AreSoundModules (registrations c.args.self.now) x) (sym c.call_named-done.ensures.modules) c.requires.sound.modules) c.call_named-done.ensures.asked

@@ -1,0 +1,50 @@
+-- An engine that begins: nothing lives, and nothing is held.
+use Rattle.std.proofs.Common.{◌≡◌, ℕ, refl, sym, ap, ◌∙◌, subst, List, [], length, arith}
+use Rattle.std.specs.FinMap as map
+use Rattle.std.specs.FinMap.{get-empty}
+use Rattle.std.specs.Ordering.{nat_cmp}
+use Rattle.std.specs.List.{AllZip}
+use Rattle.ang_host.specs.declared.event.HostEvent.{HostEvent}
+use Rattle.ang_host.specs.State.{State, count_of}
+use Rattle.ang_host.specs.Members.{AreFresh}
+use Rattle.ang_registry.specs.Registration.{RegistrationList}
+use Rattle.ang_meaning.specs.declared.slot.Slot.{Slot}
+use Rattle.ang_meaning.specs.World.{World as RunWorld, ScriptObjects}
+use Rattle.ang_meaning.specs.Counting.{IsCounted, counts_by}
+use Rattle.ang_meaning.proofs.Roots.{nothing_counted}
+use Rattle.ang_heap.specs.Parts.{world_by, AreReady}
+use Rattle.ang_engine.specs.declared.module.ModuleList.{ModuleList}
+use Rattle.ang_engine.specs.World.{no_modules, running, left_to}
+use Rattle.ang_engine.specs.Engines.{module_states, states_in}
+use Rattle.ang_engine.specs.Sound.{IsSoundModule, AreSoundModules}
+use Rattle.ang_engine.proofs.States.{counts-fresh, ready-fresh}
+
+-- ---- a machine on fresh drivers, without script objects and globals
+
+pub fresh_world : (ss : List State) (os : ScriptObjects) (gs : List (List Slot)) (es : List HostEvent) → AreFresh ss → os ≡ map.empty → gs ≡ [] → es ≡ []
+    → world_by os (counts_by ss) gs es [] ≡ running no_modules []
+fresh_world ss os gs es fresh objects globals events =
+    ap (λ o. world_by o (counts_by ss) gs es []) objects
+    ∙ ap (λ h. world_by map.empty h gs es []) (counts-fresh ss fresh)
+    ∙ ap (λ g. world_by map.empty (λ d. map.empty) g es []) globals
+    ∙ ap (λ l. world_by map.empty (λ d. map.empty) [] l []) events
+
+empty_counted : IsCounted [] (running no_modules [])
+empty_counted = nothing_counted (running no_modules []) refl (λ d k. ap count_of (get-empty nat_cmp k)) (λ x. refl)
+
+pub fresh_counted : (w : RunWorld) → w ≡ running no_modules [] → IsCounted [] w
+fresh_counted w e = subst (λ u. IsCounted [] u) (sym e) empty_counted
+
+pub room_fresh : (ss : List State) (len capacity : ℕ) → AreFresh ss → len ≡ 0 → AreReady ss len capacity
+room_fresh ss len capacity fresh e = subst (λ n. AreReady ss n capacity) (sym e) (ready-fresh ss capacity fresh)
+
+-- ---- an engine without modules
+
+pub no_sound_modules : (R : RegistrationList) (x : ModuleList) → x.modules.items ≡ [] → x.code ≡ [] → AreSoundModules R x
+no_sound_modules R x e f = record {
+  each = subst (λ ms. AllZip (IsSoundModule R) ms x.code) (sym e) (subst (λ ls. AllZip (IsSoundModule R) [] ls) (sym f) tt);
+  few = omega (arith, ap length e);
+}
+
+pub world_begun : (x : ModuleList) (r : RunWorld) → x.modules.items ≡ [] → r ≡ running no_modules [] → left_to (states_in x) r ≡ no_modules
+world_begun x r e f = ap (λ ms. left_to (module_states ms x.code) r) e ∙ ap (λ u. left_to [] u) f

@@ -1,0 +1,28 @@
+use Rattle.std.proofs.Common.{sym, ap}
+use Rattle.std.specs.Prelude.{vec_len, vec_capacity, map as list_map}
+use Rattle.ang_host.specs.Boxes.{members}
+use Rattle.ang_host.specs.Members.{states_of}
+use Rattle.ang_heap.specs.Heaps.{objects_of}
+use Rattle.ang_engine.proofs.States.{live-fresh}
+use Rattle.ang_engine.proofs.Beginning.{fresh_world, fresh_counted, room_fresh}
+use Rattle.ang_engine.proofs.engine.machine_of.Goals as goal
+
+pub returns-clause-world : goal.returns-clause-world
+returns-clause-world g c =
+    fresh_world (states_of (λ v. (g.dyn-1.0.entry v).1.meaning) (members c.args.drivers)) (objects_of c.new-heap.result) (list_map (λ v. v.items) c.new-modules.result.items) c.new.result.items
+    c.requires.fresh c.new-heap.ensures.empty (ap (λ vs. list_map (λ v. v.items) vs) c.new-modules.ensures.items) c.new.ensures.items
+
+pub returns-clause-kept : goal.returns-clause-kept
+returns-clause-kept g c =
+    let ss = states_of (λ v. (g.dyn-1.0.entry v).1.meaning) (members c.args.drivers) in
+    record {
+      drivers = room_fresh ss (vec_len c.new-ends.result) (vec_capacity c.new-ends.result) c.requires.fresh c.new-ends.ensures.len;
+      alive = sym (live-fresh ss c.requires.fresh);
+      none = c.new-ends.ensures.items;
+    }
+
+pub returns-clause-counted : goal.returns-clause-counted
+returns-clause-counted g c =
+    fresh_counted _
+    (fresh_world (states_of (λ v. (g.dyn-1.0.entry v).1.meaning) (members c.args.drivers)) (objects_of c.new-heap.result) (list_map (λ v. v.items) c.new-modules.result.items) c.new.result.items
+    c.requires.fresh c.new-heap.ensures.empty (ap (λ vs. list_map (λ v. v.items) vs) c.new-modules.ensures.items) c.new.ensures.items)
