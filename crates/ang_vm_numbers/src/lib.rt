@@ -11,7 +11,7 @@ mod division;
 mod operators;
 mod shifts;
 
-pub use changes::{Altered, change};
+pub use changes::{Altered, change, change_slot};
 pub use comparisons::{compare, deny};
 pub use conversions::{complement, convert, negate};
 pub use operators::work;
