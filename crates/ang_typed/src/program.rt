@@ -30,7 +30,8 @@ pub struct Function {
 pub struct Parameter {
     /// The type of the values that it holds.
     pub ty: ArgType,
-    /// How it is passed. A parameter by `&out` begins as 0 or `false`; the others begin with their argument.
+    /// How it is passed. A parameter by `&out` begins as 0 or `false`, or as null where its type is an object's
+    /// or a handle's; the others begin with their argument.
     pub pass: Pass,
 }
 
@@ -39,6 +40,7 @@ pub struct Parameter {
 pub struct Global {
     /// The type of the values that it holds.
     pub ty: ArgType,
-    /// What it begins with, a value of that type. Without one it stays 0 or `false`.
+    /// What it begins with, a value of that type. Without one it stays 0 or `false`,
+    /// or null where its type is an object's or a handle's.
     pub initializer: Option<Box<Expression>>,
 }

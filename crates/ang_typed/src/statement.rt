@@ -80,6 +80,7 @@ pub struct Block {
 pub struct Local {
     /// The type of the values that it holds.
     pub ty: ArgType,
-    /// What it begins with, a value of that type. Without one it begins as 0 or `false`.
+    /// What it begins with, a value of that type. Without one it begins as 0 or `false`,
+    /// or as null where its type is an object's or a handle's.
     pub initializer: Option<Box<Expression>>,
 }
