@@ -5,9 +5,9 @@ ghost use Rattle.ang_meaning.specs.Hosts.{plain_value, value_of, is_within, is_u
 ghost use Rattle.ang_meaning.specs.declared.host.HostType.TheVariants.{Plain, Handle};
 ghost use Rattle.ang_kinds.specs.declared.value.Value.TheVariants.{Int, Uint, Bool as Truth, Key};
 
+use crate::conversions::convert;
 use ang_kinds::{Prim, Value};
 use ang_meaning::{HostType, Slot};
-use ang_vm_numbers::convert;
 
 /// A number of a primitive type as it is handed to a driver.
 fn plain_value(of: Prim, bits: u64) -> Value

@@ -3,8 +3,8 @@ use Rattle.std.specs.Int.{cast_unsigned}
 use Rattle.std.proofs.lemmas.Int.{to_z-of_z}
 use Rattle.ang_meaning.specs.Numbers.{is_signed}
 use Rattle.ang_meaning.specs.Hosts.{is_within}
-use Rattle.ang_vm_ask.proofs.Signed.{signed_slot_is}
-use Rattle.ang_vm_ask.proofs.values.signed_slot.Goals as goal
+use Rattle.ang_vm_numbers.proofs.Signed.{signed_slot_is}
+use Rattle.ang_vm_numbers.proofs.values.signed_slot.Goals as goal
 
 pub returns-then-fits_signed : goal.returns-then-fits_signed
 returns-then-fits_signed c =
