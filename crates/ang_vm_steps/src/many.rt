@@ -22,7 +22,7 @@ use ang_vm_stack::stop::Stop;
 
 /// Whether no object lives, so that there is nothing to be given up.
 #[inline(always)]
-fn nothing_lives(store: &Store) -> bool
+pub fn nothing_lives(store: &Store) -> bool
     requires ready { IsReady (λ v. (⟦<dyn Driver as Driver>⟧ v).meaning) store.now }
     ensures nothing { IsTrue result → (value : Slot) (is : List Input)
         → give_in value (with_inputs is (world_of (λ v. (⟦<dyn Driver as Driver>⟧ v).meaning) store.now)) ≡ with_inputs is (world_of (λ v. (⟦<dyn Driver as Driver>⟧ v).meaning) store.now) }
