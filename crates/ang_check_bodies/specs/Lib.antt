@@ -1,3 +1,4 @@
 pub mod Bodies
 pub mod Paths
 pub mod Ways
+pub mod Judging
