@@ -1,178 +1,279 @@
 -- Parts that were judged.
-use Rattle.std.proofs.Common.{◌≡◌, ◌<◌, ◌≤◌, ◌+◌, refl, ap, sym, ◌∙◌, ℕ, List, [], ◌∷◌, ◌++◌, append_assoc, append-nil, length, get_or, take, subst, Option, Some, None, option_to_list, map as list_map}
-use Rattle.std.specs.List.{filter_map, cons_option, flat_map}
+use Rattle.std.proofs.Common.{◌≡◌, ◌<◌, ◌≤◌, ◌+◌, refl, ap, sym, ◌∙◌, ℕ, add-zero, arith, List, [], ◌∷◌, ◌++◌, append_assoc, append-nil, length, get_or, drop, take, subst, map as list_map}
+use Rattle.std.specs.Prelude.{sum_by, slice_get, Option, Some, None}
+use Rattle.std.specs.List.{filter_map, flat_map}
 use Rattle.std.proofs.lemmas.Grind.{flat_map-append}
-use Rattle.std.proofs.lemmas.List.{map-append, take_more, take_all}
-use Rattle.ang_registry.specs.Registration.{RegistrationList}
+use Rattle.std.proofs.lemmas.List.{length-append, map-append}
+use Rattle.ang_view.specs.Registration.{RegistrationList}
 use Rattle.ang_lex.specs.declared.token.Token.{Token}
 use Rattle.ang_tree.specs.declared.type_name.TypeName.{TypeName}
-use Rattle.ang_tree.specs.Stmt.{Init, Body}
-use Rattle.ang_names.specs.declared.names.Names.{Names}
-use Rattle.ang_names.specs.declared.names.ScriptFunction.{ScriptFunction}
-use Rattle.ang_names.specs.declared.names.ScriptGlobal.{ScriptGlobal}
-use Rattle.ang_check_typing.specs.Scope.{Setting}
+use Rattle.ang_tree.specs.Declarations.{Decl, Params, MethodTree, import, function, globals, empty}
+use Rattle.ang_tree.specs.Stmt.{Body, Var, Vars}
 use Rattle.ang_typed.specs.View.{view_function, view_global}
-use Rattle.ang_check.specs.declared.found.Found.{Found}
-use Rattle.ang_check.specs.Bodies.{Part, a_body, an_initializer, Judgement, a_function, a_global, function_typing, global_typing, setting_in, judged_from, refusal_in, function_in, global_in}
-use Rattle.ang_check.specs.Judging.{Noted, Judges, judged_behind, functions_with, globals_with, errors_with}
+use Rattle.ang_names_known.specs.declared.names.Names.{Names}
+use Rattle.ang_names_known.specs.declared.names.ScriptFunction.{ScriptFunction}
+use Rattle.ang_names_known.specs.declared.names.ScriptGlobal.{ScriptGlobal}
+use Rattle.ang_names_known.specs.Items.{each_after}
+use Rattle.ang_check_typing.specs.Scope.{BodyContext}
+use Rattle.ang_check_bodies.specs.declared.found.Found.{Found}
+use Rattle.ang_check_bodies.specs.declared.parts.Left.{Left}
+use Rattle.ang_check_bodies.specs.Bodies.{InSection, Judgement, of_function, of_global, a_function, a_global, function_typing, global_typing, context_in, function_count, global_count, family_count, initializer_parts, declaration_parts, judged, judged_function, judged_global, function_given, member_given, global_given, refusal_in}
+use Rattle.ang_check_bodies.specs.Judging.{Noted, Adds, IsLeft, Judges, Initializes, Holds}
+use Rattle.ang_check_bodies.proofs.Lists.{grown, grown_by_one, each_on, first_left, rest_left, none_left, still_none, counted, not_counted, map_turn, map_all}
 
-cons_joins : {A : Type 0} (o : Option A) (xs : List A) → cons_option o xs ≡ option_to_list o ++ xs
-cons_joins None xs = refl
-cons_joins (Some a) xs = refl
+add_groups : (i j k : ℕ) → i + (j + k) ≡ i + j + k
+add_groups i j k = omega arith
 
--- one more, in front of what is left
-joined : {A B : Type 0} (p : A → Option B) (was now : List B) (j : A) (js : List A)
-    → now ≡ was ++ option_to_list (p j) → was ++ filter_map p (j ∷ js) ≡ now ++ filter_map p js
-joined p was now j js e =
-    ap (λ xs. was ++ xs) (cons_joins (p j) (filter_map p js)) ∙ sym (append_assoc was (option_to_list (p j)) (filter_map p js))
-    ∙ ap (λ xs. xs ++ filter_map p js) (sym e)
+-- ---- judgements
 
--- an item more
-take_item : {S : Type 0} (ss : List S) (i : ℕ) (s : S) → i < length ss → s ≡ get_or ss i s → take (i + 1) ss ≡ take i ss ++ (s ∷ [])
-take_item ss i s lt e = take_more ss i s lt ∙ ap (λ y. take i ss ++ (y ∷ [])) (sym e)
+adds_none : (f : Found) → Adds f f []
+adds_none f = record {
+  functions = sym (append-nil (list_map view_function f.functions.items));
+  members = sym (append-nil (list_map view_function f.members.items));
+  globals = sym (append-nil (list_map view_global f.globals.items));
+  refused = sym (append-nil f.refused.items);
+}
 
-map_turn : {A B S : Type 0} (f : A → B) (v : S → A) (ss : List S) (i : ℕ) (s : S) → i < length ss → s ≡ get_or ss i s
-    → list_map f (list_map v (take (i + 1) ss)) ≡ list_map f (list_map v (take i ss)) ++ (f (v s) ∷ [])
-map_turn f v ss i s lt e =
-    ap (λ xs. list_map f (list_map v xs)) (take_item ss i s lt e)
-    ∙ ap (list_map f) (map-append v (take i ss) (s ∷ [])) ∙ map-append f (list_map v (take i ss)) (v s ∷ [])
+adds_on : (a b c : Found) (js ks : List Judgement) → Adds a b js → Adds b c ks → Adds a c (js ++ ks)
+adds_on a b c js ks f g = record {
+  functions = grown function_given (list_map view_function a.functions.items) (list_map view_function b.functions.items) (list_map view_function c.functions.items) js ks f.functions g.functions;
+  members = grown member_given (list_map view_function a.members.items) (list_map view_function b.members.items) (list_map view_function c.members.items) js ks f.members g.members;
+  globals = grown global_given (list_map view_global a.globals.items) (list_map view_global b.globals.items) (list_map view_global c.globals.items) js ks f.globals g.globals;
+  refused = grown refusal_in a.refused.items b.refused.items c.refused.items js ks f.refused g.refused;
+}
 
-flat_turn : {A B S : Type 0} (f : A → List B) (v : S → A) (ss : List S) (i : ℕ) (s : S) → i < length ss → s ≡ get_or ss i s
-    → flat_map f (list_map v (take (i + 1) ss)) ≡ flat_map f (list_map v (take i ss)) ++ f (v s)
-flat_turn f v ss i s lt e =
-    ap (λ xs. flat_map f (list_map v xs)) (take_item ss i s lt e)
-    ∙ ap (flat_map f) (map-append v (take i ss) (s ∷ [])) ∙ flat_map-append f (list_map v (take i ss)) (v s ∷ [])
-    ∙ ap (λ xs. flat_map f (list_map v (take i ss)) ++ xs) (append-nil (f (v s)))
+adds_noted : (a b : Found) (j : Judgement) → Noted a b j → Adds a b (j ∷ [])
+adds_noted a b j n = record {
+  functions = grown_by_one function_given (list_map view_function a.functions.items) (list_map view_function b.functions.items) j n.functions;
+  members = grown_by_one member_given (list_map view_function a.members.items) (list_map view_function b.members.items) j n.members;
+  globals = grown_by_one global_given (list_map view_global a.globals.items) (list_map view_global b.globals.items) j n.globals;
+  refused = grown_by_one refusal_in a.refused.items b.refused.items j n.refused;
+}
+
+-- the same judgements in other words
+adds_same : (a b : Found) (js ks : List Judgement) → ks ≡ js → Adds a b js → Adds a b ks
+adds_same a b js ks e f = subst (λ xs. Adds a b xs) (sym e) f
 
 module _ (V : RegistrationList) (names : Names) where
+  -- ---- declarations
+
+  left_same : (l k : Left) (before : List InSection) (d : InSection) → function_count d ≡ 0 → global_count d ≡ 0 → family_count d ≡ 0
+      → k.functions.now ≡ l.functions.now → k.globals.now ≡ l.globals.now → k.families.now ≡ l.families.now
+      → IsLeft V names l before → IsLeft V names k (before ++ d ∷ [])
+  left_same l k before d f g c functions globals families h = record {
+    functions = functions ∙ h.functions ∙ ap (λ n. drop n names.functions) (sym (not_counted function_count before d f));
+    globals = globals ∙ h.globals ∙ ap (λ n. drop n names.globals) (sym (not_counted global_count before d g));
+    families = families ∙ h.families ∙ ap (λ n. drop n names.families) (sym (not_counted family_count before d c));
+  }
+
   -- nothing was judged
-  pub judges_none : (old : Found) → Judges V names old old []
-  judges_none old = record { functions = λ rest. refl; globals = λ rest. refl; errors = λ rest. refl }
-
-  -- some parts and then some more
-  pub judges_more : (a b c : Found) (first more : List Part)
-      → Judges V names a b first → Judges V names b c more → Judges V names a c (first ++ more)
-  judges_more a b c first more f g = record {
-    functions = λ rest. ap (functions_with V names a) (append_assoc first more rest) ∙ f.functions (more ++ rest) ∙ g.functions rest;
-    globals = λ rest. ap (globals_with V names a) (append_assoc first more rest) ∙ f.globals (more ++ rest) ∙ g.globals rest;
-    errors = λ rest. ap (errors_with V names a) (append_assoc first more rest) ∙ f.errors (more ++ rest) ∙ g.errors rest;
+  pub judges_none : (l : Left) (f : Found) → Judges V names l l f f []
+  judges_none l f = record {
+    left = λ before h. subst (λ b. IsLeft V names l b) (sym (append-nil before)) h;
+    added = λ before h. adds_none f;
   }
 
-  -- the part whose judgement was noted
-  judges_noted : (old new : Found) (j : Judgement) (part : Part)
-      → list_map view_function new.functions.items ≡ list_map view_function old.functions.items ++ option_to_list (function_in j)
-      → list_map view_global new.globals.items ≡ list_map view_global old.globals.items ++ option_to_list (global_in j)
-      → new.errors.items ≡ old.errors.items ++ option_to_list (refusal_in j)
-      → ((rest : List Part) → judged_behind V names old (part ∷ rest) ≡ j ∷ judged_behind V names new rest) → Judges V names old new (part ∷ [])
-  judges_noted old new j part f g r e = record {
-    functions = λ rest. ap (λ js. list_map view_function old.functions.items ++ filter_map function_in js) (e rest)
-        ∙ joined function_in (list_map view_function old.functions.items) (list_map view_function new.functions.items) j (judged_behind V names new rest) f;
-    globals = λ rest. ap (λ js. list_map view_global old.globals.items ++ filter_map global_in js) (e rest)
-        ∙ joined global_in (list_map view_global old.globals.items) (list_map view_global new.globals.items) j (judged_behind V names new rest) g;
-    errors = λ rest. ap (λ js. old.errors.items ++ filter_map refusal_in js) (e rest)
-        ∙ joined refusal_in old.errors.items new.errors.items j (judged_behind V names new rest) r;
+  -- some declarations and then some more
+  pub judges_more : (l m k : Left) (a b c : Found) (first more : List InSection)
+      → Judges V names l m a b first → Judges V names m k b c more → Judges V names l k a c (first ++ more)
+  judges_more l m k a b c first more f g = record {
+    left = λ before h. subst (λ x. IsLeft V names k x) (append_assoc before first more) (g.left (before ++ first) (f.left before h));
+    added = λ before h.
+        let js = flat_map (judged V names) (each_after declaration_parts before first) in
+        let ks = flat_map (judged V names) (each_after declaration_parts (before ++ first) more) in
+        adds_same a c (js ++ ks) (flat_map (judged V names) (each_after declaration_parts before (first ++ more)))
+        (ap (flat_map (judged V names)) (each_on declaration_parts before first more)
+        ∙ flat_map-append (judged V names) (each_after declaration_parts before first) (each_after declaration_parts (before ++ first) more))
+        (adds_on a b c js ks (f.added before h) (g.added (before ++ first) (f.left before h)));
   }
 
-  -- a part that belongs to nothing
-  judges_skipped : (old : Found) (part : Part) → ((rest : List Part) → judged_behind V names old (part ∷ rest) ≡ judged_behind V names old rest)
-      → Judges V names old old (part ∷ [])
-  judges_skipped old part e = record {
-    functions = λ rest. ap (λ js. list_map view_function old.functions.items ++ filter_map function_in js) (e rest);
-    globals = λ rest. ap (λ js. list_map view_global old.globals.items ++ filter_map global_in js) (e rest);
-    errors = λ rest. ap (λ js. old.errors.items ++ filter_map refusal_in js) (e rest);
+  -- one declaration, by what it gives after those before it
+  judges_one : (l k : Left) (a b : Found) (d : InSection)
+      → ((before : List InSection) → IsLeft V names l before → IsLeft V names k (before ++ d ∷ []))
+      → ((before : List InSection) → IsLeft V names l before → Adds a b (flat_map (judged V names) (declaration_parts before d)))
+      → Judges V names l k a b (d ∷ [])
+  judges_one l k a b d left added = record {
+    left = left;
+    added = λ before h. adds_same a b (flat_map (judged V names) (declaration_parts before d)) (flat_map (judged V names) (declaration_parts before d ++ []))
+        (ap (flat_map (judged V names)) (append-nil (declaration_parts before d))) (added before h);
   }
 
-  pub no_function_left : (old : Found) (text : List ℕ) (x : Token) (b : Body) → old.functions_left.now ≡ []
-      → Judges V names old old (a_body text x b ∷ [])
-  no_function_left old text x b e = judges_skipped old (a_body text x b) (λ rest.
-      ap (λ fs. judged_from V names fs old.globals_left.now (a_body text x b ∷ rest)) e
-      ∙ sym (ap (λ fs. judged_from V names fs old.globals_left.now rest) e))
+  -- a declaration without parts, which is no family
+  judges_nothing : (l : Left) (f : Found) (d : InSection) → function_count d ≡ 0 → global_count d ≡ 0 → family_count d ≡ 0
+      → ((before : List InSection) → declaration_parts before d ≡ []) → Judges V names l l f f (d ∷ [])
+  judges_nothing l f d n g c e = judges_one l l f f d
+      (λ before h. left_same l l before d n g c refl refl refl h)
+      (λ before h. adds_same f f [] (flat_map (judged V names) (declaration_parts before d)) (ap (flat_map (judged V names)) (e before)) (adds_none f))
 
-  pub no_global_left : (old : Found) (text : List ℕ) (y : TypeName) (i : Init) → old.globals_left.now ≡ []
-      → Judges V names old old (an_initializer text y i ∷ [])
-  no_global_left old text y i e = judges_skipped old (an_initializer text y i) (λ rest.
-      ap (λ gs. judged_from V names old.functions_left.now gs (an_initializer text y i ∷ rest)) e
-      ∙ sym (ap (λ gs. judged_from V names old.functions_left.now gs rest) e))
+  pub import_judged : (l : Left) (f : Found) (text : List ℕ) (word : Token) (y : TypeName) (x : Token) (ps : Params) (from named semicolon : Token)
+      → Judges V names l l f f ((text, import word y x ps from named semicolon) ∷ [])
+  import_judged l f text word y x ps from named semicolon =
+      judges_nothing l f (text, import word y x ps from named semicolon) refl refl refl (λ before. refl)
+
+  pub empty_judged : (l : Left) (f : Found) (text : List ℕ) (semicolon : Token) → Judges V names l l f f ((text, empty semicolon) ∷ [])
+  empty_judged l f text semicolon = judges_nothing l f (text, empty semicolon) refl refl refl (λ before. refl)
+
+  -- ---- functions
+
+  function_left : (l k : Left) (before : List InSection) (text : List ℕ) (y : TypeName) (x : Token) (ps : Params) (b : Body)
+      → k.functions.now ≡ drop (sum_by function_count before + 1) names.functions → k.globals.now ≡ l.globals.now → k.families.now ≡ l.families.now
+      → IsLeft V names l before → IsLeft V names k (before ++ (text, function y x ps b) ∷ [])
+  function_left l k before text y x ps b functions globals families h =
+      let d : InSection = (text, function y x ps b) in record {
+        functions = functions ∙ ap (λ n. drop n names.functions) (sym (counted function_count before d 1 refl));
+        globals = globals ∙ h.globals ∙ ap (λ n. drop n names.globals) (sym (not_counted global_count before d refl));
+        families = families ∙ h.families ∙ ap (λ n. drop n names.families) (sym (not_counted family_count before d refl));
+      }
+
+  -- a function that the names don't have
+  pub function_unknown : (l : Left) (f : Found) (text : List ℕ) (y : TypeName) (x : Token) (ps : Params) (b : Body)
+      → l.functions.now ≡ [] → Judges V names l l f f ((text, function y x ps b) ∷ [])
+  function_unknown l f text y x ps b none = judges_one l l f f (text, function y x ps b)
+      (λ before h. function_left l l before text y x ps b (still_none names.functions l.functions.now (sum_by function_count before) none h.functions) refl refl h)
+      (λ before h. adds_same f f [] (judged V names (a_function (sum_by function_count before) text x b) ++ [])
+      (ap (λ o. judged_function V names text x b o ++ []) (none_left names.functions l.functions.now (sum_by function_count before) none h.functions)) (adds_none f))
 
   -- the body of the next function
-  pub judged_function : (old mid new : Found) (f : ScriptFunction) (fs : List ScriptFunction) (s : Setting) (text : List ℕ) (x : Token) (b : Body)
-      → old.functions_left.now ≡ f ∷ fs → mid.functions_left.now ≡ fs → mid.globals_left.now ≡ old.globals_left.now
-      → mid.functions.items ≡ old.functions.items → mid.globals.items ≡ old.globals.items → mid.errors.items ≡ old.errors.items
-      → s ≡ setting_in V names text → Noted mid new (a_function text (function_typing s f x b)) → Judges V names old new (a_body text x b ∷ [])
-  judged_function old mid new f fs s text x b split left same functions globals errors set n =
-      let j : Judgement = a_function text (function_typing (setting_in V names text) f x b) in
-      let m : Noted mid new j = subst (λ (q : Setting). Noted mid new (a_function text (function_typing q f x b))) set n in
-      judges_noted old new j (a_body text x b)
-      (m.functions ∙ ap (λ xs. list_map view_function xs ++ option_to_list (function_in j)) functions)
-      (m.globals ∙ ap (λ xs. list_map view_global xs ++ option_to_list (global_in j)) globals)
-      (m.errors ∙ ap (λ xs. xs ++ option_to_list (refusal_in j)) errors)
-      (λ rest. ap (λ xs. judged_from V names xs old.globals_left.now (a_body text x b ∷ rest)) split
-      ∙ ap (λ xs. j ∷ judged_from V names xs old.globals_left.now rest) (sym (m.functions_left ∙ left))
-      ∙ ap (λ xs. j ∷ judged_from V names new.functions_left.now xs rest) (sym (m.globals_left ∙ same)))
+  pub function_judged : (l k : Left) (old new : Found) (f : ScriptFunction) (s : BodyContext) (text : List ℕ) (y : TypeName) (x : Token) (ps : Params) (b : Body)
+      → l.functions.now ≡ f ∷ k.functions.now → k.globals.now ≡ l.globals.now → k.families.now ≡ l.families.now
+      → s ≡ context_in V names text None → Noted old new (of_function text (function_typing s f x b))
+      → Judges V names l k old new ((text, function y x ps b) ∷ [])
+  function_judged l k old new f s text y x ps b split globals families is n =
+      let m : Noted old new (of_function text (function_typing (context_in V names text None) f x b)) =
+      subst (λ (q : BodyContext). Noted old new (of_function text (function_typing q f x b))) is n in
+      judges_one l k old new (text, function y x ps b)
+      (λ before h. function_left l k before text y x ps b (rest_left names.functions l.functions.now k.functions.now f (sum_by function_count before) split h.functions) globals families h)
+      (λ before h. adds_same old new (of_function text (function_typing (context_in V names text None) f x b) ∷ [])
+      (judged V names (a_function (sum_by function_count before) text x b) ++ [])
+      (ap (λ o. judged_function V names text x b o ++ []) (first_left names.functions l.functions.now k.functions.now f (sum_by function_count before) split h.functions))
+      (adds_noted old new (of_function text (function_typing (context_in V names text None) f x b)) m))
+
+  -- ---- globals
+
+  pub initializes_none : (l : Left) (f : Found) (text : List ℕ) (y : TypeName) → Initializes V names l l f f text y []
+  initializes_none l f text y = record { functions = refl; families = refl; globals = λ n h. h; added = λ n h. adds_none f }
+
+  initializer_parts_on : (n : ℕ) (text : List ℕ) (y : TypeName) (vs : List Var) (v : Var)
+      → each_after (initializer_parts n text y) [] (vs ++ v ∷ []) ≡ each_after (initializer_parts n text y) [] vs ++ a_global (n + length vs) text y v.initializer ∷ []
+  initializer_parts_on n text y vs v = each_on (initializer_parts n text y) [] vs (v ∷ [])
+
+  -- some globals and then one more
+  pub initializes_more : (l m k : Left) (a b c : Found) (text : List ℕ) (y : TypeName) (vs : List Var) (v : Var)
+      → Initializes V names l m a b text y vs → Initializes V names m k b c text y (v ∷ []) → Initializes V names l k a c text y (vs ++ v ∷ [])
+  initializes_more l m k a b c text y vs v f g = record {
+    functions = g.functions ∙ f.functions;
+    families = g.families ∙ f.families;
+    globals = λ n h. g.globals (n + length vs) (f.globals n h)
+        ∙ ap (λ i. drop i names.globals) (sym (ap (λ i. n + i) (length-append vs (v ∷ [])) ∙ add_groups n (length vs) (length (v ∷ []))));
+    added = λ n h.
+        let js = flat_map (judged V names) (each_after (initializer_parts n text y) [] vs) in
+        let ks = flat_map (judged V names) (each_after (initializer_parts (n + length vs) text y) [] (v ∷ [])) in
+        adds_same a c (js ++ ks) (flat_map (judged V names) (each_after (initializer_parts n text y) [] (vs ++ v ∷ [])))
+        (ap (flat_map (judged V names)) (initializer_parts_on n text y vs v)
+        ∙ flat_map-append (judged V names) (each_after (initializer_parts n text y) [] vs) (a_global (n + length vs) text y v.initializer ∷ [])
+        ∙ ap (λ i. js ++ flat_map (judged V names) (a_global i text y v.initializer ∷ [])) (sym (add-zero (n + length vs))))
+        (adds_on a b c js ks (f.added n h) (g.added (n + length vs) (f.globals n h)));
+  }
+
+  -- a global that the names don't have
+  pub global_unknown : (l : Left) (f : Found) (text : List ℕ) (y : TypeName) (v : Var) → l.globals.now ≡ [] → Initializes V names l l f f text y (v ∷ [])
+  global_unknown l f text y v none = record {
+    functions = refl;
+    families = refl;
+    globals = λ n h. still_none names.globals l.globals.now n none h;
+    added = λ n h. adds_same f f [] (judged V names (a_global (n + 0) text y v.initializer) ++ [])
+        (ap (λ i. judged V names (a_global i text y v.initializer) ++ []) (add-zero n)
+        ∙ ap (λ o. judged_global V names text y v.initializer o ++ []) (none_left names.globals l.globals.now n none h)) (adds_none f);
+  }
 
   -- the initializer of the next global
-  pub judged_global : (old mid new : Found) (g : ScriptGlobal) (gs : List ScriptGlobal) (s : Setting) (text : List ℕ) (y : TypeName) (i : Init)
-      → old.globals_left.now ≡ g ∷ gs → mid.globals_left.now ≡ gs → mid.functions_left.now ≡ old.functions_left.now
-      → mid.functions.items ≡ old.functions.items → mid.globals.items ≡ old.globals.items → mid.errors.items ≡ old.errors.items
-      → s ≡ setting_in V names text → Noted mid new (a_global text (global_typing s g y i)) → Judges V names old new (an_initializer text y i ∷ [])
-  judged_global old mid new g gs s text y i split left same functions globals errors set n =
-      let j : Judgement = a_global text (global_typing (setting_in V names text) g y i) in
-      let m : Noted mid new j = subst (λ (q : Setting). Noted mid new (a_global text (global_typing q g y i))) set n in
-      judges_noted old new j (an_initializer text y i)
-      (m.functions ∙ ap (λ xs. list_map view_function xs ++ option_to_list (function_in j)) functions)
-      (m.globals ∙ ap (λ xs. list_map view_global xs ++ option_to_list (global_in j)) globals)
-      (m.errors ∙ ap (λ xs. xs ++ option_to_list (refusal_in j)) errors)
-      (λ rest. ap (λ xs. judged_from V names old.functions_left.now xs (an_initializer text y i ∷ rest)) split
-      ∙ ap (λ xs. j ∷ judged_from V names old.functions_left.now xs rest) (sym (m.globals_left ∙ left))
-      ∙ ap (λ xs. j ∷ judged_from V names xs new.globals_left.now rest) (sym (m.functions_left ∙ same)))
+  pub global_judged : (l k : Left) (old new : Found) (g : ScriptGlobal) (s : BodyContext) (text : List ℕ) (y : TypeName) (v : Var)
+      → l.globals.now ≡ g ∷ k.globals.now → k.functions.now ≡ l.functions.now → k.families.now ≡ l.families.now
+      → s ≡ context_in V names text None → Noted old new (of_global text (global_typing s g y v.initializer))
+      → Initializes V names l k old new text y (v ∷ [])
+  global_judged l k old new g s text y v split functions families is n =
+      let j : Judgement = of_global text (global_typing (context_in V names text None) g y v.initializer) in
+      let m : Noted old new j = subst (λ (q : BodyContext). Noted old new (of_global text (global_typing q g y v.initializer))) is n in record {
+        functions = functions;
+        families = families;
+        globals = λ i h. rest_left names.globals l.globals.now k.globals.now g i split h;
+        added = λ i h. adds_same old new (j ∷ []) (judged V names (a_global (i + 0) text y v.initializer) ++ [])
+            (ap (λ e. judged V names (a_global e text y v.initializer) ++ []) (add-zero i)
+            ∙ ap (λ o. judged_global V names text y v.initializer o ++ []) (first_left names.globals l.globals.now k.globals.now g i split h))
+            (adds_noted old new j m);
+      }
 
-  -- ---- all parts, from nothing on
+  -- the globals of a declaration
+  pub globals_judged : (l k : Left) (a b : Found) (text : List ℕ) (vs : Vars)
+      → Initializes V names l k a b text vs.declared_type vs.items → Judges V names l k a b ((text, globals vs) ∷ [])
+  globals_judged l k a b text vs f = judges_one l k a b (text, globals vs)
+      (λ before h. record {
+        functions = f.functions ∙ h.functions ∙ ap (λ n. drop n names.functions) (sym (not_counted function_count before (text, globals vs) refl));
+        globals = f.globals (sum_by global_count before) h.globals
+            ∙ ap (λ n. drop n names.globals) (sym (counted global_count before (text, globals vs) (length vs.items) refl));
+        families = f.families ∙ h.families ∙ ap (λ n. drop n names.families) (sym (not_counted family_count before (text, globals vs) refl));
+      })
+      (λ before h. f.added (sum_by global_count before) h.globals)
 
-  pub errors_found : (a b : Found) (parts : List Part) → a.functions_left.now ≡ names.functions → a.globals_left.now ≡ names.globals
-      → a.errors.items ≡ [] → Judges V names a b parts
-      → b.errors.items ≡ filter_map refusal_in (judged_from V names names.functions names.globals parts)
-  errors_found a b parts f g e j =
-      sym (append-nil b.errors.items) ∙ sym (j.errors []) ∙ ap (errors_with V names a) (append-nil parts)
-      ∙ ap (λ xs. xs ++ filter_map refusal_in (judged_behind V names a parts)) e
-      ∙ ap (λ xs. filter_map refusal_in (judged_from V names xs a.globals_left.now parts)) f
-      ∙ ap (λ xs. filter_map refusal_in (judged_from V names names.functions xs parts)) g
+  -- ---- loops
 
-  pub functions_found : (a b : Found) (parts : List Part) → a.functions_left.now ≡ names.functions → a.globals_left.now ≡ names.globals
-      → a.functions.items ≡ [] → Judges V names a b parts
-      → list_map view_function b.functions.items ≡ filter_map function_in (judged_from V names names.functions names.globals parts)
-  functions_found a b parts f g e j =
-      sym (append-nil (list_map view_function b.functions.items)) ∙ sym (j.functions []) ∙ ap (functions_with V names a) (append-nil parts)
-      ∙ ap (λ xs. list_map view_function xs ++ filter_map function_in (judged_behind V names a parts)) e
-      ∙ ap (λ xs. filter_map function_in (judged_from V names xs a.globals_left.now parts)) f
-      ∙ ap (λ xs. filter_map function_in (judged_from V names names.functions xs parts)) g
+  -- one global more
+  pub initializes_turn : {S : Type 0} (view : S → Var) (ss : List S) (i : ℕ) (s : S) (l m k : Left) (a b c : Found) (text : List ℕ) (y : TypeName)
+      → Initializes V names l m a b text y (list_map view (take i ss))
+      → i < length ss → s ≡ get_or ss i s → Initializes V names m k b c text y (view s ∷ [])
+      → Initializes V names l k a c text y (list_map view (take (i + 1) ss))
+  initializes_turn view ss i s l m k a b c text y f lt is g =
+      subst (λ vs. Initializes V names l k a c text y vs) (sym (map_turn view ss i s lt is))
+      (initializes_more l m k a b c text y (list_map view (take i ss)) (view s) f g)
 
-  pub globals_found : (a b : Found) (parts : List Part) → a.functions_left.now ≡ names.functions → a.globals_left.now ≡ names.globals
-      → a.globals.items ≡ [] → Judges V names a b parts
-      → list_map view_global b.globals.items ≡ filter_map global_in (judged_from V names names.functions names.globals parts)
-  globals_found a b parts f g e j =
-      sym (append-nil (list_map view_global b.globals.items)) ∙ sym (j.globals []) ∙ ap (globals_with V names a) (append-nil parts)
-      ∙ ap (λ xs. list_map view_global xs ++ filter_map global_in (judged_behind V names a parts)) e
-      ∙ ap (λ xs. filter_map global_in (judged_from V names xs a.globals_left.now parts)) f
-      ∙ ap (λ xs. filter_map global_in (judged_from V names names.functions xs parts)) g
+  pub initializes_all : {S : Type 0} (view : S → Var) (ss : List S) (i : ℕ) (l k : Left) (a b : Found) (text : List ℕ) (y : TypeName)
+      → Initializes V names l k a b text y (list_map view (take i ss)) → length ss ≤ i → Initializes V names l k a b text y (list_map view ss)
+  initializes_all view ss i l k a b text y f le = subst (λ vs. Initializes V names l k a b text y vs) (map_all view ss i le) f
 
-  -- the parts of one item more
-  pub judges_turn : {A S : Type 0} (parts : A → List Part) (v : S → A) (ss : List S) (i : ℕ) (s : S) (a b c : Found)
-      → Judges V names a b (flat_map parts (list_map v (take i ss)))
-      → i < length ss → s ≡ get_or ss i s → Judges V names b c (parts (v s))
-      → Judges V names a c (flat_map parts (list_map v (take (i + 1) ss)))
-  judges_turn parts v ss i s a b c f lt is g =
-      subst (λ ps. Judges V names a c ps) (sym (flat_turn parts v ss i s lt is)) (judges_more a b c _ _ f g)
+  -- one declaration more
+  pub judges_turn : {S : Type 0} (view : S → Decl) (ss : List S) (i : ℕ) (s : S) (l m k : Left) (a b c : Found) (text : List ℕ)
+      → Judges V names l m a b (list_map (λ d. (text, d)) (list_map view (take i ss)))
+      → i < length ss → s ≡ get_or ss i s → Judges V names m k b c ((text, view s) ∷ [])
+      → Judges V names l k a c (list_map (λ d. (text, d)) (list_map view (take (i + 1) ss)))
+  judges_turn view ss i s l m k a b c text f lt is g =
+      subst (λ ds. Judges V names l k a c ds)
+      (sym (ap (list_map (λ d. (text, d))) (map_turn view ss i s lt is) ∙ map-append (λ d. (text, d)) (list_map view (take i ss)) (view s ∷ [])))
+      (judges_more l m k a b c (list_map (λ d. (text, d)) (list_map view (take i ss))) ((text, view s) ∷ []) f g)
 
-  -- one part more
-  pub judges_next : {A S : Type 0} (part : A → Part) (v : S → A) (ss : List S) (i : ℕ) (s : S) (a b c : Found)
-      → Judges V names a b (list_map part (list_map v (take i ss)))
-      → i < length ss → s ≡ get_or ss i s → Judges V names b c (part (v s) ∷ [])
-      → Judges V names a c (list_map part (list_map v (take (i + 1) ss)))
-  judges_next part v ss i s a b c f lt is g =
-      subst (λ ps. Judges V names a c ps) (sym (map_turn part v ss i s lt is)) (judges_more a b c _ _ f g)
+  pub judges_all : {S : Type 0} (view : S → Decl) (ss : List S) (i : ℕ) (l k : Left) (a b : Found) (text : List ℕ)
+      → Judges V names l k a b (list_map (λ d. (text, d)) (list_map view (take i ss))) → length ss ≤ i
+      → Judges V names l k a b (list_map (λ d. (text, d)) (list_map view ss))
+  judges_all view ss i l k a b text f le =
+      subst (λ ds. Judges V names l k a b ds) (ap (list_map (λ d. (text, d))) (map_all view ss i le)) f
 
-  -- all items, where none is left
-  pub judges_all : {A S : Type 0} (parts : A → List Part) (v : S → A) (ss : List S) (i : ℕ) (a b : Found)
-      → Judges V names a b (flat_map parts (list_map v (take i ss))) → length ss ≤ i → Judges V names a b (flat_map parts (list_map v ss))
-  judges_all parts v ss i a b f le =
-      subst (λ ps. Judges V names a b ps) (ap (λ xs. flat_map parts (list_map v xs)) (take_all i ss le)) f
+  -- one section more
+  pub sections_turn : {A S : Type 0} (parts : A → List InSection) (view : S → A) (ss : List S) (i : ℕ) (s : S) (l m k : Left) (a b c : Found)
+      → Judges V names l m a b (flat_map parts (list_map view (take i ss)))
+      → i < length ss → s ≡ get_or ss i s → Judges V names m k b c (parts (view s))
+      → Judges V names l k a c (flat_map parts (list_map view (take (i + 1) ss)))
+  sections_turn parts view ss i s l m k a b c f lt is g =
+      subst (λ ds. Judges V names l k a c ds)
+      (sym (ap (flat_map parts) (map_turn view ss i s lt is) ∙ flat_map-append parts (list_map view (take i ss)) (view s ∷ [])
+      ∙ ap (λ ds. flat_map parts (list_map view (take i ss)) ++ ds) (append-nil (parts (view s)))))
+      (judges_more l m k a b c (flat_map parts (list_map view (take i ss))) (parts (view s)) f g)
+
+  -- ---- all of them, from nothing on
+
+  nothing_before : (l : Left) → l.functions.now ≡ names.functions → l.globals.now ≡ names.globals → l.families.now ≡ names.families → IsLeft V names l []
+  nothing_before l f g c = record { functions = f; globals = g; families = c }
+
+  pub all_judged : {A S : Type 0} (parts : A → List InSection) (view : S → A) (ss : List S) (i : ℕ) (l k : Left) (a b : Found)
+      → Judges V names l k a b (flat_map parts (list_map view (take i ss))) → length ss ≤ i
+      → l.functions.now ≡ names.functions → l.globals.now ≡ names.globals → l.families.now ≡ names.families
+      → a.functions.items ≡ [] → a.members.items ≡ [] → a.globals.items ≡ [] → a.refused.items ≡ []
+      → Holds b (flat_map (judged V names) (each_after declaration_parts [] (flat_map parts (list_map view ss))))
+  all_judged parts view ss i l k a b f le functions globals families no_functions no_members no_globals no_refused =
+      let whole : Judges V names l k a b (flat_map parts (list_map view ss)) =
+      subst (λ ds. Judges V names l k a b ds) (ap (flat_map parts) (map_all view ss i le)) f in
+      let m = whole.added [] (nothing_before l functions globals families) in
+      let js = flat_map (judged V names) (each_after declaration_parts [] (flat_map parts (list_map view ss))) in record {
+        functions = m.functions ∙ ap (λ xs. list_map view_function xs ++ filter_map function_given js) no_functions;
+        members = m.members ∙ ap (λ xs. list_map view_function xs ++ filter_map member_given js) no_members;
+        globals = m.globals ∙ ap (λ xs. list_map view_global xs ++ filter_map global_given js) no_globals;
+        refused = m.refused ∙ ap (λ xs. xs ++ filter_map refusal_in js) no_refused;
+      }

@@ -1,1 +1,4 @@
+pub mod Lists
+pub mod Judging
+pub mod Makers
 pub mod NoWay

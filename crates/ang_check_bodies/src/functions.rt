@@ -110,10 +110,7 @@ pub fn member_locals<'a>(
 }
 
 /// The parameters of a function.
-pub fn parameters_of(
-    alloc: Global,
-    function: &ScriptFunction,
-) -> Result<Vec<Parameter>, AllocError>
+pub fn parameters_of(alloc: Global, function: &ScriptFunction) -> Result<Vec<Parameter>, AllocError>
     ensures exact { IfOk result (λ v. v.items ≡ spec.typed_parameters function.now) }
 {
     let mut parameters = Vec::new(alloc);
@@ -194,7 +191,13 @@ fn body_typing<'a>(
 {
     let mut locals = locals;
     let frame = Frame::new(context, Returns::Value(ty), locals.len());
-    block(alloc, &frame, false, &mut locals, body.statements.as_slice())
+    block(
+        alloc,
+        &frame,
+        false,
+        &mut locals,
+        body.statements.as_slice(),
+    )
 }
 
 /// The body of a function.

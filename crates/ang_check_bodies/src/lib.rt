@@ -2,6 +2,7 @@
 //! (docs/LANGUAGE.md, "Statements").
 #![tactic(auto)]
 
+mod constructors;
 mod found;
 mod functions;
 mod judging;
