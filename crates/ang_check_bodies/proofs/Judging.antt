@@ -1,15 +1,17 @@
 -- Parts that were judged.
-use Rattle.std.proofs.Common.{◌≡◌, ◌<◌, ◌≤◌, ◌+◌, refl, ap, sym, ◌∙◌, ℕ, add-zero, arith, List, [], ◌∷◌, ◌++◌, append_assoc, append-nil, length, get_or, drop, take, subst, map as list_map}
-use Rattle.std.specs.Prelude.{sum_by, slice_get, Option, Some, None}
-use Rattle.std.specs.List.{filter_map, flat_map}
+use Rattle.std.proofs.Common.{◌≡◌, ◌<◌, ◌≤◌, ◌+◌, ◌-◌, refl, ap, sym, ◌∙◌, ℕ, Bool, true, false, add-one, add-zero, arith, List, [], ◌∷◌, ◌++◌, append_assoc, append-nil, length, get_or, drop, take, subst, map as list_map}
+use Rattle.std.specs.Prelude.{filter, sum_by, slice_get, if◌then◌else◌, option_and_then, Option, Some, None}
+use Rattle.std.specs.List.{filter_map, flat_map, list_any}
 use Rattle.std.proofs.lemmas.Grind.{flat_map-append}
-use Rattle.std.proofs.lemmas.List.{length-append, map-append}
+use Rattle.std.proofs.lemmas.List.{length-append, length-drop, map-append}
 use Rattle.ang_view.specs.Registration.{RegistrationList}
 use Rattle.ang_lex.specs.declared.token.Token.{Token}
 use Rattle.ang_tree.specs.declared.type_name.TypeName.{TypeName}
-use Rattle.ang_tree.specs.Declarations.{Decl, Params, MethodTree, import, function, globals, empty}
+use Rattle.ang_tree.specs.declared.declaration.BaseName.{BaseName}
+use Rattle.ang_tree.specs.Declarations.{Decl, Params, MemberTree, MethodTree, class, interface, import, function, globals, empty, fields, method, constructor}
 use Rattle.ang_tree.specs.Stmt.{Body, Var, Vars}
 use Rattle.ang_typed.specs.View.{view_function, view_global}
+use Rattle.ang_names_known.specs.declared.names.Family.{Family}
 use Rattle.ang_names_known.specs.declared.names.Names.{Names}
 use Rattle.ang_names_known.specs.declared.names.ScriptFunction.{ScriptFunction}
 use Rattle.ang_names_known.specs.declared.names.ScriptGlobal.{ScriptGlobal}
@@ -17,16 +19,16 @@ use Rattle.ang_names_known.specs.Items.{each_after}
 use Rattle.ang_check_typing.specs.Scope.{BodyContext}
 use Rattle.ang_check_bodies.specs.declared.found.Found.{Found}
 use Rattle.ang_check_bodies.specs.declared.parts.Left.{Left}
-use Rattle.ang_check_bodies.specs.Bodies.{InSection, Judgement, of_function, of_global, a_function, a_global, function_typing, global_typing, context_in, function_count, global_count, family_count, initializer_parts, declaration_parts, judged, judged_function, judged_global, function_given, member_given, global_given, refusal_in}
-use Rattle.ang_check_bodies.specs.Judging.{Noted, Adds, IsLeft, Judges, Initializes, Holds}
-use Rattle.ang_check_bodies.proofs.Lists.{grown, grown_by_one, each_on, first_left, rest_left, none_left, still_none, counted, not_counted, map_turn, map_all}
+use Rattle.ang_check_bodies.specs.Bodies.{InSection, Judgement, of_function, of_global, of_default, a_function, a_global, a_default, implicit_super, base_of, base_name, is_method_tree, is_constructor_tree, member_parts, class_parts, judged_method, judged_constructor, function_typing, global_typing, context_in, function_count, global_count, family_count, initializer_parts, declaration_parts, judged, judged_function, judged_global, function_given, member_given, global_given, refusal_in}
+use Rattle.ang_check_bodies.specs.Judging.{Noted, Adds, IsLeft, Judges, Initializes, Holds, tail}
+use Rattle.ang_check_bodies.proofs.Lists.{grown, grown_by_one, each_on, first_left, rest_left, none_left, still_none, drop_tail, counted, not_counted, map_turn, map_all}
 
 add_groups : (i j k : ℕ) → i + (j + k) ≡ i + j + k
 add_groups i j k = omega arith
 
 -- ---- judgements
 
-adds_none : (f : Found) → Adds f f []
+pub adds_none : (f : Found) → Adds f f []
 adds_none f = record {
   functions = sym (append-nil (list_map view_function f.functions.items));
   members = sym (append-nil (list_map view_function f.members.items));
@@ -34,7 +36,7 @@ adds_none f = record {
   refused = sym (append-nil f.refused.items);
 }
 
-adds_on : (a b c : Found) (js ks : List Judgement) → Adds a b js → Adds b c ks → Adds a c (js ++ ks)
+pub adds_on : (a b c : Found) (js ks : List Judgement) → Adds a b js → Adds b c ks → Adds a c (js ++ ks)
 adds_on a b c js ks f g = record {
   functions = grown function_given (list_map view_function a.functions.items) (list_map view_function b.functions.items) (list_map view_function c.functions.items) js ks f.functions g.functions;
   members = grown member_given (list_map view_function a.members.items) (list_map view_function b.members.items) (list_map view_function c.members.items) js ks f.members g.members;
@@ -42,7 +44,7 @@ adds_on a b c js ks f g = record {
   refused = grown refusal_in a.refused.items b.refused.items c.refused.items js ks f.refused g.refused;
 }
 
-adds_noted : (a b : Found) (j : Judgement) → Noted a b j → Adds a b (j ∷ [])
+pub adds_noted : (a b : Found) (j : Judgement) → Noted a b j → Adds a b (j ∷ [])
 adds_noted a b j n = record {
   functions = grown_by_one function_given (list_map view_function a.functions.items) (list_map view_function b.functions.items) j n.functions;
   members = grown_by_one member_given (list_map view_function a.members.items) (list_map view_function b.members.items) j n.members;
@@ -88,7 +90,7 @@ module _ (V : RegistrationList) (names : Names) where
   }
 
   -- one declaration, by what it gives after those before it
-  judges_one : (l k : Left) (a b : Found) (d : InSection)
+  pub judges_one : (l k : Left) (a b : Found) (d : InSection)
       → ((before : List InSection) → IsLeft V names l before → IsLeft V names k (before ++ d ∷ []))
       → ((before : List InSection) → IsLeft V names l before → Adds a b (flat_map (judged V names) (declaration_parts before d)))
       → Judges V names l k a b (d ∷ [])
@@ -112,6 +114,100 @@ module _ (V : RegistrationList) (names : Names) where
 
   pub empty_judged : (l : Left) (f : Found) (text : List ℕ) (semicolon : Token) → Judges V names l l f f ((text, empty semicolon) ∷ [])
   empty_judged l f text semicolon = judges_nothing l f (text, empty semicolon) refl refl refl (λ before. refl)
+
+  -- a family whose parts are known
+  family_left : (l k : Left) (before : List InSection) (d : InSection) → function_count d ≡ 0 → global_count d ≡ 0 → family_count d ≡ 1
+      → k.functions.now ≡ l.functions.now → k.globals.now ≡ l.globals.now → k.families.now ≡ drop (sum_by family_count before + 1) names.families
+      → IsLeft V names l before → IsLeft V names k (before ++ d ∷ [])
+  family_left l k before d f g c functions globals families h = record {
+    functions = functions ∙ h.functions ∙ ap (λ n. drop n names.functions) (sym (not_counted function_count before d f));
+    globals = globals ∙ h.globals ∙ ap (λ n. drop n names.globals) (sym (not_counted global_count before d g));
+    families = families ∙ ap (λ n. drop n names.families) (sym (counted family_count before d 1 c));
+  }
+
+  -- an interface, which the names have or not
+  pub interface_judged : (l k : Left) (a : Found) (text : List ℕ) (word x : Token) (bases : List BaseName) (left : Token) (methods : List MethodTree) (right : Token)
+      → k.families.now ≡ tail l.families.now → k.functions.now ≡ l.functions.now → k.globals.now ≡ l.globals.now
+      → Judges V names l k a a ((text, interface word x bases left methods right) ∷ [])
+  interface_judged l k a text word x bases left methods right families functions globals =
+      let d : InSection = (text, interface word x bases left methods right) in judges_one l k a a d
+      (λ before h. let n = sum_by family_count before in
+      family_left l k before d refl refl refl functions globals
+      (families ∙ ap tail h.families ∙ sym (ap (λ i. drop i names.families) (add-one n) ∙ drop_tail names.families n)) h)
+      (λ before h. adds_none a)
+
+  number_is : (all left rest : List Family) (f : Family) (i : ℕ) → left ≡ f ∷ rest → left ≡ drop i all → length all - length left ≡ i
+  number_is all left rest f i e l = omega (arith, ap length e, ap length l, length-drop i all)
+
+  -- the next class, by its number
+  pub class_judged : (l k : Left) (a b : Found) (n : ℕ) (f : Family) (text : List ℕ) (final : Option Token) (word x : Token) (bases : List BaseName) (left : Token) (members : List MemberTree) (right : Token)
+      → n ≡ length names.families - length l.families.now → l.families.now ≡ f ∷ k.families.now
+      → k.functions.now ≡ l.functions.now → k.globals.now ≡ l.globals.now
+      → (slice_get names.families n ≡ Some f → Adds a b (flat_map (judged V names) (class_parts n text x bases members)))
+      → Judges V names l k a b ((text, class final word x bases left members right) ∷ [])
+  class_judged l k a b n f text final word x bases left members right number split functions globals added =
+      let d : InSection = (text, class final word x bases left members right) in judges_one l k a b d
+      (λ before h. family_left l k before d refl refl refl functions globals
+      (rest_left names.families l.families.now k.families.now f (sum_by family_count before) split h.families) h)
+      (λ before h. let i = sum_by family_count before in
+      let same : n ≡ i = number ∙ number_is names.families l.families.now k.families.now f i split h.families in
+      let there : slice_get names.families n ≡ Some f = ap (slice_get names.families) same ∙ first_left names.families l.families.now k.families.now f i split h.families in
+      subst (λ c. Adds a b (flat_map (judged V names) (class_parts c text x bases members))) same (added there))
+
+  -- a class that the names don't have
+  member_of_none : (c : ℕ) (text : List ℕ) (x : Token) (bases : List BaseName) → slice_get names.families c ≡ None → (before : List MemberTree) (m : MemberTree)
+      → flat_map (judged V names) (member_parts c text x bases before m) ≡ []
+  member_of_none c text x bases e before (fields access y xs semicolon) = refl
+  member_of_none c text x bases e before (method access y z ps constant attributes b) =
+      ap (λ o. judged_method V names c text z b (option_and_then (λ (f : Family). slice_get f.methods (length (filter is_method_tree before))) o) ++ []) e
+  member_of_none c text x bases e before (constructor z ps left u ss right) =
+      ap (λ o. judged_constructor V names c text z (base_name V names c text x bases) (base_of V names c) u ss
+      (option_and_then (λ (f : Family). slice_get f.constructors (length (filter is_constructor_tree before))) o) ++ []) e
+
+  members_of_none : (c : ℕ) (text : List ℕ) (x : Token) (bases : List BaseName) → slice_get names.families c ≡ None → (before members : List MemberTree)
+      → flat_map (judged V names) (each_after (member_parts c text x bases) before members) ≡ []
+  members_of_none c text x bases e before [] = refl
+  members_of_none c text x bases e before (m ∷ ms) =
+      flat_map-append (judged V names) (member_parts c text x bases before m) (each_after (member_parts c text x bases) (before ++ m ∷ []) ms)
+      ∙ ap (λ js. js ++ flat_map (judged V names) (each_after (member_parts c text x bases) (before ++ m ∷ []) ms)) (member_of_none c text x bases e before m)
+      ∙ members_of_none c text x bases e (before ++ m ∷ []) ms
+
+  adds_default : (a : Found) (text : List ℕ) (c : ℕ) (x : Token) (bases : List BaseName) (o : Option ℕ) → o ≡ None
+      → Adds a a (of_default text (implicit_super names x.place (base_name V names c text x bases) o) ∷ [])
+  unfolding implicit_super
+  adds_default a text c x bases o e =
+      subst (λ q. Adds a a (of_default text (implicit_super names x.place (base_name V names c text x bases) q) ∷ [])) (sym e)
+      (record {
+        functions = sym (append-nil (list_map view_function a.functions.items));
+        members = sym (append-nil (list_map view_function a.members.items));
+        globals = sym (append-nil (list_map view_global a.globals.items));
+        refused = sym (append-nil a.refused.items);
+      })
+
+  default_of_none : (a : Found) (c : ℕ) (text : List ℕ) (x : Token) (bases : List BaseName) (there : Bool) → slice_get names.families c ≡ None
+      → Adds a a (flat_map (judged V names) (if there then [] else a_default c text x bases ∷ []))
+  default_of_none a c text x bases true e = adds_none a
+  default_of_none a c text x bases false e =
+      adds_default a text c x bases (base_of V names c) (ap (option_and_then (λ (f : Family). f.base)) e)
+
+  class_of_none : (a : Found) (c : ℕ) (text : List ℕ) (x : Token) (bases : List BaseName) (members : List MemberTree) → slice_get names.families c ≡ None
+      → Adds a a (flat_map (judged V names) (class_parts c text x bases members))
+  class_of_none a c text x bases members e =
+      let first = if list_any is_constructor_tree members then [] else a_default c text x bases ∷ [] in
+      adds_same a a (flat_map (judged V names) first) (flat_map (judged V names) (class_parts c text x bases members))
+      (flat_map-append (judged V names) first (each_after (member_parts c text x bases) [] members)
+      ∙ ap (λ js. flat_map (judged V names) first ++ js) (members_of_none c text x bases e [] members)
+      ∙ append-nil (flat_map (judged V names) first))
+      (default_of_none a c text x bases (list_any is_constructor_tree members) e)
+
+  pub class_unknown : (l : Left) (a : Found) (text : List ℕ) (final : Option Token) (word x : Token) (bases : List BaseName) (left : Token) (members : List MemberTree) (right : Token)
+      → l.families.now ≡ [] → Judges V names l l a a ((text, class final word x bases left members right) ∷ [])
+  class_unknown l a text final word x bases left members right none =
+      let d : InSection = (text, class final word x bases left members right) in judges_one l l a a d
+      (λ before h. family_left l l before d refl refl refl refl refl
+      (still_none names.families l.families.now (sum_by family_count before) none h.families) h)
+      (λ before h. class_of_none a (sum_by family_count before) text x bases members
+      (none_left names.families l.families.now (sum_by family_count before) none h.families))
 
   -- ---- functions
 

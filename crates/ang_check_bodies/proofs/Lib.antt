@@ -1,4 +1,5 @@
 pub mod Lists
 pub mod Judging
+pub mod Members
 pub mod Makers
 pub mod NoWay

@@ -5,6 +5,7 @@ use Rattle.std.specs.List.{filter_map, cons_option}
 use Rattle.std.proofs.lemmas.List.{map-append, take_more, take_all}
 use Rattle.std.proofs.lemmas.List.Sums.{sum_by_push}
 use Rattle.ang_names_known.specs.Items.{each_after}
+use Rattle.ang_check_bodies.specs.Judging.{tail}
 
 -- ---- an item more
 
@@ -55,11 +56,11 @@ each_on f before (x ∷ xs) ys =
 
 -- ---- what is left of a list
 
-tail : {A : Type 0} → List A → List A
-tail [] = []
-tail (x ∷ xs) = xs
+pub tail_none : {A : Type 0} (xs : List A) → length xs ≡ 0 → xs ≡ tail xs
+tail_none [] e = refl
+tail_none (x ∷ xs) e = absurd (omega (arith, e))
 
-drop_tail : {A : Type 0} (xs : List A) (n : ℕ) → drop (suc n) xs ≡ tail (drop n xs)
+pub drop_tail : {A : Type 0} (xs : List A) (n : ℕ) → drop (suc n) xs ≡ tail (drop n xs)
 drop_tail [] zero = refl
 drop_tail [] (suc n) = refl
 drop_tail (x ∷ xs) zero = refl

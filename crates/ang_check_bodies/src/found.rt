@@ -5,7 +5,9 @@ ghost use Rattle.ang_typed.specs.Typed as tree;
 ghost use Rattle.ang_typed.specs.View.{view_function, view_global};
 ghost use Rattle.ang_check_bodies.specs.Bodies as bodies;
 ghost use Rattle.ang_check_bodies.specs.Judging as spec;
+ghost use Rattle.ang_check_bodies.specs.View.{view_base};
 
+use crate::constructors::BaseCall;
 use ang_check_operand::{Refusal, Stop};
 use ang_kinds::Error;
 use ang_names_written::name_at;
@@ -120,6 +122,25 @@ pub fn note_global(
             found.globals.push(global)?;
             Ok(())
         }
+        Err(Stop::Refused(refusal)) => push_refusal(alloc, text, &mut found.refused, refusal),
+        Err(Stop::Memory) => Err(AllocError),
+    }
+}
+
+/// What a class without a constructor runs, in a section of these bytes: nothing is given, and it may be refused.
+///
+/// The only error is want of memory.
+pub fn note_default(
+    alloc: Global,
+    text: &[u8],
+    found: &mut Found,
+    typed: Result<BaseCall, Stop>,
+) -> Result<(), AllocError>
+    ensures noted { OnOk result ((typing : Typing bodies.Base) → Gives view_base typed typing
+        → spec.Noted found.old found.new (bodies.of_default text.now typing)) }
+{
+    match typed {
+        Ok(_) => Ok(()),
         Err(Stop::Refused(refusal)) => push_refusal(alloc, text, &mut found.refused, refusal),
         Err(Stop::Memory) => Err(AllocError),
     }

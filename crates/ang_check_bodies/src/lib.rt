@@ -7,6 +7,7 @@ mod found;
 mod functions;
 mod judging;
 pub mod laws;
+mod members;
 mod parts;
 mod paths;
 mod program;

@@ -7,6 +7,7 @@ ghost use Rattle.ang_check_bodies.specs.Judging as spec;
 
 use crate::found::{Found, note_function, note_global};
 use crate::functions::{function_typing, global_typing};
+use crate::members::add_class;
 use ang_check_typing::BodyContext;
 use ang_names_known::{Family, Names, ScriptFunction, ScriptGlobal};
 use ang_tree as written;
@@ -112,6 +113,46 @@ fn add_initializers(
     Ok(())
 }
 
+/// The members of the next class.
+fn add_next_class(
+    alloc: Global,
+    build: &Build<'_>,
+    text: &[u8],
+    written: &written::Class,
+    left: &mut Left<'_>,
+    found: &mut Found,
+) -> Result<(), AllocError>
+    requires few { length build.now.names.now.families ≤ 256 }
+    requires ancestors { build.now.lineage.now ≡ ancestors_of build.now.names.now }
+    ensures judged { OnOk result (spec.Judges build.now.view.now build.now.names.now
+        left.old left.new found.old found.new
+        ((text.now, trees.view_class written.now) ∷ [])) }
+{
+    let number = build
+        .names
+        .families
+        .as_slice()
+        .len()
+        .saturating_sub(left.families.len());
+    let Some((family, rest)) = left.families.split_first() else {
+        return Ok(());
+    };
+    left.families = rest;
+    add_class(alloc, build, text, number, family, written, found)
+}
+
+/// An interface has no bodies.
+#[tactic(auto, using(crate::proofs::Lists::tail_none))]
+fn skip_family(left: &mut Left<'_>)
+    ensures families { left.new.families.now ≡ spec.tail left.old.families.now }
+    ensures functions { left.new.functions.now ≡ left.old.functions.now }
+    ensures globals { left.new.globals.now ≡ left.old.globals.now }
+{
+    if let Some((_, rest)) = left.families.split_first() {
+        left.families = rest;
+    }
+}
+
 fn add_declaration(
     alloc: Global,
     build: &Build<'_>,
@@ -131,7 +172,11 @@ fn add_declaration(
         Declaration::Globals(written) => {
             add_initializers(alloc, build, text, written, left, found)
         }
-        Declaration::Class(_) | Declaration::Interface(_) => Err(AllocError),
+        Declaration::Class(written) => add_next_class(alloc, build, text, written, left, found),
+        Declaration::Interface(_) => {
+            skip_family(left);
+            Ok(())
+        }
         Declaration::Import(_) | Declaration::Empty(_) => Ok(()),
     }
 }
