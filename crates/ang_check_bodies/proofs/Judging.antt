@@ -62,9 +62,9 @@ module _ (V : RegistrationList) (names : Names) where
   left_same : (l k : Left) (before : List InSection) (d : InSection) → function_count d ≡ 0 → global_count d ≡ 0 → family_count d ≡ 0
       → k.functions.now ≡ l.functions.now → k.globals.now ≡ l.globals.now → k.families.now ≡ l.families.now
       → IsLeft V names l before → IsLeft V names k (before ++ d ∷ [])
-  left_same l k before d f g c functions globals families h = record {
+  left_same l k before d f g c functions variables families h = record {
     functions = functions ∙ h.functions ∙ ap (λ n. drop n names.functions) (sym (not_counted function_count before d f));
-    globals = globals ∙ h.globals ∙ ap (λ n. drop n names.globals) (sym (not_counted global_count before d g));
+    globals = variables ∙ h.globals ∙ ap (λ n. drop n names.globals) (sym (not_counted global_count before d g));
     families = families ∙ h.families ∙ ap (λ n. drop n names.families) (sym (not_counted family_count before d c));
   }
 
@@ -119,9 +119,9 @@ module _ (V : RegistrationList) (names : Names) where
   family_left : (l k : Left) (before : List InSection) (d : InSection) → function_count d ≡ 0 → global_count d ≡ 0 → family_count d ≡ 1
       → k.functions.now ≡ l.functions.now → k.globals.now ≡ l.globals.now → k.families.now ≡ drop (sum_by family_count before + 1) names.families
       → IsLeft V names l before → IsLeft V names k (before ++ d ∷ [])
-  family_left l k before d f g c functions globals families h = record {
+  family_left l k before d f g c functions variables families h = record {
     functions = functions ∙ h.functions ∙ ap (λ n. drop n names.functions) (sym (not_counted function_count before d f));
-    globals = globals ∙ h.globals ∙ ap (λ n. drop n names.globals) (sym (not_counted global_count before d g));
+    globals = variables ∙ h.globals ∙ ap (λ n. drop n names.globals) (sym (not_counted global_count before d g));
     families = families ∙ ap (λ n. drop n names.families) (sym (counted family_count before d 1 c));
   }
 
@@ -129,10 +129,10 @@ module _ (V : RegistrationList) (names : Names) where
   pub interface_judged : (l k : Left) (a : Found) (text : List ℕ) (word x : Token) (bases : List BaseName) (left : Token) (methods : List MethodTree) (right : Token)
       → k.families.now ≡ tail l.families.now → k.functions.now ≡ l.functions.now → k.globals.now ≡ l.globals.now
       → Judges V names l k a a ((text, interface word x bases left methods right) ∷ [])
-  interface_judged l k a text word x bases left methods right families functions globals =
+  interface_judged l k a text word x bases left methods right families functions variables =
       let d : InSection = (text, interface word x bases left methods right) in judges_one l k a a d
       (λ before h. let n = sum_by family_count before in
-      family_left l k before d refl refl refl functions globals
+      family_left l k before d refl refl refl functions variables
       (families ∙ ap tail h.families ∙ sym (ap (λ i. drop i names.families) (add-one n) ∙ drop_tail names.families n)) h)
       (λ before h. adds_none a)
 
@@ -145,9 +145,9 @@ module _ (V : RegistrationList) (names : Names) where
       → k.functions.now ≡ l.functions.now → k.globals.now ≡ l.globals.now
       → (slice_get names.families n ≡ Some f → Adds a b (flat_map (judged V names) (class_parts n text x bases members)))
       → Judges V names l k a b ((text, class final word x bases left members right) ∷ [])
-  class_judged l k a b n f text final word x bases left members right number split functions globals added =
+  class_judged l k a b n f text final word x bases left members right number split functions variables added =
       let d : InSection = (text, class final word x bases left members right) in judges_one l k a b d
-      (λ before h. family_left l k before d refl refl refl functions globals
+      (λ before h. family_left l k before d refl refl refl functions variables
       (rest_left names.families l.families.now k.families.now f (sum_by family_count before) split h.families) h)
       (λ before h. let i = sum_by family_count before in
       let same : n ≡ i = number ∙ number_is names.families l.families.now k.families.now f i split h.families in
@@ -176,13 +176,13 @@ module _ (V : RegistrationList) (names : Names) where
       → Adds a a (of_default text (implicit_super names x.place (base_name V names c text x bases) o) ∷ [])
   unfolding implicit_super
   adds_default a text c x bases o e =
-      subst (λ q. Adds a a (of_default text (implicit_super names x.place (base_name V names c text x bases) q) ∷ [])) (sym e)
-      (record {
+      let none : Adds a a (of_default text (implicit_super names x.place (base_name V names c text x bases) None) ∷ []) = record {
         functions = sym (append-nil (list_map view_function a.functions.items));
         members = sym (append-nil (list_map view_function a.members.items));
         globals = sym (append-nil (list_map view_global a.globals.items));
         refused = sym (append-nil a.refused.items);
-      })
+      } in
+      subst (λ q. Adds a a (of_default text (implicit_super names x.place (base_name V names c text x bases) q) ∷ [])) (sym e) none
 
   default_of_none : (a : Found) (c : ℕ) (text : List ℕ) (x : Token) (bases : List BaseName) (there : Bool) → slice_get names.families c ≡ None
       → Adds a a (flat_map (judged V names) (if there then [] else a_default c text x bases ∷ []))
@@ -214,10 +214,10 @@ module _ (V : RegistrationList) (names : Names) where
   function_left : (l k : Left) (before : List InSection) (text : List ℕ) (y : TypeName) (x : Token) (ps : Params) (b : Body)
       → k.functions.now ≡ drop (sum_by function_count before + 1) names.functions → k.globals.now ≡ l.globals.now → k.families.now ≡ l.families.now
       → IsLeft V names l before → IsLeft V names k (before ++ (text, function y x ps b) ∷ [])
-  function_left l k before text y x ps b functions globals families h =
+  function_left l k before text y x ps b functions variables families h =
       let d : InSection = (text, function y x ps b) in record {
         functions = functions ∙ ap (λ n. drop n names.functions) (sym (counted function_count before d 1 refl));
-        globals = globals ∙ h.globals ∙ ap (λ n. drop n names.globals) (sym (not_counted global_count before d refl));
+        globals = variables ∙ h.globals ∙ ap (λ n. drop n names.globals) (sym (not_counted global_count before d refl));
         families = families ∙ h.families ∙ ap (λ n. drop n names.families) (sym (not_counted family_count before d refl));
       }
 
@@ -234,11 +234,11 @@ module _ (V : RegistrationList) (names : Names) where
       → l.functions.now ≡ f ∷ k.functions.now → k.globals.now ≡ l.globals.now → k.families.now ≡ l.families.now
       → s ≡ context_in V names text None → Noted old new (of_function text (function_typing s f x b))
       → Judges V names l k old new ((text, function y x ps b) ∷ [])
-  function_judged l k old new f s text y x ps b split globals families is n =
+  function_judged l k old new f s text y x ps b split variables families is n =
       let m : Noted old new (of_function text (function_typing (context_in V names text None) f x b)) =
       subst (λ (q : BodyContext). Noted old new (of_function text (function_typing q f x b))) is n in
       judges_one l k old new (text, function y x ps b)
-      (λ before h. function_left l k before text y x ps b (rest_left names.functions l.functions.now k.functions.now f (sum_by function_count before) split h.functions) globals families h)
+      (λ before h. function_left l k before text y x ps b (rest_left names.functions l.functions.now k.functions.now f (sum_by function_count before) split h.functions) variables families h)
       (λ before h. adds_same old new (of_function text (function_typing (context_in V names text None) f x b) ∷ [])
       (judged V names (a_function (sum_by function_count before) text x b) ++ [])
       (ap (λ o. judged_function V names text x b o ++ []) (first_left names.functions l.functions.now k.functions.now f (sum_by function_count before) split h.functions))
@@ -363,10 +363,10 @@ module _ (V : RegistrationList) (names : Names) where
       → l.functions.now ≡ names.functions → l.globals.now ≡ names.globals → l.families.now ≡ names.families
       → a.functions.items ≡ [] → a.members.items ≡ [] → a.globals.items ≡ [] → a.refused.items ≡ []
       → Holds b (flat_map (judged V names) (each_after declaration_parts [] (flat_map parts (list_map view ss))))
-  all_judged parts view ss i l k a b f le functions globals families no_functions no_members no_globals no_refused =
+  all_judged parts view ss i l k a b f le functions variables families no_functions no_members no_globals no_refused =
       let whole : Judges V names l k a b (flat_map parts (list_map view ss)) =
       subst (λ ds. Judges V names l k a b ds) (ap (flat_map parts) (map_all view ss i le)) f in
-      let m = whole.added [] (nothing_before l functions globals families) in
+      let m = whole.added [] (nothing_before l functions variables families) in
       let js = flat_map (judged V names) (each_after declaration_parts [] (flat_map parts (list_map view ss))) in record {
         functions = m.functions ∙ ap (λ xs. list_map view_function xs ++ filter_map function_given js) no_functions;
         members = m.members ∙ ap (λ xs. list_map view_function xs ++ filter_map member_given js) no_members;

@@ -36,6 +36,10 @@ grown p a b c js ks f g =
     g ∙ ap (λ xs. xs ++ filter_map p ks) f ∙ append_assoc a (filter_map p js) (filter_map p ks)
     ∙ ap (λ xs. a ++ xs) (sym (filter_on p js ks))
 
+pub cons_joins : {A : Type 0} (o : Option A) (xs : List A) → cons_option o xs ≡ option_to_list o ++ xs
+cons_joins None xs = refl
+cons_joins (Some a) xs = refl
+
 one_of : {B : Type 0} (o : Option B) → option_to_list o ≡ cons_option o []
 one_of None = refl
 one_of (Some b) = refl

@@ -4,7 +4,9 @@ use Rattle.std.specs.List.{filter_map, flat_map, list_any}
 use Rattle.ang_lex.specs.declared.token.Token.{Token}
 use Rattle.ang_tree.specs.declared.declaration.BaseName.{BaseName}
 use Rattle.ang_tree.specs.Declarations.{MemberTree}
+use Rattle.ang_types.specs.declared.arg_type.ArgType.{ArgType}
 use Rattle.ang_names_known.specs.declared.names.Family.{Family}
+use Rattle.ang_names_known.specs.declared.names.Field.{Field}
 use Rattle.ang_check_bodies.specs.declared.members.MembersLeft.{MembersLeft}
 use Rattle.ang_check_bodies.specs.declared.members.OfClass.{OfClass}
 use Rattle.ang_tree.specs.declared.type_name.TypeName.{TypeName}
@@ -37,6 +39,10 @@ pub record Adds (old new : Found) (js : List Judgement) : Type 0 where
 pub record IsMemberLeft (f : Family) (left : MembersLeft) (before : List MemberTree) : Type 0 where
   pub methods : left.methods.now ≡ drop (length (filter is_method_tree before)) f.methods
   pub constructors : left.constructors.now ≡ drop (length (filter is_constructor_tree before)) f.constructors
+
+-- the type of a field
+abbrev pub field_type : Field → ArgType
+field_type x = x.written.ty
 
 -- the part of its own that a class without a constructor has
 abbrev pub default_parts : ℕ → List ℕ → Token → List BaseName → List MemberTree → List Part
@@ -101,3 +107,7 @@ program_with names js = record {
   methods = method_headings names.families;
   imports = map import_heading names.imports;
 }
+
+-- This is the resolved tree of all judgements that gave this.
+abbrev pub IsTreeOf : Names → Found → t.Program → Type 0
+IsTreeOf names found p = (js : List Judgement) → Holds found js → p ≡ program_with names js

@@ -1,5 +1,5 @@
 //! All bodies and initializers of a build.
-ghost use Rattle.std.specs.Prelude.{◌≡◌, ◌≤◌, ◌++◌, List, [], length, IfOk, map as list_map};
+ghost use Rattle.std.specs.Prelude.{◌≡◌, ◌≤◌, ◌++◌, [], length, IfOk, map as list_map};
 ghost use Rattle.ang_typed.specs.View.{view_function, view_typed};
 ghost use Rattle.ang_names_known.specs.Spaces.{AreFamilies, ancestors_of};
 ghost use Rattle.ang_names_written.specs.Sources.{source_of};
@@ -67,8 +67,8 @@ fn with_members(
 
 /// The resolved tree of what was found, and what was refused.
 fn judged_of(alloc: Global, names: &Names, found: Found) -> Result<Judged, AllocError>
-    ensures typed { IfOk result (λ j. (js : List bodies.Judgement) → spec.Holds found js
-        → view_typed j.typed ≡ spec.program_with names.now js) }
+    requires few { length names.now.families ≤ 256 }
+    ensures typed { IfOk result (λ j. spec.IsTreeOf names.now found (view_typed j.typed)) }
     ensures refused { IfOk result (λ j. j.refused ≡ found.refused.items) }
 {
     let Found {
