@@ -1,7 +1,7 @@
 -- Families one after the other, as classes of the resolved tree and as their methods' headings.
-use Rattle.std.proofs.Common.{◌≡◌, ◌<◌, ◌≤◌, ◌+◌, ◌-◌, refl, ap, sym, ◌∙◌, ℕ, arith, List, [], ◌∷◌, ◌++◌, append_assoc, append-nil, length, length-take, get_or, drop, take, Option, Some, None, map as list_map}
+use Rattle.std.proofs.Common.{◌≡◌, ◌<◌, ◌≤◌, ◌+◌, ◌-◌, refl, ap, sym, ◌∙◌, ℕ, arith, List, [], ◌∷◌, ◌++◌, append_assoc, append-nil, length, get_or, drop, take, Option, Some, None, map as list_map}
 use Rattle.std.specs.Prelude.{slice_get}
-use Rattle.std.proofs.lemmas.List.{drop_more, take_more}
+use Rattle.std.proofs.lemmas.List.{drop_more, length-take-le, take_more}
 use Rattle.ang_types.specs.declared.arg_type.ArgType.{ArgType}
 use Rattle.ang_names_known.specs.declared.names.Family.{Family}
 use Rattle.ang_names_known.specs.Items.{each_after}
@@ -50,7 +50,7 @@ numbered_turn : {B : Type 0} (g : ℕ → Family → List B) (fs : List Family) 
 numbered_turn g fs n f lt is =
     ap (each_after (numbered g) (take n fs)) (drop_more fs n f lt)
     ∙ ap (λ x. g (length (take n fs)) x ++ each_after (numbered g) (take n fs ++ x ∷ []) (drop (n + 1) fs)) is
-    ∙ ap (λ k. g k f ++ each_after (numbered g) (take n fs ++ f ∷ []) (drop (n + 1) fs)) (omega (arith, lt, length-take n fs))
+    ∙ ap (λ k. g k f ++ each_after (numbered g) (take n fs ++ f ∷ []) (drop (n + 1) fs)) (length-take-le n fs (omega (arith, lt)))
     ∙ ap (λ before. g n f ++ each_after (numbered g) before (drop (n + 1) fs)) (sym (take_more fs n f lt ∙ ap (λ x. take n fs ++ x ∷ []) is))
 
 -- one family more

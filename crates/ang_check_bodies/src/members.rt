@@ -188,7 +188,7 @@ fn has_constructor(members: &[Member]) -> bool
     ensures exact { result
         ≡ list_any bodies.is_constructor_tree (list_map trees.view_member members.now) }
 {
-    members.iter().any(is_constructor)
+    members.iter().any(|member| is_constructor(member))
 }
 
 /// The part of its own that a class without a constructor has: its base class has to have one without parameters.

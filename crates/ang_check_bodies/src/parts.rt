@@ -1,5 +1,5 @@
 //! The bodies and initializers of declarations, one after the other.
-ghost use Rattle.std.specs.Prelude.{◌≡◌, ◌≤◌, ◌∷◌, [], length, OnOk};
+ghost use Rattle.std.specs.Prelude.{◌≡◌, ◌≤◌, ◌-◌, ◌∷◌, [], length, OnOk};
 ghost use Rattle.ang_tree.specs.View as trees;
 ghost use Rattle.ang_names_known.specs.Spaces.{ancestors_of};
 ghost use Rattle.ang_names_written.specs.Sources.{source_of};
@@ -113,6 +113,15 @@ fn add_initializers(
     Ok(())
 }
 
+/// The number of the next class or interface.
+fn class_number(build: &Build<'_>, left: &Left<'_>) -> usize
+    ensures exact { result
+        ≡ length build.now.names.now.families - length left.now.families.now }
+{
+    let all = build.names.families.as_slice();
+    all.len().saturating_sub(left.families.len())
+}
+
 /// The members of the next class.
 fn add_next_class(
     alloc: Global,
@@ -128,12 +137,7 @@ fn add_next_class(
         left.old left.new found.old found.new
         ((text.now, trees.view_class written.now) ∷ [])) }
 {
-    let number = build
-        .names
-        .families
-        .as_slice()
-        .len()
-        .saturating_sub(left.families.len());
+    let number = class_number(build, left);
     let Some((family, rest)) = left.families.split_first() else {
         return Ok(());
     };
