@@ -168,7 +168,7 @@ fn super_of(
     ensures exact { Gives view_base result
         (spec.super_by context.now word.now (view_operands operands.items) (Some base)) }
 {
-    let scope = context.scope();
+    let scope = Scope::new(context.view(), context.names(), context.lineage());
     let makers = makers_in(alloc, &scope, context.names().families.as_slice(), base)?;
     let types = types_of(alloc, operands.as_slice())?;
     let lineage = context.lineage();

@@ -13,7 +13,7 @@ use ang_check_operand::{Stop, refused};
 use ang_check_typing::{BodyContext, LocalVariable, type_or_refusal};
 use ang_kinds::ErrorKind;
 use ang_lex::Token;
-use ang_names_known::{Text, Written, is_read_only};
+use ang_names_known::{Space, Text, Written, is_read_only};
 use ang_names_written::{Role, type_in};
 use ang_tree::{Handle, TypeName, Variable, Variables};
 use ang_typed::{Local, Statement};
@@ -34,7 +34,7 @@ fn local_type(
 ) -> Result<ArgType, Stop>
     ensures exact { Gives (λ ty. ty) result (spec.local_type context.now locals.now declared.now) }
 {
-    let space = context.space();
+    let space = Space::of_names(context.view(), context.names());
     let meaning = type_in(&space, Role::Variable, context.text(), declared);
     type_or_refusal(context, locals, &declared.name, meaning)
 }
@@ -107,7 +107,7 @@ fn local_name<'a>(
     requires parameters { frame.now.parameters ≤ length locals.now }
     ensures exact { Gives (λ name. name) result (spec.local_name frame.now start locals.now token.now) }
 {
-    let name = frame.context().text_at(token);
+    let name = Text::new(frame.context().text_of(token));
     match name_error(frame, start, locals, name.bytes()) {
         None => Ok(name),
         Some(kind) => Err(refused(kind, token)),
