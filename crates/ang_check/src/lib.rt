@@ -2,6 +2,8 @@
 #![tactic(auto)]
 
 mod api;
+mod check;
 pub mod laws;
 
-pub use api::{check, denials};
+pub use api::denials;
+pub use check::check;

@@ -2,9 +2,15 @@
 //! (docs/LANGUAGE.md, "Statements").
 #![tactic(auto)]
 
-mod api;
+mod constructors;
+mod found;
+mod functions;
+mod judging;
 pub mod laws;
+mod members;
+mod parts;
 mod paths;
+mod program;
 
-pub use api::{Judged, judge};
+pub use judging::{Judged, judge};
 pub use paths::body_ends;

@@ -2,8 +2,16 @@
 //! reading order (docs/LANGUAGE.md, "Statements").
 #![tactic(auto)]
 
-mod api;
 mod frame;
+mod halt;
+mod initial;
+mod locals;
+mod loops;
+mod parts;
+mod statements;
+mod values;
 
-pub use api::{Frame, block, initializer};
-pub use frame::Returns;
+pub use frame::{Frame, Returns};
+pub use initial::initializer;
+pub use statements::block;
+pub use values::own_object;

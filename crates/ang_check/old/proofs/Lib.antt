@@ -1,3 +1,0 @@
-pub mod SoFar
-pub mod Judging
-pub mod Stopping
