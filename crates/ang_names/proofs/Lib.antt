@@ -1,1 +1,3 @@
 pub mod Few
+pub mod NoFamilies
+pub mod Turns
