@@ -1,3 +1,2 @@
 pub mod Few
 pub mod NoFamilies
-pub mod Turns

@@ -30,9 +30,13 @@ use Rattle.ang_names_written.specs.Sources.{text_of, error_at}
 use Rattle.ang_names_written.specs.Spellings.{same_spellings}
 use Rattle.ang_names_written.specs.Types.{TypeOrError, type_in, is_unknown_type, own_role, imported_role}
 
+-- a view, and these families
+abbrev pub space_over : RegistrationList → List Declaring → Space
+space_over V families = record { view = V; families = map family_name families }
+
 -- the view, and the families of all declarations, whether before or behind
 abbrev pub space_of_declared : RegistrationList → List Declared → Space
-space_of_declared V all = record { view = V; families = map family_name (families_of all) }
+space_of_declared V all = space_over V (families_of all)
 
 abbrev pub refusal_if : Bool → ErrorKind → List ℕ → Token → Option Refused
 refusal_if true why text t = Some (plain_refusal (error_at why text t))

@@ -8,12 +8,12 @@ ghost use Rattle.ang_names.specs.Meant as meant;
 ghost use Rattle.ang_names.specs.Phases as spec;
 ghost use Rattle.ang_names.specs.declared.phase.Phase.TheVariants as phase;
 
-use crate::families::{has_family, space_of};
+use crate::families::space_of;
 use crate::headings::{function_refusal, import_refusal, type_refusal_of};
 use crate::members::family_refusal;
 use ang_kinds::{Error, List};
 use ang_names_known::Space;
-use ang_names_listed::{Declared, Part, name_refusals};
+use ang_names_listed::{Declared, Declaring, Part, families_of as list_families, name_refusals};
 use ang_names_written::{Role, not_yet_errors};
 use ang_tree::Script;
 use ang_types::Refused;
@@ -21,19 +21,19 @@ use ang_view::View;
 use std::alloc::{AllocError, Global};
 
 /// What is refused of the types, bases and members of a declaration.
-#[tactic(auto, unfolding(crate::specs::Meant::type_refusal))]
 fn type_refusal(
     alloc: Global,
     space: &Space<'_>,
-    all: &[Declared<'_>],
+    families: &[Declaring<'_>],
     declared: &Declared<'_>,
 ) -> Result<Option<Refused>, AllocError>
-    ensures exact { IfOk result (λ r. r ≡ meant.type_refusal space.now all.now declared.now) }
+    ensures exact { IfOk result (λ r. r
+        ≡ meant.part_refusal space.now families.now declared.now declared.now.part) }
 {
     let text = declared.text.bytes();
     let name = &declared.name;
     match &declared.part {
-        Part::Family(shape) => family_refusal(alloc, space, all, declared, shape),
+        Part::Family(shape) => family_refusal(alloc, space, families, declared, shape),
         Part::Function(ty, params) => {
             function_refusal(alloc, space, text, name, ty, params.items())
         }
@@ -54,50 +54,39 @@ fn push_refused(found: &mut Vec<Refused>, refused: Option<Refused>) -> Result<()
 fn type_refusals_in(
     alloc: Global,
     space: &Space<'_>,
+    families: &[Declaring<'_>],
     all: &[Declared<'_>],
 ) -> Result<Vec<Refused>, AllocError>
-    ensures exact { IfOk result (λ found. found.items
-        ≡ taken.each_refused (λ before d. meant.type_refusal space.now all.now d) all.now) }
+    ensures exact { IfOk result (λ found. found.items ≡ taken.each_refused
+        (λ before d. meant.part_refusal space.now families.now d d.part) all.now) }
 {
     let mut found = Vec::new(alloc);
     for declared in all {
-        let refused = type_refusal(alloc, space, all, declared)?;
+        let refused = type_refusal(alloc, space, families, declared)?;
         push_refused(&mut found, refused)?;
     }
     Ok(found)
 }
 
-/// What the second phase refuses.
+/// What the second phase refuses of the declarations, whose families these are.
 fn type_refusals(
     alloc: Global,
     view: &View,
+    families: &[Declaring<'_>],
     all: &[Declared<'_>],
 ) -> Result<Vec<Refused>, AllocError>
-    requires few { length (families_of all.now) ≤ 256 }
+    requires few { length families.now ≤ 256 }
+    requires families { families.now ≡ families_of all.now }
     ensures exact { IfOk result
         (λ found. found.items ≡ spec.refusals view.now all.now phase.Types) }
 {
-    let space = space_of(alloc, view, all)?;
-    type_refusals_in(alloc, &space, all)
+    let space = space_of(alloc, view, families)?;
+    type_refusals_in(alloc, &space, families, all)
 }
 
-/// What the phases over classes and interfaces refuse. They are not built yet, and where there are none they refuse nothing.
+/// What the phases after the first one refuse. Those over classes and interfaces together are not built yet: where there are
+/// some this answers want of memory, and where there are none they refuse nothing.
 #[tactic(auto, using(crate::proofs::NoFamilies::heritage_refuses_nothing))]
-fn heritage_refusals(
-    alloc: Global,
-    view: &View,
-    all: &[Declared<'_>],
-) -> Result<Vec<Refused>, AllocError>
-    ensures exact { IfOk result (λ found. found.items
-        ≡ spec.first_refusals view.now all.now (phase.Ancestors ∷ phase.Heirs ∷ phase.Cycles ∷ [])) }
-{
-    if has_family(all) {
-        return Err(AllocError);
-    }
-    Ok(Vec::new(alloc))
-}
-
-/// What the phases behind the first one refuse.
 fn later_refusals(
     alloc: Global,
     view: &View,
@@ -107,11 +96,15 @@ fn later_refusals(
     ensures exact { IfOk result (λ found. found.items ≡ spec.first_refusals view.now all.now
         (phase.Types ∷ phase.Ancestors ∷ phase.Heirs ∷ phase.Cycles ∷ [])) }
 {
-    let found = type_refusals(alloc, view, all)?;
+    let families = list_families(alloc, all)?;
+    let found = type_refusals(alloc, view, families.as_slice(), all)?;
     if !found.is_empty() {
         return Ok(found);
     }
-    heritage_refusals(alloc, view, all)
+    if !families.is_empty() {
+        return Err(AllocError);
+    }
+    Ok(found)
 }
 
 /// What the first phase that refuses some declarations refuses.

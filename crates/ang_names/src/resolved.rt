@@ -5,14 +5,14 @@ ghost use Rattle.ang_names_listed.specs.Declarations.{declared_name, families_of
 ghost use Rattle.ang_names.specs.Meant.{space_of_declared};
 ghost use Rattle.ang_names.specs.Resolved as spec;
 
-use crate::families::{has_family, space_of};
+use crate::families::space_of;
 use crate::headings::parameter_role;
 use ang_kinds::List;
 use ang_lex::Token;
 use ang_names_known::{
-    Family, Names, Origin, ScriptFunction, ScriptGlobal, ScriptParameter, Space, Written,
+    Names, Origin, ScriptFunction, ScriptGlobal, ScriptParameter, Space, Written,
 };
-use ang_names_listed::{Declared, Part};
+use ang_names_listed::{Declared, Part, families_of as list_families};
 use ang_names_written::{Role, copy_at, name_at, pass_of, written_in};
 use ang_tree::{Parameter, TypeName};
 use ang_view::View;
@@ -263,36 +263,25 @@ fn declared_names(alloc: Global, all: &[Declared<'_>]) -> Result<List<List<u8>>,
     Ok(List::from_vec(names))
 }
 
-/// The classes and interfaces. They are not built yet: there are none, or this answers want of memory.
-#[tactic(auto, using(crate::proofs::NoFamilies::none_resolved))]
-fn families_in(
-    alloc: Global,
-    space: &Space<'_>,
-    all: &[Declared<'_>],
-) -> Result<List<Family>, AllocError>
-    ensures exact { IfOk result (λ fs. fs ≡ spec.families_in space.now all.now) }
-{
-    if has_family(all) {
-        return Err(AllocError);
-    }
-    Ok(List::from_vec(Vec::new(alloc)))
-}
-
-/// All names of the declarations, each kind in order.
-#[tactic(auto, unfolding(crate::specs::Resolved::names_of))]
+/// All names of the declarations, each kind in order. Classes and interfaces are not built yet: where there are some this
+/// answers want of memory.
+#[tactic(auto, unfolding(crate::specs::Resolved::names_of), using(crate::proofs::NoFamilies::none_resolved))]
 pub fn names_of(alloc: Global, view: &View, all: &[Declared<'_>]) -> Result<Names, AllocError>
     requires few { length (families_of all.now) ≤ 256 }
     ensures exact { IfOk result (λ names. names ≡ spec.names_of view.now all.now) }
 {
-    let space = space_of(alloc, view, all)?;
+    let families = list_families(alloc, all)?;
+    if !families.is_empty() {
+        return Err(AllocError);
+    }
+    let space = space_of(alloc, view, families.as_slice())?;
     let declared = declared_names(alloc, all)?;
-    let families = families_in(alloc, &space, all)?;
     let functions = functions_in(alloc, &space, all)?;
     let imports = imports_in(alloc, &space, all)?;
     let globals = globals_in(alloc, &space, all)?;
     Ok(Names {
         declared,
-        families,
+        families: List::from_vec(Vec::new(alloc)),
         functions,
         imports,
         globals,
