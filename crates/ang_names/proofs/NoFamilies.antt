@@ -1,8 +1,8 @@
 -- The second phase by the families that are listed; and where no class and no interface is declared, nothing is refused of any, and
 -- there are none.
-use Rattle.std.specs.Prelude.{ℕ, ◌≡◌, List, [], ◌∷◌, ◌++◌, length, map, Option, None, option_to_list}
+use Rattle.std.specs.Prelude.{ℕ, ◌≡◌, ◌==◌, true, IfOk, Result, Ok, Err, List, [], ◌∷◌, ◌++◌, length, map, Option, None, option_to_list}
 use Rattle.std.specs.List.{cons_option, filter_map}
-use Rattle.std.proofs.Common.{refl, ap, ◌∙◌}
+use Rattle.std.proofs.Common.{refl, sym, ap, ◌∙◌}
 use Rattle.ang_types.specs.declared.asks.Refused.{Refused}
 use Rattle.ang_view.proofs.Lists.{length-map}
 use Rattle.ang_view.specs.Registration.{RegistrationList}
@@ -15,7 +15,7 @@ use Rattle.ang_names_listed.specs.declared.listed.Part.TheVariants as part
 use Rattle.ang_names_listed.specs.Declarations.{Declaring, declaring_by, declaring_of, families_of, family_name}
 use Rattle.ang_names.specs.declared.phase.Phase.TheVariants as phase
 use Rattle.ang_names.specs.Heirs.{ancestor_refusal, heir_refusal, cycle_refusal}
-use Rattle.ang_names.specs.Meant.{part_refusal, space_of_declared, type_refusal}
+use Rattle.ang_names.specs.Meant.{part_refusal, space_of_declared, space_over, type_refusal}
 use Rattle.ang_names.specs.Phases.{families, first_refusals, of_family, refusals}
 use Rattle.ang_names.specs.Resolved.{families_after, families_in, functions_in, signatures_of}
 
@@ -27,9 +27,19 @@ abbrev pub refused_after : Space → List Declaring → List Declared → List D
 refused_after E fs before ds = each_after (λ (front : List Declared) (d : Declared). option_to_list (part_refusal E fs d d.part)) before ds
 
 pub second_phase : (V : RegistrationList) (all : List Declared) (E : Space) (fs : List Declaring)
-    → E ≡ space_of_declared V all → fs ≡ families_of all → refused_after E fs [] all ≡ refusals V all phase.Types
+    → E ≡ space_over V fs → fs ≡ families_of all → refused_after E fs [] all ≡ refusals V all phase.Types
 unfolding type_refusal
-second_phase V all E fs e f = ap (λ F. refused_after F fs [] all) e ∙ ap (λ gs. refused_after (space_of_declared V all) gs [] all) f
+second_phase V all E fs e f =
+    ap (λ F. refused_after F fs [] all) (e ∙ ap (space_over V) f) ∙ ap (λ gs. refused_after (space_of_declared V all) gs [] all) f
+
+-- what is the same as something that was found, where anything was
+pub found_as : {R X A : Type 0} (items : R → A) (x y : A) (r : Result R X) → IfOk r (λ v. items v ≡ x) → x ≡ y → IfOk r (λ v. items v ≡ y)
+found_as items x y (Ok v) h e = h ∙ e
+found_as items x y (Err z) h e = h
+
+pub none_left : {A : Type 0} (xs : List A) → (length xs == 0) ≡ true → xs ≡ []
+none_left [] e = refl
+none_left (x ∷ xs) e = absurd cc
 
 -- ---- where none is declared
 
@@ -64,3 +74,10 @@ pub none_resolved : (E : Space) (ds : List Declared) → families_of ds ≡ [] �
 unfolding families_in
 none_resolved E ds e =
     ap (λ fs. each_after (families_after E (families_of ds) (signatures_of E (families_of ds)) (length (functions_in E ds))) [] fs) e
+
+pub later_nothing : (V : RegistrationList) (all : List Declared) (found : List Refused) (fs : List Declaring)
+    → found ≡ refusals V all phase.Types → fs ≡ families_of all → (length found == 0) ≡ true → (length fs == 0) ≡ true
+    → found ≡ first_refusals V all (phase.Types ∷ phase.Ancestors ∷ phase.Heirs ∷ phase.Cycles ∷ [])
+later_nothing V all found fs e f found_none fs_none =
+    let none = none_left found found_none in
+    none ∙ sym (no_list (refusals V all phase.Types) _ (sym e ∙ none) (heritage_refuses_nothing V all (sym f ∙ none_left fs fs_none)))

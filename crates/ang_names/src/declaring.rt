@@ -29,7 +29,6 @@ fn unbuilt(alloc: Global, refused: &[Refused]) -> Unbuilt
 }
 
 /// The names of declarations where nothing is refused of them.
-#[tactic(auto, using(crate::proofs::Few::accepted_few))]
 fn declared_by(
     alloc: Global,
     view: &View,

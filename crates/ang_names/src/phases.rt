@@ -86,7 +86,6 @@ fn type_refusals(
 
 /// What the phases after the first one refuse. Those over classes and interfaces together are not built yet: where there are
 /// some this answers want of memory, and where there are none they refuse nothing.
-#[tactic(auto, using(crate::proofs::NoFamilies::heritage_refuses_nothing))]
 fn later_refusals(
     alloc: Global,
     view: &View,
@@ -108,7 +107,6 @@ fn later_refusals(
 }
 
 /// What the first phase that refuses some declarations refuses.
-#[tactic(auto, using(ang_names_listed::proofs::Few::few_families))]
 fn first_refusals(
     alloc: Global,
     view: &View,
