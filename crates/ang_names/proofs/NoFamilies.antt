@@ -70,10 +70,13 @@ heritage_refuses_nothing V ds e =
     (no_list _ _ (none_refused (heir_refusal (families V ds)) (families V ds) [] ds e)
     (no_list _ _ (none_refused (cycle_refusal (space_of_declared V ds) (families_of ds)) (families V ds) [] ds e) refl))
 
-pub none_resolved : (E : Space) (ds : List Declared) → families_of ds ≡ [] → families_in E ds ≡ []
+none_given : (E : Space) (ds : List Declared) → families_of ds ≡ [] → families_in E ds ≡ []
 unfolding families_in
-none_resolved E ds e =
+none_given E ds e =
     ap (λ fs. each_after (families_after E (families_of ds) (signatures_of E (families_of ds)) (length (functions_in E ds))) [] fs) e
+
+pub none_resolved : (E : Space) (ds : List Declared) (fs : List Declaring) → fs ≡ families_of ds → (length fs == 0) ≡ true → families_in E ds ≡ []
+none_resolved E ds fs f none = none_given E ds (sym f ∙ none_left fs none)
 
 pub later_nothing : (V : RegistrationList) (all : List Declared) (found : List Refused) (fs : List Declaring)
     → found ≡ refusals V all phase.Types → fs ≡ families_of all → (length found == 0) ≡ true → (length fs == 0) ≡ true

@@ -265,7 +265,7 @@ fn declared_names(alloc: Global, all: &[Declared<'_>]) -> Result<List<List<u8>>,
 
 /// All names of the declarations, each kind in order. Classes and interfaces are not built yet: where there are some this
 /// answers want of memory.
-#[tactic(auto, unfolding(crate::specs::Resolved::names_of), using(crate::proofs::NoFamilies::none_resolved))]
+#[tactic(auto, unfolding(crate::specs::Resolved::names_of))]
 pub fn names_of(alloc: Global, view: &View, all: &[Declared<'_>]) -> Result<Names, AllocError>
     requires few { length (families_of all.now) ≤ 256 }
     ensures exact { IfOk result (λ names. names ≡ spec.names_of view.now all.now) }

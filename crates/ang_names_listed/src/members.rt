@@ -1,6 +1,6 @@
 //! What classes and interfaces declare.
 ghost use Rattle.std.specs.Prelude.{◌≡◌, ◌++◌, IfOk, OnOk, map as list_map};
-ghost use Rattle.std.specs.List.{flat_map};
+ghost use Rattle.std.specs.List.{flat_map, list_any};
 ghost use Rattle.ang_tree.specs.View.{view_constructor, view_fields, view_member, view_method, view_own_method};
 ghost use Rattle.ang_names_listed.specs.Declarations as spec;
 
@@ -40,13 +40,25 @@ fn is_override_word(kind: TokenKind) -> bool
     matches!(kind, TokenKind::Override)
 }
 
+fn has_final_word(words: &[Token]) -> bool
+    ensures exact { result ≡ list_any (λ t. spec.is_final_word t.kind) words.now }
+{
+    words.iter().any(|word| is_final_word(word.kind))
+}
+
+fn has_override_word(words: &[Token]) -> bool
+    ensures exact { result ≡ list_any (λ t. spec.is_override_word t.kind) words.now }
+{
+    words.iter().any(|word| is_override_word(word.kind))
+}
+
 fn attributes_of(constant: &Option<Token>, words: &[Token]) -> Attributes
     ensures exact { result ≡ spec.attributes_of constant.now words.now }
 {
     Attributes {
         read_only: constant.is_some(),
-        is_final: words.iter().any(|word| is_final_word(word.kind)),
-        is_override: words.iter().any(|word| is_override_word(word.kind)),
+        is_final: has_final_word(words),
+        is_override: has_override_word(words),
     }
 }
 
