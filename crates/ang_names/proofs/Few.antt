@@ -1,5 +1,5 @@
 -- The families of names are few, and what stands above each is among them.
-use Rattle.std.specs.Prelude.{ℕ, zero, suc, ◌≡◌, ◌≤◌, ◌<◌, ◌+◌, ◌⊎◌, Bool, true, false, if◌then◌else◌, All, Contains, List, [], ◌∷◌, ◌++◌, length, map, slice_index_or, Option, Some, None, IsSome, is_some, option_to_list}
+use Rattle.std.specs.Prelude.{ℕ, zero, suc, ◌≡◌, ◌≢◌, ◌≤◌, ◌<◌, ◌+◌, ◌==◌, ◌⊎◌, Bool, true, false, if◌then◌else◌, All, Contains, List, [], ◌∷◌, ◌++◌, length, map, slice_index_or, Option, Some, None, IsSome, is_some, option_to_list}
 use Rattle.std.proofs.Common.{arith, refl, sym, subst, ap, inl, inr, ◌∙◌, length-append}
 use Rattle.ang_kinds.specs.declared.error.Error.{Error}
 use Rattle.std.proofs.lemmas.List.Elements.{All-append}
@@ -17,7 +17,8 @@ use Rattle.ang_names_written.specs.NotYet.{not_yet}
 use Rattle.ang_names_written.specs.Sources.{Source}
 use Rattle.ang_names.specs.declared.phase.Phase.TheVariants as phase
 use Rattle.ang_names.specs.Meant.{space_of_declared}
-use Rattle.ang_names.specs.Phases.{all_phases, first_refusals, refusals_of}
+use Rattle.ang_names.specs.Phases.{all_phases, errors_in, first_refusals, refusals_of}
+use Rattle.ang_names.proofs.NoFamilies.{none_left}
 use Rattle.ang_names.specs.Resolved.{families_after, families_in, functions_in, is_parent, names_of, signatures_of}
 
 module _ {A B : Type 0} (f : List A → A → List B) where
@@ -84,12 +85,24 @@ first_empty : {A : Type 0} (xs ys : List A) → list_or xs ys ≡ [] → xs ≡ 
 first_empty [] ys e = refl
 first_empty (x ∷ xs) ys e = cc
 
-pub accepted_families : (V : RegistrationList) (ss : List Source) → refusals_of V ss ≡ [] → AreFamilies (names_of V (declarations_of ss)).families
+pub few_where_none : (V : RegistrationList) (all : List Declared) (found : List Refused) → found ≡ name_refusals V all → (length found == 0) ≡ true
+    → length (families_of all) ≤ 256
+few_where_none V all found e none = listed.few_families V all (sym e ∙ none_left found none)
+
+pub accepted_few : (V : RegistrationList) (ss : List Source) → refusals_of V ss ≡ [] → length (families_of (declarations_of ss)) ≤ 256
 unfolding refusals_of name_refusals
-accepted_families V ss e =
+accepted_few V ss e =
     let phases = later_empty (map plain_refusal (not_yet V ss)) (first_refusals V (declarations_of ss) all_phases) e in
     let names : name_refusals V (declarations_of ss) ≡ [] = first_empty (name_refusals V (declarations_of ss)) _ phases in
-    are_families V (declarations_of ss) (listed.few_families V (declarations_of ss) names)
+    listed.few_families V (declarations_of ss) names
+
+pub accepted_families : (V : RegistrationList) (ss : List Source) → refusals_of V ss ≡ [] → AreFamilies (names_of V (declarations_of ss)).families
+accepted_families V ss e = are_families V (declarations_of ss) (accepted_few V ss e)
+
+-- where something is refused there is an error
+pub some_errors : (rs : List Refused) → rs ≢ [] → errors_in rs ≢ []
+some_errors [] h = absurd (h refl)
+some_errors (r ∷ rs) h = λ e. cc
 
 -- ---- what asks is refused after the first phase
 

@@ -30,9 +30,13 @@ use Rattle.ang_names_written.specs.Sources.{text_of, error_at}
 use Rattle.ang_names_written.specs.Spellings.{same_spellings}
 use Rattle.ang_names_written.specs.Types.{TypeOrError, type_in, is_unknown_type, own_role, imported_role}
 
+-- a view, and these families
+abbrev pub space_over : RegistrationList → List Declaring → Space
+space_over V families = record { view = V; families = map family_name families }
+
 -- the view, and the families of all declarations, whether before or behind
 abbrev pub space_of_declared : RegistrationList → List Declared → Space
-space_of_declared V all = record { view = V; families = map family_name (families_of all) }
+space_of_declared V all = space_over V (families_of all)
 
 abbrev pub refusal_if : Bool → ErrorKind → List ℕ → Token → Option Refused
 refusal_if true why text t = Some (plain_refusal (error_at why text t))
@@ -58,36 +62,43 @@ why_refused text t (Err why) = Some (type_refused why text t)
 abbrev pub most_parameters : ℕ
 most_parameters = 32
 
--- In the space of a build, in a section of these bytes, where parameters have this role:
+-- more parameters than a function can have, at its name
+abbrev pub parameter_limit : List ℕ → Token → List Parameter → Option Refused
+parameter_limit text name ps = refusal_if (nat_lt most_parameters (length ps)) kind.Limit text name
+
+-- the role of a parameter of an import, or of any other function
+abbrev pub parameter_role : Bool → Parameter → Role
+parameter_role imported p = if imported then imported_role p else own_role p
+
+-- In the space of a build, in a section of these bytes:
 module _ (E : Space) (text : List ℕ) where
   abbrev pub type_refusal_of : Role → TypeName → Option Refused
   type_refusal_of r y = why_refused text y.name (type_in E r text y)
 
-  -- the first refusal of a parameter
-  abbrev pub parameters_refusal : (Parameter → Role) → List Parameter → Option Refused
-  parameters_refusal r [] = None
-  parameters_refusal r (p ∷ ps) = option_or (type_refusal_of (r p) p.declared_type) (parameters_refusal r ps)
-
-  -- more parameters than a function can have, at its name
-  abbrev pub parameter_limit : Token → List Parameter → Option Refused
-  parameter_limit name ps = refusal_if (nat_lt most_parameters (length ps)) kind.Limit text name
+  -- the first refusal of a parameter, of an import's or of another function's
+  abbrev pub parameters_refusal : Bool → List Parameter → Option Refused
+  parameters_refusal imported [] = None
+  parameters_refusal imported (p ∷ ps) =
+      option_or (type_refusal_of (parameter_role imported p) p.declared_type) (parameters_refusal imported ps)
 
   -- what stands after the name
-  abbrev pub parameter_list_refusal : (Parameter → Role) → Token → List Parameter → Option Refused
-  parameter_list_refusal r name ps = option_or (parameter_limit name ps) (parameters_refusal r ps)
+  abbrev pub parameter_list_refusal : Bool → Token → List Parameter → Option Refused
+  parameter_list_refusal imported name ps = option_or (parameter_limit text name ps) (parameters_refusal imported ps)
 
   -- In the order of the text: the result's type, the function's name, the parameters' types.
   abbrev pub function_refusal : Token → TypeName → List Parameter → Option Refused
-  function_refusal name y ps = option_or (type_refusal_of role.Result y) (parameter_list_refusal own_role name ps)
+  function_refusal name y ps = option_or (type_refusal_of role.Result y) (parameter_list_refusal false name ps)
 
   abbrev pub import_refusal : Token → TypeName → List Parameter → Option Refused
-  import_refusal name y ps = option_or (type_refusal_of role.ImportResult y) (parameter_list_refusal imported_role name ps)
+  import_refusal name y ps = option_or (type_refusal_of role.ImportResult y) (parameter_list_refusal true name ps)
 
-  -- ---- members
+-- ---- members
 
-  abbrev pub same_attributes : Attributes → Attributes → Bool
-  same_attributes a b = beq a.read_only b.read_only
+abbrev pub same_attributes : Attributes → Attributes → Bool
+same_attributes a b = beq a.read_only b.read_only
 
+-- Of members of one family, in a section of these bytes:
+module _ (text : List ℕ) where
   -- Under one name a field stands beside nothing, methods beside those of other parameters or `const`, and constructors beside those of
   -- other parameters; a method named as the class is no constructor.
   abbrev pub excludes_member : MemberKind → MemberKind → Bool
@@ -105,14 +116,16 @@ module _ (E : Space) (text : List ℕ) where
   abbrev pub duplicate : List Member → Member → Option Refused
   duplicate before m = refusal_if (list_any (clashes_with_member m) before) kind.Duplicate text m.name
 
+-- In the space of a build, in a section of these bytes:
+module _ (E : Space) (text : List ℕ) where
   -- a member of the family of this name, after those before it: its type, its name, then its parameters
   abbrev pub member_refusal : List ℕ → List Member → Member → MemberKind → Option Refused
-  member_refusal family before m (member.Field y) = option_or (type_refusal_of role.Field y) (duplicate before m)
+  member_refusal family before m (member.Field y) = option_or (type_refusal_of E text role.Field y) (duplicate text before m)
   member_refusal family before m (member.Method y ps a) =
-      option_or (type_refusal_of role.Result y) (option_or (duplicate before m) (parameter_list_refusal own_role m.name ps))
+      option_or (type_refusal_of E text role.Result y) (option_or (duplicate text before m) (parameter_list_refusal E text false m.name ps))
   member_refusal family before m (member.Constructor ps) =
       option_or (refusal_if (not (bytes_eq (text_of text m.name) family)) kind.BadType text m.name)
-      (option_or (duplicate before m) (parameter_list_refusal own_role m.name ps))
+      (option_or (duplicate text before m) (parameter_list_refusal E text false m.name ps))
 
   abbrev pub members_refusal : List ℕ → List Member → List Member → Option Refused
   members_refusal family before [] = None
@@ -147,10 +160,14 @@ module _ (families : List Declaring) (text : List ℕ) where
 
 -- ---- declarations
 
--- In the order of the text: too many members at the name, the bases, the members.
+-- too many members, at the name
+abbrev pub member_limit : Declared → Shape → Option Refused
+member_limit d s = refusal_if (nat_lt most_members (length s.members)) kind.Limit d.text d.name
+
+-- In the order of the text: how many members, the bases, the members.
 abbrev pub family_refusal : Space → List Declaring → Declared → Shape → Option Refused
 family_refusal E families d s =
-    option_or (refusal_if (nat_lt most_members (length s.members)) kind.Limit d.text d.name)
+    option_or (member_limit d s)
     (option_or (bases_refusal families d.text s.is_class false s.bases) (members_refusal E d.text (text_of d.text d.name) [] s.members))
 
 abbrev pub part_refusal : Space → List Declaring → Declared → Part → Option Refused

@@ -28,49 +28,49 @@ use Rattle.ang_names_listed.specs.declared.listed.MemberKind.{MemberKind}
 use Rattle.ang_names_listed.specs.declared.listed.MemberKind.TheVariants as member
 use Rattle.ang_names_listed.specs.declared.listed.Part.{Part}
 use Rattle.ang_names_listed.specs.declared.listed.Part.TheVariants as part
-use Rattle.ang_names_written.specs.declared.role.Role.{Role}
 use Rattle.ang_names_written.specs.declared.role.Role.TheVariants as role
 use Rattle.ang_names_known.specs.Spaces.{Space, family_of_type}
 use Rattle.ang_names_known.specs.Items.{each_after}
 use Rattle.ang_names_known.specs.Lookup.{same_parameters}
 use Rattle.ang_names_listed.specs.Declarations.{Declaring, families_of, family_name, declared_name}
-use Rattle.ang_names.specs.Meant.{space_of_declared}
+use Rattle.ang_names.specs.Meant.{space_of_declared, parameter_role}
 use Rattle.ang_names_written.specs.Sources.{text_of, name_of}
-use Rattle.ang_names_written.specs.Types.{written_in, pass_of, own_role, imported_role}
+use Rattle.ang_names_written.specs.Types.{written_in, pass_of}
 
 -- ---- headings
 
--- In the space of a build:
+-- a constructor gives nothing
+abbrev pub no_result : Written
+no_result = record { ty = type.Void; constant = false; const_handle = false }
+
+-- In the space of a build, where a function is imported or not:
 module _ (E : Space) where
-  abbrev pub parameter_of : List ℕ → (Parameter → Role) → Parameter → ScriptParameter
-  parameter_of text r p = record {
-    written = written_in E (r p) text p.declared_type;
+  abbrev pub parameter_of : List ℕ → Bool → Parameter → ScriptParameter
+  parameter_of text imported p = record {
+    written = written_in E (parameter_role imported p) text p.declared_type;
     pass = pass_of p.reference;
     name = name_of text p.name;
   }
 
-  abbrev pub function_as : Origin → List ℕ → Token → Written → (Parameter → Role) → List Parameter → ScriptFunction
-  function_as o text x result r ps = record {
+  abbrev pub function_as : Origin → List ℕ → Token → Written → Bool → List Parameter → ScriptFunction
+  function_as o text x result imported ps = record {
     name = text_of text x;
     place = x.place;
     result = result;
-    params = map (parameter_of text r) ps;
+    params = map (parameter_of text imported) ps;
     origin = o;
   }
 
   -- a function or a method
   abbrev pub heading_of : Origin → List ℕ → Token → TypeName → List Parameter → ScriptFunction
-  heading_of o text x y ps = function_as o text x (written_in E role.Result text y) own_role ps
+  heading_of o text x y ps = function_as o text x (written_in E role.Result text y) false ps
 
   abbrev pub import_of : Declared → TypeName → List Parameter → ScriptFunction
-  import_of d y ps = function_as d.origin d.text d.name (written_in E role.ImportResult d.text y) imported_role ps
+  import_of d y ps = function_as d.origin d.text d.name (written_in E role.ImportResult d.text y) true ps
 
-  -- a constructor, which gives nothing
-  abbrev pub no_result : Written
-  no_result = record { ty = type.Void; constant = false; const_handle = false }
-
+  -- a constructor
   abbrev pub maker_of : Origin → List ℕ → Token → List Parameter → ScriptFunction
-  maker_of o text x ps = function_as o text x no_result own_role ps
+  maker_of o text x ps = function_as o text x no_result false ps
 
   abbrev pub global_with : Declared → TypeName → ScriptGlobal
   global_with d y = record {
@@ -97,6 +97,16 @@ module _ (E : Space) where
   global_by d (part.Function y ps) = None
   global_by d (part.Import y ps) = None
   global_by d (part.Global y) = Some (global_with d y)
+
+  -- the function that a declaration declares, if it declares one
+  unfoldable pub function_of : Declared → Option ScriptFunction
+  function_of d = function_by d d.part
+
+  unfoldable pub imported_of : Declared → Option ScriptFunction
+  imported_of d = import_by d d.part
+
+  unfoldable pub global_of : Declared → Option ScriptGlobal
+  global_of d = global_by d d.part
 
   -- ---- members
 
@@ -278,7 +288,7 @@ module _ (E : Space) (ds : List Declaring) (all : List (ScriptFunction × Bool))
   families_after functions before d = family_with (length before) (functions + length (flat_map body_members before)) d ∷ []
 
 abbrev pub functions_in : Space → List Declared → List ScriptFunction
-functions_in E ds = filter_map (λ (d : Declared). function_by E d d.part) ds
+functions_in E ds = filter_map (function_of E) ds
 
 -- The families of the declarations.
 unfoldable pub families_in : Space → List Declared → List Family
@@ -292,6 +302,6 @@ names_of V ds = record {
   declared = map declared_name ds;
   families = families_in (space_of_declared V ds) ds;
   functions = functions_in (space_of_declared V ds) ds;
-  imports = filter_map (λ (d : Declared). import_by (space_of_declared V ds) d d.part) ds;
-  globals = filter_map (λ (d : Declared). global_by (space_of_declared V ds) d d.part) ds;
+  imports = filter_map (imported_of (space_of_declared V ds)) ds;
+  globals = filter_map (global_of (space_of_declared V ds)) ds;
 }

@@ -5,14 +5,21 @@
 //! types mean.
 #![tactic(auto)]
 
-mod api;
+mod declaring;
+mod families;
+mod headings;
 pub mod laws;
+mod members;
 mod phase;
+mod phases;
+mod resolved;
 
 pub use ang_kinds::Unbuilt;
 pub use ang_names_known::{
     Access, Constructor, Family, Field, Method, Names, Origin, ScriptFunction, ScriptGlobal,
     ScriptParameter, Written,
 };
-pub use api::{declare, function_refusal, heading_of, names_over, phase_refusals};
+pub use declaring::{declare, names_over, phase_refusals};
+pub use headings::function_refusal;
 pub use phase::Phase;
+pub use resolved::heading_of;

@@ -82,6 +82,12 @@ most_imports = 256
 abbrev pub most_globals : ℕ
 most_globals = 4096
 
+abbrev pub declares_family : Part → Bool
+declares_family (part.Family s) = true
+declares_family (part.Function y ps) = false
+declares_family (part.Import y ps) = false
+declares_family (part.Global y) = false
+
 abbrev pub declares_function : Part → Bool
 declares_function (part.Family s) = false
 declares_function (part.Function y ps) = true

@@ -2,9 +2,14 @@
 //! are taken (docs/LANGUAGE.md, "Names of a build").
 #![tactic(auto)]
 
-mod api;
+mod families;
 pub mod laws;
 mod listed;
+mod listing;
+mod members;
+mod taken;
 
-pub use api::{declarations_of, name_refusals};
+pub use families::{Declaring, families_of};
 pub use listed::{Attributes, Declared, Member, MemberKind, Part, Shape};
+pub use listing::declarations_of;
+pub use taken::name_refusals;
