@@ -1,5 +1,2 @@
+pub mod Denials
 pub mod Statements
-pub mod Bodies
-pub mod Judging
-pub mod Halts
-pub mod View

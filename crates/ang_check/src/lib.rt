@@ -1,15 +1,9 @@
-//! The checker: bodies and initializers of a build, judged one by one, as a resolved tree or their errors.
+//! The checker: a build's resolved tree or its errors, and the denials of a build that was refused.
 #![tactic(auto)]
 
-mod bodies;
-mod checking;
-mod found;
-mod frame;
-mod halt;
-mod locals;
-mod loops;
-mod parts;
-mod statements;
-mod values;
+mod api;
+mod check;
+pub mod laws;
 
-pub use checking::check;
+pub use api::denials;
+pub use check::check;

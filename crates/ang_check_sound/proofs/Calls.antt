@@ -9,7 +9,7 @@ use Rattle.ang_kinds.specs.declared.types.Pass.{Pass}
 use Rattle.ang_kinds.specs.declared.types.Pass.TheVariants as pass
 use Rattle.ang_lex.specs.declared.token.Token.{Token}
 use Rattle.ang_types.specs.declared.arg_type.ArgType.{ArgType}
-use Rattle.ang_types.specs.Ranks.{Lines}
+use Rattle.ang_types.specs.Ranks.{Ancestors}
 use Rattle.ang_typed.specs.declared.expression.Variable.{Variable}
 use Rattle.ang_typed.specs.declared.expression.Variable.TheVariants as variable
 use Rattle.ang_typed.specs.Typed as t
@@ -69,26 +69,26 @@ module _ (M : Module) (n : ℕ) where
   abbrev FitsOne : Pass → ArgType → t.Arg → Type 0
   FitsOne way ty x = SoundArgument M n way x × (way ≢ pass.RefOut → IsPlainType ty)
 
-  value_for_sound : (lines : Lines) (way : Pass) (ty : ArgType) (a : Operand) → way ≢ pass.RefOut → SoundOperand M n a
-      → IfOk (value_for lines ty a) (FitsOne way ty)
-  value_for_sound lines way ty a ne s =
-      holds (λ (x : t.Expr). Sound M n x × IsPlainType ty) (FitsOne way ty) (fit lines ty a) _
-      (both_hold (Sound M n) (λ x. IsPlainType ty) (fit lines ty a) (fit_sound M n lines ty a s) (fit_plain lines ty a s.ty))
+  value_for_sound : (ancestors : Ancestors) (way : Pass) (ty : ArgType) (a : Operand) → way ≢ pass.RefOut → SoundOperand M n a
+      → IfOk (value_for ancestors ty a) (FitsOne way ty)
+  value_for_sound ancestors way ty a ne s =
+      holds (λ (x : t.Expr). Sound M n x × IsPlainType ty) (FitsOne way ty) (fit ancestors ty a) _
+      (both_hold (Sound M n) (λ x. IsPlainType ty) (fit ancestors ty a) (fit_sound M n ancestors ty a s) (fit_plain ancestors ty a s.ty))
       (λ x sx. ((ne, sx.0), λ e. sx.1))
 
   out_for_sound : (ty : ArgType) (a : Operand) → SoundOperand M n a → IfOk (out_for ty a) (FitsOne pass.RefOut ty)
   out_for_sound ty a s = holds (IsTarget M n) (FitsOne pass.RefOut ty) _ _ (out_sound a.place a.named s.named) (λ x sx. ((refl, sx), λ ne. absurd (ne refl)))
 
-  argument_by_sound : (lines : Lines) (way : Pass) (ty : ArgType) (a : Operand) → SoundOperand M n a
-      → IfOk (argument_by lines way ty a) (FitsOne way ty)
-  argument_by_sound lines pass.Value ty a s = value_for_sound lines pass.Value ty a (λ e. cc) s
-  argument_by_sound lines pass.RefIn ty a s = value_for_sound lines pass.RefIn ty a (λ e. cc) s
-  argument_by_sound lines pass.RefOut ty a s = out_for_sound ty a s
-  argument_by_sound lines pass.RefInOut ty a s = value_for_sound lines pass.RefInOut ty a (λ e. cc) s
+  argument_by_sound : (ancestors : Ancestors) (way : Pass) (ty : ArgType) (a : Operand) → SoundOperand M n a
+      → IfOk (argument_by ancestors way ty a) (FitsOne way ty)
+  argument_by_sound ancestors pass.Value ty a s = value_for_sound ancestors pass.Value ty a (λ e. cc) s
+  argument_by_sound ancestors pass.RefIn ty a s = value_for_sound ancestors pass.RefIn ty a (λ e. cc) s
+  argument_by_sound ancestors pass.RefOut ty a s = out_for_sound ty a s
+  argument_by_sound ancestors pass.RefInOut ty a s = value_for_sound ancestors pass.RefInOut ty a (λ e. cc) s
 
-  argument_sound : (lines : Lines) (p : ArgType × Pass) (a : Operand) → SoundOperand M n a → IfOk (argument lines p a) (FitsOne p.1 p.0)
+  argument_sound : (ancestors : Ancestors) (p : ArgType × Pass) (a : Operand) → SoundOperand M n a → IfOk (argument ancestors p a) (FitsOne p.1 p.0)
   unfolding argument
-  argument_sound lines p a s = argument_by_sound lines p.1 p.0 a s
+  argument_sound ancestors p a s = argument_by_sound ancestors p.1 p.0 a s
 
   -- an argument for each parameter
   abbrev Fit : List (ArgType × Pass) → List t.Arg → Type 0
@@ -97,14 +97,14 @@ module _ (M : Module) (n : ℕ) where
   Fit (p ∷ ps) [] = ⊥
   Fit (p ∷ ps) (x ∷ xs) = FitsOne p.1 p.0 x × Fit ps xs
 
-  arguments_sound : (lines : Lines) (ps : List (ArgType × Pass)) (operands : List Operand) → Every (SoundOperand M n) operands
-      → length ps ≡ length operands → IfOk (arguments_for lines ps operands) (Fit ps)
-  arguments_sound lines [] [] s e = tt
-  arguments_sound lines [] (a ∷ rest) s e = cc
-  arguments_sound lines (p ∷ ps) [] s e = cc
-  arguments_sound lines (p ∷ ps) (a ∷ rest) s e =
-      holds (FitsOne p.1 p.0) (Fit (p ∷ ps)) (argument lines p a) _ (argument_sound lines p a s.0)
-      (λ x sx. holds (Fit ps) (Fit (p ∷ ps)) (arguments_for lines ps rest) _ (arguments_sound lines ps rest s.1 (let same : length ps ≡ length rest = cc in same))
+  arguments_sound : (ancestors : Ancestors) (ps : List (ArgType × Pass)) (operands : List Operand) → Every (SoundOperand M n) operands
+      → length ps ≡ length operands → IfOk (arguments_for ancestors ps operands) (Fit ps)
+  arguments_sound ancestors [] [] s e = tt
+  arguments_sound ancestors [] (a ∷ rest) s e = cc
+  arguments_sound ancestors (p ∷ ps) [] s e = cc
+  arguments_sound ancestors (p ∷ ps) (a ∷ rest) s e =
+      holds (FitsOne p.1 p.0) (Fit (p ∷ ps)) (argument ancestors p a) _ (argument_sound ancestors p a s.0)
+      (λ x sx. holds (Fit ps) (Fit (p ∷ ps)) (arguments_for ancestors ps rest) _ (arguments_sound ancestors ps rest s.1 (let same : length ps ≡ length rest = cc in same))
       (λ xs sxs. (sx, sxs)))
 
   script_arguments : (ps : List ScriptParameter) (xs : List t.Arg) → Fit (map passing_of ps) xs → SoundArguments M n (map parameter_of ps) (t.args xs)
@@ -161,14 +161,14 @@ module _ (s : Setting) (n : ℕ) where
       (record { entity = there.entity; params = there.params ∙ host_count M n ps xs f }, host_arguments M n ps xs k.1 f)
 
   called_sound : (place : Place) (c : Callable) (operands : List Operand) → IsCallable s c → length c.candidate.params ≡ length operands
-      → Every (SoundOperand M n) operands → IfOk (called s.lines place c operands) (SoundOperand M n)
+      → Every (SoundOperand M n) operands → IfOk (called s.ancestors place c operands) (SoundOperand M n)
   called_sound place c operands h count all =
-      holds (Fit M n c.candidate.params) (SoundOperand M n) (arguments_for s.lines c.candidate.params operands) _
-      (arguments_sound M n s.lines c.candidate.params operands all count)
+      holds (Fit M n c.candidate.params) (SoundOperand M n) (arguments_for s.ancestors c.candidate.params operands) _
+      (arguments_sound M n s.ancestors c.candidate.params operands all count)
       (λ xs sxs. record { ty = h.1; tree = call_sound c.callee c.result c.candidate.params xs h.0 sxs; named = tt })
 
   called_by_sound : (name : Token) (operands : List Operand) (m : Meant) → IsMeantCall s (types_of operands) m → Every (SoundOperand M n) operands
-      → IfOk (called_by s.lines name operands m) (SoundOperand M n)
+      → IfOk (called_by s.ancestors name operands m) (SoundOperand M n)
   called_by_sound name operands (meant.Call c) h all =
       called_sound name.place c operands h.0 (h.1 ∙ length-map operands (λ a. a.ty)) all
   called_by_sound name operands (meant.Variable x ty read_only) h all = tt

@@ -42,27 +42,27 @@ module _ (s : Setting) (ps : List Pair) (plain : IsPlainSetting s) (all_plain : 
         holds (Every Typed) Typed (typing_of_args s ps es) _ (args_typed es accepted.2) (λ operands all. call_typed s n x operands plain accepted.1 all)
     typed (scoped_call c scope x es) b = tt
     typed (cast word less y greater left e right) b = tt
-    typed (convert word left e right) b = holds Typed Typed (typing_of s ps e) _ (typed e b) (λ a sa. converted_sound M n s.lines word a sa)
+    typed (convert word left e right) b = holds Typed Typed (typing_of s ps e) _ (typed e b) (λ a sa. converted_sound M n s.ancestors word a sa)
     typed (group left e right) b = holds Typed Typed (typing_of s ps e) _ (typed e b) (λ a sa. group_sound M n left.place a sa)
     typed (postfix e op) b = holds Typed Typed (typing_of s ps e) _ (typed e b) (λ a sa. postfix_sound M n a op.kind sa)
     typed (member e dot x) b = tt
     typed (method_call e dot x es) b = tt
     typed (prefix op e) b =
         let accepted = two_false (is_handle_sign op.kind) (is_beyond V s.text e) b in
-        holds Typed Typed (typing_of s ps e) _ (typed e accepted.1) (λ a sa. prefix_sound M n s.lines op a sa)
+        holds Typed Typed (typing_of s ps e) _ (typed e accepted.1) (λ a sa. prefix_sound M n s.ancestors op a sa)
     typed (binary l op r) b =
         let accepted = three_false (is_identity op.kind) (is_beyond V s.text l) (is_beyond V s.text r) b in
         holds Typed Typed (typing_of s ps l) _ (typed l accepted.1)
-        (λ x sx. holds Typed Typed (typing_of s ps r) _ (typed r accepted.2) (λ y sy. binary_sound M n s.lines x op.kind y sx sy))
+        (λ x sx. holds Typed Typed (typing_of s ps r) _ (typed r accepted.2) (λ y sy. binary_sound M n s.ancestors x op.kind y sx sy))
     typed (conditional c question l colon r) b =
         let accepted = three_false (is_beyond V s.text c) (is_beyond V s.text l) (is_beyond V s.text r) b in
         holds Typed Typed (typing_of s ps c) _ (typed c accepted.0)
         (λ x sx. holds Typed Typed (typing_of s ps l) _ (typed l accepted.1)
-        (λ y sy. holds Typed Typed (typing_of s ps r) _ (typed r accepted.2) (λ z sz. conditional_sound M n s.lines x y z sx sy sz)))
+        (λ y sy. holds Typed Typed (typing_of s ps r) _ (typed r accepted.2) (λ z sz. conditional_sound M n s.ancestors x y z sx sy sz)))
     typed (assignment l op r) b =
         let accepted = two_false (is_beyond V s.text l) (is_beyond V s.text r) b in
         holds Typed Typed (typing_of s ps l) _ (typed l accepted.0)
-        (λ x sx. holds Typed Typed (typing_of s ps r) _ (typed r accepted.1) (λ y sy. assignment_sound M n s.lines x op.kind y sx sy))
+        (λ x sx. holds Typed Typed (typing_of s ps r) _ (typed r accepted.1) (λ y sy. assignment_sound M n s.ancestors x op.kind y sx sy))
 
     pub args_typed : (es : Args) → are_arguments_beyond s.view s.text es ≡ false → IfOk (typing_of_args s ps es) (Every (SoundOperand (Here s) (length ps)))
     args_typed (arguments left es right) b = all_typed es b

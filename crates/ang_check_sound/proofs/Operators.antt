@@ -11,7 +11,7 @@ use Rattle.ang_lex.specs.declared.token.TokenKind.TheVariants as k
 use Rattle.ang_types.specs.declared.arg_type.ArgType.{ArgType}
 use Rattle.ang_types.specs.declared.arg_type.ArgType.TheVariants as type
 use Rattle.ang_types.specs.Integers.{common_type}
-use Rattle.ang_types.specs.Ranks.{Lines, rank_of}
+use Rattle.ang_types.specs.Ranks.{Ancestors, rank_of}
 use Rattle.ang_typed.specs.declared.expression.Operator.{Operator}
 use Rattle.ang_typed.specs.declared.expression.Comparison.{Comparison}
 use Rattle.ang_typed.specs.declared.expression.Comparison.TheVariants as cmp
@@ -66,9 +66,9 @@ module _ (M : Module) (n : ℕ) where
   fit_by_sound (Some zero) ty a s = s.tree
   fit_by_sound (Some (suc r)) ty a s = convert_sound a.ty ty a.tree s.tree
 
-  pub fit_sound : (lines : Lines) (ty : ArgType) (a : Operand) → SoundOperand a → IfOk (fit lines ty a) (Sound M n)
+  pub fit_sound : (ancestors : Ancestors) (ty : ArgType) (a : Operand) → SoundOperand a → IfOk (fit ancestors ty a) (Sound M n)
   unfolding fit
-  fit_sound lines ty a s = fit_by_sound (rank_of lines a.ty ty) ty a s
+  fit_sound ancestors ty a s = fit_by_sound (rank_of ancestors a.ty ty) ty a s
 
   truth_in_sound : (ty : ArgType) (a : Operand) → SoundOperand a → IfOk (truth_in a ty) (Sound M n)
   truth_in_sound (type.Plain p.Bool) a s = s.tree
@@ -96,12 +96,12 @@ module _ (M : Module) (n : ℕ) where
   with_integer Q a f g = holds (λ q. Unit {0}) Q (integer a) f (any (integer a)) (λ q h. g q)
 
   -- two operands in one type, and what is made of them
-  fit_two : (lines : Lines) (r : ArgType) (a b : Operand) (f : t.Expr → t.Expr → Judged Operand) → SoundOperand a → SoundOperand b
+  fit_two : (ancestors : Ancestors) (r : ArgType) (a b : Operand) (f : t.Expr → t.Expr → Judged Operand) → SoundOperand a → SoundOperand b
       → ((x y : t.Expr) → Sound M n x → Sound M n y → IfOk (f x y) SoundOperand)
-      → IfOk (fit lines r a >>= (λ x. fit lines r b >>= (λ y. f x y))) SoundOperand
-  fit_two lines r a b f sa sb g =
-      holds (Sound M n) SoundOperand (fit lines r a) (λ x. fit lines r b >>= (λ y. f x y)) (fit_sound lines r a sa)
-      (λ x sx. holds (Sound M n) SoundOperand (fit lines r b) (λ y. f x y) (fit_sound lines r b sb) (λ y sy. g x y sx sy))
+      → IfOk (fit ancestors r a >>= (λ x. fit ancestors r b >>= (λ y. f x y))) SoundOperand
+  fit_two ancestors r a b f sa sb g =
+      holds (Sound M n) SoundOperand (fit ancestors r a) (λ x. fit ancestors r b >>= (λ y. f x y)) (fit_sound ancestors r a sa)
+      (λ x sx. holds (Sound M n) SoundOperand (fit ancestors r b) (λ y. f x y) (fit_sound ancestors r b sb) (λ y sy. g x y sx sy))
 
   truth_two : (a b : Operand) (f : t.Expr → t.Expr → Judged Operand) → SoundOperand a → SoundOperand b
       → ((x y : t.Expr) → Sound M n x → Sound M n y → IfOk (f x y) SoundOperand)
@@ -124,39 +124,39 @@ module _ (M : Module) (n : ℕ) where
 
   -- ---- two operands
 
-  worked_sound : (lines : Lines) (r : Primitive) (op : Operator) (a b : Operand) → SoundOperand a → SoundOperand b
-      → IfOk (worked_in lines r op a b) SoundOperand
-  worked_sound lines r op a b sa sb =
-      fit_two lines (type.Plain r) a b (λ x y. Ok (operand a.place (type.Plain r) (t.operate op r x y))) sa sb (λ x y sx sy. plain _ _ _ tt (sx, sy))
+  worked_sound : (ancestors : Ancestors) (r : Primitive) (op : Operator) (a b : Operand) → SoundOperand a → SoundOperand b
+      → IfOk (worked_in ancestors r op a b) SoundOperand
+  worked_sound ancestors r op a b sa sb =
+      fit_two ancestors (type.Plain r) a b (λ x y. Ok (operand a.place (type.Plain r) (t.operate op r x y))) sa sb (λ x y sx sy. plain _ _ _ tt (sx, sy))
 
-  compared_sound : (lines : Lines) (r : Primitive) (c : Comparison) (a b : Operand) → SoundOperand a → SoundOperand b
-      → IfOk (compared_in lines r c a b) SoundOperand
-  compared_sound lines r c a b sa sb =
-      fit_two lines (type.Plain r) a b (λ x y. Ok (operand a.place (type.Plain p.Bool) (t.compare c r x y))) sa sb (λ x y sx sy. plain _ _ _ tt (sx, sy))
+  compared_sound : (ancestors : Ancestors) (r : Primitive) (c : Comparison) (a b : Operand) → SoundOperand a → SoundOperand b
+      → IfOk (compared_in ancestors r c a b) SoundOperand
+  compared_sound ancestors r c a b sa sb =
+      fit_two ancestors (type.Plain r) a b (λ x y. Ok (operand a.place (type.Plain p.Bool) (t.compare c r x y))) sa sb (λ x y sx sy. plain _ _ _ tt (sx, sy))
 
-  arithmetic_sound : (lines : Lines) (op : Operator) (a b : Operand) → SoundOperand a → SoundOperand b → IfOk (arithmetic lines op a b) SoundOperand
+  arithmetic_sound : (ancestors : Ancestors) (op : Operator) (a b : Operand) → SoundOperand a → SoundOperand b → IfOk (arithmetic ancestors op a b) SoundOperand
   unfolding arithmetic
-  arithmetic_sound lines op a b sa sb =
-      with_integer SoundOperand a _ (λ q. with_integer SoundOperand b _ (λ r. worked_sound lines (common_type q r) op a b sa sb))
+  arithmetic_sound ancestors op a b sa sb =
+      with_integer SoundOperand a _ (λ q. with_integer SoundOperand b _ (λ r. worked_sound ancestors (common_type q r) op a b sa sb))
 
-  shift_sound : (lines : Lines) (op : Operator) (a b : Operand) → SoundOperand a → SoundOperand b → IfOk (shift lines op a b) SoundOperand
+  shift_sound : (ancestors : Ancestors) (op : Operator) (a b : Operand) → SoundOperand a → SoundOperand b → IfOk (shift ancestors op a b) SoundOperand
   unfolding shift
-  shift_sound lines op a b sa sb =
-      with_integer SoundOperand a _ (λ q. with_integer SoundOperand b _ (λ r. worked_sound lines (raised_type q) op a b sa sb))
+  shift_sound ancestors op a b sa sb =
+      with_integer SoundOperand a _ (λ q. with_integer SoundOperand b _ (λ r. worked_sound ancestors (raised_type q) op a b sa sb))
 
-  order_sound : (lines : Lines) (c : Comparison) (a b : Operand) → SoundOperand a → SoundOperand b → IfOk (order lines c a b) SoundOperand
+  order_sound : (ancestors : Ancestors) (c : Comparison) (a b : Operand) → SoundOperand a → SoundOperand b → IfOk (order ancestors c a b) SoundOperand
   unfolding order
-  order_sound lines c a b sa sb =
-      with_integer SoundOperand a _ (λ q. with_integer SoundOperand b _ (λ r. compared_sound lines (common_type q r) c a b sa sb))
+  order_sound ancestors c a b sa sb =
+      with_integer SoundOperand a _ (λ q. with_integer SoundOperand b _ (λ r. compared_sound ancestors (common_type q r) c a b sa sb))
 
-  equality_by_sound : (lines : Lines) (c : Comparison) (a b : Operand) (ty : ArgType) → SoundOperand a → SoundOperand b
-      → IfOk (equality_by lines c a b ty) SoundOperand
-  equality_by_sound lines c a b (type.Plain p.Bool) sa sb = compared_sound lines p.Bool c a b sa sb
-  equality_by_sound lines c a b _ sa sb = order_sound lines c a b sa sb
+  equality_by_sound : (ancestors : Ancestors) (c : Comparison) (a b : Operand) (ty : ArgType) → SoundOperand a → SoundOperand b
+      → IfOk (equality_by ancestors c a b ty) SoundOperand
+  equality_by_sound ancestors c a b (type.Plain p.Bool) sa sb = compared_sound ancestors p.Bool c a b sa sb
+  equality_by_sound ancestors c a b _ sa sb = order_sound ancestors c a b sa sb
 
-  equality_sound : (lines : Lines) (c : Comparison) (a b : Operand) → SoundOperand a → SoundOperand b → IfOk (equality lines c a b) SoundOperand
+  equality_sound : (ancestors : Ancestors) (c : Comparison) (a b : Operand) → SoundOperand a → SoundOperand b → IfOk (equality ancestors c a b) SoundOperand
   unfolding equality
-  equality_sound lines c a b sa sb = equality_by_sound lines c a b a.ty sa sb
+  equality_sound ancestors c a b sa sb = equality_by_sound ancestors c a b a.ty sa sb
 
   conjunction_sound : (a b : Operand) → SoundOperand a → SoundOperand b → IfOk (conjunction a b) SoundOperand
   unfolding conjunction
@@ -173,41 +173,41 @@ module _ (M : Module) (n : ℕ) where
   exclusion_sound a b sa sb =
       truth_two a b (λ x y. Ok (operand a.place (type.Plain p.Bool) (t.compare cmp.NotEqual p.Bool x y))) sa sb (λ x y sx sy. plain _ _ _ tt (sx, sy))
 
-  formed_sound : (lines : Lines) (f : Option Form) (a b : Operand) → SoundOperand a → SoundOperand b → IfOk (formed lines f a b) SoundOperand
-  formed_sound lines None a b sa sb = tt
-  formed_sound lines (Some (form.Works (work.Arithmetic op))) a b sa sb = arithmetic_sound lines op a b sa sb
-  formed_sound lines (Some (form.Works (work.Shift op))) a b sa sb = shift_sound lines op a b sa sb
-  formed_sound lines (Some (form.Order c)) a b sa sb = order_sound lines c a b sa sb
-  formed_sound lines (Some (form.Equality c)) a b sa sb = equality_sound lines c a b sa sb
-  formed_sound lines (Some form.And) a b sa sb = conjunction_sound a b sa sb
-  formed_sound lines (Some form.Or) a b sa sb = disjunction_sound a b sa sb
-  formed_sound lines (Some form.Xor) a b sa sb = exclusion_sound a b sa sb
+  formed_sound : (ancestors : Ancestors) (f : Option Form) (a b : Operand) → SoundOperand a → SoundOperand b → IfOk (formed ancestors f a b) SoundOperand
+  formed_sound ancestors None a b sa sb = tt
+  formed_sound ancestors (Some (form.Works (work.Arithmetic op))) a b sa sb = arithmetic_sound ancestors op a b sa sb
+  formed_sound ancestors (Some (form.Works (work.Shift op))) a b sa sb = shift_sound ancestors op a b sa sb
+  formed_sound ancestors (Some (form.Order c)) a b sa sb = order_sound ancestors c a b sa sb
+  formed_sound ancestors (Some (form.Equality c)) a b sa sb = equality_sound ancestors c a b sa sb
+  formed_sound ancestors (Some form.And) a b sa sb = conjunction_sound a b sa sb
+  formed_sound ancestors (Some form.Or) a b sa sb = disjunction_sound a b sa sb
+  formed_sound ancestors (Some form.Xor) a b sa sb = exclusion_sound a b sa sb
 
-  pub binary_sound : (lines : Lines) (a : Operand) (op : TokenKind) (b : Operand) → SoundOperand a → SoundOperand b
-      → IfOk (binary_typing lines a op b) SoundOperand
+  pub binary_sound : (ancestors : Ancestors) (a : Operand) (op : TokenKind) (b : Operand) → SoundOperand a → SoundOperand b
+      → IfOk (binary_typing ancestors a op b) SoundOperand
   unfolding binary_typing
-  binary_sound lines a op b sa sb = formed_sound lines (binary_form op) a b sa sb
+  binary_sound ancestors a op b sa sb = formed_sound ancestors (binary_form op) a b sa sb
 
   -- ---- one operand
 
-  fit_one : (lines : Lines) (r : ArgType) (a : Operand) (f : t.Expr → Judged Operand) → SoundOperand a
-      → ((x : t.Expr) → Sound M n x → IfOk (f x) SoundOperand) → IfOk (fit lines r a >>= f) SoundOperand
-  fit_one lines r a f sa g = holds (Sound M n) SoundOperand (fit lines r a) f (fit_sound lines r a sa) g
+  fit_one : (ancestors : Ancestors) (r : ArgType) (a : Operand) (f : t.Expr → Judged Operand) → SoundOperand a
+      → ((x : t.Expr) → Sound M n x → IfOk (f x) SoundOperand) → IfOk (fit ancestors r a >>= f) SoundOperand
+  fit_one ancestors r a f sa g = holds (Sound M n) SoundOperand (fit ancestors r a) f (fit_sound ancestors r a sa) g
 
-  negated_sound : (lines : Lines) (place : Place) (a : Operand) → SoundOperand a → IfOk (negated lines place a) SoundOperand
+  negated_sound : (ancestors : Ancestors) (place : Place) (a : Operand) → SoundOperand a → IfOk (negated ancestors place a) SoundOperand
   unfolding negated
-  negated_sound lines place a sa =
-      with_integer SoundOperand a _ (λ q. fit_one lines (type.Plain (raised_type q)) a _ sa (λ x sx. plain _ _ _ tt sx))
+  negated_sound ancestors place a sa =
+      with_integer SoundOperand a _ (λ q. fit_one ancestors (type.Plain (raised_type q)) a _ sa (λ x sx. plain _ _ _ tt sx))
 
-  complemented_sound : (lines : Lines) (place : Place) (a : Operand) → SoundOperand a → IfOk (complemented lines place a) SoundOperand
+  complemented_sound : (ancestors : Ancestors) (place : Place) (a : Operand) → SoundOperand a → IfOk (complemented ancestors place a) SoundOperand
   unfolding complemented
-  complemented_sound lines place a sa =
-      with_integer SoundOperand a _ (λ q. fit_one lines (type.Plain (raised_type q)) a _ sa (λ x sx. plain _ _ _ tt sx))
+  complemented_sound ancestors place a sa =
+      with_integer SoundOperand a _ (λ q. fit_one ancestors (type.Plain (raised_type q)) a _ sa (λ x sx. plain _ _ _ tt sx))
 
-  raised_sound : (lines : Lines) (place : Place) (a : Operand) → SoundOperand a → IfOk (raised_operand lines place a) SoundOperand
+  raised_sound : (ancestors : Ancestors) (place : Place) (a : Operand) → SoundOperand a → IfOk (raised_operand ancestors place a) SoundOperand
   unfolding raised_operand
-  raised_sound lines place a sa =
-      with_integer SoundOperand a _ (λ q. fit_one lines (type.Plain (raised_type q)) a _ sa (λ x sx. plain _ _ _ tt sx))
+  raised_sound ancestors place a sa =
+      with_integer SoundOperand a _ (λ q. fit_one ancestors (type.Plain (raised_type q)) a _ sa (λ x sx. plain _ _ _ tt sx))
 
   opposite_sound : (place : Place) (a : Operand) → SoundOperand a → IfOk (opposite place a) SoundOperand
   unfolding opposite
@@ -218,18 +218,18 @@ module _ (M : Module) (n : ℕ) where
   stepped_sound kind place a sa =
       holds (IsStored M n) SoundOperand (target a) _ (target_sound a sa) (λ x sx. with_integer SoundOperand a _ (λ q. plain _ _ _ sa.ty sx))
 
-  prefix_by_sound : (lines : Lines) (op : Token) (kind : TokenKind) (a : Operand) → SoundOperand a → IfOk (prefix_by lines op kind a) SoundOperand
-  prefix_by_sound lines op k.Not a sa = opposite_sound op.place a sa
-  prefix_by_sound lines op k.Minus a sa = negated_sound lines op.place a sa
-  prefix_by_sound lines op k.Plus a sa = raised_sound lines op.place a sa
-  prefix_by_sound lines op k.Tilde a sa = complemented_sound lines op.place a sa
-  prefix_by_sound lines op k.Increment a sa = stepped_sound step.IncrementBefore op.place a sa
-  prefix_by_sound lines op k.Decrement a sa = stepped_sound step.DecrementBefore op.place a sa
-  prefix_by_sound lines op _ a sa = tt
+  prefix_by_sound : (ancestors : Ancestors) (op : Token) (kind : TokenKind) (a : Operand) → SoundOperand a → IfOk (prefix_by ancestors op kind a) SoundOperand
+  prefix_by_sound ancestors op k.Not a sa = opposite_sound op.place a sa
+  prefix_by_sound ancestors op k.Minus a sa = negated_sound ancestors op.place a sa
+  prefix_by_sound ancestors op k.Plus a sa = raised_sound ancestors op.place a sa
+  prefix_by_sound ancestors op k.Tilde a sa = complemented_sound ancestors op.place a sa
+  prefix_by_sound ancestors op k.Increment a sa = stepped_sound step.IncrementBefore op.place a sa
+  prefix_by_sound ancestors op k.Decrement a sa = stepped_sound step.DecrementBefore op.place a sa
+  prefix_by_sound ancestors op _ a sa = tt
 
-  pub prefix_sound : (lines : Lines) (op : Token) (a : Operand) → SoundOperand a → IfOk (prefix_typing lines op a) SoundOperand
+  pub prefix_sound : (ancestors : Ancestors) (op : Token) (a : Operand) → SoundOperand a → IfOk (prefix_typing ancestors op a) SoundOperand
   unfolding prefix_typing
-  prefix_sound lines op a sa = prefix_by_sound lines op op.kind a sa
+  prefix_sound ancestors op a sa = prefix_by_sound ancestors op op.kind a sa
 
   postfix_by_sound : (kind : TokenKind) (a : Operand) → SoundOperand a → IfOk (postfix_by kind a) SoundOperand
   postfix_by_sound k.Increment a sa = stepped_sound step.IncrementAfter a.place a sa
@@ -240,14 +240,14 @@ module _ (M : Module) (n : ℕ) where
   unfolding postfix_typing
   postfix_sound a kind sa = postfix_by_sound kind a sa
 
-  converted_by_sound : (lines : Lines) (word : Token) (kind : TokenKind) (a : Operand) → SoundOperand a
-      → IfOk (converted_by lines word kind a) SoundOperand
-  converted_by_sound lines word (k.Primitive q) a sa = fit_one lines (type.Plain q) a _ sa (λ x sx. plain _ _ _ tt sx)
-  converted_by_sound lines word _ a sa = tt
+  converted_by_sound : (ancestors : Ancestors) (word : Token) (kind : TokenKind) (a : Operand) → SoundOperand a
+      → IfOk (converted_by ancestors word kind a) SoundOperand
+  converted_by_sound ancestors word (k.Primitive q) a sa = fit_one ancestors (type.Plain q) a _ sa (λ x sx. plain _ _ _ tt sx)
+  converted_by_sound ancestors word _ a sa = tt
 
-  pub converted_sound : (lines : Lines) (word : Token) (a : Operand) → SoundOperand a → IfOk (convert_typing lines word a) SoundOperand
+  pub converted_sound : (ancestors : Ancestors) (word : Token) (a : Operand) → SoundOperand a → IfOk (convert_typing ancestors word a) SoundOperand
   unfolding convert_typing
-  converted_sound lines word a sa = converted_by_sound lines word word.kind a sa
+  converted_sound ancestors word a sa = converted_by_sound ancestors word word.kind a sa
 
   inside_named : (x : Option NamedVariable) → IsNamed x → IsNamed (inside x)
   inside_named None s = tt
@@ -258,71 +258,71 @@ module _ (M : Module) (n : ℕ) where
 
   -- ---- `?:`
 
-  chosen_sound : (lines : Lines) (r : Primitive) (place : Place) (c : t.Expr) (a b : Operand) → Sound M n c → SoundOperand a → SoundOperand b
-      → IfOk (chosen_in lines r place c a b) SoundOperand
-  chosen_sound lines r place c a b sc sa sb =
-      fit_two lines (type.Plain r) a b (λ x y. Ok (operand place (type.Plain r) (t.choose c x y))) sa sb (λ x y sx sy. plain _ _ _ tt (sc, sx, sy))
+  chosen_sound : (ancestors : Ancestors) (r : Primitive) (place : Place) (c : t.Expr) (a b : Operand) → Sound M n c → SoundOperand a → SoundOperand b
+      → IfOk (chosen_in ancestors r place c a b) SoundOperand
+  chosen_sound ancestors r place c a b sc sa sb =
+      fit_two ancestors (type.Plain r) a b (λ x y. Ok (operand place (type.Plain r) (t.choose c x y))) sa sb (λ x y sx sy. plain _ _ _ tt (sc, sx, sy))
 
-  integers_sound : (lines : Lines) (place : Place) (c : t.Expr) (a b : Operand) → Sound M n c → SoundOperand a → SoundOperand b
-      → IfOk (choice_of_integers lines place c a b) SoundOperand
-  integers_sound lines place c a b sc sa sb =
-      with_integer SoundOperand a _ (λ q. with_integer SoundOperand b _ (λ r. chosen_sound lines (common_type q r) place c a b sc sa sb))
+  integers_sound : (ancestors : Ancestors) (place : Place) (c : t.Expr) (a b : Operand) → Sound M n c → SoundOperand a → SoundOperand b
+      → IfOk (choice_of_integers ancestors place c a b) SoundOperand
+  integers_sound ancestors place c a b sc sa sb =
+      with_integer SoundOperand a _ (λ q. with_integer SoundOperand b _ (λ r. chosen_sound ancestors (common_type q r) place c a b sc sa sb))
 
-  choice_by_sound : (lines : Lines) (place : Place) (c : t.Expr) (a b : Operand) (ty : ArgType) → Sound M n c → SoundOperand a → SoundOperand b
-      → IfOk (choice_by lines place c a b ty) SoundOperand
-  choice_by_sound lines place c a b (type.Plain p.Bool) sc sa sb = chosen_sound lines p.Bool place c a b sc sa sb
-  choice_by_sound lines place c a b (type.Object m r) sc sa sb = tt
-  choice_by_sound lines place c a b (type.Handle m r) sc sa sb = tt
-  choice_by_sound lines place c a b _ sc sa sb = integers_sound lines place c a b sc sa sb
+  choice_by_sound : (ancestors : Ancestors) (place : Place) (c : t.Expr) (a b : Operand) (ty : ArgType) → Sound M n c → SoundOperand a → SoundOperand b
+      → IfOk (choice_by ancestors place c a b ty) SoundOperand
+  choice_by_sound ancestors place c a b (type.Plain p.Bool) sc sa sb = chosen_sound ancestors p.Bool place c a b sc sa sb
+  choice_by_sound ancestors place c a b (type.Object m r) sc sa sb = tt
+  choice_by_sound ancestors place c a b (type.Handle m r) sc sa sb = tt
+  choice_by_sound ancestors place c a b _ sc sa sb = integers_sound ancestors place c a b sc sa sb
 
-  choice_sound : (lines : Lines) (place : Place) (c : t.Expr) (a b : Operand) → Sound M n c → SoundOperand a → SoundOperand b
-      → IfOk (choice lines place c a b) SoundOperand
+  choice_sound : (ancestors : Ancestors) (place : Place) (c : t.Expr) (a b : Operand) → Sound M n c → SoundOperand a → SoundOperand b
+      → IfOk (choice ancestors place c a b) SoundOperand
   unfolding choice
-  choice_sound lines place c a b sc sa sb = choice_by_sound lines place c a b a.ty sc sa sb
+  choice_sound ancestors place c a b sc sa sb = choice_by_sound ancestors place c a b a.ty sc sa sb
 
-  pub conditional_sound : (lines : Lines) (c a b : Operand) → SoundOperand c → SoundOperand a → SoundOperand b
-      → IfOk (conditional_typing lines c a b) SoundOperand
+  pub conditional_sound : (ancestors : Ancestors) (c a b : Operand) → SoundOperand c → SoundOperand a → SoundOperand b
+      → IfOk (conditional_typing ancestors c a b) SoundOperand
   unfolding conditional_typing
-  conditional_sound lines c a b sc sa sb =
-      holds (Sound M n) SoundOperand (truth c) _ (truth_sound c sc) (λ x sx. choice_sound lines c.place x a b sx sa sb)
+  conditional_sound ancestors c a b sc sa sb =
+      holds (Sound M n) SoundOperand (truth c) _ (truth_sound c sc) (λ x sx. choice_sound ancestors c.place x a b sx sa sb)
 
   -- ---- assignments
 
-  assign_in_sound : (lines : Lines) (x : Variable) (a b : Operand) (ty : ArgType) → IsStored M n x → SoundOperand b
-      → IfOk (assign_in lines x a b ty) SoundOperand
-  assign_in_sound lines x a b (type.Plain q) sx sb = fit_one lines (type.Plain q) b _ sb (λ y sy. plain _ _ _ tt (sx, sy))
-  assign_in_sound lines x a b _ sx sb = tt
+  assign_in_sound : (ancestors : Ancestors) (x : Variable) (a b : Operand) (ty : ArgType) → IsStored M n x → SoundOperand b
+      → IfOk (assign_in ancestors x a b ty) SoundOperand
+  assign_in_sound ancestors x a b (type.Plain q) sx sb = fit_one ancestors (type.Plain q) b _ sb (λ y sy. plain _ _ _ tt (sx, sy))
+  assign_in_sound ancestors x a b _ sx sb = tt
 
-  assigned_sound : (lines : Lines) (a b : Operand) → SoundOperand a → SoundOperand b → IfOk (assigned lines a b) SoundOperand
+  assigned_sound : (ancestors : Ancestors) (a b : Operand) → SoundOperand a → SoundOperand b → IfOk (assigned ancestors a b) SoundOperand
   unfolding assigned
-  assigned_sound lines a b sa sb =
-      holds (IsStored M n) SoundOperand (target a) _ (target_sound a sa) (λ x sx. assign_in_sound lines x a b a.ty sx sb)
+  assigned_sound ancestors a b sa sb =
+      holds (IsStored M n) SoundOperand (target a) _ (target_sound a sa) (λ x sx. assign_in_sound ancestors x a b a.ty sx sb)
 
-  compound_sound : (lines : Lines) (op : Operator) (x : Variable) (q r : Primitive) (a b : Operand) → IsStored M n x → SoundOperand a → SoundOperand b
-      → IfOk (compound_in lines op x q r a b) SoundOperand
-  compound_sound lines op x q r a b sx sa sb = fit_one lines (type.Plain r) b _ sb (λ y sy. plain _ _ _ sa.ty (sx, sy))
+  compound_sound : (ancestors : Ancestors) (op : Operator) (x : Variable) (q r : Primitive) (a b : Operand) → IsStored M n x → SoundOperand a → SoundOperand b
+      → IfOk (compound_in ancestors op x q r a b) SoundOperand
+  compound_sound ancestors op x q r a b sx sa sb = fit_one ancestors (type.Plain r) b _ sb (λ y sy. plain _ _ _ sa.ty (sx, sy))
 
-  compound_arithmetic_sound : (lines : Lines) (op : Operator) (a b : Operand) → SoundOperand a → SoundOperand b
-      → IfOk (compound_arithmetic lines op a b) SoundOperand
+  compound_arithmetic_sound : (ancestors : Ancestors) (op : Operator) (a b : Operand) → SoundOperand a → SoundOperand b
+      → IfOk (compound_arithmetic ancestors op a b) SoundOperand
   unfolding compound_arithmetic
-  compound_arithmetic_sound lines op a b sa sb =
+  compound_arithmetic_sound ancestors op a b sa sb =
       holds (IsStored M n) SoundOperand (target a) _ (target_sound a sa)
-      (λ x sx. with_integer SoundOperand a _ (λ q. with_integer SoundOperand b _ (λ r. compound_sound lines op x q (common_type q r) a b sx sa sb)))
+      (λ x sx. with_integer SoundOperand a _ (λ q. with_integer SoundOperand b _ (λ r. compound_sound ancestors op x q (common_type q r) a b sx sa sb)))
 
-  compound_shift_sound : (lines : Lines) (op : Operator) (a b : Operand) → SoundOperand a → SoundOperand b
-      → IfOk (compound_shift lines op a b) SoundOperand
+  compound_shift_sound : (ancestors : Ancestors) (op : Operator) (a b : Operand) → SoundOperand a → SoundOperand b
+      → IfOk (compound_shift ancestors op a b) SoundOperand
   unfolding compound_shift
-  compound_shift_sound lines op a b sa sb =
+  compound_shift_sound ancestors op a b sa sb =
       holds (IsStored M n) SoundOperand (target a) _ (target_sound a sa)
-      (λ x sx. with_integer SoundOperand a _ (λ q. with_integer SoundOperand b _ (λ r. compound_sound lines op x q (raised_type q) a b sx sa sb)))
+      (λ x sx. with_integer SoundOperand a _ (λ q. with_integer SoundOperand b _ (λ r. compound_sound ancestors op x q (raised_type q) a b sx sa sb)))
 
-  assignment_by_sound : (lines : Lines) (w : Option Work) (a b : Operand) → SoundOperand a → SoundOperand b
-      → IfOk (assignment_by lines w a b) SoundOperand
-  assignment_by_sound lines None a b sa sb = assigned_sound lines a b sa sb
-  assignment_by_sound lines (Some (work.Arithmetic op)) a b sa sb = compound_arithmetic_sound lines op a b sa sb
-  assignment_by_sound lines (Some (work.Shift op)) a b sa sb = compound_shift_sound lines op a b sa sb
+  assignment_by_sound : (ancestors : Ancestors) (w : Option Work) (a b : Operand) → SoundOperand a → SoundOperand b
+      → IfOk (assignment_by ancestors w a b) SoundOperand
+  assignment_by_sound ancestors None a b sa sb = assigned_sound ancestors a b sa sb
+  assignment_by_sound ancestors (Some (work.Arithmetic op)) a b sa sb = compound_arithmetic_sound ancestors op a b sa sb
+  assignment_by_sound ancestors (Some (work.Shift op)) a b sa sb = compound_shift_sound ancestors op a b sa sb
 
-  pub assignment_sound : (lines : Lines) (a : Operand) (op : TokenKind) (b : Operand) → SoundOperand a → SoundOperand b
-      → IfOk (assignment_typing lines a op b) SoundOperand
+  pub assignment_sound : (ancestors : Ancestors) (a : Operand) (op : TokenKind) (b : Operand) → SoundOperand a → SoundOperand b
+      → IfOk (assignment_typing ancestors a op b) SoundOperand
   unfolding assignment_typing
-  assignment_sound lines a op b sa sb = assignment_by_sound lines (compound_work op) a b sa sb
+  assignment_sound ancestors a op b sa sb = assignment_by_sound ancestors (compound_work op) a b sa sb

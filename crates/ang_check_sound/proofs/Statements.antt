@@ -61,7 +61,7 @@ module _ (s : Setting) (plain : IsPlainSetting s) (ps : List Pair) (pairs : AreP
   initializer_sound y ty absent b = tt
   initializer_sound y ty (value equals e) b =
       holds (SoundOperand N n) (SoundOption N n) (typing_of s ps e) _ (typed s ps plain pairs e b)
-      (λ a sa. holds (Sound N n) (SoundOption N n) (fit s.lines ty a) _ (fit_sound N n s.lines ty a sa) (λ x sx. sx))
+      (λ a sa. holds (Sound N n) (SoundOption N n) (fit s.ancestors ty a) _ (fit_sound N n s.ancestors ty a sa) (λ x sx. sx))
   initializer_sound y ty (constructor es) b =
       holds (λ (operands : List Operand). Unit {0}) (SoundOption N n) (typing_of_args s ps es) _ (any (typing_of_args s ps es)) (λ a h. tt)
 
@@ -160,12 +160,12 @@ module _ (f : Frame) (plain : IsPlainSetting f.setting) where
 
   -- ---- `return`, `break` and `continue`
 
-  value_sound : (n : ℕ) (ty : ArgType) (a : Operand) → SoundOperand M n a → IfOk (value_returned f.setting.lines ty a) (Sound M n)
+  value_sound : (n : ℕ) (ty : ArgType) (a : Operand) → SoundOperand M n a → IfOk (value_returned f.setting.ancestors ty a) (Sound M n)
   value_sound n type.Void a s = tt
-  value_sound n type.Null a s = fit_sound M n f.setting.lines type.Null a s
-  value_sound n (type.Plain p) a s = fit_sound M n f.setting.lines (type.Plain p) a s
-  value_sound n (type.Object m c) a s = fit_sound M n f.setting.lines (type.Object m c) a s
-  value_sound n (type.Handle m c) a s = fit_sound M n f.setting.lines (type.Handle m c) a s
+  value_sound n type.Null a s = fit_sound M n f.setting.ancestors type.Null a s
+  value_sound n (type.Plain p) a s = fit_sound M n f.setting.ancestors (type.Plain p) a s
+  value_sound n (type.Object m c) a s = fit_sound M n f.setting.ancestors (type.Object m c) a s
+  value_sound n (type.Handle m c) a s = fit_sound M n f.setting.ancestors (type.Handle m c) a s
 
   nothing_sound : (n : ℕ) (ty : ArgType) (word : Token) → IfOk (nothing_returned ty word) (SoundOption M n)
   nothing_sound n type.Void word = tt
@@ -179,7 +179,7 @@ module _ (f : Frame) (plain : IsPlainSetting f.setting) where
   result_sound ps word None all b = nothing_sound (length ps) f.result word
   result_sound ps word (Some e) all b =
       holds (SoundOperand M (length ps)) (SoundOption M (length ps)) (typing_of f.setting ps e) _ (typed f.setting ps plain all e b)
-      (λ a sa. holds (Sound M (length ps)) (SoundOption M (length ps)) (value_returned f.setting.lines f.result a) _ (value_sound (length ps) f.result a sa)
+      (λ a sa. holds (Sound M (length ps)) (SoundOption M (length ps)) (value_returned f.setting.ancestors f.result a) _ (value_sound (length ps) f.result a sa)
       (λ x sx. sx))
 
   return_sound : (loop : Bool) (ps : List Pair) (word : Token) (e : Option Tree) → ArePlainPairs ps → is_option_beyond V text e ≡ false

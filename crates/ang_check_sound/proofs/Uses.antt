@@ -134,19 +134,19 @@ module _ (s : Setting) where
   best_there cs args i None e all count = tt
   best_there cs args i (Some c) e all count = (every_at IsCallable cs i c all e, ap length (sym (candidate_at cs i c e)) ∙ count)
 
-  picked_there : (cs : List Callable) (args : List ArgType) (p : Pick) → best_of s.lines (map (λ c. c.candidate) cs) args ≡ p → Every IsCallable cs
+  picked_there : (cs : List Callable) (args : List ArgType) (p : Pick) → best_of s.ancestors (map (λ c. c.candidate) cs) args ≡ p → Every IsCallable cs
       → IsMeantCall args (picked cs p)
   picked_there cs args pick.NoViable e all = tt
   picked_there cs args pick.Ambiguous e all = tt
   picked_there cs args (pick.One i) e all =
-      best_there cs args i (slice_get cs i) refl all (((best_of-says s.lines (map (λ c. c.candidate) cs) args).one i).0 e).viable.viable.equal_number
+      best_there cs args i (slice_get cs i) refl all (((best_of-says s.ancestors (map (λ c. c.candidate) cs) args).one i).0 e).viable.viable.equal_number
 
   chosen_there : (cs : List Callable) (args : List ArgType) → Every IsCallable cs → IsMeantCall args (best_callable s cs args)
   chosen_there cs args all = by (length cs == 0)
     where
-      by : (b : Bool) → IsMeantCall args (if b then meant.Refused kind.UnknownName else picked cs (best_of s.lines (map (λ c. c.candidate) cs) args))
+      by : (b : Bool) → IsMeantCall args (if b then meant.Refused kind.UnknownName else picked cs (best_of s.ancestors (map (λ c. c.candidate) cs) args))
       by true = tt
-      by false = picked_there cs args (best_of s.lines (map (λ c. c.candidate) cs) args) refl all
+      by false = picked_there cs args (best_of s.ancestors (map (λ c. c.candidate) cs) args) refl all
 
   pub call_there : IsPlainSetting s → (name : List ℕ) (args : List ArgType) → GivesPlain name → IsMeantCall args (meaning_of_call s name args)
   unfolding meaning_of_call

@@ -6,7 +6,7 @@ use crate::callable::{NO_DRIVER, primitive_of};
 use ang_kinds::Value;
 use ang_meaning::{HostType, Slot};
 use ang_names::{ScriptFunction, ScriptParameter};
-use ang_vm_ask::slot_from;
+use ang_vm_numbers::slot_from;
 use std::alloc::{AllocError, Global};
 
 /// The slot of a value for a parameter, if the value is of its type and in its range.

@@ -6,7 +6,7 @@ use crate::callable::{NO_DRIVER, primitive_of};
 use ang_kinds::Value;
 use ang_meaning::{HostType, Slot};
 use ang_names::ScriptFunction;
-use ang_vm_ask::value_from;
+use ang_vm_numbers::value_from;
 
 /// The value of a function's result in this slot: none where the result is `void`, or of a type that is no
 /// primitive. A signed type gives an `Int`, an unsigned one a `Uint`, `bool` a `Bool`. It takes no memory.

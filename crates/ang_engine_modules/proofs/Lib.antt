@@ -1,4 +1,3 @@
-pub mod Inputs
 pub mod Settings
 pub mod Behaving
 pub mod Outcomes

@@ -2,7 +2,7 @@
 ghost use Rattle.std.specs.Prelude.{◌≡◌, ℕ, List, None, Some, slice_get, slice_index_or};
 ghost use Rattle.std.specs.declared.alloc.Global.{Global};
 ghost use Rattle.std.specs.declared.vec.Vec.{Vec};
-ghost use Rattle.ang_registry.specs.Registration.{RegistrationList};
+ghost use Rattle.ang_view.specs.Registration.{RegistrationList};
 ghost use Rattle.ang_typed.specs.Typed.{Program};
 ghost use Rattle.ang_meaning.specs.Setting.{Setting};
 ghost use Rattle.ang_core.specs.Sound.{LinksFit};

@@ -1,0 +1,5 @@
+pub mod Sources
+pub mod Types
+pub mod HostNames
+pub mod Spellings
+pub mod NotYet
