@@ -15,7 +15,7 @@ use Rattle.ang_meaning.specs.Results.{give_back}
 use Rattle.ang_meaning.specs.Counting.{Thing, how_many, in_lists, IsCounted, counts_by}
 use Rattle.ang_meaning.proofs.Counting.{many_append, give_globals}
 use Rattle.ang_meaning.proofs.Counted.{counted_as, give_counted}
-use Rattle.ang_meaning.proofs.Moving.{give_moves, give_back_moves, listed_append}
+use Rattle.ang_meaning.proofs.Moving.{give_moves, give_back_moves}
 use Rattle.ang_meaning.proofs.Driving.{all_balanced}
 use Rattle.ang_engine.specs.World.{running, globals_ended, all_ended}
 use Rattle.ang_engine.specs.Ending.{ends_of, GivingListsEnds, EndingListsEnds}
@@ -157,7 +157,9 @@ listed_ends [] = refl
 listed_ends (k ∷ ks) = listed_ends ks
 
 listed_then : (es : List HostEvent) (ks : List (ℕ × ℕ)) → answers_listed (es ++ ends_of ks) ≡ answers_listed es
-listed_then es ks = listed_append es (ends_of ks) ∙ ap (λ l. answers_listed es ++ l) (listed_ends ks) ∙ append-nil (answers_listed es)
+listed_then [] ks = listed_ends ks
+listed_then (Called caller entity driver object args reply ∷ es) ks = ap (λ l. reply ∷ l) (listed_then es ks)
+listed_then (Ended d k ∷ es) ks = listed_then es ks
 
 pub ends_listed : (u w : RunWorld) → ListsEnds u w → answers_listed w.events ≡ answers_listed u.events
 ends_listed u w p = ap answers_listed p.events ∙ listed_then u.events p.ends

@@ -10,7 +10,6 @@ use Rattle.ang_meaning.specs.Counting.{IsCounted}
 use Rattle.ang_meaning.specs.Setting.{Setting}
 use Rattle.ang_meaning.specs.Results.{Reply}
 use Rattle.ang_meaning.proofs.Counted.{give_counted}
-use Rattle.ang_meaning.proofs.Moving.{give_inputs, give_listed}
 use Rattle.ang_code.specs.Machine.{Config, Over, Stuck, steps, call_begins}
 use Rattle.ang_code.specs.Runs.{Runs, Ending, Gives, Stops, ended}
 use Rattle.ang_code.specs.Told.{ComesFrom}
@@ -27,6 +26,7 @@ use Rattle.ang_engine_modules.specs.Modules.{Module, module_at, TakesSoMany}
 use Rattle.ang_engine_modules.specs.Executed.{setting_for, call_of}
 use Rattle.ang_engine_modules.specs.Loaded.{IsTableOf}
 use Rattle.ang_engine_modules.specs.Started.{HasEnded}
+use Rattle.ang_engine_modules.proofs.Inputs.{give_inputs, give_listed}
 use Rattle.ang_engine_modules.proofs.Behaving.{behaves, never}
 use Rattle.ang_engine_modules.proofs.Outcomes.{finished_as, faulted_as, ends_as, told_value, told_fault, answered_value, answered_fault}
 use Rattle.ang_engine_modules.proofs.Asking.{asks_more, gives_more}

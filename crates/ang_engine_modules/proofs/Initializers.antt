@@ -15,7 +15,6 @@ use Rattle.ang_meaning.specs.Setting.{Setting, params_in}
 use Rattle.ang_meaning.specs.Results.{Reply, Yields, Raises, Ran, Went, Returned, Halted, Broken, Continued, finished, enter}
 use Rattle.ang_meaning.proofs.Counted.{give_counted}
 use Rattle.ang_meaning.proofs.Giving.{give_bits}
-use Rattle.ang_meaning.proofs.Moving.{room_append, stopped_append, told_append, give_inputs, give_listed}
 use Rattle.ang_code.specs.Machine.{Texts, Config, Over, Stuck, steps, initializer_begins}
 use Rattle.ang_code.specs.Runs.{Runs, Ending, Gives, Stops, ended}
 use Rattle.ang_code.specs.Told.{ComesFrom}
@@ -32,6 +31,7 @@ use Rattle.ang_engine_modules.specs.Executed.{setting_for, initialized_in, initi
 use Rattle.ang_engine_modules.specs.Ends.{Ends, end_of}
 use Rattle.ang_engine_modules.specs.Initializing.{HaveComeTo}
 use Rattle.ang_engine_modules.specs.Loaded.{IsTableOf}
+use Rattle.ang_engine_modules.proofs.Inputs.{room_append, stopped_append, told_append, give_inputs, give_listed}
 use Rattle.ang_engine_modules.proofs.Behaving.{behaves, never}
 use Rattle.ang_engine_modules.proofs.Outcomes.{NoOuts, goes_on_as, stops_as, ends_as, told_value, told_fault, answered_value, answered_fault}
 use Rattle.ang_engine_modules.proofs.Asking.{asks_more, gives_more}

@@ -1,3 +1,4 @@
+pub mod Inputs
 pub mod Settings
 pub mod Behaving
 pub mod Outcomes

@@ -7,7 +7,6 @@ use Rattle.ang_meaning.specs.World.{World, Input, with_inputs, give, give_all}
 use Rattle.ang_meaning.specs.Told.{has_room, stopped_by, answers_told, answers_listed, Moves, GoesOn, Faults}
 use Rattle.ang_meaning.specs.Setting.{Setting}
 use Rattle.ang_meaning.specs.Results.{Reply, Yields, Raises}
-use Rattle.ang_meaning.proofs.Moving.{listed_append}
 use Rattle.ang_code.specs.Machine.{Texts, Config, Over, Finished, Faulted, steps}
 use Rattle.ang_code.specs.Runs.{Runs, Ending, Gives, Stops, ended}
 use Rattle.ang_code.specs.Told.{ComesFrom}
@@ -15,6 +14,7 @@ use Rattle.ang_code_laws.proofs.Determined.{has_one_end}
 use Rattle.ang_gen_body.specs.Behaves.{outcome_of}
 use Rattle.ang_source.specs.Meaning.{then_initialized}
 use Rattle.ang_engine_modules.specs.Ends.{end_of}
+use Rattle.ang_engine_modules.proofs.Inputs.{listed_append}
 
 -- ---- replies by their outcomes
 

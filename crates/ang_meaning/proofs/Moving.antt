@@ -22,7 +22,7 @@ use Rattle.ang_meaning.specs.declared.operation.Operation.TheVariants.{Work, Com
 use Rattle.ang_meaning.specs.declared.routine.Passing.{Passing}
 use Rattle.ang_meaning.specs.declared.routine.Passing.TheVariants.{In, Out, Object}
 use Rattle.ang_meaning.specs.Numbers.{Worked, Is, Cannot, Changed, Into, Never, worked}
-use Rattle.ang_meaning.specs.World.{World, HostCounts, Input, Room, Said, Tallied, Fresh, Tried, Yes, No, memory_told, memory_step, one_more, tally_told, tally_step, hold, Lowered, Gone, Kept, host_lowered, each_given, script_given, script_lowered, given, give, give_all, or_else, with_inputs}
+use Rattle.ang_meaning.specs.World.{World, HostCounts, Input, Room, Said, Tallied, Fresh, Tried, Yes, No, memory_told, memory_step, one_more, tally_told, tally_step, hold, Lowered, Gone, Kept, host_lowered, each_given, script_given, script_lowered, given, give, give_all, or_else}
 use Rattle.ang_meaning.specs.Told.{has_room, stopped_by, answers_told, answers_listed, Moves, GoesOn, Faults}
 use Rattle.ang_meaning.specs.declared.class.Class.{Class}
 use Rattle.ang_meaning.specs.Setting.{Setting, class_at, use_at}
@@ -30,21 +30,19 @@ use Rattle.ang_meaning.specs.Hosts.{Done, Fine, Fails, accepted, is_void, slot_o
 use Rattle.ang_meaning.specs.Perform.{work_done, change_of, global_or, global_put, stored_global, changed_global, Receiver, Of, receiver_of, arguments_of, gives_up, called_of, read_of, write_of, in_place_of, altered_to, altered_of, field_or, field_put, may_take, member_put, stored_field, changed_field, is_under, cast_to, number_for, made_at, made_from, perform, NoReceiver, NullReceiver}
 use Rattle.ang_meaning.specs.Results.{give_some, give_back, give_others}
 
--- ---- what is told, and listed, behind what was
-
-pub told_append : (a b : List Input) → answers_told (a ++ b) ≡ answers_told a ++ answers_told b
+told_append : (a b : List Input) → answers_told (a ++ b) ≡ answers_told a ++ answers_told b
 told_append [] b = refl
 told_append (Said r ∷ a) b = ap (λ l. r ∷ l) (told_append a b)
 told_append (Room x ∷ a) b = told_append a b
 told_append (Tallied x ∷ a) b = told_append a b
 told_append (Fresh n ∷ a) b = told_append a b
 
-pub listed_append : (a b : List HostEvent) → answers_listed (a ++ b) ≡ answers_listed a ++ answers_listed b
+listed_append : (a b : List HostEvent) → answers_listed (a ++ b) ≡ answers_listed a ++ answers_listed b
 listed_append [] b = refl
 listed_append (Called c e d o args r ∷ a) b = ap (λ l. r ∷ l) (listed_append a b)
 listed_append (Ended d k ∷ a) b = listed_append a b
 
-pub room_append : (a b : List Input) → has_room a ≡ true → has_room (a ++ b) ≡ has_room b
+room_append : (a b : List Input) → has_room a ≡ true → has_room (a ++ b) ≡ has_room b
 room_append [] b h = refl
 room_append (Said r ∷ a) b h = room_append a b h
 room_append (Room true ∷ a) b h = room_append a b h
@@ -53,7 +51,7 @@ room_append (Tallied true ∷ a) b h = room_append a b h
 room_append (Tallied false ∷ a) b h = absurd (cc)
 room_append (Fresh n ∷ a) b h = room_append a b h
 
-pub stopped_append : (a b : List Input) → has_room a ≡ true → stopped_by (a ++ b) ≡ stopped_by b
+stopped_append : (a b : List Input) → has_room a ≡ true → stopped_by (a ++ b) ≡ stopped_by b
 stopped_append [] b h = refl
 stopped_append (Said r ∷ a) b h = stopped_append a b h
 stopped_append (Room true ∷ a) b h = stopped_append a b h
@@ -136,37 +134,6 @@ given_moves (suc n) (Script (Some k)) w = script_gives (given n) (given_moves n)
 pub give_moves : (v : Slot) (w : World) → Moves w [] (give v w)
 unfolding give
 give_moves v w = given_moves (map.len w.objects) v w
-
--- it answers nothing
-pub give_listed : (v : Slot) (w : World) → answers_listed (give v w).events ≡ answers_listed w.events
-give_listed v w =
-    let p = give_moves v w in
-    ap answers_listed p.events ∙ listed_append w.events p.more ∙ ap (λ l. answers_listed w.events ++ l) p.answers ∙ append-nil (answers_listed w.events)
-
--- giving up keeps the inputs, whatever they are
-abbrev Keeps : (Slot → World → World) → Type 0
-Keeps go = (v : Slot) (is : List Input) (w : World) → go v (with_inputs is w) ≡ with_inputs is (go v w)
-
-each_inputs : (go : Slot → World → World) → Keeps go → (vs : List Slot) (is : List Input) (w : World) → each_given go vs (with_inputs is w) ≡ with_inputs is (each_given go vs w)
-each_inputs go h [] is w = refl
-each_inputs go h (v ∷ vs) is w = ap (each_given go vs) (h v is w) ∙ each_inputs go h vs is (go v w)
-
-script_inputs : (go : Slot → World → World) → Keeps go → (l : Lowered) (is : List Input) (w : World) → script_given go l (with_inputs is w) ≡ with_inputs is (script_given go l w)
-script_inputs go h (Kept os) is w = refl
-script_inputs go h (Gone vs os) is w = each_inputs go h vs is (record w { objects = os })
-
-given_inputs : (n : ℕ) → Keeps (given n)
-unfolding given
-given_inputs n (Bits x) is w = refl
-given_inputs n (Script None) is w = refl
-given_inputs n (Host d None) is w = refl
-given_inputs n (Host d (Some k)) is w = refl
-given_inputs zero (Script (Some k)) is w = refl
-given_inputs (suc n) (Script (Some k)) is w = script_inputs (given n) (given_inputs n) (script_lowered k w.objects) is w
-
-pub give_inputs : (v : Slot) (is : List Input) (w : World) → give v (with_inputs is w) ≡ with_inputs is (give v w)
-unfolding give
-give_inputs v is w = given_inputs (map.len w.objects) v is w
 
 pub give_all_moves : (vs : List Slot) (w : World) → Moves w [] (give_all vs w)
 give_all_moves [] w = same w w refl refl
