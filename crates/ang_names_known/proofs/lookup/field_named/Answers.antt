@@ -17,9 +17,11 @@ returns-in-Some c =
     let i : ℕ = c.loop-number.number-index in
     let n : ℕ = get_or order i 0 in
     let here : option_map (field_of n) (find (λ (x : Field). bytes_eq x.name name) (fields_in (slice_get fs n))) ≡ Some c.in-Some.found =
-        ap (λ xs. option_map (field_of n) (find (λ (x : Field). bytes_eq x.name name) xs)) (sym c.fields_of.ensures.exact) ∙ sym c.in-Some.ensures.exact in
-    record { exact = sym (
-        c.loop-number.invariant
-        ∙ ap (λ ns. first_field name (families_at fs ns)) (drop_more order i 0 c.loop-number-test.true)
-        ∙ first_field_with name n (slice_get fs n) (families_at fs (drop (i + 1) order))
-        ∙ ap (λ o. option_or o (first_field name (families_at fs (drop (i + 1) order)))) here) }
+    ap (λ xs. option_map (field_of n) (find (λ (x : Field). bytes_eq x.name name) xs)) (sym c.fields_of.ensures.exact) ∙ sym c.in-Some.ensures.exact in
+    record {
+      exact = sym (
+          c.loop-number.invariant
+          ∙ ap (λ ns. first_field name (families_at fs ns)) (drop_more order i 0 c.loop-number-test.true)
+          ∙ first_field_with name n (slice_get fs n) (families_at fs (drop (i + 1) order))
+          ∙ ap (λ o. option_or o (first_field name (families_at fs (drop (i + 1) order)))) here);
+    }
