@@ -1,5 +1,6 @@
 //! What the expressions of a body stand in.
-ghost use Rattle.std.specs.Prelude.{◌≡◌, ◌≤◌, ◌<◌, length, IfOk, IfSome};
+ghost use Rattle.std.specs.Prelude.{◌≡◌, ◌≤◌, ◌<◌, bytes_eq, length, IfOk, IfSome};
+ghost use Rattle.std.specs.List.{list_any};
 ghost use Rattle.ang_check_operand.specs.Refusals.{Gives};
 ghost use Rattle.ang_check_typing.specs.Calls as calls;
 ghost use Rattle.ang_check_typing.specs.Scope as scopes;
@@ -203,12 +204,18 @@ fn has_within(context: &BodyContext<'_>, within: Option<Within>, name: &[u8]) ->
     }
 }
 
+/// Whether a local or a parameter has the name.
+fn has_local(locals: &[LocalVariable<'_>], name: &[u8]) -> bool
+    ensures exact { result ≡ list_any (λ p. bytes_eq p.name name.now) locals.now }
+{
+    locals.iter().any(|local| local.name.bytes() == name)
+}
+
 /// Whether a local, a parameter, or a field or method of the class has the name. It takes no memory.
 pub fn is_there(context: &BodyContext<'_>, locals: &[LocalVariable<'_>], name: &[u8]) -> bool
     ensures exact { result ≡ scopes.is_there context.now locals.now name.now }
 {
-    locals.iter().any(|local| local.name.bytes() == name)
-        || has_within(context, context.within(), name)
+    has_local(locals, name) || has_within(context, context.within(), name)
 }
 
 /// A type that is written at this name, or its refusal: where it is unknown that of a use of the name. It takes no
