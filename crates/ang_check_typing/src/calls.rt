@@ -79,7 +79,7 @@ fn function_call(
     let resolution = resolved(alloc, context, name, &asks)?;
     let site = CallSite {
         place: name.place,
-        name,
+        name: *name,
     };
     called_use(alloc, context, site, asks, is_there, operands, resolution)
 }

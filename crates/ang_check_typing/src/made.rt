@@ -48,7 +48,7 @@ fn made_by(
 {
     let site = CallSite {
         place: name.place,
-        name,
+        name: *name,
     };
     match family_of_type(number) {
         None => {

@@ -186,7 +186,7 @@ pub fn called_on(
     called_own(
         alloc,
         context,
-        CallSite { place, name },
+        CallSite { place, name: *name },
         operands,
         resolution,
     )
