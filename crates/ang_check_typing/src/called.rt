@@ -78,7 +78,8 @@ fn call_with(
     Ok(plain_operand(place, callable.result, tree))
 }
 
-/// A call of this function with these operands, where the body may call it. A receiver is the first one.
+/// A call of this function with these operands, where the body may call it. A receiver is the first
+/// one.
 pub fn called(
     alloc: Global,
     context: &BodyContext<'_>,

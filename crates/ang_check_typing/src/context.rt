@@ -20,9 +20,9 @@ use ang_view::View;
 use std::alloc::{AllocError, Global};
 use std::marker::Model;
 
-/// What is the same for all of a body: what its module sees of the host, what the scripts declare, what
-/// stands above each object type, the bytes of the body's section, and the class whose method or constructor
-/// it is.
+/// What is the same for all of a body: what its module sees of the host, what the scripts declare,
+/// what stands above each object type, the bytes of the body's section, and the class whose method
+/// or constructor it is.
 #[derive(Drop)]
 pub struct BodyContext<'a> {
     view: &'a View,
@@ -49,8 +49,8 @@ impl<'a> Model for BodyContext<'a> {
 }
 
 impl<'a> BodyContext<'a> {
-    /// Borrows these for the typing of one body. `text` is the whole section in which the body stands.
-    /// Nothing checks that they are of one build.
+    /// Borrows these for the typing of one body. `text` is the whole section in which the body
+    /// stands. Nothing checks that they are of one build.
     pub fn new(
         view: &'a View,
         names: &'a Names,
@@ -220,8 +220,8 @@ pub fn is_there(context: &BodyContext<'_>, locals: &[LocalVariable<'_>], name: &
     has_local(locals, name) || has_within(context, context.within(), name)
 }
 
-/// A type that is written at this name, or its refusal: where it is unknown that of a use of the name.
-/// It takes no memory.
+/// A type that is written at this name, or its refusal: where it is unknown that of a use of the
+/// name. It takes no memory.
 pub fn type_or_refusal(
     context: &BodyContext<'_>,
     locals: &[LocalVariable<'_>],

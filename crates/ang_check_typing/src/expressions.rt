@@ -41,13 +41,13 @@ fn word(alloc: Global, context: &BodyContext<'_>, token: &Token) -> Result<Opera
     }
 }
 
-/// Expressions with commas between them, typed from left to right, with these parameters and locals alive, the
-/// innermost last.
+/// Expressions with commas between them, typed from left to right, with these parameters and locals
+/// alive, the innermost last.
 ///
 /// # Errors
 ///
-/// The first refusal of an item, as `typing` has it; the items behind that one are not typed. `Memory` where a
-/// growth was refused.
+/// The first refusal of an item, as `typing` has it; the items behind that one are not typed.
+/// `Memory` where a growth was refused.
 #[cycle(typing)]
 pub fn typing_of_all(
     alloc: Global,
@@ -73,15 +73,17 @@ struct Asked {
     then: Operand,
 }
 
-/// The type and the resolved tree of an expression, with these parameters and locals alive, the innermost last.
+/// The type and the resolved tree of an expression, with these parameters and locals alive, the
+/// innermost last.
 ///
 /// # Errors
 ///
-/// The first refusal in reading order: operands from left to right, then the operation. That of a literal, a
-/// conversion or an operator comes from a function of `ang_check_operators`, which says when. A name, a member or a method
-/// that is not known is `UnknownName` at the name, one that can't be used there `Private` or `Protected`; a call is
-/// `NoMatch`, `Ambiguous` or `Const` at the name, then `BadOut` or `BadConversion` at an argument. A cast is
-/// `UnknownType` or `BadType` at the type's name, then `BadConversion` at its operand.
+/// The first refusal in reading order: operands from left to right, then the operation. That of a
+/// literal, a conversion or an operator comes from a function of `ang_check_operators`, which says
+/// when. A name, a member or a method that is not known is `UnknownName` at the name, one that
+/// can't be used there `Private` or `Protected`; a call is `NoMatch`, `Ambiguous` or `Const` at the
+/// name, then `BadOut` or `BadConversion` at an argument. A cast is `UnknownType` or `BadType` at
+/// the type's name, then `BadConversion` at its operand.
 ///
 /// `Memory` where a growth was refused.
 #[cycle(typing)]
