@@ -53,10 +53,11 @@ pub found_as : {R X A : Type 0} (items : R → A) (x y : A) (r : Result R X) →
 found_as items x y (Ok v) h e = h ∙ e
 found_as items x y (Err z) h e = h
 
-pub none_left : {A : Type 0} (xs : List A) → (length xs == 0) ≡ true → xs ≡ []
-none_left [] e = refl
-none_left (x ∷ xs) e =
-    let none : length (x ∷ xs) ≡ 0 = eqb-true (length (x ∷ xs)) 0 e in absurd (omega (arith, none))
+-- a list of no items, as a `Vec` counts them
+pub none_left : {A : Type 0} (xs : List A) (n : ℕ) → n ≡ length xs → (n == 0) ≡ true → xs ≡ []
+none_left [] n e z = refl
+none_left (x ∷ xs) n e z =
+    let none : n ≡ 0 = eqb-true n 0 z in absurd (omega (arith, none, e))
 
 -- ---- where none is declared
 
@@ -113,8 +114,7 @@ pub none_resolved : (E : Space) (ds : List Declared) → has_families ds ≡ fal
 none_resolved E ds none = none_given E ds (none_listed ds none)
 
 pub later_nothing : (V : RegistrationList) (all : List Declared) (found : List Refused)
-    → found ≡ refusals V all phase.Types → (length found == 0) ≡ true → has_families all ≡ false
+    → found ≡ refusals V all phase.Types → found ≡ [] → has_families all ≡ false
     → found ≡ first_refusals V all (phase.Types ∷ phase.Ancestors ∷ phase.Heirs ∷ phase.Cycles ∷ [])
-later_nothing V all found e found_none none =
-    let empty = none_left found found_none in
+later_nothing V all found e empty none =
     empty ∙ sym (no_list (refusals V all phase.Types) _ (sym e ∙ empty) (heritage_refuses_nothing V all (none_listed all none)))
