@@ -57,11 +57,7 @@ fn declared_by<'a>(
 /// the declarations, in their order.
 ///
 /// `Errors` are those, of which there is one at least; `Memory` is want of memory.
-pub fn declare<'a>(
-    alloc: Global,
-    view: &'a View,
-    scripts: &'a [Script],
-) -> Result<Names, Unbuilt>
+pub fn declare<'a>(alloc: Global, view: &'a View, scripts: &'a [Script]) -> Result<Names, Unbuilt>
     ensures accepted { OnOk result (spec.refusals_of view.now (list_map source_of scripts.now) ≡ []) }
     ensures names { IfOk result (λ names. names
         ≡ resolved.names_of view.now (listed.declarations_of (list_map source_of scripts.now))) }

@@ -44,7 +44,8 @@ fn family_name_of<'a>(declared: &Declared<'a>) -> Option<Text<'a>>
 /// The names of the classes and interfaces among the declarations, in order.
 #[tactic(auto, unfolding(ang_names_listed::specs::Declarations::families_of), using(crate::proofs::NoFamilies::names_in_front))]
 fn family_names<'a>(alloc: Global, all: &[Declared<'a>]) -> Result<Vec<Text<'a>>, AllocError>
-    ensures exact { IfOk result (λ names. names.items ≡ list_map family_name (families_of all.now)) }
+    ensures exact { IfOk result
+        (λ names. names.items ≡ list_map family_name (families_of all.now)) }
 {
     let mut names = Vec::new(alloc);
     for declared in all {

@@ -1,4 +1,4 @@
-use Rattle.std.proofs.Common.{sym, ap, subst, ◌∙◌}
+use Rattle.std.proofs.Common.{sym, subst, ◌∙◌}
 use Rattle.std.specs.Prelude.{length, ◌≤◌}
 use Rattle.ang_names_listed.specs.Declarations.{families_of}
 use Rattle.ang_names.proofs.Few.{accepted_few}
