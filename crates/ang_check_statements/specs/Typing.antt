@@ -113,12 +113,12 @@ fitted ancestors ty a = do
   Ok (Some x)
 
 -- A variable without an initializer: an object is made without arguments.
-abbrev pub absent_typing : BodyContext → TypeName → ArgType → Typing (Option t.Expr)
-absent_typing s y type.Void = Ok None
-absent_typing s y type.Null = Ok None
-absent_typing s y (type.Plain p) = Ok None
-absent_typing s y (type.Object n c) = made (default_typing s y.name n)
-absent_typing s y (type.Handle n c) = Ok None
+abbrev pub absent_typing : BodyContext → List LocalVariable → TypeName → ArgType → Typing (Option t.Expr)
+absent_typing s ps y type.Void = Ok None
+absent_typing s ps y type.Null = Ok None
+absent_typing s ps y (type.Plain p) = Ok None
+absent_typing s ps y (type.Object n c) = made (default_typing s ps y.name n)
+absent_typing s ps y (type.Handle n c) = Ok None
 
 -- One with `=`: no object is assigned by value.
 abbrev pub value_typing : Ancestors → Token → ArgType → Operand → Typing (Option t.Expr)
@@ -129,22 +129,22 @@ value_typing ancestors equals (type.Object n c) a = Err (fault kind.NoAssign equ
 value_typing ancestors equals (type.Handle n c) a = fitted ancestors (type.Handle n c) a
 
 -- One with arguments, which objects alone take.
-abbrev pub arguments_typing : BodyContext → TypeName → ArgType → List Operand → Typing (Option t.Expr)
-arguments_typing s y type.Void operands = Err (refused kind.NoMatch y.name)
-arguments_typing s y type.Null operands = Err (refused kind.NoMatch y.name)
-arguments_typing s y (type.Plain p) operands = Err (refused kind.NoMatch y.name)
-arguments_typing s y (type.Object n c) operands = made (made_typing s y.name n operands)
-arguments_typing s y (type.Handle n c) operands = Err (refused kind.NoMatch y.name)
+abbrev pub arguments_typing : BodyContext → List LocalVariable → TypeName → ArgType → List Operand → Typing (Option t.Expr)
+arguments_typing s ps y type.Void operands = Err (refused kind.NoMatch y.name)
+arguments_typing s ps y type.Null operands = Err (refused kind.NoMatch y.name)
+arguments_typing s ps y (type.Plain p) operands = Err (refused kind.NoMatch y.name)
+arguments_typing s ps y (type.Object n c) operands = made (made_typing s ps y.name n operands)
+arguments_typing s ps y (type.Handle n c) operands = Err (refused kind.NoMatch y.name)
 
 -- What a variable of this type begins with.
 abbrev pub initializer_typing : BodyContext → List LocalVariable → TypeName → ArgType → Init → Typing (Option t.Expr)
-initializer_typing s ps y ty absent = absent_typing s y ty
+initializer_typing s ps y ty absent = absent_typing s ps y ty
 initializer_typing s ps y ty (value equals e) = do
   a ← typing_of s ps e
   value_typing s.ancestors equals ty a
 initializer_typing s ps y ty (constructor es) = do
   operands ← typing_of_args s ps es
-  arguments_typing s y ty operands
+  arguments_typing s ps y ty operands
 
 abbrev pub local_with : List ℕ → ArgType → TypeName → LocalVariable
 local_with name ty y = record {

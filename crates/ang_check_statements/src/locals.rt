@@ -1,6 +1,5 @@
 //! Local variables.
 ghost use Rattle.std.specs.Prelude.{◌≡◌, ◌≤◌, ◌++◌, ◌∷◌, [], length, is_some, map as list_map, IfOk, OnOk};
-ghost use Rattle.ang_names_written.specs.Types as types;
 ghost use Rattle.ang_tree.specs.View.{view_var, view_vars};
 ghost use Rattle.ang_typed.specs.View.{view_local, view_stmt};
 ghost use Rattle.ang_check_operand.specs.Refusals.{Gives};
@@ -14,8 +13,8 @@ use ang_check_typing::{BodyContext, LocalVariable, type_or_refusal};
 use ang_kinds::ErrorKind;
 use ang_lex::Token;
 use ang_names_known::{Space, Text, Written, is_read_only};
-use ang_names_written::{Role, type_in};
-use ang_tree::{Handle, TypeName, Variable, Variables};
+use ang_names_written::{Role, is_const_handle, type_in};
+use ang_tree::{TypeName, Variable, Variables};
 use ang_typed::{Local, Statement};
 use ang_types::ArgType;
 use std::alloc::{AllocError, Global};
@@ -37,15 +36,6 @@ fn local_type(
     let space = Space::of_names(context.view(), context.names());
     let meaning = type_in(&space, Role::Variable, context.text(), declared);
     type_or_refusal(context, locals, &declared.name, meaning)
-}
-
-fn is_const_handle(handle: &Option<Handle>) -> bool
-    ensures exact { result ≡ types.is_const_handle handle.now }
-{
-    match handle {
-        None => false,
-        Some(handle) => handle.constant.is_some(),
-    }
 }
 
 /// A local of this name and type, as the type is written.
