@@ -1,9 +1,8 @@
 //! Local variables.
-ghost use Rattle.std.specs.Prelude.{◌≡◌, ◌≤◌, ◌++◌, ◌∷◌, [], length, is_some, map as list_map, IfOk, OnOk};
+ghost use Rattle.std.specs.Prelude.{◌≡◌, ◌≤◌, ◌++◌, ◌∷◌, [], length, map as list_map, IfOk, OnOk};
 ghost use Rattle.ang_tree.specs.View.{view_var, view_vars};
 ghost use Rattle.ang_typed.specs.View.{view_local, view_stmt};
 ghost use Rattle.ang_check_operand.specs.Refusals.{Gives};
-ghost use Rattle.ang_check_typing.specs.Scope.{last_named};
 ghost use Rattle.ang_check_statements.specs.Typing as spec;
 
 use crate::frame::Frame;
@@ -55,9 +54,8 @@ fn local_with<'a>(name: Text<'a>, ty: ArgType, declared: &TypeName) -> LocalVari
 }
 
 /// Whether some local has this name.
-#[tactic(auto, using(crate::proofs::Named::last_is_named))]
 fn has_named(locals: &[LocalVariable<'_>], name: &[u8]) -> bool
-    ensures exact { result ≡ is_some (last_named name.now 0 locals.now) }
+    ensures exact { result ≡ spec.has_named name.now locals.now }
 {
     locals.iter().any(|local| local.name.bytes() == name)
 }
