@@ -67,13 +67,13 @@ means_entry x (resolution.Refused why) = false
 
 -- ---- names that stay the script's
 
--- the use of a bare name
+-- the use of a bare name, a type's in a declaration that makes an object included
 abbrev pub is_bare : Asks → Bool
 is_bare asks.Value = true
 is_bare asks.Type = true
 is_bare (asks.Call args) = true
-is_bare (asks.Make n args) = false
-is_bare (asks.Default n) = false
+is_bare (asks.Make n args) = true
+is_bare (asks.Default n) = true
 is_bare (asks.Property n) = false
 is_bare (asks.Method n c args) = false
 
