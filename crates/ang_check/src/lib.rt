@@ -2,8 +2,8 @@
 #![tactic(auto)]
 
 mod api;
-mod check;
+mod checking;
 pub mod laws;
 
 pub use api::denials;
-pub use check::check;
+pub use checking::check;

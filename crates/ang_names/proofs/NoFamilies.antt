@@ -2,7 +2,8 @@
 -- there are none.
 use Rattle.std.specs.Prelude.{ℕ, ◌≡◌, ◌==◌, true, IfOk, Result, Ok, Err, List, [], ◌∷◌, ◌++◌, length, map, Option, None, option_to_list}
 use Rattle.std.specs.List.{cons_option, filter_map}
-use Rattle.std.proofs.Common.{refl, sym, ap, ◌∙◌}
+use Rattle.std.proofs.Common.{refl, sym, ap, ◌∙◌, arith}
+use Rattle.std.proofs.lemmas.Bool.{eqb-true}
 use Rattle.ang_types.specs.declared.asks.Refused.{Refused}
 use Rattle.ang_view.proofs.Lists.{length-map}
 use Rattle.ang_view.specs.Registration.{RegistrationList}
@@ -39,7 +40,8 @@ found_as items x y (Err z) h e = h
 
 pub none_left : {A : Type 0} (xs : List A) → (length xs == 0) ≡ true → xs ≡ []
 none_left [] e = refl
-none_left (x ∷ xs) e = absurd cc
+none_left (x ∷ xs) e =
+    let none : length (x ∷ xs) ≡ 0 = eqb-true (length (x ∷ xs)) 0 e in absurd (omega (arith, none))
 
 -- ---- where none is declared
 
