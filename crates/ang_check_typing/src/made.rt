@@ -43,12 +43,12 @@ fn made_by(
     asks: Asks,
     operands: Vec<Operand>,
 ) -> Result<Operand, Stop>
-    ensures exact { Gives view_operand result (spec.made_by context.now name.now unviable number asks
-        (view_operands operands.items) (spaces.family_of_type number)) }
+    ensures exact { Gives view_operand result (spec.made_by context.now name.now unviable number
+        asks (view_operands operands.items) (spaces.family_of_type number)) }
 {
     let site = CallSite {
         place: name.place,
-        name,
+        name: *name,
     };
     match family_of_type(number) {
         None => {
