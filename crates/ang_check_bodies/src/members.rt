@@ -10,10 +10,9 @@ ghost use Rattle.ang_names_known.specs.declared.names.Family.{Family as FamilyVa
 ghost use Rattle.ang_check_bodies.specs.Bodies as bodies;
 ghost use Rattle.ang_check_bodies.specs.Judging as spec;
 
-use crate::constructors::{constructor_typing, implicit_super};
 use crate::found::{Found, note_default, note_member};
-use crate::functions::method_typing;
 use crate::parts::Build;
+use ang_check_body::{constructor_typing, implicit_super, method_typing};
 use ang_check_typing::{BodyContext, Within};
 use ang_lex::Token;
 use ang_names_known::{Constructor, Family, Method};

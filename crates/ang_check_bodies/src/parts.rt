@@ -6,8 +6,8 @@ ghost use Rattle.ang_names_written.specs.Sources.{source_of};
 ghost use Rattle.ang_check_bodies.specs.Judging as spec;
 
 use crate::found::{Found, note_function, note_global};
-use crate::functions::{function_typing, global_typing};
 use crate::members::add_class;
+use ang_check_body::{function_typing, global_typing};
 use ang_check_typing::BodyContext;
 use ang_names_known::{Family, Names, ScriptFunction, ScriptGlobal};
 use ang_tree as written;
