@@ -212,7 +212,8 @@ pub fn pass_of(reference: &Option<Reference>) -> Pass
     }
 }
 
-fn is_const_handle(handle: &Option<Handle>) -> bool
+/// Whether `const` stands behind `@`.
+pub fn is_const_handle(handle: &Option<Handle>) -> bool
     ensures exact { result ≡ spec.is_const_handle handle.now }
 {
     match handle {
