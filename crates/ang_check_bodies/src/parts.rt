@@ -138,10 +138,13 @@ fn add_next_class(
         ((text.now, trees.view_class written.now) ∷ [])) }
 {
     let number = class_number(build, left);
-    let Some((family, rest)) = left.families.split_first() else {
+    let Some((_, rest)) = left.families.split_first() else {
         return Ok(());
     };
     left.families = rest;
+    let Some(family) = build.names.families.as_slice().get(number) else {
+        return Ok(());
+    };
     add_class(alloc, build, text, number, family, written, found)
 }
 

@@ -142,7 +142,7 @@ fn super_chosen(
 fn makers_in(alloc: Global, scope: &Scope<'_>, class: usize) -> Result<Callables, AllocError>
     ensures exact { IfOk result (λ c. c ≡ all_makers scope.now (family_type class)) }
 {
-    if class < scope.names().families.len() {
+    if class < scope.names().families.as_slice().len() {
         makers_of(alloc, scope, FIRST_FAMILY + class as u32)
     } else {
         Ok(Callables::new(alloc))
@@ -313,6 +313,16 @@ fn with_base(
     }
 }
 
+/// The statement that gives the object back.
+///
+/// The only error is want of memory.
+fn own_returned(alloc: Global, ty: ArgType) -> Result<Statement, AllocError>
+    ensures exact { IfOk result (λ s. view_stmt s ≡ tree.return (Some (object_of ty))) }
+{
+    let own = own_object(alloc, ty)?;
+    Ok(Statement::Return(Some(own)))
+}
+
 /// Statements, and then the object is given back.
 ///
 /// The only error is want of memory.
@@ -325,9 +335,9 @@ fn with_return(
     ensures exact { IfOk result (λ v. view_stmts v.items ≡ spec.with_last
         (view_stmts statements.items) (tree.return (Some (object_of ty)))) }
 {
-    let own = own_object(alloc, ty)?;
+    let last = own_returned(alloc, ty)?;
     let mut all = statements;
-    all.push(Statement::Return(Some(own)))?;
+    all.push(last)?;
     Ok(all)
 }
 

@@ -1,5 +1,5 @@
 //! Bodies of functions and methods, and initializers of globals.
-ghost use Rattle.std.specs.Prelude.{◌≡◌, ◌<◌, ◌++◌, ◌∷◌, [], ◌||◌, IfOk, OnOk, map as list_map};
+ghost use Rattle.std.specs.Prelude.{◌≡◌, ◌<◌, ◌++◌, ◌∷◌, ◌||◌, false, IfOk, OnOk, map as list_map};
 ghost use Rattle.ang_tree.specs.View.{view_body, view_init};
 ghost use Rattle.ang_typed.specs.View.{view_block, view_function, view_global};
 ghost use Rattle.ang_check_operand.specs.Refusals.{Gives};
