@@ -8,7 +8,7 @@ use Rattle.ang_typed.specs.View.{view_stmt}
 use Rattle.ang_typed.specs.declared.statement.Statement.{Statement}
 use Rattle.ang_names_known.specs.Spaces.{family_type, family_of_type, first_family}
 use Rattle.ang_check_uses.specs.Uses.{Scope, makers_of, makers_for, makers_in}
-use Rattle.ang_check_bodies.specs.Bodies.{with_last}
+use Rattle.ang_check_body.specs.Typing.{with_last}
 
 not_lt : (a b : ℕ) → b ≤ a → nat_lt a b ≡ false
 not_lt a b h = search arith

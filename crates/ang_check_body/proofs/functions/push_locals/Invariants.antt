@@ -1,6 +1,6 @@
 use Rattle.std.proofs.Common.{◌≡◌, ◌++◌, drop, map as list_map}
-use Rattle.ang_check_bodies.specs.Bodies.{parameter_local}
-use Rattle.ang_check_bodies.proofs.functions.push_locals.Given as goal
+use Rattle.ang_check_body.specs.Typing.{parameter_local}
+use Rattle.ang_check_body.proofs.functions.push_locals.Given as goal
 
 abbrev pub invariant-loop-param : goal.invariant-loop-param
 invariant-loop-param l =

@@ -1,7 +1,7 @@
 use Rattle.std.proofs.Common.{◌≡◌, drop}
 use Rattle.ang_tree.specs.View.{view_stmts}
-use Rattle.ang_check_bodies.specs.Paths as spec
-use Rattle.ang_check_bodies.proofs.paths.+breaks.Given as goal
+use Rattle.ang_check_paths.specs.Paths as spec
+use Rattle.ang_check_paths.proofs.paths.+breaks.Given as goal
 
 abbrev pub invariant-some_break-loop-statement : goal.invariant-some_break-loop-statement
 invariant-some_break-loop-statement l =

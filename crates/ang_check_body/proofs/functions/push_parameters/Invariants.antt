@@ -1,6 +1,6 @@
 use Rattle.std.proofs.Common.{◌≡◌, ◌++◌, drop, map as list_map}
-use Rattle.ang_check_bodies.specs.Bodies.{typed_parameter}
-use Rattle.ang_check_bodies.proofs.functions.push_parameters.Given as goal
+use Rattle.ang_check_body.specs.Typing.{typed_parameter}
+use Rattle.ang_check_body.proofs.functions.push_parameters.Given as goal
 
 abbrev pub invariant-loop-param : goal.invariant-loop-param
 invariant-loop-param l =

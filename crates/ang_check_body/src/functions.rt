@@ -1,14 +1,14 @@
 //! Bodies of functions and methods, and initializers of globals.
-ghost use Rattle.std.specs.Prelude.{◌≡◌, ◌<◌, ◌++◌, ◌∷◌, [], ◌||◌, IfOk, OnOk, map as list_map};
+ghost use Rattle.std.specs.Prelude.{◌≡◌, ◌<◌, ◌++◌, ◌∷◌, ◌||◌, false, IfOk, OnOk, map as list_map};
 ghost use Rattle.ang_tree.specs.View.{view_body, view_init};
 ghost use Rattle.ang_typed.specs.View.{view_block, view_function, view_global};
 ghost use Rattle.ang_check_operand.specs.Refusals.{Gives};
 ghost use Rattle.ang_check_statements.specs.Typing.{block_typing};
 ghost use Rattle.ang_check_typing.specs.Calls as calls;
-ghost use Rattle.ang_check_bodies.specs.Bodies as spec;
+ghost use Rattle.ang_check_body.specs.Typing as spec;
 
-use crate::paths::body_ends;
 use ang_check_operand::{Stop, refused};
+use ang_check_paths::body_ends;
 use ang_check_statements::{Frame, Returns, block, initializer};
 use ang_check_typing::{BodyContext, LocalVariable, Within};
 use ang_kinds::{ErrorKind, List, Pass};
@@ -204,7 +204,7 @@ fn body_typing<'a>(
 ///
 /// The first refusal of its statements; then `NoReturn` at the function's name where it has a result and a path
 /// through the body does not end.
-#[tactic(auto, unfolding(crate::specs::Bodies::function_typing))]
+#[tactic(auto, unfolding(crate::specs::Typing::function_typing))]
 pub fn function_typing<'a>(
     alloc: Global,
     context: BodyContext<'a>,
@@ -222,7 +222,7 @@ pub fn function_typing<'a>(
 }
 
 /// The body of a method, as that of a function whose first local is `this`.
-#[tactic(auto, unfolding(crate::specs::Bodies::method_body_typing))]
+#[tactic(auto, unfolding(crate::specs::Typing::method_body_typing))]
 pub fn method_typing<'a>(
     alloc: Global,
     context: BodyContext<'a>,
@@ -242,7 +242,7 @@ pub fn method_typing<'a>(
 }
 
 /// The initializer of a global variable.
-#[tactic(auto, unfolding(crate::specs::Bodies::global_typing))]
+#[tactic(auto, unfolding(crate::specs::Typing::global_typing))]
 pub fn global_typing(
     alloc: Global,
     context: &BodyContext<'_>,

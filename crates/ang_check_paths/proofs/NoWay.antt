@@ -2,8 +2,8 @@
 use Rattle.std.specs.Prelude.{◌≡◌, ◌⊎◌, Bool, true, false, not, ◌&&◌, ◌||◌, refl}
 use Rattle.std.proofs.Common.{inl, inr}
 use Rattle.ang_tree.specs.Stmt.{Stmt, Body, Stmts, block, variables, expression, break, continue, return, when, either, while, do_while, for, body, end, then}
-use Rattle.ang_check_bodies.specs.Paths.{is_true_word, breaks, body_breaks, some_break, ends, body_ends, some_ends}
-use Rattle.ang_check_bodies.specs.Ways.{ahead, out, home, Leaves, LeavesBody, LeavesAll}
+use Rattle.ang_check_paths.specs.Paths.{is_true_word, breaks, body_breaks, some_break, ends, body_ends, some_ends}
+use Rattle.ang_check_paths.specs.Ways.{ahead, out, home, Leaves, LeavesBody, LeavesAll}
 
 or_left : (a b : Bool) → (a || b) ≡ false → a ≡ false
 or_left true b e = e

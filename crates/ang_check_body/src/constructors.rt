@@ -1,5 +1,5 @@
 //! Bodies of constructors, and the call of the base class's with which each begins.
-ghost use Rattle.std.specs.Prelude.{◌≡◌, ◌<◌, ◌≤◌, ◌++◌, ◌∷◌, [], Some, length, option_map, IfOk, map as list_map};
+ghost use Rattle.std.specs.Prelude.{◌≡◌, ◌<◌, ◌∷◌, [], Some, option_map, IfOk, map as list_map};
 ghost use Rattle.ang_tree.specs.View as trees;
 ghost use Rattle.ang_typed.specs.Typed as tree;
 ghost use Rattle.ang_typed.specs.declared.expression.Callee.TheVariants as callee;
@@ -10,8 +10,8 @@ ghost use Rattle.ang_check_statements.specs.Typing.{own_object as object_of};
 ghost use Rattle.ang_check_typing.specs.Calls as calls;
 ghost use Rattle.ang_check_uses.specs.Uses.{makers_of as all_makers};
 ghost use Rattle.ang_names_known.specs.Spaces.{family_type};
-ghost use Rattle.ang_check_bodies.specs.Bodies as spec;
-ghost use Rattle.ang_check_bodies.specs.View.{view_base};
+ghost use Rattle.ang_check_body.specs.Typing as spec;
+ghost use Rattle.ang_check_body.specs.View.{view_base};
 
 use crate::functions::{member_locals, member_parameters, own_type};
 use ang_check_operand::{Operand, Stop, boxed, refused, refused_for};
@@ -20,7 +20,7 @@ use ang_check_typing::{BodyContext, LocalVariable, Within, arguments_for, typing
 use ang_check_uses::{Callables, Called, Resolution, Scope, best_of_those, makers_of};
 use ang_kinds::{ErrorKind, List, Place};
 use ang_lex::Token;
-use ang_names_known::{Default, Family, Names, ScriptFunction, default_of};
+use ang_names_known::{Default, Names, ScriptFunction, default_of};
 use ang_tree as written;
 use ang_tree::SuperCall;
 use ang_typed::{Argument, Block, Callee, Expression, Function, Parameter, Statement};
@@ -66,7 +66,7 @@ fn default_base(
 /// What runs first where `super` is not written.
 ///
 /// `NoDefault` at this place, naming the base class, where that one has no constructor without parameters.
-#[tactic(auto, unfolding(crate::specs::Bodies::implicit_super))]
+#[tactic(auto, unfolding(crate::specs::Typing::implicit_super))]
 pub fn implicit_super(
     alloc: Global,
     names: &Names,
@@ -139,17 +139,10 @@ fn super_chosen(
 ///
 /// The only error is want of memory.
 #[tactic(auto, using(crate::proofs::Makers::makers_beyond))]
-fn makers_in(
-    alloc: Global,
-    scope: &Scope<'_>,
-    families: &[Family],
-    class: usize,
-) -> Result<Callables, AllocError>
-    requires few { length families.now ≤ 256 }
-    requires families { families.now ≡ scope.now.names.families }
+fn makers_in(alloc: Global, scope: &Scope<'_>, class: usize) -> Result<Callables, AllocError>
     ensures exact { IfOk result (λ c. c ≡ all_makers scope.now (family_type class)) }
 {
-    if class < families.len() {
+    if class < scope.names().families.as_slice().len() {
         makers_of(alloc, scope, FIRST_FAMILY + class as u32)
     } else {
         Ok(Callables::new(alloc))
@@ -164,15 +157,18 @@ fn super_of(
     operands: Vec<Operand>,
     base: usize,
 ) -> Result<BaseCall, Stop>
-    requires few { length context.now.names.families ≤ 256 }
     ensures exact { Gives view_base result
         (spec.super_by context.now word.now (view_operands operands.items) (Some base)) }
 {
     let scope = Scope::new(context.view(), context.names(), context.lineage());
-    let makers = makers_in(alloc, &scope, context.names().families.as_slice(), base)?;
+    let makers = makers_in(alloc, &scope, base)?;
     let types = types_of(alloc, operands.as_slice())?;
-    let lineage = context.lineage();
-    let chosen = best_of_those(alloc, lineage, ErrorKind::NoMatch, makers, types.as_slice())?;
+    let chosen = best_of_those(
+        context.lineage(),
+        ErrorKind::NoMatch,
+        makers,
+        types.as_slice(),
+    );
     super_chosen(alloc, context, word, operands, chosen)
 }
 
@@ -183,7 +179,6 @@ fn super_by(
     operands: Vec<Operand>,
     base: Option<usize>,
 ) -> Result<BaseCall, Stop>
-    requires few { length context.now.names.families ≤ 256 }
     ensures exact { Gives view_base result
         (spec.super_by context.now word.now (view_operands operands.items) base) }
 {
@@ -197,7 +192,7 @@ fn super_by(
 ///
 /// `UnknownName` at the word where there is no base class, and `NoMatch` or `Ambiguous` where none of its constructors is
 /// the best, besides the refusals of the arguments.
-#[tactic(auto, unfolding(crate::specs::Bodies::super_typing))]
+#[tactic(auto, unfolding(crate::specs::Typing::super_typing))]
 fn super_typing(
     alloc: Global,
     context: &BodyContext<'_>,
@@ -205,7 +200,6 @@ fn super_typing(
     base: Option<usize>,
     call: &SuperCall,
 ) -> Result<BaseCall, Stop>
-    requires few { length context.now.names.families ≤ 256 }
     ensures exact { Gives view_base result
         (spec.super_typing context.now locals.now base (trees.view_super call.now)) }
 {
@@ -222,7 +216,6 @@ fn base_typing(
     base: Option<usize>,
     call: &Option<SuperCall>,
 ) -> Result<BaseCall, Stop>
-    requires few { length context.now.names.families ≤ 256 }
     ensures exact { Gives view_base result (spec.base_typing context.now locals.now name.now
         base_name.now base (option_map trees.view_super call.now)) }
 {
@@ -320,6 +313,16 @@ fn with_base(
     }
 }
 
+/// The statement that gives the object back.
+///
+/// The only error is want of memory.
+fn own_returned(alloc: Global, ty: ArgType) -> Result<Statement, AllocError>
+    ensures exact { IfOk result (λ s. view_stmt s ≡ tree.return (Some (object_of ty))) }
+{
+    let own = own_object(alloc, ty)?;
+    Ok(Statement::Return(Some(own)))
+}
+
 /// Statements, and then the object is given back.
 ///
 /// The only error is want of memory.
@@ -332,9 +335,9 @@ fn with_return(
     ensures exact { IfOk result (λ v. view_stmts v.items ≡ spec.with_last
         (view_stmts statements.items) (tree.return (Some (object_of ty)))) }
 {
-    let own = own_object(alloc, ty)?;
+    let last = own_returned(alloc, ty)?;
     let mut all = statements;
-    all.push(Statement::Return(Some(own)))?;
+    all.push(last)?;
     Ok(all)
 }
 
@@ -364,7 +367,7 @@ fn constructed(
 }
 
 /// The body of a constructor: `super`, then its statements, then it gives its object back.
-#[tactic(auto, unfolding(crate::specs::Bodies::constructor_typing))]
+#[tactic(auto, unfolding(crate::specs::Typing::constructor_typing))]
 pub fn constructor_typing<'a>(
     alloc: Global,
     context: BodyContext<'a>,
@@ -375,7 +378,6 @@ pub fn constructor_typing<'a>(
     written: &written::Constructor,
 ) -> Result<Function, Stop>
     requires few { within.family < 256 }
-    requires families { length context.entry.names.families ≤ 256 }
     ensures exact { Gives view_function result (spec.constructor_typing context.entry within
         function.now written.now.name base_name.now base
         (option_map trees.view_super written.now.super_call)

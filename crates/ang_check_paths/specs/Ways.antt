@@ -3,7 +3,7 @@
 use Rattle.std.specs.Prelude.{◌≡◌, ◌≢◌, ◌⊎◌, false, Option, Some, None}
 use Rattle.ang_tree.specs.Tree.{Tree}
 use Rattle.ang_tree.specs.Stmt.{Stmt, Body, Stmts, block, variables, expression, break, continue, return, when, either, while, do_while, for, body, end, then}
-use Rattle.ang_check_bodies.specs.Paths.{is_true_word}
+use Rattle.ang_check_paths.specs.Paths.{is_true_word}
 
 -- to what stands behind, to behind the loop around, to the next pass of that loop, or out of the function
 pub data Exit : Type 0 where

@@ -1,7 +1,7 @@
 //! Where a path through a function ends.
 ghost use Rattle.std.specs.Prelude.{◌≡◌};
 ghost use Rattle.ang_tree.specs.View.{view_expr, view_stmt, view_stmts, view_body};
-ghost use Rattle.ang_check_bodies.specs.Paths as spec;
+ghost use Rattle.ang_check_paths.specs.Paths as spec;
 
 use ang_lex::TokenKind;
 use ang_tree::{Block, Expression, Statement};
