@@ -2,6 +2,7 @@ pub mod Judged
 pub mod Operators
 pub mod Items
 pub mod Conversions
+pub mod Types
 pub mod Hosts
 pub mod Views
 pub mod Uses

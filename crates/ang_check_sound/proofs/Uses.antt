@@ -1,6 +1,6 @@
 -- A use of a name means a variable or a function that is there, and no object is among what is meant.
-use Rattle.std.specs.Prelude.{◌≡◌, ℕ, zero, suc, Bool, true, false, if◌then◌else◌, is_some, length, List, [], ◌∷◌, ◌++◌, map, slice_get, option_map, Option, Some, None, IfSome, bytes_eq}
-use Rattle.std.specs.List.{list_any, position}
+use Rattle.std.specs.Prelude.{◌≡◌, ℕ, zero, suc, Bool, true, false, if◌then◌else◌, is_some, length, List, [], ◌∷◌, ◌++◌, map, slice_get, option_map, Option, Some, None, IfSome}
+use Rattle.std.specs.List.{list_any}
 use Rattle.std.proofs.Common.{refl, ap, sym, ◌∙◌, subst}
 use Rattle.std.proofs.lemmas.Option.{slice_get_within, slice_get-map}
 use Rattle.ang_kinds.specs.declared.error.ErrorKind.{ErrorKind}
@@ -27,7 +27,7 @@ use Rattle.ang_names_known.specs.declared.space.Named.TheVariants as named
 use Rattle.ang_names_known.specs.Host.{host_where, property_where}
 use Rattle.ang_names_known.specs.Items.{is_empty}
 use Rattle.ang_names_known.specs.Lookup.{functions_named, global_named, parameters_of, type_and_pass}
-use Rattle.ang_names_known.specs.Spaces.{family_or_host, type_of_name, space_of_names}
+use Rattle.ang_names_known.specs.Spaces.{type_of_name, space_of_names}
 use Rattle.ang_check_typing.specs.Scope.{BodyContext, scope_of}
 use Rattle.ang_check_uses.specs.declared.uses.Callable.{Callable}
 use Rattle.ang_check_uses.specs.declared.uses.Called.{Called}
@@ -43,6 +43,7 @@ use Rattle.ang_tree.specs.Stmt.{Every}
 use Rattle.ang_check_sound.specs.Checked.{module_in}
 use Rattle.ang_check_sound.specs.PlainNames.{IsPlainType, IsPlainFunction, IsPlainContext}
 use Rattle.ang_check_sound.proofs.Items.{every_joined, every_option, every_mapped, every_flat, every_at, at_front}
+use Rattle.ang_check_sound.proofs.Types.{name_unknown}
 use Rattle.ang_check_sound.proofs.Hosts.{Values, TakesPlain, IsHost, hosts_named, IsHostProperty, global_host_named}
 
 -- In a body:
@@ -166,17 +167,11 @@ module _ (s : BodyContext) where
       by true = tt
       by false = picked_there kind.NoMatch cs args (best_of s.ancestors (candidates_of cs) args) refl all
 
-  unknown : (o : Option ℕ) → is_some o ≡ false → family_or_host None o ≡ named.Unknown
-  unknown None e = refl
-  unknown (Some n) e = cc
-
   -- no type has the name
   nothing_named : IsPlainContext s → (name : List ℕ) → is_some (type_named s.view name) ≡ false
       → type_of_name (space_of_names s.view s.names) name ≡ named.Unknown
-  unfolding type_of_name
   nothing_named plain name e =
-      ap (λ (fs : List Family). family_or_host (position (bytes_eq name) (map (λ (f : Family). f.name) fs)) (type_named s.view name)) plain.names.no_families
-      ∙ unknown (type_named s.view name) e
+      name_unknown (space_of_names s.view s.names) (ap (λ (fs : List Family). map (λ (f : Family). f.name) fs) plain.names.no_families) name e
 
   pub call_there : IsPlainContext s → (name : List ℕ) (args : List ArgType) → is_some (type_named s.view name) ≡ false → GivesPlain name
       → IsMeantCall args (resolution_of (scope_of s) name (asks.Call args))
