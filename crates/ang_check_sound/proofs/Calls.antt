@@ -39,7 +39,7 @@ use Rattle.ang_check_uses.specs.Uses.{resolution_of}
 use Rattle.ang_tree.specs.Stmt.{Every}
 use Rattle.ang_source.specs.Sound.{Module, IsVariable, IsStored, IsTarget, Sound, SoundArguments, SoundArgument, SoundValues, argument_count}
 use Rattle.ang_names_written.specs.NotYet.{is_host_type, is_object_call}
-use Rattle.ang_check_bodies.specs.Bodies.{typed_parameter}
+use Rattle.ang_check_body.specs.Typing.{typed_parameter}
 use Rattle.ang_check_sound.proofs.Judged.{holds, either_holds, both_hold}
 use Rattle.ang_check_sound.proofs.Items.{first_true, second_true, not_true, every_at}
 use Rattle.ang_check_sound.proofs.Operators.{IsStoredSite, IsTargeted, SoundOperand, plain, read_sound, fit_sound}

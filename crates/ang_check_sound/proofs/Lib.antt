@@ -10,6 +10,7 @@ pub mod Calls
 pub mod Expressions
 pub mod Statements
 pub mod Bodies
+pub mod Declared
 pub mod Within
 pub mod Parts
 pub mod Program

@@ -35,7 +35,7 @@ use Rattle.ang_check_uses.specs.declared.uses.Called.TheVariants as calls
 use Rattle.ang_check_uses.specs.declared.uses.Resolution.{Resolution}
 use Rattle.ang_check_uses.specs.declared.uses.Resolution.TheVariants as resolution
 use Rattle.ang_check_uses.specs.Uses.{host_meant, variable_meant, global_or_host, global_meant, own_function, imported_function, callable_in, callable_at, script_callables, host_callable, candidates_of, called_at, picked, best_of_those, functions_of, best_function, called_by, called_name, resolution_of}
-use Rattle.ang_check_bodies.specs.Bodies.{typed_parameters}
+use Rattle.ang_check_body.specs.Typing.{typed_parameters}
 use Rattle.ang_names_written.specs.NotYet.{is_object_function}
 use Rattle.ang_source.specs.Sound as sound
 use Rattle.ang_source.specs.Sound.{Module, IsVariable, IsStored, IsHostCallee}
