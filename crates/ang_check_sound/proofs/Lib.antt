@@ -12,5 +12,7 @@ pub mod Statements
 pub mod Bodies
 pub mod Declared
 pub mod Within
+pub mod Places
+pub mod Members
 pub mod Parts
 pub mod Program
