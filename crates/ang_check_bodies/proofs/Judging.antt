@@ -19,12 +19,17 @@ use Rattle.ang_names_known.specs.Items.{each_after}
 use Rattle.ang_check_typing.specs.Scope.{BodyContext}
 use Rattle.ang_check_bodies.specs.declared.found.Found.{Found}
 use Rattle.ang_check_bodies.specs.declared.parts.Left.{Left}
-use Rattle.ang_check_bodies.specs.Bodies.{InSection, Judgement, of_function, of_global, of_default, a_function, a_global, a_default, implicit_super, base_of, base_name, is_method_tree, is_constructor_tree, member_parts, class_parts, judged_method, judged_constructor, function_typing, global_typing, context_in, function_count, global_count, family_count, initializer_parts, declaration_parts, judged, judged_function, judged_global, function_given, member_given, global_given, refusal_in}
+use Rattle.ang_check_body.specs.Typing.{implicit_super, function_typing, global_typing}
+use Rattle.ang_check_bodies.specs.Bodies.{InSection, Judgement, of_function, of_global, of_default, a_function, a_global, a_default, base_of, base_name, is_method_tree, is_constructor_tree, member_parts, class_parts, judged_method, judged_constructor, context_in, function_count, global_count, family_count, initializer_parts, declaration_parts, judged, judged_function, judged_global, function_given, member_given, global_given, refusal_in}
 use Rattle.ang_check_bodies.specs.Judging.{Noted, Adds, IsLeft, Judges, Initializes, Holds, tail}
 use Rattle.ang_check_bodies.proofs.Lists.{grown, grown_by_one, each_on, first_left, rest_left, none_left, still_none, drop_tail, counted, not_counted, map_turn, map_all}
 
 add_groups : (i j k : ℕ) → i + (j + k) ≡ i + j + k
 add_groups i j k = omega arith
+
+some_and_none : {A X : Type 0} (o : Option X) (x : X) → o ≡ Some x → o ≡ None → A
+some_and_none None x e f = cc
+some_and_none (Some y) x e f = cc
 
 -- ---- judgements
 
@@ -143,16 +148,28 @@ module _ (V : RegistrationList) (names : Names) where
   pub class_judged : (l k : Left) (a b : Found) (n : ℕ) (f : Family) (text : List ℕ) (final : Option Token) (word x : Token) (bases : List BaseName) (left : Token) (members : List MemberTree) (right : Token)
       → n ≡ length names.families - length l.families.now → l.families.now ≡ f ∷ k.families.now
       → k.functions.now ≡ l.functions.now → k.globals.now ≡ l.globals.now
-      → (slice_get names.families n ≡ Some f → Adds a b (flat_map (judged V names) (class_parts n text x bases members)))
+      → Adds a b (flat_map (judged V names) (class_parts n text x bases members))
       → Judges V names l k a b ((text, class final word x bases left members right) ∷ [])
   class_judged l k a b n f text final word x bases left members right number split functions variables added =
       let d : InSection = (text, class final word x bases left members right) in judges_one l k a b d
       (λ before h. family_left l k before d refl refl refl functions variables
       (rest_left names.families l.families.now k.families.now f (sum_by family_count before) split h.families) h)
+      (λ before h. subst (λ c. Adds a b (flat_map (judged V names) (class_parts c text x bases members)))
+      (number ∙ number_is names.families l.families.now k.families.now f (sum_by family_count before) split h.families) added)
+
+  -- A class that is left has its number among the families.
+  pub class_absent : (l k : Left) (a : Found) (n : ℕ) (f : Family) (text : List ℕ) (final : Option Token) (word x : Token) (bases : List BaseName) (left : Token) (members : List MemberTree) (right : Token)
+      → n ≡ length names.families - length l.families.now → l.families.now ≡ f ∷ k.families.now
+      → k.functions.now ≡ l.functions.now → k.globals.now ≡ l.globals.now → slice_get names.families n ≡ None
+      → Judges V names l k a a ((text, class final word x bases left members right) ∷ [])
+  class_absent l k a n f text final word x bases left members right number split functions variables none =
+      let d : InSection = (text, class final word x bases left members right) in judges_one l k a a d
+      (λ before h. family_left l k before d refl refl refl functions variables
+      (rest_left names.families l.families.now k.families.now f (sum_by family_count before) split h.families) h)
       (λ before h. let i = sum_by family_count before in
-      let same : n ≡ i = number ∙ number_is names.families l.families.now k.families.now f i split h.families in
-      let there : slice_get names.families n ≡ Some f = ap (slice_get names.families) same ∙ first_left names.families l.families.now k.families.now f i split h.families in
-      subst (λ c. Adds a b (flat_map (judged V names) (class_parts c text x bases members))) same (added there))
+      some_and_none (slice_get names.families n) f
+      (ap (slice_get names.families) (number ∙ number_is names.families l.families.now k.families.now f i split h.families)
+      ∙ first_left names.families l.families.now k.families.now f i split h.families) none)
 
   -- a class that the names don't have
   member_of_none : (c : ℕ) (text : List ℕ) (x : Token) (bases : List BaseName) → slice_get names.families c ≡ None → (before : List MemberTree) (m : MemberTree)

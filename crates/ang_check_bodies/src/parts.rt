@@ -6,8 +6,8 @@ ghost use Rattle.ang_names_written.specs.Sources.{source_of};
 ghost use Rattle.ang_check_bodies.specs.Judging as spec;
 
 use crate::found::{Found, note_function, note_global};
-use crate::functions::{function_typing, global_typing};
 use crate::members::add_class;
+use ang_check_body::{function_typing, global_typing};
 use ang_check_typing::BodyContext;
 use ang_names_known::{Family, Names, ScriptFunction, ScriptGlobal};
 use ang_tree as written;
@@ -138,10 +138,13 @@ fn add_next_class(
         ((text.now, trees.view_class written.now) ∷ [])) }
 {
     let number = class_number(build, left);
-    let Some((family, rest)) = left.families.split_first() else {
+    let Some((_, rest)) = left.families.split_first() else {
         return Ok(());
     };
     left.families = rest;
+    let Some(family) = build.names.families.as_slice().get(number) else {
+        return Ok(());
+    };
     add_class(alloc, build, text, number, family, written, found)
 }
 
