@@ -84,8 +84,9 @@ fn made_with(
 
 /// What a variable of this type begins with; nothing where it stays 0, `false` or null.
 ///
-/// `BadConversion` at a value that does not convert, `NoAssign` at the `=` of an object, `NoDefault` or `NoMatch` at the
-/// type's name where nothing makes an object so, besides the refusals of the expressions.
+/// `BadConversion` at a value that does not convert, `NoAssign` at the `=` of an object, `NoDefault`
+/// or `NoMatch` at the type's name where nothing makes an object so, besides the refusals of the
+/// expressions.
 pub fn initializer(
     alloc: Global,
     context: &BodyContext<'_>,

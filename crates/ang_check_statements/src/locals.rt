@@ -82,8 +82,8 @@ fn name_error(
 
 /// The name of a local.
 ///
-/// `Duplicate` at a name that another local of the block has, and `Limit` at one local too many. It takes no
-/// memory.
+/// `Duplicate` at a name that another local of the block has, and `Limit` at one local too many. It
+/// takes no memory.
 #[tactic(auto, unfolding(crate::specs::Typing::local_name))]
 fn local_name<'a>(
     frame: &Frame<'a>,
@@ -93,7 +93,8 @@ fn local_name<'a>(
 ) -> Result<Text<'a>, Stop>
     requires block { start ≤ length locals.now }
     requires parameters { frame.now.parameters ≤ length locals.now }
-    ensures exact { Gives (λ name. name) result (spec.local_name frame.now start locals.now token.now) }
+    ensures exact { Gives (λ name. name) result
+        (spec.local_name frame.now start locals.now token.now) }
 {
     let name = Text::new(frame.context().text_of(token));
     match name_error(frame, start, locals, name.bytes()) {
@@ -116,7 +117,8 @@ fn local_variable<'a>(
     requires block { start ≤ length locals.old.items }
     requires parameters { frame.now.parameters ≤ length locals.old.items }
     ensures exact { Gives (λ l. (locals.new.items, view_local l)) result
-        (spec.local_typing frame.now start locals.old.items declared.now ty (view_var variable.now)) }
+        (spec.local_typing frame.now start locals.old.items declared.now ty
+        (view_var variable.now)) }
     ensures kept { OnOk result (spec.Keeps locals.old.items locals.new.items) }
 {
     let name = local_name(frame, start, locals.as_slice(), &variable.name)?;
@@ -134,7 +136,8 @@ fn local_variable<'a>(
 
 /// The list with one more local at its end.
 fn with_local(first: Vec<Local>, local: Local) -> Result<Vec<Local>, AllocError>
-    ensures exact { IfOk result (λ v. list_map view_local v.items ≡ list_map view_local first.items ++ (view_local local ∷ [])) }
+    ensures exact { IfOk result (λ v. list_map view_local v.items
+        ≡ list_map view_local first.items ++ (view_local local ∷ [])) }
 {
     let mut found = first;
     found.push(local)?;
@@ -185,7 +188,8 @@ pub fn locals_statement<'a>(
 ) -> Result<Statement, Stop>
     requires block { start ≤ length locals.old.items }
     requires parameters { frame.now.parameters ≤ length locals.old.items }
-    ensures exact { Gives (λ x. (locals.new.items, view_stmt x)) result (spec.declaration_typing frame.now start locals.old.items (view_vars variables.now)) }
+    ensures exact { Gives (λ x. (locals.new.items, view_stmt x)) result
+        (spec.declaration_typing frame.now start locals.old.items (view_vars variables.now)) }
     ensures kept { OnOk result (spec.Keeps locals.old.items locals.new.items) }
 {
     let found = local_variables(alloc, frame, start, locals, variables)?;
