@@ -1,5 +1,6 @@
 //! The bodies and initializers of declarations, one after the other.
-ghost use Rattle.std.specs.Prelude.{◌≡◌, ◌≤◌, ◌-◌, ◌∷◌, [], length, OnOk};
+ghost use Rattle.std.specs.Prelude.{◌≡◌, ◌≤◌, ◌-◌, ◌∷◌, [], length, OnOk, map as list_map};
+ghost use Rattle.ang_tree.specs.Declarations.{globals};
 ghost use Rattle.ang_tree.specs.View as trees;
 ghost use Rattle.ang_names_known.specs.Spaces.{ancestors_of};
 ghost use Rattle.ang_names_written.specs.Sources.{source_of};
@@ -95,9 +96,9 @@ fn add_initializers(
 ) -> Result<(), AllocError>
     requires few { length build.now.names.now.families ≤ 256 }
     requires ancestors { build.now.lineage.now ≡ ancestors_of build.now.names.now }
-    ensures judged { OnOk result (spec.Initializes build.now.view.now build.now.names.now
+    ensures judged { OnOk result (spec.Judges build.now.view.now build.now.names.now
         left.old left.new found.old found.new
-        text.now written.now.declared_type (trees.view_vars written.now).items) }
+        ((text.now, globals (trees.view_vars written.now)) ∷ [])) }
 {
     for variable in &written.items {
         add_global(
@@ -188,6 +189,29 @@ fn add_declaration(
     }
 }
 
+/// The bodies and initializers of declarations of a section with these bytes.
+///
+/// The only error is want of memory.
+fn add_declarations(
+    alloc: Global,
+    build: &Build<'_>,
+    text: &[u8],
+    declarations: &[Declaration],
+    left: &mut Left<'_>,
+    found: &mut Found,
+) -> Result<(), AllocError>
+    requires few { length build.now.names.now.families ≤ 256 }
+    requires ancestors { build.now.lineage.now ≡ ancestors_of build.now.names.now }
+    ensures judged { OnOk result (spec.Judges build.now.view.now build.now.names.now
+        left.old left.new found.old found.new
+        (list_map (λ d. (text.now, d)) (list_map trees.view_decl declarations.now))) }
+{
+    for declaration in declarations {
+        add_declaration(alloc, build, text, declaration, left, found)?;
+    }
+    Ok(())
+}
+
 /// The bodies and initializers of a section.
 ///
 /// The only error is want of memory.
@@ -203,9 +227,12 @@ pub fn add_script(
     ensures judged { OnOk result (spec.Judges build.now.view.now build.now.names.now
         left.old left.new found.old found.new (spec.section_of (source_of script.now))) }
 {
-    let text = script.source.as_slice();
-    for declaration in &script.declarations {
-        add_declaration(alloc, build, text, declaration, left, found)?;
-    }
-    Ok(())
+    add_declarations(
+        alloc,
+        build,
+        script.source.as_slice(),
+        script.declarations.as_slice(),
+        left,
+        found,
+    )
 }
