@@ -1,5 +1,5 @@
 //! The bodies and initializers of declarations, one after the other.
-ghost use Rattle.std.specs.Prelude.{◌≡◌, ◌≤◌, ◌-◌, ◌∷◌, [], length, OnOk, map as list_map};
+ghost use Rattle.std.specs.Prelude.{◌≡◌, ◌≤◌, ◌-◌, ◌∷◌, [], length, option_copied, slice_get, OnOk, map as list_map};
 ghost use Rattle.ang_tree.specs.Declarations.{globals};
 ghost use Rattle.ang_tree.specs.View as trees;
 ghost use Rattle.ang_names_known.specs.Spaces.{ancestors_of};
@@ -123,6 +123,13 @@ fn class_number(build: &Build<'_>, left: &Left<'_>) -> usize
     all.len().saturating_sub(left.families.len())
 }
 
+/// The class or interface of this number.
+fn family_of(families: &[Family], number: usize) -> Option<&Family>
+    ensures exact { option_copied result ≡ slice_get families.now number }
+{
+    families.get(number)
+}
+
 /// The members of the next class.
 fn add_next_class(
     alloc: Global,
@@ -143,7 +150,7 @@ fn add_next_class(
         return Ok(());
     };
     left.families = rest;
-    let Some(family) = build.names.families.as_slice().get(number) else {
+    let Some(family) = family_of(build.names.families.as_slice(), number) else {
         return Ok(());
     };
     add_class(alloc, build, text, number, family, written, found)

@@ -1,5 +1,5 @@
-use Rattle.std.proofs.Common.{rules, ◌≡◌, ◌∙◌, ◌∷◌, ap, sym, length, refl, Some, map as list_map}
-use Rattle.std.specs.Prelude.{slice_get}
+use Rattle.std.proofs.Common.{rules, ◌≡◌, ◌∙◌, ◌∷◌, ap, sym, length, refl, map as list_map}
+use Rattle.std.specs.Prelude.{option_copied, slice_get}
 use Rattle.ang_tree.specs.View.{view_member}
 use Rattle.ang_check_bodies.proofs.Lists.{empty_is, on_ok}
 use Rattle.ang_check_bodies.proofs.JudgedParts.{class_unknown, class_judged}
@@ -15,8 +15,8 @@ returns-in_default c =
 
 pub add_class-requires-clause-there : goal.add_class-requires-clause-there
 add_class-requires-clause-there c =
-    let found : slice_get c.as_slice.result.now c.class_number-number.result ≡ Some c.in-Some-get.family.now = search rules in
-    sym (ap (λ fs. slice_get fs c.class_number-number.result) c.as_slice.ensures.same) ∙ found
+    sym (ap (λ fs. slice_get fs c.class_number-number.result) c.as_slice.ensures.same)
+    ∙ sym c.family_of.ensures.exact ∙ ap option_copied c.in-Some-family_of.is
 
 pub returns : goal.returns
 returns c =
