@@ -6,15 +6,15 @@ use Rattle.ang_kinds.specs.declared.types.Shape.{Shape}
 use Rattle.ang_kinds.specs.declared.types.Shape.TheVariants as shape
 use Rattle.ang_kinds.specs.declared.types.TypeRef.{TypeRef}
 use Rattle.ang_kinds.specs.declared.types.TypeRef.TheVariants as ref
-use Rattle.ang_registry.specs.Registration.{RegistrationList}
-use Rattle.ang_registry.specs.Types.{type_named}
-use Rattle.ang_registry.specs.Values.{IsPrimitive}
+use Rattle.ang_view.specs.Registration.{RegistrationList}
+use Rattle.ang_view.specs.Types.{type_named}
+use Rattle.ang_view.specs.Values.{IsPrimitive}
 use Rattle.ang_types.specs.declared.arg_type.ArgType.{ArgType}
 use Rattle.ang_types.specs.declared.arg_type.ArgType.TheVariants as type
 use Rattle.ang_types.specs.Ranks.{Ancestors, rank_of}
-use Rattle.ang_names_written.specs.HostNames.{shaped, object_with, host_type}
+use Rattle.ang_names_known.specs.Host.{shaped, object_with, host_type}
 use Rattle.ang_names_written.specs.NotYet.{is_object}
-use Rattle.ang_check_operators.specs.Operands.{Operand, fit_by, fit}
+use Rattle.ang_check_operand.specs.Operands.{Operand, fit_by, fit}
 use Rattle.ang_source.specs.Sound.{IsNoObject}
 use Rattle.ang_check_sound.specs.PlainNames.{IsPlainType}
 

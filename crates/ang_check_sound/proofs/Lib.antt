@@ -2,6 +2,7 @@ pub mod Judged
 pub mod Operators
 pub mod Items
 pub mod Conversions
+pub mod Types
 pub mod Hosts
 pub mod Views
 pub mod Uses
@@ -9,6 +10,9 @@ pub mod Calls
 pub mod Expressions
 pub mod Statements
 pub mod Bodies
+pub mod Declared
 pub mod Within
+pub mod Places
+pub mod Members
 pub mod Parts
 pub mod Program
