@@ -33,6 +33,10 @@ next_left n xs x rest b = (
 pub none_left : {A : Type 0} (n : ℕ) (xs : List A) → Behind A n xs [] → length xs ≡ n
 none_left n xs b = ap length (b.1 ∙ append-nil b.0) ∙ b.2
 
+-- the same place
+pub at_same : {A : Type 0} (xs : List A) (i k : ℕ) (a : A) → i ≡ k → slice_get xs i ≡ Some a → slice_get xs k ≡ Some a
+at_same xs i k a e h = subst (λ q. slice_get xs q ≡ Some a) e h
+
 -- ---- counts
 
 pub sum_more : {A : Type 0} (f : A → ℕ) (before : List A) (x : A) (k : ℕ) → f x ≡ k → sum_by f before + k ≡ sum_by f (before ++ x ∷ [])
