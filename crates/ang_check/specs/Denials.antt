@@ -1,9 +1,8 @@
 -- The denials of a build (docs/LANGUAGE.md, "Denials"; the AngelScript manual, "Access masks and exposing different interfaces"): for each
 -- refused use the hidden entries by which it would have been resolved, told by the same resolver over a larger view.
-use Rattle.std.specs.Prelude.{◌≡◌, ◌≢◌, ◌<◌, ℕ, Contains, length, ◌==◌, Bool, true, false, not, ◌&&◌, ◌||◌, List, [], map, filter, Option, Some, None}
+use Rattle.std.specs.Prelude.{◌≡◌, ◌<◌, ℕ, Contains, length, ◌==◌, Bool, true, false, not, ◌&&◌, ◌||◌, List, [], map, filter, Option, Some, None}
 use Rattle.std.specs.List.{list_any, flat_map}
 use Rattle.ang_kinds.specs.declared.error.Denial.{Denial}
-use Rattle.ang_kinds.specs.declared.error.Error.{Error}
 use Rattle.ang_kinds.specs.declared.mask.Mask.{Mask}
 use Rattle.ang_types.specs.declared.asks.Asks.{Asks}
 use Rattle.ang_types.specs.declared.asks.Asks.TheVariants as asks
@@ -13,7 +12,6 @@ use Rattle.ang_typed.specs.declared.expression.Variable.TheVariants as variable
 use Rattle.ang_view.specs.declared.entry.Entry.{Entry}
 use Rattle.ang_view.specs.Hidden.{is_hidden, is_unmet, is_with, numbers_of, seen_with}
 use Rattle.ang_view.specs.Registration.{RegistrationList, entry_at, is_function, seen}
-use Rattle.ang_names_known.specs.declared.names.Names.{Names}
 use Rattle.ang_check_uses.specs.declared.uses.Called.{Called}
 use Rattle.ang_check_uses.specs.declared.uses.Called.TheVariants as calls
 use Rattle.ang_check_uses.specs.declared.uses.Resolution.{Resolution}
@@ -23,7 +21,7 @@ use Rattle.ang_names_known.specs.Lookup.{is_declared}
 use Rattle.ang_names_known.specs.Items.{is_empty, list_or}
 use Rattle.ang_names_known.specs.Spaces.{ancestors_of}
 use Rattle.ang_names_listed.specs.Declarations.{declarations_of}
-use Rattle.ang_names.specs.Phases.{refusals_of, errors_in}
+use Rattle.ang_names.specs.Phases.{refusals_of}
 use Rattle.ang_names.specs.Resolved.{names_of}
 use Rattle.ang_check_uses.specs.Uses.{Scope, resolution_of, functions_of}
 use Rattle.ang_names_written.specs.Sources.{Source}
@@ -33,12 +31,6 @@ use Rattle.ang_names_written.specs.Sources.{Source}
 -- What is refused of these scripts over a view: of the declarations, else of the bodies and initializers.
 unfoldable pub script_refusals : RegistrationList → List Source → List Refused
 script_refusals V ss = list_or (refusals_of V ss) (body_refusals V (names_of V (declarations_of ss)) ss)
-
--- The errors of a build over a view: those of `declare`, which then gave no names, or those of `check` over the names that it gave.
-abbrev pub AreErrors : RegistrationList → List Source → Option Names → List Error → Type 0
-AreErrors V ss None errors = (errors ≡ errors_in (refusals_of V ss)) × (errors ≢ [])
-AreErrors V ss (Some names) errors =
-    (refusals_of V ss ≡ []) × (names ≡ names_of V (declarations_of ss)) × (errors ≡ errors_in (body_refusals V names ss))
 
 -- what a refused use is asked over; the names are there whatever is refused
 abbrev pub scope_over : RegistrationList → List Source → Scope

@@ -1,2 +1,1 @@
 pub mod Denials
-pub mod Statements

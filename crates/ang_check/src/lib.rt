@@ -1,9 +1,7 @@
-//! The checker: a build's resolved tree or its errors, and the denials of a build that was refused.
+//! The checker: a build's resolved tree or its errors, and what the denials of a refused build are.
 #![tactic(auto)]
 
-mod api;
 mod checking;
 pub mod laws;
 
-pub use api::denials;
 pub use checking::check;

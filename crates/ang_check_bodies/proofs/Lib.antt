@@ -1,6 +1,4 @@
 pub mod Lists
-pub mod Judging
-pub mod Members
-pub mod Makers
+pub mod JudgedParts
+pub mod ClassMembers
 pub mod Classes
-pub mod NoWay

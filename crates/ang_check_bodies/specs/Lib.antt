@@ -1,5 +1,2 @@
 pub mod Bodies
-pub mod Paths
-pub mod Ways
-pub mod View
 pub mod Judging

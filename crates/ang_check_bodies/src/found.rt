@@ -5,9 +5,10 @@ ghost use Rattle.ang_typed.specs.Typed as tree;
 ghost use Rattle.ang_typed.specs.View.{view_function, view_global};
 ghost use Rattle.ang_check_bodies.specs.Bodies as bodies;
 ghost use Rattle.ang_check_bodies.specs.Judging as spec;
-ghost use Rattle.ang_check_bodies.specs.View.{view_base};
+ghost use Rattle.ang_check_body.specs.Typing.{Base};
+ghost use Rattle.ang_check_body.specs.View.{view_base};
 
-use crate::constructors::BaseCall;
+use ang_check_body::BaseCall;
 use ang_check_operand::{Refusal, Stop};
 use ang_kinds::Error;
 use ang_names_written::name_at;
@@ -136,7 +137,7 @@ pub fn note_default(
     found: &mut Found,
     typed: Result<BaseCall, Stop>,
 ) -> Result<(), AllocError>
-    ensures noted { OnOk result ((typing : Typing bodies.Base) → Gives view_base typed typing
+    ensures noted { OnOk result ((typing : Typing Base) → Gives view_base typed typing
         → spec.Noted found.old found.new (bodies.of_default text.now typing)) }
 {
     match typed {

@@ -10,10 +10,9 @@ ghost use Rattle.ang_names_known.specs.declared.names.Family.{Family as FamilyVa
 ghost use Rattle.ang_check_bodies.specs.Bodies as bodies;
 ghost use Rattle.ang_check_bodies.specs.Judging as spec;
 
-use crate::constructors::{constructor_typing, implicit_super};
 use crate::found::{Found, note_default, note_member};
-use crate::functions::method_typing;
 use crate::parts::Build;
+use ang_check_body::{constructor_typing, implicit_super, method_typing};
 use ang_check_typing::{BodyContext, Within};
 use ang_lex::Token;
 use ang_names_known::{Constructor, Family, Method};
@@ -54,7 +53,7 @@ fn add_method(
 ) -> Result<(), AllocError>
     requires few { length build.now.names.now.families ≤ 256 }
     requires ancestors { build.now.lineage.now ≡ ancestors_of build.now.names.now }
-    requires number { class.now.number < 256 }
+    requires number { class.now.number < length build.now.names.now.families }
     ensures judged { OnOk result ((f : FamilyValue) (own : TokenValue) (bases : List BaseValue)
         → spec.IsOf build.now.view.now build.now.names.now class.now f own bases
         → spec.JudgesMembers build.now.view.now build.now.names.now class.now f own bases
@@ -96,7 +95,7 @@ fn add_constructor(
 ) -> Result<(), AllocError>
     requires few { length build.now.names.now.families ≤ 256 }
     requires ancestors { build.now.lineage.now ≡ ancestors_of build.now.names.now }
-    requires number { class.now.number < 256 }
+    requires number { class.now.number < length build.now.names.now.families }
     ensures judged { OnOk result ((f : FamilyValue) (own : TokenValue) (bases : List BaseValue)
         → spec.IsOf build.now.view.now build.now.names.now class.now f own bases
         → spec.JudgesMembers build.now.view.now build.now.names.now class.now f own bases
@@ -139,7 +138,7 @@ fn add_member(
 ) -> Result<(), AllocError>
     requires few { length build.now.names.now.families ≤ 256 }
     requires ancestors { build.now.lineage.now ≡ ancestors_of build.now.names.now }
-    requires number { class.now.number < 256 }
+    requires number { class.now.number < length build.now.names.now.families }
     ensures judged { OnOk result ((f : FamilyValue) (own : TokenValue) (bases : List BaseValue)
         → spec.IsOf build.now.view.now build.now.names.now class.now f own bases
         → spec.JudgesMembers build.now.view.now build.now.names.now class.now f own bases
@@ -162,7 +161,7 @@ fn add_members(
 ) -> Result<(), AllocError>
     requires few { length build.now.names.now.families ≤ 256 }
     requires ancestors { build.now.lineage.now ≡ ancestors_of build.now.names.now }
-    requires number { class.now.number < 256 }
+    requires number { class.now.number < length build.now.names.now.families }
     ensures judged { OnOk result ((f : FamilyValue) (own : TokenValue) (bases : List BaseValue)
         → spec.IsOf build.now.view.now build.now.names.now class.now f own bases
         → spec.JudgesMembers build.now.view.now build.now.names.now class.now f own bases
@@ -188,7 +187,12 @@ fn has_constructor(members: &[Member]) -> bool
     ensures exact { result
         ≡ list_any bodies.is_constructor_tree (list_map trees.view_member members.now) }
 {
-    members.iter().any(|member| is_constructor(member))
+    for member in members {
+        if is_constructor(member) {
+            return true;
+        }
+    }
+    false
 }
 
 /// The part of its own that a class without a constructor has: its base class has to have one without parameters.
@@ -230,7 +234,7 @@ fn name_among(text: &[u8], family: &Family, own: &Token, bases: &[BaseName]) -> 
 
 fn base_token(text: &[u8], family: Option<&Family>, own: &Token, bases: &[BaseName]) -> Token
     ensures exact { result
-        ≡ bodies.base_token text.now (option_copied family) own.now bases.now }
+        ≡ bodies.base_token text.now (option_copied family.entry) own.now bases.now }
 {
     match family {
         None => *own,
@@ -279,7 +283,7 @@ fn class_of<'a>(
     }
 }
 
-/// The members of a class of the names, where this is its number and this its family.
+/// The members of the class of this number and family.
 ///
 /// The only error is want of memory.
 pub fn add_class(
@@ -293,9 +297,8 @@ pub fn add_class(
 ) -> Result<(), AllocError>
     requires few { length build.now.names.now.families ≤ 256 }
     requires ancestors { build.now.lineage.now ≡ ancestors_of build.now.names.now }
-    requires number { number < 256 }
-    ensures judged { OnOk result (slice_get build.now.names.now.families number ≡ Some family.now
-        → spec.Adds found.old found.new (flat_map
+    requires there { slice_get build.now.names.now.families number ≡ Some family.now }
+    ensures judged { OnOk result (spec.Adds found.old found.new (flat_map
         (bodies.judged build.now.view.now build.now.names.now)
         (bodies.class_parts number text.now written.now.name written.now.bases.items
         (list_map trees.view_member written.now.members.items)))) }

@@ -1,3 +1,2 @@
 pub mod SoFar
 pub mod Stopping
-pub mod Named

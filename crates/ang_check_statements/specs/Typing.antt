@@ -1,6 +1,7 @@
 -- The typing of statements (docs/LANGUAGE.md, "Statements"; the AngelScript manual, "Statements" and "Variables"): by cases
 -- on the tree, the resolved tree and the locals that are alive after it, or the first refusal in reading order.
-use Rattle.std.specs.Prelude.{◌≡◌, ℕ, ◌-◌, ◌≤◌, nat_lt, Bool, true, false, if◌then◌else◌, is_some, length, take, drop, List, [], ◌∷◌, ◌++◌, map, Option, Some, None, Ok, Err}
+use Rattle.std.specs.Prelude.{◌≡◌, ℕ, ◌-◌, ◌≤◌, nat_lt, bytes_eq, Bool, true, false, if◌then◌else◌, is_some, length, take, drop, List, [], ◌∷◌, ◌++◌, map, Option, Some, None, Ok, Err}
+use Rattle.std.specs.List.{list_any}
 use Rattle.ang_kinds.specs.declared.error.ErrorKind.{ErrorKind}
 use Rattle.ang_kinds.specs.declared.error.ErrorKind.TheVariants as kind
 use Rattle.ang_lex.specs.declared.token.Token.{Token}
@@ -21,7 +22,7 @@ use Rattle.ang_names_known.specs.Lookup.{is_read_only}
 use Rattle.ang_check_operand.specs.Operands.{Operand, fit, truth}
 use Rattle.ang_check_operand.specs.Refusals.{Typing, ◌>>=◌, fault, refused}
 use Rattle.ang_check_typing.specs.Calls.{type_or_refusal, default_typing, made_typing}
-use Rattle.ang_check_typing.specs.Scope.{BodyContext, space_of, last_named}
+use Rattle.ang_check_typing.specs.Scope.{BodyContext, space_of}
 use Rattle.ang_check_typing.specs.Typing.{typing_of, typing_of_args, typing_of_all}
 use Rattle.ang_names_written.specs.Sources.{text_of}
 use Rattle.ang_names_written.specs.Types.{type_in, is_const_handle}
@@ -89,10 +90,14 @@ pub record Keeps (old new : List LocalVariable) : Type 0 where
 unfoldable pub local_type : BodyContext → List LocalVariable → TypeName → Typing ArgType
 local_type s ps y = type_or_refusal s ps y.name (type_in (space_of s) role.Variable s.text y)
 
+-- some local has the name
+abbrev pub has_named : List ℕ → List LocalVariable → Bool
+has_named name ps = list_any (λ (p : LocalVariable). bytes_eq p.name name) ps
+
 -- The name of a variable is that of another one of its block, which begins at local `start`, or it is one local too many.
 abbrev pub local_name_error : Frame → ℕ → List LocalVariable → List ℕ → Option ErrorKind
 local_name_error f start ps name =
-    if is_some (last_named name 0 (drop start ps)) then Some kind.Duplicate
+    if has_named name (drop start ps) then Some kind.Duplicate
     else (if nat_lt (length ps - f.parameters) most_locals then None else Some kind.Limit)
 
 abbrev pub name_judged : Option ErrorKind → Token → List ℕ → Typing (List ℕ)
@@ -113,12 +118,12 @@ fitted ancestors ty a = do
   Ok (Some x)
 
 -- A variable without an initializer: an object is made without arguments.
-abbrev pub absent_typing : BodyContext → TypeName → ArgType → Typing (Option t.Expr)
-absent_typing s y type.Void = Ok None
-absent_typing s y type.Null = Ok None
-absent_typing s y (type.Plain p) = Ok None
-absent_typing s y (type.Object n c) = made (default_typing s y.name n)
-absent_typing s y (type.Handle n c) = Ok None
+abbrev pub absent_typing : BodyContext → List LocalVariable → TypeName → ArgType → Typing (Option t.Expr)
+absent_typing s ps y type.Void = Ok None
+absent_typing s ps y type.Null = Ok None
+absent_typing s ps y (type.Plain p) = Ok None
+absent_typing s ps y (type.Object n c) = made (default_typing s ps y.name n)
+absent_typing s ps y (type.Handle n c) = Ok None
 
 -- One with `=`: no object is assigned by value.
 abbrev pub value_typing : Ancestors → Token → ArgType → Operand → Typing (Option t.Expr)
@@ -129,22 +134,22 @@ value_typing ancestors equals (type.Object n c) a = Err (fault kind.NoAssign equ
 value_typing ancestors equals (type.Handle n c) a = fitted ancestors (type.Handle n c) a
 
 -- One with arguments, which objects alone take.
-abbrev pub arguments_typing : BodyContext → TypeName → ArgType → List Operand → Typing (Option t.Expr)
-arguments_typing s y type.Void operands = Err (refused kind.NoMatch y.name)
-arguments_typing s y type.Null operands = Err (refused kind.NoMatch y.name)
-arguments_typing s y (type.Plain p) operands = Err (refused kind.NoMatch y.name)
-arguments_typing s y (type.Object n c) operands = made (made_typing s y.name n operands)
-arguments_typing s y (type.Handle n c) operands = Err (refused kind.NoMatch y.name)
+abbrev pub arguments_typing : BodyContext → List LocalVariable → TypeName → ArgType → List Operand → Typing (Option t.Expr)
+arguments_typing s ps y type.Void operands = Err (refused kind.NoMatch y.name)
+arguments_typing s ps y type.Null operands = Err (refused kind.NoMatch y.name)
+arguments_typing s ps y (type.Plain p) operands = Err (refused kind.NoMatch y.name)
+arguments_typing s ps y (type.Object n c) operands = made (made_typing s ps y.name n operands)
+arguments_typing s ps y (type.Handle n c) operands = Err (refused kind.NoMatch y.name)
 
 -- What a variable of this type begins with.
 abbrev pub initializer_typing : BodyContext → List LocalVariable → TypeName → ArgType → Init → Typing (Option t.Expr)
-initializer_typing s ps y ty absent = absent_typing s y ty
+initializer_typing s ps y ty absent = absent_typing s ps y ty
 initializer_typing s ps y ty (value equals e) = do
   a ← typing_of s ps e
   value_typing s.ancestors equals ty a
 initializer_typing s ps y ty (constructor es) = do
   operands ← typing_of_args s ps es
-  arguments_typing s y ty operands
+  arguments_typing s ps y ty operands
 
 abbrev pub local_with : List ℕ → ArgType → TypeName → LocalVariable
 local_with name ty y = record {

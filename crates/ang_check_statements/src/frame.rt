@@ -14,8 +14,8 @@ pub enum Returns {
     Own(ArgType),
 }
 
-/// What is the same for all statements of a function: what its names are looked up in, how it returns, and how many
-/// locals it begins with, `this` and its parameters.
+/// What is the same for all statements of a function: what its names are looked up in, how it
+/// returns, and how many locals it begins with, `this` and its parameters.
 #[derive(Drop)]
 pub struct Frame<'a> {
     context: BodyContext<'a>,

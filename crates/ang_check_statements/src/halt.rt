@@ -1,5 +1,5 @@
-//! Why the typing of statements stops, in few bytes: each function between a statement and the statements in
-//! it holds such a result, so a nesting takes less of the process's stack.
+//! Why the typing of statements stops, in few bytes: each function between a statement and the
+//! statements in it holds such a result, so a nesting takes less of the process's stack.
 ghost use Rattle.std.specs.Prelude.{◌≡◌};
 ghost use Rattle.ang_check_statements.specs.Halts as spec;
 ghost use Rattle.ang_check_statements.specs.declared.halt.Halt.TheVariants.{Memory};

@@ -21,15 +21,16 @@ use std::alloc::Global;
 fn made_by_default(
     alloc: Global,
     context: &BodyContext<'_>,
+    locals: &[LocalVariable<'_>],
     declared: &TypeName,
     ty: ArgType,
 ) -> Result<Option<Box<Expression>>, Stop>
     ensures exact { Gives view_option result
-        (spec.absent_typing context.now declared.now ty) }
+        (spec.absent_typing context.now locals.now declared.now ty) }
 {
     match ty {
         ArgType::Object { number, .. } => {
-            let object = default_typing(alloc, context, &declared.name, number)?;
+            let object = default_typing(alloc, context, locals, &declared.name, number)?;
             Ok(Some(object.tree))
         }
         ArgType::Void | ArgType::Null | ArgType::Plain(_) | ArgType::Handle { .. } => Ok(None),
@@ -60,16 +61,18 @@ fn assigned(
 fn made_with(
     alloc: Global,
     context: &BodyContext<'_>,
+    locals: &[LocalVariable<'_>],
     declared: &TypeName,
     ty: ArgType,
     operands: Vec<Operand>,
 ) -> Result<Option<Box<Expression>>, Stop>
     ensures exact { Gives view_option result
-        (spec.arguments_typing context.now declared.now ty (view_operands operands.items)) }
+        (spec.arguments_typing context.now locals.now declared.now ty
+        (view_operands operands.items)) }
 {
     match ty {
         ArgType::Object { number, .. } => {
-            let object = made_typing(alloc, context, &declared.name, number, operands)?;
+            let object = made_typing(alloc, context, locals, &declared.name, number, operands)?;
             Ok(Some(object.tree))
         }
         ArgType::Void | ArgType::Null | ArgType::Plain(_) | ArgType::Handle { .. } => Err(refused(
@@ -81,8 +84,9 @@ fn made_with(
 
 /// What a variable of this type begins with; nothing where it stays 0, `false` or null.
 ///
-/// `BadConversion` at a value that does not convert, `NoAssign` at the `=` of an object, `NoDefault` or `NoMatch` at the
-/// type's name where nothing makes an object so, besides the refusals of the expressions.
+/// `BadConversion` at a value that does not convert, `NoAssign` at the `=` of an object, `NoDefault`
+/// or `NoMatch` at the type's name where nothing makes an object so, besides the refusals of the
+/// expressions.
 pub fn initializer(
     alloc: Global,
     context: &BodyContext<'_>,
@@ -95,14 +99,14 @@ pub fn initializer(
         declared.now ty (view_init initializer.now)) }
 {
     match initializer {
-        Initializer::Absent => made_by_default(alloc, context, declared, ty),
+        Initializer::Absent => made_by_default(alloc, context, locals, declared, ty),
         Initializer::Value(written) => {
             let operand = typing(alloc, context, locals, &written.value)?;
             assigned(alloc, context.lineage(), &written.equals, ty, operand)
         }
         Initializer::Constructor(arguments) => {
             let operands = typing_of_all(alloc, context, locals, arguments.items.as_slice())?;
-            made_with(alloc, context, declared, ty, operands)
+            made_with(alloc, context, locals, declared, ty, operands)
         }
     }
 }

@@ -1,5 +1,5 @@
-//! The typing of statements: their resolved tree and the locals that are alive after them, or the first refusal in
-//! reading order (docs/LANGUAGE.md, "Statements").
+//! The typing of statements: their resolved tree and the locals that are alive after them, or the
+//! first refusal in reading order (docs/LANGUAGE.md, "Statements").
 #![tactic(auto)]
 
 mod frame;

@@ -1,10 +1,8 @@
 //! Local variables.
-ghost use Rattle.std.specs.Prelude.{◌≡◌, ◌≤◌, ◌++◌, ◌∷◌, [], length, is_some, map as list_map, IfOk, OnOk};
-ghost use Rattle.ang_names_written.specs.Types as types;
+ghost use Rattle.std.specs.Prelude.{◌≡◌, ◌≤◌, ◌++◌, ◌∷◌, [], length, map as list_map, IfOk, OnOk};
 ghost use Rattle.ang_tree.specs.View.{view_var, view_vars};
 ghost use Rattle.ang_typed.specs.View.{view_local, view_stmt};
 ghost use Rattle.ang_check_operand.specs.Refusals.{Gives};
-ghost use Rattle.ang_check_typing.specs.Scope.{last_named};
 ghost use Rattle.ang_check_statements.specs.Typing as spec;
 
 use crate::frame::Frame;
@@ -14,8 +12,8 @@ use ang_check_typing::{BodyContext, LocalVariable, type_or_refusal};
 use ang_kinds::ErrorKind;
 use ang_lex::Token;
 use ang_names_known::{Space, Text, Written, is_read_only};
-use ang_names_written::{Role, type_in};
-use ang_tree::{Handle, TypeName, Variable, Variables};
+use ang_names_written::{Role, is_const_handle, type_in};
+use ang_tree::{TypeName, Variable, Variables};
 use ang_typed::{Local, Statement};
 use ang_types::ArgType;
 use std::alloc::{AllocError, Global};
@@ -39,15 +37,6 @@ fn local_type(
     type_or_refusal(context, locals, &declared.name, meaning)
 }
 
-fn is_const_handle(handle: &Option<Handle>) -> bool
-    ensures exact { result ≡ types.is_const_handle handle.now }
-{
-    match handle {
-        None => false,
-        Some(handle) => handle.constant.is_some(),
-    }
-}
-
 /// A local of this name and type, as the type is written.
 fn local_with<'a>(name: Text<'a>, ty: ArgType, declared: &TypeName) -> LocalVariable<'a>
     ensures exact { result ≡ spec.local_with name.entry ty declared.now }
@@ -65,9 +54,8 @@ fn local_with<'a>(name: Text<'a>, ty: ArgType, declared: &TypeName) -> LocalVari
 }
 
 /// Whether some local has this name.
-#[tactic(auto, using(crate::proofs::Named::last_is_named))]
 fn has_named(locals: &[LocalVariable<'_>], name: &[u8]) -> bool
-    ensures exact { result ≡ is_some (last_named name.now 0 locals.now) }
+    ensures exact { result ≡ spec.has_named name.now locals.now }
 {
     locals.iter().any(|local| local.name.bytes() == name)
 }
@@ -94,8 +82,8 @@ fn name_error(
 
 /// The name of a local.
 ///
-/// `Duplicate` at a name that another local of the block has, and `Limit` at one local too many. It takes no
-/// memory.
+/// `Duplicate` at a name that another local of the block has, and `Limit` at one local too many. It
+/// takes no memory.
 #[tactic(auto, unfolding(crate::specs::Typing::local_name))]
 fn local_name<'a>(
     frame: &Frame<'a>,
@@ -105,7 +93,8 @@ fn local_name<'a>(
 ) -> Result<Text<'a>, Stop>
     requires block { start ≤ length locals.now }
     requires parameters { frame.now.parameters ≤ length locals.now }
-    ensures exact { Gives (λ name. name) result (spec.local_name frame.now start locals.now token.now) }
+    ensures exact { Gives (λ name. name) result
+        (spec.local_name frame.now start locals.now token.now) }
 {
     let name = Text::new(frame.context().text_of(token));
     match name_error(frame, start, locals, name.bytes()) {
@@ -128,7 +117,8 @@ fn local_variable<'a>(
     requires block { start ≤ length locals.old.items }
     requires parameters { frame.now.parameters ≤ length locals.old.items }
     ensures exact { Gives (λ l. (locals.new.items, view_local l)) result
-        (spec.local_typing frame.now start locals.old.items declared.now ty (view_var variable.now)) }
+        (spec.local_typing frame.now start locals.old.items declared.now ty
+        (view_var variable.now)) }
     ensures kept { OnOk result (spec.Keeps locals.old.items locals.new.items) }
 {
     let name = local_name(frame, start, locals.as_slice(), &variable.name)?;
@@ -146,7 +136,8 @@ fn local_variable<'a>(
 
 /// The list with one more local at its end.
 fn with_local(first: Vec<Local>, local: Local) -> Result<Vec<Local>, AllocError>
-    ensures exact { IfOk result (λ v. list_map view_local v.items ≡ list_map view_local first.items ++ (view_local local ∷ [])) }
+    ensures exact { IfOk result (λ v. list_map view_local v.items
+        ≡ list_map view_local first.items ++ (view_local local ∷ [])) }
 {
     let mut found = first;
     found.push(local)?;
@@ -197,7 +188,8 @@ pub fn locals_statement<'a>(
 ) -> Result<Statement, Stop>
     requires block { start ≤ length locals.old.items }
     requires parameters { frame.now.parameters ≤ length locals.old.items }
-    ensures exact { Gives (λ x. (locals.new.items, view_stmt x)) result (spec.declaration_typing frame.now start locals.old.items (view_vars variables.now)) }
+    ensures exact { Gives (λ x. (locals.new.items, view_stmt x)) result
+        (spec.declaration_typing frame.now start locals.old.items (view_vars variables.now)) }
     ensures kept { OnOk result (spec.Keeps locals.old.items locals.new.items) }
 {
     let found = local_variables(alloc, frame, start, locals, variables)?;

@@ -46,7 +46,8 @@ fn loop_start<'a>(
     written: &ForStart,
 ) -> Result<Box<Statement>, Stop>
     requires parameters { frame.now.parameters ≤ length locals.old.items }
-    ensures exact { Gives (λ x. (locals.new.items, view_boxed x)) result (spec.start_typing frame.now locals.old.items (trees.view_start written.now)) }
+    ensures exact { Gives (λ x. (locals.new.items, view_boxed x)) result
+        (spec.start_typing frame.now locals.old.items (trees.view_start written.now)) }
     ensures kept { OnOk result (spec.Keeps locals.old.items locals.new.items) }
 {
     match written {
@@ -62,7 +63,8 @@ fn loop_start<'a>(
     }
 }
 
-/// What stands in the parentheses of a `for`, in the order of the text. The locals are those of its body.
+/// What stands in the parentheses of a `for`, in the order of the text. The locals are those of its
+/// body.
 #[tactic(auto, using(crate::proofs::SoFar::keeps))]
 #[inline(never)]
 pub fn loop_head<'a>(
@@ -74,8 +76,14 @@ pub fn loop_head<'a>(
     items: &[Argument],
 ) -> Result<LoopHead, Stop>
     requires parameters { frame.now.parameters ≤ length locals.old.items }
-    ensures exact { Gives (λ h. (locals.new.items, view_boxed h.start, view_option h.condition, list_map view_expr h.steps.items)) result
-        (spec.head_typing frame.now locals.old.items (trees.view_start first.now) (trees.view_option test.now) (trees.view_items items.now)) }
+    ensures exact { Gives (λ h. (
+      locals.new.items,
+      view_boxed h.start,
+      view_option h.condition,
+      list_map view_expr h.steps.items,
+    )) result
+        (spec.head_typing frame.now locals.old.items (trees.view_start first.now)
+        (trees.view_option test.now) (trees.view_items items.now)) }
     ensures kept { OnOk result (spec.Keeps locals.old.items locals.new.items) }
 {
     let start = loop_start(alloc, frame, locals, first)?;

@@ -1,5 +1,6 @@
-//! What a statement is made of beside statements, with what stops it in few bytes. None of these stands in the
-//! recursion over statements, so none is part of what a nesting takes of the process's stack.
+//! What a statement is made of beside statements, with what stops it in few bytes. None of these
+//! stands in the recursion over statements, so none is part of what a nesting takes of the
+//! process's stack.
 ghost use Rattle.std.specs.Prelude.{◌≡◌, ◌≤◌, length, map as list_map, OnOk};
 ghost use Rattle.ang_tree.specs.View as trees;
 ghost use Rattle.ang_typed.specs.View.{view_expr, view_option, view_stmt, view_tree};
@@ -29,7 +30,8 @@ pub fn jump(
     word: &Token,
     statement: Statement,
 ) -> Result<Statement, Halt>
-    ensures exact { GivesOrHalts view_stmt result (spec.jump in_loop word.now (view_stmt statement)) }
+    ensures exact { GivesOrHalts view_stmt result
+        (spec.jump in_loop word.now (view_stmt statement)) }
 {
     if in_loop {
         Ok(statement)

@@ -1,8 +1,9 @@
 //! The typing of statements.
 //!
-//! A nesting of statements is a nesting of calls here, as deep as the text is long. So what a function holds
-//! while it calls the next one is small: one box, and what stops it in few bytes.
-ghost use Rattle.std.specs.Prelude.{◌≡◌, ◌≤◌, ◌++◌, ◌∷◌, [], true, length, map as list_map, IfOk, Ok, OnOk};
+//! A nesting of statements is a nesting of calls here, as deep as the text is long. So what a
+//! function holds while it calls the next one is small: one box, and what stops it in few bytes.
+ghost use Rattle.std.specs.Prelude.{◌≡◌, ◌≤◌, ◌++◌, ◌∷◌, [], true, length, map as list_map};
+ghost use Rattle.std.specs.Prelude.{IfOk, Ok, OnOk};
 ghost use Rattle.ang_tree.specs.View as trees;
 ghost use Rattle.ang_typed.specs.Typed as tree;
 ghost use Rattle.ang_typed.specs.View.{view_block, view_expr, view_option, view_stmt, view_tree};
@@ -27,7 +28,8 @@ use std::alloc::{AllocError, Global};
 /// A block of one statement.
 #[inline(never)]
 fn block_of_one(alloc: Global, statement: Statement) -> Result<Block, Halt>
-    ensures exact { GivesOrHalts view_block result (Ok (tree.«then» (view_stmt statement) tree.end)) }
+    ensures exact { GivesOrHalts view_block result
+        (Ok (tree.«then» (view_stmt statement) tree.end)) }
 {
     let statements = list_of_one(alloc, statement)?;
     Ok(Block { statements })
@@ -62,8 +64,8 @@ struct Tested {
 /// A condition and what runs where it is true, in a box.
 #[inline(never)]
 fn tested_of(alloc: Global, condition: Box<Expression>, then: Block) -> Result<Box<Tested>, Halt>
-    ensures exact { GivesOrHalts (λ x. (view_tree x.value.condition, view_block x.value.«then»)) result
-        (spec.tested_of (Ok (view_tree condition)) (Ok (view_block «then»))) }
+    ensures exact { GivesOrHalts (λ x. (view_tree x.value.condition, view_block x.value.«then»))
+        result (spec.tested_of (Ok (view_tree condition)) (Ok (view_block «then»))) }
 {
     Ok(Box::new(alloc, Tested { condition, then })?)
 }
@@ -72,7 +74,8 @@ fn tested_of(alloc: Global, condition: Box<Expression>, then: Block) -> Result<B
 #[inline(never)]
 fn either_of(alloc: Global, tested: Box<Tested>, otherwise: Block) -> Result<Statement, Halt>
     ensures exact { GivesOrHalts view_stmt result (Ok (tree.either
-        (view_tree tested.value.condition) (view_block tested.value.«then») (view_block otherwise))) }
+        (view_tree tested.value.condition) (view_block tested.value.«then»)
+        (view_block otherwise))) }
 {
     let Tested { condition, then } = Box::into_inner(tested);
     let found = Box::new(
@@ -98,7 +101,8 @@ fn when_of(alloc: Global, tested: Box<Tested>) -> Result<Statement, Halt>
 /// A `while` of these parts.
 #[inline(never)]
 fn while_of(alloc: Global, condition: Box<Expression>, body: Block) -> Result<Statement, Halt>
-    ensures exact { GivesOrHalts view_stmt result (Ok (tree.while (view_tree condition) (view_block body))) }
+    ensures exact { GivesOrHalts view_stmt result
+        (Ok (tree.while (view_tree condition) (view_block body))) }
 {
     let found = Box::new(alloc, Loop { condition, body })?;
     Ok(Statement::While(found))
@@ -130,7 +134,8 @@ fn let_go_of_tested(_tested: Box<Tested>) {}
 #[inline(never)]
 fn let_go_of_head(_head: Box<LoopHead>) {}
 
-/// The statements of a block that begins at local `start`, with the locals that are alive after the last.
+/// The statements of a block that begins at local `start`, with the locals that are alive after the
+/// last.
 #[cycle(statement)]
 #[tactic(auto, using(crate::proofs::SoFar::keeps))]
 fn statements<'a>(
@@ -144,7 +149,8 @@ fn statements<'a>(
     requires block { start ≤ length locals.old.items }
     requires parameters { frame.now.parameters ≤ length locals.old.items }
     ensures exact { GivesOrHalts view_block result
-        (spec.stmts_typing frame.now in_loop start locals.old.items (trees.view_stmts written.now)) }
+        (spec.stmts_typing frame.now in_loop start locals.old.items
+        (trees.view_stmts written.now)) }
     ensures kept { OnOk result (spec.Keeps locals.old.items locals.new.items) }
 {
     let mut found = Vec::new(alloc);
@@ -236,8 +242,8 @@ fn first_branch<'a>(
     test: &written::Expression,
 ) -> Result<Box<Tested>, Halt>
     requires parameters { frame.now.parameters ≤ length locals.old.items }
-    ensures exact { GivesOrHalts (λ x. (view_tree x.value.condition, view_block x.value.«then»)) result
-        (spec.tested_typing frame.now in_loop locals.old.items (trees.view_expr test.now)
+    ensures exact { GivesOrHalts (λ x. (view_tree x.value.condition, view_block x.value.«then»))
+        result (spec.tested_typing frame.now in_loop locals.old.items (trees.view_expr test.now)
         (trees.view_stmt «then».now)) }
     ensures same { OnOk result (locals.new.items ≡ locals.old.items) }
 {

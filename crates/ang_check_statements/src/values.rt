@@ -23,7 +23,8 @@ fn optional(
     locals: &[LocalVariable<'_>],
     value: &Option<Box<written::Expression>>,
 ) -> Result<Option<Box<Expression>>, Stop>
-    ensures exact { Gives view_option result (spec.optional_typing context.now locals.now (trees.view_option value.now)) }
+    ensures exact { Gives view_option result
+        (spec.optional_typing context.now locals.now (trees.view_option value.now)) }
 {
     match value {
         None => Ok(None),
@@ -43,7 +44,8 @@ pub fn expression_statement(
     value: &Option<Box<written::Expression>>,
 ) -> Result<Statement, Stop>
     ensures exact { Gives (λ x. (locals.now, view_stmt x)) result
-        (spec.with_same locals.now (spec.expression_typing frame.now.context locals.now (trees.view_option value.now))) }
+        (spec.with_same locals.now
+        (spec.expression_typing frame.now.context locals.now (trees.view_option value.now))) }
 {
     let value = optional(alloc, frame.context(), locals, value)?;
     Ok(Statement::Expression(value))
@@ -57,7 +59,8 @@ pub fn condition(
     locals: &[LocalVariable<'_>],
     value: &written::Expression,
 ) -> Result<Box<Expression>, Stop>
-    ensures exact { Gives view_tree result (spec.condition_typing context.now locals.now (trees.view_expr value.now)) }
+    ensures exact { Gives view_tree result
+        (spec.condition_typing context.now locals.now (trees.view_expr value.now)) }
 {
     let operand = typing(alloc, context, locals, value)?;
     truth(operand)
@@ -70,7 +73,8 @@ pub fn optional_condition(
     locals: &[LocalVariable<'_>],
     value: &Option<Box<written::Expression>>,
 ) -> Result<Option<Box<Expression>>, Stop>
-    ensures exact { Gives view_option result (spec.optional_condition context.now locals.now (trees.view_option value.now)) }
+    ensures exact { Gives view_option result
+        (spec.optional_condition context.now locals.now (trees.view_option value.now)) }
 {
     match value {
         None => Ok(None),
@@ -83,7 +87,8 @@ pub fn optional_condition(
 
 /// The list with one more tree at its end.
 fn with_tree(first: Vec<Expression>, tree: Box<Expression>) -> Result<Vec<Expression>, AllocError>
-    ensures exact { IfOk result (λ v. list_map view_expr v.items ≡ list_map view_expr first.items ++ (view_tree tree ∷ [])) }
+    ensures exact { IfOk result (λ v. list_map view_expr v.items
+        ≡ list_map view_expr first.items ++ (view_tree tree ∷ [])) }
 {
     let mut found = first;
     found.push(Box::into_inner(tree))?;
@@ -91,7 +96,8 @@ fn with_tree(first: Vec<Expression>, tree: Box<Expression>) -> Result<Vec<Expres
 }
 
 fn trees_of(alloc: Global, operands: Vec<Operand>) -> Result<Vec<Expression>, AllocError>
-    ensures exact { IfOk result (λ v. list_map view_expr v.items ≡ spec.trees_of (view_operands operands.items)) }
+    ensures exact { IfOk result
+        (λ v. list_map view_expr v.items ≡ spec.trees_of (view_operands operands.items)) }
 {
     let mut trees = Vec::new(alloc);
     for operand in operands {
@@ -107,7 +113,8 @@ pub fn steps(
     locals: &[LocalVariable<'_>],
     items: &[Argument],
 ) -> Result<Vec<Expression>, Stop>
-    ensures exact { Gives (λ v. list_map view_expr v.items) result (spec.steps_typing context.now locals.now (trees.view_items items.now)) }
+    ensures exact { Gives (λ v. list_map view_expr v.items) result
+        (spec.steps_typing context.now locals.now (trees.view_items items.now)) }
 {
     let operands = typing_of_all(alloc, context, locals, items)?;
     let found = trees_of(alloc, operands)?;
@@ -223,7 +230,8 @@ pub fn returned(
     value: &Option<Box<written::Expression>>,
 ) -> Result<Statement, Stop>
     ensures exact { Gives (λ x. (locals.now, view_stmt x)) result
-        (spec.with_same locals.now (spec.return_typing frame.now locals.now word.now (trees.view_option value.now))) }
+        (spec.with_same locals.now
+        (spec.return_typing frame.now locals.now word.now (trees.view_option value.now))) }
 {
     let value = result_value(alloc, frame, locals, word, value)?;
     Ok(Statement::Return(value))

@@ -1,5 +1,5 @@
 -- The class in whose body an expression stands is one of few.
-use Rattle.std.specs.Prelude.{◌≤◌, ◌<◌, length, Option, Some, None, IfSome}
+use Rattle.std.specs.Prelude.{◌<◌, Option, Some, None, IfSome}
 use Rattle.std.proofs.Common.{arith}
 use Rattle.ang_names_known.specs.declared.names.Names.{Names}
 use Rattle.ang_check_typing.specs.declared.scope.Within.{Within}

@@ -1,4 +1,4 @@
-pub mod Arguments
 pub mod Classes
 pub mod Operands
+pub mod Passing
 pub mod SoFar

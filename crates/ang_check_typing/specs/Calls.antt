@@ -358,17 +358,19 @@ cast_typing word ty a = cast_by word.place a (object_of ty)
 
 -- ---- objects of declarations
 
-abbrev pub made_use : BodyContext → Token → Asks → List Operand → Resolution → Typing Operand
-made_use s x a operands r = called_use s x.place x a false operands r
+-- A type's name that a local or a member has too stays the script's.
+abbrev pub made_use : BodyContext → List LocalVariable → Token → Asks → List Operand → Resolution → Typing Operand
+made_use s ps x a operands r = called_use s x.place x a (is_there s ps (text_of s.text x)) operands r
 
-abbrev pub made_by : BodyContext → Token → ErrorKind → ℕ → Asks → List Operand → Option ℕ → Typing Operand
-made_by s x unviable n a operands None = made_use s x a operands (resolution_of (scope_of s) (text_of s.text x) a)
-made_by s x unviable n a operands (Some c) = called_own s x.place x operands (best_of_those s.ancestors unviable (makers_of (scope_of s) n) (types_of operands))
+abbrev pub made_by : BodyContext → List LocalVariable → Token → ErrorKind → ℕ → Asks → List Operand → Option ℕ → Typing Operand
+made_by s ps x unviable n a operands None = made_use s ps x a operands (resolution_of (scope_of s) (text_of s.text x) a)
+made_by s ps x unviable n a operands (Some c) =
+    called_own s x.place x operands (best_of_those s.ancestors unviable (makers_of (scope_of s) n) (types_of operands))
 
 -- `T x;`, refused at the name of the type
-unfoldable pub default_typing : BodyContext → Token → ℕ → Typing Operand
-default_typing s x n = made_by s x kind.NoDefault n (asks.Default n) [] (family_of_type n)
+unfoldable pub default_typing : BodyContext → List LocalVariable → Token → ℕ → Typing Operand
+default_typing s ps x n = made_by s ps x kind.NoDefault n (asks.Default n) [] (family_of_type n)
 
 -- `T x(..);`, as `T(..)`
-unfoldable pub made_typing : BodyContext → Token → ℕ → List Operand → Typing Operand
-made_typing s x n operands = made_by s x kind.NoMatch n (asks.Make n (types_of operands)) operands (family_of_type n)
+unfoldable pub made_typing : BodyContext → List LocalVariable → Token → ℕ → List Operand → Typing Operand
+made_typing s ps x n operands = made_by s ps x kind.NoMatch n (asks.Make n (types_of operands)) operands (family_of_type n)

@@ -113,8 +113,9 @@ fn out_for(ty: ArgType, operand: Operand) -> Result<Argument, Stop>
 
 /// An argument for a parameter.
 ///
-/// `BadOut` at the first token of an `&out` argument that is not the bare name of a variable which can be
-/// written; `BadConversion` at that of another one that does not convert to the parameter's type.
+/// `BadOut` at the first token of an `&out` argument that is not the bare name of a variable which
+/// can be written; `BadConversion` at that of another one that does not convert to the parameter's
+/// type.
 #[tactic(auto, unfolding(crate::specs::Calls::argument))]
 fn argument(
     alloc: Global,

@@ -17,11 +17,11 @@ use std::alloc::{AllocError, Global};
 
 /// A call as it is written: where it begins, and the name that is called.
 #[derive(Clone, Copy)]
-pub struct CallSite<'a> {
+pub struct CallSite {
     /// The place of its first token.
     pub place: Place,
     /// The name, at which it is refused.
-    pub name: &'a Token,
+    pub name: Token,
 }
 
 fn call_of(
@@ -78,15 +78,16 @@ fn call_with(
     Ok(plain_operand(place, callable.result, tree))
 }
 
-/// A call of this function with these operands, where the body may call it. A receiver is the first one.
+/// A call of this function with these operands, where the body may call it. A receiver is the first
+/// one.
 pub fn called(
     alloc: Global,
     context: &BodyContext<'_>,
-    site: CallSite<'_>,
+    site: CallSite,
     callable: Callable,
     operands: Vec<Operand>,
 ) -> Result<Operand, Stop>
-    ensures exact { Gives view_operand result (spec.called context.now site.place site.name.now
+    ensures exact { Gives view_operand result (spec.called context.now site.place site.name
         callable (view_operands operands.items)) }
 {
     match callable.reach {
@@ -95,7 +96,7 @@ pub fn called(
             if may_reach(context, reach.owner, reach.access) {
                 call_with(alloc, context, site.place, callable, operands)
             } else {
-                Err(refused(access_error(reach.access), site.name))
+                Err(refused(access_error(reach.access), &site.name))
             }
         }
     }
@@ -105,20 +106,20 @@ pub fn called(
 pub fn called_use(
     alloc: Global,
     context: &BodyContext<'_>,
-    site: CallSite<'_>,
+    site: CallSite,
     asks: Asks,
     is_there: bool,
     operands: Vec<Operand>,
     resolution: Resolution,
 ) -> Result<Operand, Stop>
-    ensures exact { Gives view_operand result (spec.called_use context.now site.place site.name.now
+    ensures exact { Gives view_operand result (spec.called_use context.now site.place site.name
         asks is_there (view_operands operands.items) resolution) }
 {
     match resolution {
         Resolution::Call(callable) => called(alloc, context, site, callable, operands),
-        Resolution::Refused(kind) => Err(use_refused(kind, site.name, asks, is_there)),
+        Resolution::Refused(kind) => Err(use_refused(kind, &site.name, asks, is_there)),
         Resolution::Variable(..) | Resolution::Property(_) | Resolution::Type(_) => {
-            Err(use_refused(ErrorKind::UnknownName, site.name, asks, is_there))
+            Err(use_refused(ErrorKind::UnknownName, &site.name, asks, is_there))
         }
     }
 }
@@ -127,18 +128,18 @@ pub fn called_use(
 pub fn called_own(
     alloc: Global,
     context: &BodyContext<'_>,
-    site: CallSite<'_>,
+    site: CallSite,
     operands: Vec<Operand>,
     resolution: Resolution,
 ) -> Result<Operand, Stop>
-    ensures exact { Gives view_operand result (spec.called_own context.now site.place site.name.now
+    ensures exact { Gives view_operand result (spec.called_own context.now site.place site.name
         (view_operands operands.items) resolution) }
 {
     match resolution {
         Resolution::Call(callable) => called(alloc, context, site, callable, operands),
-        Resolution::Refused(kind) => Err(refused(kind, site.name)),
+        Resolution::Refused(kind) => Err(refused(kind, &site.name)),
         Resolution::Variable(..) | Resolution::Property(_) | Resolution::Type(_) => {
-            Err(refused(ErrorKind::UnknownName, site.name))
+            Err(refused(ErrorKind::UnknownName, &site.name))
         }
     }
 }

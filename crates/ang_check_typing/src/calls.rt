@@ -71,7 +71,8 @@ fn function_call(
     ensures exact { Gives view_operand result (spec.called_use context.now name.now.place name.now
         (Asks.Call (spec.types_of (view_operands operands.items))) is_there
         (view_operands operands.items)
-        (uses.resolution_of (scopes.scope_of context.now) (sources.text_of context.now.text name.now)
+        (uses.resolution_of (scopes.scope_of context.now)
+        (sources.text_of context.now.text name.now)
         (Asks.Call (spec.types_of (view_operands operands.items))))) }
 {
     let types = types_of(alloc, operands.as_slice())?;
@@ -79,7 +80,7 @@ fn function_call(
     let resolution = resolved(alloc, context, name, &asks)?;
     let site = CallSite {
         place: name.place,
-        name,
+        name: *name,
     };
     called_use(alloc, context, site, asks, is_there, operands, resolution)
 }
@@ -106,8 +107,8 @@ fn method_of_this(
     own_method(alloc, context, methods, on, name, receiver, operands)
 }
 
-/// A name with typed arguments: inside a class its methods, if one has the name, else what makes an object of the type of
-/// the name, else functions. Locals and fields of the name play no part.
+/// A name with typed arguments: inside a class its methods, if one has the name, else what makes an
+/// object of the type of the name, else functions. Locals and fields of the name play no part.
 #[tactic(auto, unfolding(crate::specs::Calls::call_typing))]
 pub fn call(
     alloc: Global,
@@ -173,7 +174,8 @@ fn method_above(
 ) -> Result<Resolution, AllocError>
     ensures exact { IfOk result (λ r. r ≡ uses.best_method context.now.ancestors
         (flat_map (spec.direct_method on.number)
-        (lookup.methods_named context.now.names.families family (sources.text_of context.now.text name.now)))
+        (lookup.methods_named context.now.names.families family
+        (sources.text_of context.now.text name.now)))
         on.number on.read_only (spec.types_of (view_operands operands.now))) }
 {
     let methods = methods_named(alloc, context.families(), family, context.text_of(name))?;

@@ -74,7 +74,8 @@ fn cast_between(
     from: u32,
 ) -> Result<Operand, Stop>
     ensures exact { Gives view_operand result (spec.cast_between place to.number to.read_only
-        (view_operand written) from (spaces.family_of_type to.number) (spaces.family_of_type from)) }
+        (view_operand written) from
+        (spaces.family_of_type to.number) (spaces.family_of_type from)) }
 {
     let ty = ArgType::Handle {
         number: to.number,

@@ -1,5 +1,6 @@
 //! What the expressions of a body stand in.
-ghost use Rattle.std.specs.Prelude.{◌≡◌, ◌≤◌, ◌<◌, length, IfOk, IfSome};
+ghost use Rattle.std.specs.Prelude.{◌≡◌, ◌≤◌, ◌<◌, bytes_eq, length, IfOk, IfSome};
+ghost use Rattle.std.specs.List.{list_any};
 ghost use Rattle.ang_check_operand.specs.Refusals.{Gives};
 ghost use Rattle.ang_check_typing.specs.Calls as calls;
 ghost use Rattle.ang_check_typing.specs.Scope as scopes;
@@ -19,8 +20,9 @@ use ang_view::View;
 use std::alloc::{AllocError, Global};
 use std::marker::Model;
 
-/// What is the same for all of a body: what its module sees of the host, what the scripts declare, what stands above each
-/// object type, the bytes of the body's section, and the class whose method or constructor it is.
+/// What is the same for all of a body: what its module sees of the host, what the scripts declare,
+/// what stands above each object type, the bytes of the body's section, and the class whose method
+/// or constructor it is.
 #[derive(Drop)]
 pub struct BodyContext<'a> {
     view: &'a View,
@@ -47,8 +49,8 @@ impl<'a> Model for BodyContext<'a> {
 }
 
 impl<'a> BodyContext<'a> {
-    /// Borrows these for the typing of one body. `text` is the whole section in which the body stands. Nothing checks
-    /// that they are of one build.
+    /// Borrows these for the typing of one body. `text` is the whole section in which the body
+    /// stands. Nothing checks that they are of one build.
     pub fn new(
         view: &'a View,
         names: &'a Names,
@@ -203,16 +205,23 @@ fn has_within(context: &BodyContext<'_>, within: Option<Within>, name: &[u8]) ->
     }
 }
 
-/// Whether a local, a parameter, or a field or method of the class has the name. It takes no memory.
+/// Whether a local or a parameter has the name.
+fn has_local(locals: &[LocalVariable<'_>], name: &[u8]) -> bool
+    ensures exact { result ≡ list_any (λ p. bytes_eq p.name name.now) locals.now }
+{
+    locals.iter().any(|local| local.name.bytes() == name)
+}
+
+/// Whether a local, a parameter, or a field or method of the class has the name. It takes no
+/// memory.
 pub fn is_there(context: &BodyContext<'_>, locals: &[LocalVariable<'_>], name: &[u8]) -> bool
     ensures exact { result ≡ scopes.is_there context.now locals.now name.now }
 {
-    locals.iter().any(|local| local.name.bytes() == name)
-        || has_within(context, context.within(), name)
+    has_local(locals, name) || has_within(context, context.within(), name)
 }
 
-/// A type that is written at this name, or its refusal: where it is unknown that of a use of the name. It takes no
-/// memory.
+/// A type that is written at this name, or its refusal: where it is unknown that of a use of the
+/// name. It takes no memory.
 pub fn type_or_refusal(
     context: &BodyContext<'_>,
     locals: &[LocalVariable<'_>],

@@ -3,7 +3,7 @@ ghost use Rattle.std.specs.Prelude.{◌≡◌, IfOk, true, ◌++◌, ◌∷◌, 
 ghost use Rattle.ang_tree.specs.View as trees;
 ghost use Rattle.ang_check_operand.specs.Refusals.{Gives};
 ghost use Rattle.ang_check_operand.specs.View.{view_operand, view_operands};
-ghost use Rattle.ang_check_typing.specs.Operands.{has_one_operand, has_more_operands, is_of_objects};
+ghost use Rattle.ang_check_typing.specs.Operands.{has_one_operand, has_two_operands, has_three_operands, is_of_object};
 ghost use Rattle.ang_check_typing.specs.Typing as spec;
 
 use crate::calls::{call, scoped_call};
@@ -41,13 +41,13 @@ fn word(alloc: Global, context: &BodyContext<'_>, token: &Token) -> Result<Opera
     }
 }
 
-/// Expressions with commas between them, typed from left to right, with these parameters and locals alive, the
-/// innermost last.
+/// Expressions with commas between them, typed from left to right, with these parameters and locals
+/// alive, the innermost last.
 ///
 /// # Errors
 ///
-/// The first refusal of an item, as `typing` has it; the items behind that one are not typed. `Memory` where a
-/// growth was refused.
+/// The first refusal of an item, as `typing` has it; the items behind that one are not typed.
+/// `Memory` where a growth was refused.
 #[cycle(typing)]
 pub fn typing_of_all(
     alloc: Global,
@@ -73,15 +73,17 @@ struct Asked {
     then: Operand,
 }
 
-/// The type and the resolved tree of an expression, with these parameters and locals alive, the innermost last.
+/// The type and the resolved tree of an expression, with these parameters and locals alive, the
+/// innermost last.
 ///
 /// # Errors
 ///
-/// The first refusal in reading order: operands from left to right, then the operation. That of a literal, a
-/// conversion or an operator comes from a function of `ang_check_operators`, which says when. A name, a member or a method
-/// that is not known is `UnknownName` at the name, one that can't be used there `Private` or `Protected`; a call is
-/// `NoMatch`, `Ambiguous` or `Const` at the name, then `BadOut` or `BadConversion` at an argument. A cast is
-/// `UnknownType` or `BadType` at the type's name, then `BadConversion` at its operand.
+/// The first refusal in reading order: operands from left to right, then the operation. That of a
+/// literal, a conversion or an operator comes from a function of `ang_check_operators`, which says
+/// when. A name, a member or a method that is not known is `UnknownName` at the name, one that
+/// can't be used there `Private` or `Protected`; a call is `NoMatch`, `Ambiguous` or `Const` at the
+/// name, then `BadOut` or `BadConversion` at an argument. A cast is `UnknownType` or `BadType` at
+/// the type's name, then `BadConversion` at its operand.
 ///
 /// `Memory` where a growth was refused.
 #[cycle(typing)]
@@ -101,33 +103,6 @@ pub fn typing(
             let operands = typing_of_all(alloc, context, locals, arguments.items.as_slice())?;
             call(alloc, context, locals, name, operands)
         }
-        Expression::ScopedCall { .. }
-        | Expression::Cast { .. }
-        | Expression::Member { .. }
-        | Expression::MethodCall { .. } => typing_over_object(alloc, context, locals, expression),
-        Expression::Convert { .. }
-        | Expression::Parenthesized { .. }
-        | Expression::Postfix { .. }
-        | Expression::Prefix { .. } => typing_over_one(alloc, context, locals, expression),
-        Expression::Binary { .. }
-        | Expression::Conditional { .. }
-        | Expression::Assignment { .. } => typing_over_more(alloc, context, locals, expression),
-    }
-}
-
-/// The typing of a call with `::`, a cast, a member or a call of a method.
-#[cycle(typing)]
-fn typing_over_object(
-    alloc: Global,
-    context: &BodyContext<'_>,
-    locals: &[LocalVariable<'_>],
-    expression: &Expression,
-) -> Result<Operand, Stop>
-    requires kind { is_of_objects (trees.view_expr expression.now) ≡ true }
-    ensures exact { Gives view_operand result
-        (spec.typing_of context.now locals.now (trees.view_expr expression.now)) }
-{
-    match expression {
         Expression::ScopedCall {
             class,
             name,
@@ -137,6 +112,33 @@ fn typing_over_object(
             let operands = typing_of_all(alloc, context, locals, arguments.items.as_slice())?;
             scoped_call(alloc, context, class, name, operands)
         }
+        Expression::Cast { .. } | Expression::Member { .. } | Expression::MethodCall { .. } => {
+            typing_over_object(alloc, context, locals, expression)
+        }
+        Expression::Convert { .. }
+        | Expression::Parenthesized { .. }
+        | Expression::Postfix { .. }
+        | Expression::Prefix { .. } => typing_over_one(alloc, context, locals, expression),
+        Expression::Binary { .. } | Expression::Assignment { .. } => {
+            typing_over_two(alloc, context, locals, expression)
+        }
+        Expression::Conditional { .. } => typing_over_three(alloc, context, locals, expression),
+    }
+}
+
+/// The typing of a cast, a member or a call of a method.
+#[cycle(typing)]
+fn typing_over_object(
+    alloc: Global,
+    context: &BodyContext<'_>,
+    locals: &[LocalVariable<'_>],
+    expression: &Expression,
+) -> Result<Operand, Stop>
+    requires kind { is_of_object (trees.view_expr expression.now) ≡ true }
+    ensures exact { Gives view_operand result
+        (spec.typing_of context.now locals.now (trees.view_expr expression.now)) }
+{
+    match expression {
         Expression::Cast {
             word,
             target,
@@ -202,15 +204,15 @@ fn typing_over_one(
     }
 }
 
-/// The typing of an expression with two or three operands.
+/// The typing of an operation on two operands, or of an assignment.
 #[cycle(typing)]
-fn typing_over_more(
+fn typing_over_two(
     alloc: Global,
     context: &BodyContext<'_>,
     locals: &[LocalVariable<'_>],
     expression: &Expression,
 ) -> Result<Operand, Stop>
-    requires kind { has_more_operands (trees.view_expr expression.now) ≡ true }
+    requires kind { has_two_operands (trees.view_expr expression.now) ≡ true }
     ensures exact { Gives view_operand result
         (spec.typing_of context.now locals.now (trees.view_expr expression.now)) }
 {
@@ -224,6 +226,32 @@ fn typing_over_more(
             let right = typing(alloc, context, locals, right)?;
             binary(alloc, context.lineage(), left, operator.kind, right)
         }
+        Expression::Assignment {
+            target,
+            operator,
+            value,
+        } => {
+            let target = typing(alloc, context, locals, target)?;
+            let value = typing(alloc, context, locals, value)?;
+            assignment(alloc, context.lineage(), target, operator, value)
+        }
+        _ => unreachable!(),
+    }
+}
+
+/// The typing of `?:`.
+#[cycle(typing)]
+fn typing_over_three(
+    alloc: Global,
+    context: &BodyContext<'_>,
+    locals: &[LocalVariable<'_>],
+    expression: &Expression,
+) -> Result<Operand, Stop>
+    requires kind { has_three_operands (trees.view_expr expression.now) ≡ true }
+    ensures exact { Gives view_operand result
+        (spec.typing_of context.now locals.now (trees.view_expr expression.now)) }
+{
+    match expression {
         Expression::Conditional {
             condition,
             then,
@@ -236,15 +264,6 @@ fn typing_over_more(
             let otherwise = typing(alloc, context, locals, otherwise)?;
             let Asked { condition, then } = asked;
             conditional(alloc, context.lineage(), condition, then, otherwise)
-        }
-        Expression::Assignment {
-            target,
-            operator,
-            value,
-        } => {
-            let target = typing(alloc, context, locals, target)?;
-            let value = typing(alloc, context, locals, value)?;
-            assignment(alloc, context.lineage(), target, operator, value)
         }
         _ => unreachable!(),
     }

@@ -14,7 +14,7 @@ mod methods;
 mod names;
 mod scope;
 
-pub use arguments::arguments_for;
+pub use arguments::{arguments_for, types_of};
 pub use context::{BodyContext, is_there, type_or_refusal};
 pub use expressions::{typing, typing_of_all};
 pub use made::{default_typing, made_typing};

@@ -9,7 +9,8 @@ ghost use Rattle.ang_names_known.specs.Spaces as spaces;
 
 use crate::arguments::types_of;
 use crate::called::{CallSite, called_own, called_use};
-use crate::context::{BodyContext, makers, resolved};
+use crate::context::{BodyContext, is_there, makers, resolved};
+use crate::scope::LocalVariable;
 use ang_check_operand::{Operand, Stop};
 use ang_check_uses::{Resolution, best_of_those, family_of_type};
 use ang_kinds::{ErrorKind, List};
@@ -37,23 +38,25 @@ fn maker_meant(
 fn made_by(
     alloc: Global,
     context: &BodyContext<'_>,
+    locals: &[LocalVariable<'_>],
     name: &Token,
     unviable: ErrorKind,
     number: u32,
     asks: Asks,
     operands: Vec<Operand>,
 ) -> Result<Operand, Stop>
-    ensures exact { Gives view_operand result (spec.made_by context.now name.now unviable number asks
-        (view_operands operands.items) (spaces.family_of_type number)) }
+    ensures exact { Gives view_operand result (spec.made_by context.now locals.now name.now
+        unviable number asks (view_operands operands.items) (spaces.family_of_type number)) }
 {
     let site = CallSite {
         place: name.place,
-        name,
+        name: *name,
     };
     match family_of_type(number) {
         None => {
+            let is_there = is_there(context, locals, context.text_of(name));
             let resolution = resolved(alloc, context, name, &asks)?;
-            called_use(alloc, context, site, asks, false, operands, resolution)
+            called_use(alloc, context, site, asks, is_there, operands, resolution)
         }
         Some(_) => {
             let made = maker_meant(alloc, context, unviable, number, operands.as_slice())?;
@@ -62,21 +65,24 @@ fn made_by(
     }
 }
 
-/// The object of `T x;`, refused at the name of the type.
+/// The object of `T x;`, refused at the name of the type, with these parameters and locals alive.
 #[tactic(auto, unfolding(crate::specs::Calls::default_typing))]
 pub fn default_typing(
     alloc: Global,
     context: &BodyContext<'_>,
+    locals: &[LocalVariable<'_>],
     name: &Token,
     number: u32,
 ) -> Result<Operand, Stop>
-    ensures exact { Gives view_operand result (spec.default_typing context.now name.now number) }
+    ensures exact { Gives view_operand result
+        (spec.default_typing context.now locals.now name.now number) }
 {
     let asks = Asks::Default(number);
     let operands = Vec::new(alloc);
     made_by(
         alloc,
         context,
+        locals,
         name,
         ErrorKind::NoDefault,
         number,
@@ -85,23 +91,26 @@ pub fn default_typing(
     )
 }
 
-/// The object of `T x(..);`, refused at the name of the type.
+/// The object of `T x(..);`, refused at the name of the type, with these parameters and locals
+/// alive.
 #[tactic(auto, unfolding(crate::specs::Calls::made_typing))]
 pub fn made_typing(
     alloc: Global,
     context: &BodyContext<'_>,
+    locals: &[LocalVariable<'_>],
     name: &Token,
     number: u32,
     operands: Vec<Operand>,
 ) -> Result<Operand, Stop>
-    ensures exact { Gives view_operand result
-        (spec.made_typing context.now name.now number (view_operands operands.items)) }
+    ensures exact { Gives view_operand result (spec.made_typing context.now locals.now name.now
+        number (view_operands operands.items)) }
 {
     let types = types_of(alloc, operands.as_slice())?;
     let asks = Asks::Make(number, List::from_vec(types));
     made_by(
         alloc,
         context,
+        locals,
         name,
         ErrorKind::NoMatch,
         number,

@@ -152,7 +152,7 @@ fn host_method(
     let resolution = resolved(alloc, context, name, &asks)?;
     let place = object.place;
     let operands = with_receiver(object, operands)?;
-    let site = CallSite { place, name };
+    let site = CallSite { place, name: *name };
     called_use(alloc, context, site, asks, false, operands, resolution)
 }
 

@@ -19,7 +19,8 @@ use ang_typed::Callee;
 use ang_types::{ArgType, Candidate, Lineage};
 use std::alloc::{AllocError, Global};
 
-/// On what a method is called: the number of the receiver's type, and whether the receiver may not be changed.
+/// On what a method is called: the number of the receiver's type, and whether the receiver may not
+/// be changed.
 #[derive(Clone, Copy, PartialEq, Eq, Debug)]
 pub struct Receiver {
     /// The number of its type.
@@ -186,7 +187,7 @@ pub fn called_on(
     called_own(
         alloc,
         context,
-        CallSite { place, name },
+        CallSite { place, name: *name },
         operands,
         resolution,
     )
@@ -204,7 +205,8 @@ pub fn own_method(
 ) -> Result<Operand, Stop>
     ensures exact { Gives view_operand result (spec.called_own context.now receiver.place name.now
         (view_operand receiver ∷ view_operands operands.items)
-        (uses.best_method context.now.ancestors (list_map (spec.virtual_method on.number) methods.now)
+        (uses.best_method context.now.ancestors
+        (list_map (spec.virtual_method on.number) methods.now)
         on.number on.read_only (spec.types_of (view_operands operands.items)))) }
 {
     let lineage = context.lineage();

@@ -129,7 +129,8 @@ fn local_named(
     Ok(Some(operand))
 }
 
-/// A bare name that is not called: the innermost local or parameter, else a field of the class, else a global.
+/// A bare name that is not called: the innermost local or parameter, else a field of the class,
+/// else a global.
 #[tactic(auto, unfolding(crate::specs::Calls::name_typing))]
 pub fn named(
     alloc: Global,

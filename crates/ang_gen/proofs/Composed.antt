@@ -24,6 +24,7 @@ use Rattle.ang_source.specs.Meaning.{Codes, code_or, passings_in, called_with, i
 use Rattle.ang_source.specs.Sound.{module_of}
 use Rattle.ang_lower.specs.Same.{AreBodies, AreLowered, MeansSame}
 use Rattle.ang_lower.proofs.Follows.{everywhere}
+use Rattle.ang_lower.proofs.Methods.{methods_fit}
 use Rattle.ang_lower.proofs.Modules.{params_are, lowers_program, keeps_sound, sound_together}
 use Rattle.ang_gen_body.specs.Programs.{IsBodyCode, items_in, statement_in, text_in, height_in, texts_of}
 use Rattle.ang_gen.specs.Compiled.{IsCompiled}
@@ -132,6 +133,14 @@ pub unbound_fit : (z : Setting) → ((m i : ℕ) → z.linked m i ≡ None) → 
 unbound_fit z none bare = record {
   same = λ m i g there. let e : None ≡ Some g = sym (none m i) ∙ there in absurd (cc);
   methods = λ m c s g there. let e : None ≡ Some g = sym (bare m c s) ∙ there in absurd (cc);
+}
+
+-- and in compiled modules, where methods fit their slots
+pub modules_fit : (z : Setting) (V : ℕ → RegistrationList) (program : ℕ → tree.Program) (code : Texts) → ((m : ℕ) → IsModule z m (V m) (program m) code)
+    → ((m i : ℕ) → z.linked m i ≡ None) → LinksFit z
+modules_fit z V program code ms none = record {
+  same = λ m i g there. let e : None ≡ Some g = sym (none m i) ∙ there in absurd (cc);
+  methods = λ m c s g there. methods_fit (V m) z m (program m) (ms m).sound (ms m).program c s g there;
 }
 
 -- ---- never stuck

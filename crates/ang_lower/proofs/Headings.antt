@@ -1,6 +1,6 @@
 -- What a setting has of a module's tree is what the module calls.
 use Rattle.std.proofs.Common.{◌≡◌, ℕ, zero, suc, ◌<◌, List, [], ◌∷◌, ◌++◌, length, refl, ap, ◌∙◌, arith, Some, map}
-use Rattle.std.specs.Prelude.{true, is_some, Option, option_map, slice_get}
+use Rattle.std.specs.Prelude.{true, is_some, option_map, slice_get}
 use Rattle.ang_view.specs.Registration.{RegistrationList}
 use Rattle.ang_typed.specs.declared.program.Class.{Class}
 use Rattle.ang_typed.specs.declared.program.Heading.{Heading}
@@ -8,7 +8,7 @@ use Rattle.ang_typed.specs.declared.program.Parameter.{Parameter}
 use Rattle.ang_typed.specs.Typed as tree
 use Rattle.ang_meaning.specs.declared.routine.Passing.{Passing}
 use Rattle.ang_meaning.specs.Setting.{Setting}
-use Rattle.ang_source.specs.Meaning.{passings_of, initializers_from, heading_among, class_of, class_among}
+use Rattle.ang_source.specs.Meaning.{passings_of, initializers_from, heading_among, class_of}
 use Rattle.ang_source.specs.Sound.{module_of}
 use Rattle.ang_lower.specs.Same.{HasCallees, HasProgram}
 

@@ -1,6 +1,6 @@
 -- Lowered code of a sound tree keeps what the generator wants of it.
 use Rattle.std.proofs.Common.{◌≡◌, ◌≢◌, ℕ, suc, ◌+◌, ◌<◌, List, [], ◌∷◌, ◌++◌, length, refl, sym, ap, ◌∙◌, subst, arith, Option, Some, None, map}
-use Rattle.std.specs.Prelude.{Bool, true, false, not, is_some, ◌&&◌, if◌then◌else◌, slice_get, reverse}
+use Rattle.std.specs.Prelude.{Bool, true, false, not, ◌&&◌, if◌then◌else◌, slice_get, reverse}
 use Rattle.std.proofs.lemmas.List.{length-map}
 use Rattle.std.proofs.lemmas.Grind.{reverse_onto}
 use Rattle.ang_kinds.specs.declared.types.Pass.{Pass}

@@ -47,7 +47,10 @@ fn each_passing(alloc: Global, parameters: &[Parameter]) -> Result<Vec<Passing>,
 }
 
 /// How parameters take their arguments, the last one first.
-fn passings(alloc: Global, parameters: &[Parameter]) -> Result<Vec<Passing>, AllocError>
+///
+/// # Errors
+/// Want of memory.
+pub fn passings(alloc: Global, parameters: &[Parameter]) -> Result<Vec<Passing>, AllocError>
     ensures exact { IfOk result (λ v. v.items ≡ passings_of parameters.now) }
 {
     let mut found = each_passing(alloc, parameters)?;

@@ -1,5 +1,5 @@
 -- The families of names are few, and what stands above each is among them.
-use Rattle.std.specs.Prelude.{ℕ, zero, suc, ◌≡◌, ◌≢◌, ◌≤◌, ◌<◌, ◌+◌, ◌==◌, ◌⊎◌, Bool, true, false, if◌then◌else◌, All, Contains, List, [], ◌∷◌, ◌++◌, length, map, slice_index_or, Option, Some, None, IsSome, is_some, option_to_list}
+use Rattle.std.specs.Prelude.{ℕ, zero, suc, ◌≡◌, ◌≢◌, ◌≤◌, ◌<◌, ◌⊎◌, Bool, true, false, if◌then◌else◌, All, Contains, List, [], ◌∷◌, ◌++◌, length, map, slice_index_or, Some, None, IsSome, is_some, option_to_list}
 use Rattle.std.proofs.Common.{arith, refl, sym, subst, ap, inl, inr, ◌∙◌, length-append}
 use Rattle.ang_kinds.specs.declared.error.Error.{Error}
 use Rattle.std.proofs.lemmas.List.Elements.{All-append}
@@ -18,7 +18,6 @@ use Rattle.ang_names_written.specs.Sources.{Source}
 use Rattle.ang_names.specs.declared.phase.Phase.TheVariants as phase
 use Rattle.ang_names.specs.Meant.{space_of_declared}
 use Rattle.ang_names.specs.Phases.{all_phases, errors_in, first_refusals, refusals_of}
-use Rattle.ang_names.proofs.NoFamilies.{none_left}
 use Rattle.ang_names.specs.Resolved.{families_after, families_in, functions_in, is_parent, names_of, signatures_of}
 
 module _ {A B : Type 0} (f : List A → A → List B) where
@@ -85,9 +84,16 @@ first_empty : {A : Type 0} (xs ys : List A) → list_or xs ys ≡ [] → xs ≡ 
 first_empty [] ys e = refl
 first_empty (x ∷ xs) ys e = cc
 
-pub few_where_none : (V : RegistrationList) (all : List Declared) (found : List Refused) → found ≡ name_refusals V all → (length found == 0) ≡ true
+pub few_where_none : (V : RegistrationList) (all : List Declared) (found : List Refused) → found ≡ name_refusals V all → found ≡ []
     → length (families_of all) ≤ 256
-few_where_none V all found e none = listed.few_families V all (sym e ∙ none_left found none)
+few_where_none V all found e empty = listed.few_families V all (sym e ∙ empty)
+
+-- where nothing is beyond what is built, the phases decide
+pub nothing_beyond : (V : RegistrationList) (ss : List Source) (all : List Declared) (found : List Refused) → found ≡ map plain_refusal (not_yet V ss)
+    → found ≡ [] → all ≡ declarations_of ss → first_refusals V all all_phases ≡ refusals_of V ss
+unfolding refusals_of
+nothing_beyond V ss all found e empty l =
+    ap (λ ds. first_refusals V ds all_phases) l ∙ ap (λ rs. list_or rs (first_refusals V (declarations_of ss) all_phases)) (sym empty ∙ e)
 
 pub accepted_few : (V : RegistrationList) (ss : List Source) → refusals_of V ss ≡ [] → length (families_of (declarations_of ss)) ≤ 256
 unfolding refusals_of name_refusals

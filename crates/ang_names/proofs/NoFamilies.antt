@@ -1,7 +1,8 @@
--- The second phase by the families that are listed; and where no class and no interface is declared, nothing is refused of any, and
--- there are none.
-use Rattle.std.specs.Prelude.{ℕ, ◌≡◌, ◌==◌, true, IfOk, Result, Ok, Err, List, [], ◌∷◌, ◌++◌, length, map, Option, None, option_to_list}
-use Rattle.std.specs.List.{cons_option, filter_map}
+-- Classes and interfaces by name, and the second phase in a space; and where no class and no interface is declared, nothing is refused
+-- of any, and there are none.
+use Rattle.std.specs.Prelude.{ℕ, ◌≡◌, ◌==◌, Bool, true, false, ◌||◌, IfOk, Result, Ok, Err, List, [], ◌∷◌, ◌++◌, length, map, Option, Some, None, option_map, option_to_list, if◌then◌else◌, bytes_eq}
+use Rattle.std.specs.List.{cons_option, filter_map, list_any}
+use Rattle.std.specs.Option.{option_or}
 use Rattle.std.proofs.Common.{refl, sym, ap, ◌∙◌, arith}
 use Rattle.std.proofs.lemmas.Bool.{eqb-true}
 use Rattle.ang_types.specs.declared.asks.Refused.{Refused}
@@ -14,36 +15,68 @@ use Rattle.ang_names_listed.specs.declared.listed.Declared.{Declared}
 use Rattle.ang_names_listed.specs.declared.listed.Part.{Part}
 use Rattle.ang_names_listed.specs.declared.listed.Part.TheVariants as part
 use Rattle.ang_names_listed.specs.Declarations.{Declaring, declaring_by, declaring_of, families_of, family_name}
+use Rattle.ang_names_listed.specs.Taken.{declares_family}
+use Rattle.ang_names_listed.specs.declared.listed.Shape.{Shape}
 use Rattle.ang_names.specs.declared.phase.Phase.TheVariants as phase
 use Rattle.ang_names.specs.Heirs.{ancestor_refusal, heir_refusal, cycle_refusal}
-use Rattle.ang_names.specs.Meant.{part_refusal, space_of_declared, space_over, type_refusal}
+use Rattle.ang_names.specs.Meant.{shape_named, space_of_declared, type_refusal}
 use Rattle.ang_names.specs.Phases.{families, first_refusals, of_family, refusals}
 use Rattle.ang_names.specs.Resolved.{families_after, families_in, functions_in, signatures_of}
 
 pub named_as_many : (fs : List Declaring) → length (map family_name fs) ≡ length fs
 named_as_many fs = length-map family_name fs
 
--- what is refused of the types of declarations in a space, among these families
-abbrev pub refused_after : Space → List Declaring → List Declared → List Declared → List Refused
-refused_after E fs before ds = each_after (λ (front : List Declared) (d : Declared). option_to_list (part_refusal E fs d d.part)) before ds
+-- the name in front of others, where a declaration gives one
+pub names_in_front : (o : Option Declaring) (rest : List Declaring) → map family_name (cons_option o rest) ≡ cons_option (option_map family_name o) (map family_name rest)
+names_in_front None rest = refl
+names_in_front (Some d) rest = refl
 
-pub second_phase : (V : RegistrationList) (all : List Declared) (E : Space) (fs : List Declaring)
-    → E ≡ space_over V fs → fs ≡ families_of all → refused_after E fs [] all ≡ refusals V all phase.Types
-unfolding type_refusal
-second_phase V all E fs e f =
-    ap (λ F. refused_after F fs [] all) (e ∙ ap (space_over V) f) ∙ ap (λ gs. refused_after (space_of_declared V all) gs [] all) f
+by_name : (b : Bool) (s : Shape) (later : Option Shape) → (if b then Some s else later) ≡ option_or (if b then Some s else None) later
+by_name true s later = refl
+by_name false s later = refl
+
+-- the family in front is looked at first
+pub shape_in_front : (o : Option Declaring) (rest : List Declaring) (name : List ℕ)
+    → shape_named (cons_option o rest) name ≡ option_or (shape_named (option_to_list o) name) (shape_named rest name)
+shape_in_front None rest name = refl
+shape_in_front (Some d) rest name = by_name (bytes_eq (family_name d) name) d.shape (shape_named rest name)
+
+-- what is refused of the types of declarations in a space, of all of which these are a part
+abbrev pub refused_after : Space → List Declared → List Declared → List Declared → List Refused
+refused_after E all before ds = each_after (λ (front : List Declared) (d : Declared). option_to_list (type_refusal E all d)) before ds
+
+pub second_phase : (V : RegistrationList) (all : List Declared) (E : Space) → E ≡ space_of_declared V all → refused_after E all [] all ≡ refusals V all phase.Types
+second_phase V all E e = ap (λ F. refused_after F all [] all) e
 
 -- what is the same as something that was found, where anything was
 pub found_as : {R X A : Type 0} (items : R → A) (x y : A) (r : Result R X) → IfOk r (λ v. items v ≡ x) → x ≡ y → IfOk r (λ v. items v ≡ y)
 found_as items x y (Ok v) h e = h ∙ e
 found_as items x y (Err z) h e = h
 
-pub none_left : {A : Type 0} (xs : List A) → (length xs == 0) ≡ true → xs ≡ []
-none_left [] e = refl
-none_left (x ∷ xs) e =
-    let none : length (x ∷ xs) ≡ 0 = eqb-true (length (x ∷ xs)) 0 e in absurd (omega (arith, none))
+-- a list of no items, as a `Vec` counts them
+pub none_left : {A : Type 0} (xs : List A) (n : ℕ) → n ≡ length xs → (n == 0) ≡ true → xs ≡ []
+none_left [] n e z = refl
+none_left (x ∷ xs) n e z =
+    let none : n ≡ 0 = eqb-true n 0 z in absurd (omega (arith, none, e))
 
 -- ---- where none is declared
+
+abbrev pub has_families : List Declared → Bool
+has_families ds = list_any (λ (d : Declared). declares_family d.part) ds
+
+none_by : (d : Declared) (p : Part) (rest : List Declared) → declares_family p || has_families rest ≡ false
+    → (declaring_by d p ≡ None) × (has_families rest ≡ false)
+none_by d (part.Family s) rest e = cc
+none_by d (part.Function y ps) rest e = (refl, e)
+none_by d (part.Import y ps) rest e = (refl, e)
+none_by d (part.Global y) rest e = (refl, e)
+
+pub none_listed : (ds : List Declared) → has_families ds ≡ false → families_of ds ≡ []
+unfolding families_of
+none_listed [] e = refl
+none_listed (d ∷ ds) e =
+    let h = none_by d d.part ds e in
+    ap (λ o. cons_option o (filter_map declaring_of ds)) h.0 ∙ none_listed ds h.1
 
 module _ (g : ℕ → Family → Option Refused) (fs : List Family) where
   said_of_none : (before : List Declared) (d : Declared) (p : Part) (rest : List Declaring) → cons_option (declaring_by d p) rest ≡ []
@@ -77,12 +110,11 @@ unfolding families_in
 none_given E ds e =
     ap (λ fs. each_after (families_after E (families_of ds) (signatures_of E (families_of ds)) (length (functions_in E ds))) [] fs) e
 
-pub none_resolved : (E : Space) (ds : List Declared) (fs : List Declaring) → fs ≡ families_of ds → (length fs == 0) ≡ true → families_in E ds ≡ []
-none_resolved E ds fs f none = none_given E ds (sym f ∙ none_left fs none)
+pub none_resolved : (E : Space) (ds : List Declared) → has_families ds ≡ false → families_in E ds ≡ []
+none_resolved E ds none = none_given E ds (none_listed ds none)
 
-pub later_nothing : (V : RegistrationList) (all : List Declared) (found : List Refused) (fs : List Declaring)
-    → found ≡ refusals V all phase.Types → fs ≡ families_of all → (length found == 0) ≡ true → (length fs == 0) ≡ true
+pub later_nothing : (V : RegistrationList) (all : List Declared) (found : List Refused)
+    → found ≡ refusals V all phase.Types → found ≡ [] → has_families all ≡ false
     → found ≡ first_refusals V all (phase.Types ∷ phase.Ancestors ∷ phase.Heirs ∷ phase.Cycles ∷ [])
-later_nothing V all found fs e f found_none fs_none =
-    let none = none_left found found_none in
-    none ∙ sym (no_list (refusals V all phase.Types) _ (sym e ∙ none) (heritage_refuses_nothing V all (sym f ∙ none_left fs fs_none)))
+later_nothing V all found e empty none =
+    empty ∙ sym (no_list (refusals V all phase.Types) _ (sym e ∙ empty) (heritage_refuses_nothing V all (none_listed all none)))

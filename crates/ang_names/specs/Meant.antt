@@ -1,7 +1,7 @@
 -- Types, bases and members that can't stand where they stand, and too many of them (docs/LANGUAGE.md, "Names of a build"; the
 -- AngelScript manual, "Data types", "Parameter references" and "Inheritance"; the limits are this profile's own). Of a declaration the
 -- first refusal in the order of the text counts.
-use Rattle.std.specs.Prelude.{ℕ, nat_lt, Bool, true, false, not, ◌&&◌, ◌||◌, if◌then◌else◌, List, [], ◌∷◌, ◌++◌, map, length, Option, Some, None, Result, Ok, Err, bytes_eq}
+use Rattle.std.specs.Prelude.{ℕ, nat_lt, Bool, true, false, not, ◌&&◌, ◌||◌, if◌then◌else◌, List, [], ◌∷◌, ◌++◌, map, length, Option, Some, None, Ok, Err, bytes_eq}
 use Rattle.std.specs.List.{list_any}
 use Rattle.std.specs.Option.{option_or}
 use Rattle.std.proofs.Math.Bool.{beq}

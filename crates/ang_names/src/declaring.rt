@@ -29,11 +29,11 @@ fn unbuilt(alloc: Global, refused: &[Refused]) -> Unbuilt
 }
 
 /// The names of declarations where nothing is refused of them.
-fn declared_by(
+fn declared_by<'a>(
     alloc: Global,
-    view: &View,
+    view: &'a View,
     scripts: &[Script],
-    all: &[Declared<'_>],
+    all: &[Declared<'a>],
 ) -> Result<Names, Unbuilt>
     requires listed { all.now ≡ listed.declarations_of (list_map source_of scripts.now) }
     ensures accepted { OnOk result (spec.refusals_of view.now (list_map source_of scripts.now) ≡ []) }
@@ -57,7 +57,7 @@ fn declared_by(
 /// the declarations, in their order.
 ///
 /// `Errors` are those, of which there is one at least; `Memory` is want of memory.
-pub fn declare(alloc: Global, view: &View, scripts: &[Script]) -> Result<Names, Unbuilt>
+pub fn declare<'a>(alloc: Global, view: &'a View, scripts: &'a [Script]) -> Result<Names, Unbuilt>
     ensures accepted { OnOk result (spec.refusals_of view.now (list_map source_of scripts.now) ≡ []) }
     ensures names { IfOk result (λ names. names
         ≡ resolved.names_of view.now (listed.declarations_of (list_map source_of scripts.now))) }
@@ -74,7 +74,11 @@ pub fn declare(alloc: Global, view: &View, scripts: &[Script]) -> Result<Names, 
 /// interfaces wherever a refused declaration asks for a name (`laws::few_families`).
 ///
 /// The only error is want of memory.
-pub fn names_over(alloc: Global, view: &View, scripts: &[Script]) -> Result<Names, AllocError>
+pub fn names_over<'a>(
+    alloc: Global,
+    view: &'a View,
+    scripts: &'a [Script],
+) -> Result<Names, AllocError>
     requires few { length (families_of (listed.declarations_of (list_map source_of scripts.now))) ≤ 256 }
     ensures exact { IfOk result (λ names. names
         ≡ resolved.names_of view.now (listed.declarations_of (list_map source_of scripts.now))) }
@@ -86,10 +90,10 @@ pub fn names_over(alloc: Global, view: &View, scripts: &[Script]) -> Result<Name
 /// What the first phase that refuses some declarations refuses, with what each refused use asks. Denials ask it again.
 ///
 /// The only error is want of memory.
-pub fn phase_refusals(
+pub fn phase_refusals<'a>(
     alloc: Global,
-    view: &View,
-    scripts: &[Script],
+    view: &'a View,
+    scripts: &'a [Script],
 ) -> Result<Vec<Refused>, AllocError>
     ensures exact { IfOk result
         (λ found. found.items ≡ spec.refusals_of view.now (list_map source_of scripts.now)) }

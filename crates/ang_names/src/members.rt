@@ -2,6 +2,7 @@
 ghost use Rattle.std.specs.Prelude.{◌≡◌, [], true, false, not, bytes_eq, IfOk};
 ghost use Rattle.std.specs.List.{list_any};
 ghost use Rattle.std.specs.Option.{option_or};
+ghost use Rattle.ang_names_listed.specs.Declarations.{families_of};
 ghost use Rattle.ang_names_written.specs.Sources.{text_of};
 ghost use Rattle.ang_names.specs.Meant as spec;
 
@@ -10,7 +11,7 @@ use crate::headings::{parameter_list_refusal, refusal_if, type_refusal_of};
 use ang_kinds::ErrorKind;
 use ang_lex::Token;
 use ang_names_known::Space;
-use ang_names_listed::{Attributes, Declared, Declaring, Member, MemberKind, Shape};
+use ang_names_listed::{Attributes, Declared, Member, MemberKind, Shape};
 use ang_names_written::{Role, have_same_types, text_at};
 use ang_tree::Parameter;
 use ang_types::Refused;
@@ -157,17 +158,17 @@ fn members_refusal(
 /// What is refused of the names behind `:`: the first that can't stand there.
 fn bases_refusal(
     alloc: Global,
-    families: &[Declaring<'_>],
+    all: &[Declared<'_>],
     text: &[u8],
     is_class: bool,
     bases: &[Token],
 ) -> Result<Option<Refused>, AllocError>
     ensures exact { IfOk result (λ r. r
-        ≡ spec.bases_refusal families.now text.now is_class false bases.now) }
+        ≡ spec.bases_refusal (families_of all.now) text.now is_class false bases.now) }
 {
     let mut has_class = false;
     for base in bases {
-        let (is_bad, names_class) = base_named(families, is_class, has_class, text_at(text, base));
+        let (is_bad, names_class) = base_named(all, is_class, has_class, text_at(text, base));
         let refused = refusal_if(alloc, is_bad, ErrorKind::BadBase, text, base)?;
         if refused.is_some() {
             return Ok(refused);
@@ -198,12 +199,12 @@ fn member_limit(
 pub fn family_refusal(
     alloc: Global,
     space: &Space<'_>,
-    families: &[Declaring<'_>],
+    all: &[Declared<'_>],
     declared: &Declared<'_>,
     shape: &Shape<'_>,
 ) -> Result<Option<Refused>, AllocError>
     ensures exact { IfOk result (λ r. r
-        ≡ spec.family_refusal space.now families.now declared.now shape.now) }
+        ≡ spec.family_refusal space.now (families_of all.now) declared.now shape.now) }
 {
     let text = declared.text.bytes();
     if let Some(refused) = member_limit(alloc, declared, shape)? {
@@ -211,7 +212,7 @@ pub fn family_refusal(
     }
     if let Some(refused) = bases_refusal(
         alloc,
-        families,
+        all,
         text,
         shape.is_class,
         shape.bases.as_slice(),

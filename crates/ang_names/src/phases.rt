@@ -8,32 +8,33 @@ ghost use Rattle.ang_names.specs.Meant as meant;
 ghost use Rattle.ang_names.specs.Phases as spec;
 ghost use Rattle.ang_names.specs.declared.phase.Phase.TheVariants as phase;
 
-use crate::families::space_of;
+use crate::families::{has_families, space_of};
 use crate::headings::{function_refusal, import_refusal, type_refusal_of};
 use crate::members::family_refusal;
 use ang_kinds::{Error, List};
 use ang_names_known::Space;
-use ang_names_listed::{Declared, Declaring, Part, families_of as list_families, name_refusals};
+use ang_names_listed::{Declared, Part, name_refusals};
 use ang_names_written::{Role, not_yet_errors};
 use ang_tree::Script;
 use ang_types::Refused;
 use ang_view::View;
 use std::alloc::{AllocError, Global};
 
-/// What is refused of the types, bases and members of a declaration.
+/// What is refused of the types, bases and members of one of the declarations.
+#[tactic(auto, unfolding(crate::specs::Meant::type_refusal))]
 fn type_refusal(
     alloc: Global,
     space: &Space<'_>,
-    families: &[Declaring<'_>],
+    all: &[Declared<'_>],
     declared: &Declared<'_>,
 ) -> Result<Option<Refused>, AllocError>
-    ensures exact { IfOk result (λ r. r
-        ≡ meant.part_refusal space.now families.now declared.now declared.now.part) }
+    ensures exact { IfOk result
+        (λ r. r ≡ meant.type_refusal space.now all.now declared.now) }
 {
     let text = declared.text.bytes();
     let name = &declared.name;
     match &declared.part {
-        Part::Family(shape) => family_refusal(alloc, space, families, declared, shape),
+        Part::Family(shape) => family_refusal(alloc, space, all, declared, shape),
         Part::Function(ty, params) => {
             function_refusal(alloc, space, text, name, ty, params.items())
         }
@@ -54,63 +55,59 @@ fn push_refused(found: &mut Vec<Refused>, refused: Option<Refused>) -> Result<()
 fn type_refusals_in(
     alloc: Global,
     space: &Space<'_>,
-    families: &[Declaring<'_>],
     all: &[Declared<'_>],
 ) -> Result<Vec<Refused>, AllocError>
-    ensures exact { IfOk result (λ found. found.items ≡ taken.each_refused
-        (λ before d. meant.part_refusal space.now families.now d d.part) all.now) }
+    ensures exact { IfOk result (λ found. found.items
+        ≡ taken.each_refused (λ before d. meant.type_refusal space.now all.now d) all.now) }
 {
     let mut found = Vec::new(alloc);
     for declared in all {
-        let refused = type_refusal(alloc, space, families, declared)?;
+        let refused = type_refusal(alloc, space, all, declared)?;
         push_refused(&mut found, refused)?;
     }
     Ok(found)
 }
 
-/// What the second phase refuses of the declarations, whose families these are.
-fn type_refusals(
+/// What the second phase refuses of the declarations.
+fn type_refusals<'a>(
     alloc: Global,
-    view: &View,
-    families: &[Declaring<'_>],
-    all: &[Declared<'_>],
+    view: &'a View,
+    all: &[Declared<'a>],
 ) -> Result<Vec<Refused>, AllocError>
-    requires few { length families.now ≤ 256 }
-    requires families { families.now ≡ families_of all.now }
+    requires few { length (families_of all.now) ≤ 256 }
     ensures exact { IfOk result
         (λ found. found.items ≡ spec.refusals view.now all.now phase.Types) }
 {
-    let space = space_of(alloc, view, families)?;
-    type_refusals_in(alloc, &space, families, all)
+    let space = space_of(alloc, view, all)?;
+    type_refusals_in(alloc, &space, all)
 }
 
 /// What the phases after the first one refuse. Those over classes and interfaces together are not built yet: where there are
 /// some this answers want of memory, and where there are none they refuse nothing.
-fn later_refusals(
+fn later_refusals<'a>(
     alloc: Global,
-    view: &View,
-    all: &[Declared<'_>],
+    view: &'a View,
+    all: &[Declared<'a>],
 ) -> Result<Vec<Refused>, AllocError>
     requires few { length (families_of all.now) ≤ 256 }
     ensures exact { IfOk result (λ found. found.items ≡ spec.first_refusals view.now all.now
         (phase.Types ∷ phase.Ancestors ∷ phase.Heirs ∷ phase.Cycles ∷ [])) }
 {
-    let families = list_families(alloc, all)?;
-    let found = type_refusals(alloc, view, families.as_slice(), all)?;
+    let found = type_refusals(alloc, view, all)?;
     if !found.is_empty() {
         return Ok(found);
     }
-    if !families.is_empty() {
+    if has_families(all) {
         return Err(AllocError);
     }
     Ok(found)
 }
 
 /// What the first phase that refuses some declarations refuses.
-fn first_refusals(
+fn first_refusals<'a>(
     alloc: Global,
-    view: &View,
-    all: &[Declared<'_>],
+    view: &'a View,
+    all: &[Declared<'a>],
 ) -> Result<Vec<Refused>, AllocError>
     ensures exact { IfOk result
         (λ found. found.items ≡ spec.first_refusals view.now all.now spec.all_phases) }
@@ -174,11 +171,11 @@ fn not_yet_refusals(
 
 /// What is refused of the declarations of these scripts.
 #[tactic(auto, unfolding(crate::specs::Phases::refusals_of))]
-pub fn refusals_over(
+pub fn refusals_over<'a>(
     alloc: Global,
-    view: &View,
+    view: &'a View,
     scripts: &[Script],
-    all: &[Declared<'_>],
+    all: &[Declared<'a>],
 ) -> Result<Vec<Refused>, AllocError>
     requires listed { all.now ≡ declarations_of (list_map source_of scripts.now) }
     ensures exact { IfOk result (λ found. found.items

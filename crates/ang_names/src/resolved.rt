@@ -5,14 +5,14 @@ ghost use Rattle.ang_names_listed.specs.Declarations.{declared_name, families_of
 ghost use Rattle.ang_names.specs.Meant.{space_of_declared};
 ghost use Rattle.ang_names.specs.Resolved as spec;
 
-use crate::families::space_of;
+use crate::families::{has_families, space_of};
 use crate::headings::parameter_role;
 use ang_kinds::List;
 use ang_lex::Token;
 use ang_names_known::{
     Names, Origin, ScriptFunction, ScriptGlobal, ScriptParameter, Space, Written,
 };
-use ang_names_listed::{Declared, Part, families_of as list_families};
+use ang_names_listed::{Declared, Part};
 use ang_names_written::{Role, copy_at, name_at, pass_of, written_in};
 use ang_tree::{Parameter, TypeName};
 use ang_view::View;
@@ -266,15 +266,18 @@ fn declared_names(alloc: Global, all: &[Declared<'_>]) -> Result<List<List<u8>>,
 /// All names of the declarations, each kind in order. Classes and interfaces are not built yet: where there are some this
 /// answers want of memory.
 #[tactic(auto, unfolding(crate::specs::Resolved::names_of))]
-pub fn names_of(alloc: Global, view: &View, all: &[Declared<'_>]) -> Result<Names, AllocError>
+pub fn names_of<'a>(
+    alloc: Global,
+    view: &'a View,
+    all: &[Declared<'a>],
+) -> Result<Names, AllocError>
     requires few { length (families_of all.now) ≤ 256 }
     ensures exact { IfOk result (λ names. names ≡ spec.names_of view.now all.now) }
 {
-    let families = list_families(alloc, all)?;
-    if !families.is_empty() {
+    if has_families(all) {
         return Err(AllocError);
     }
-    let space = space_of(alloc, view, families.as_slice())?;
+    let space = space_of(alloc, view, all)?;
     let declared = declared_names(alloc, all)?;
     let functions = functions_in(alloc, &space, all)?;
     let imports = imports_in(alloc, &space, all)?;

@@ -1,5 +1,5 @@
 -- How many classes and interfaces there are, counted one by one.
-use Rattle.std.specs.Prelude.{ℕ, ◌≡◌, ◌+◌, cond, List, [], ◌∷◌, length, count_by}
+use Rattle.std.specs.Prelude.{◌≡◌, ◌+◌, cond, List, length, count_by}
 use Rattle.std.specs.List.{cons_option, filter_map}
 use Rattle.std.proofs.Common.{arith, refl, sym}
 use Rattle.std.proofs.lemmas.List.Recursion.{is_count_by}

@@ -1,5 +1,5 @@
 -- Where no name is refused there are few classes and interfaces.
-use Rattle.std.specs.Prelude.{ℕ, ◌≡◌, ◌≢◌, ◌≤◌, ◌+◌, ◌==◌, Bool, true, false, if◌then◌else◌, List, [], ◌∷◌, ◌++◌, length, filter_map, Option, Some, None, option_to_list}
+use Rattle.std.specs.Prelude.{ℕ, ◌≡◌, ◌≢◌, ◌≤◌, ◌+◌, ◌==◌, Bool, true, false, if◌then◌else◌, List, [], ◌∷◌, ◌++◌, length, filter_map, Some, None, option_to_list}
 use Rattle.std.specs.List.{cons_option}
 use Rattle.std.proofs.Common.{arith, refl, sym, subst, ap, ◌∙◌, length-append}
 use Rattle.std.proofs.lemmas.Bool.{eqb-false}

@@ -5,5 +5,5 @@ pub returns : goal.returns
 returns c = record {
   exact =
       found_as (λ found. found.items) _ _ c.type_refusals_in.result c.type_refusals_in.ensures.exact
-      (second_phase c.args.view.now c.args.all.now _ c.args.families.now c.in_ok-space.ensures.exact c.requires.families);
+      (second_phase c.args.view.now c.args.all.now _ c.in_ok-space.ensures.exact);
 }

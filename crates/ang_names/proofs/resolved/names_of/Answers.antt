@@ -8,6 +8,6 @@ pub returns : goal.returns
 unfolding names_of
 returns c =
     let none =
-    none_resolved (space_of_declared c.args.view.now c.args.all.now) c.args.all.now c.in_ok-families.families.items c.in_ok-families.ensures.exact
-    (sym c.is_empty.ensures ∙ c.if-not-is_empty.false) in
+    none_resolved (space_of_declared c.args.view.now c.args.all.now) c.args.all.now
+    (sym c.has_families.ensures.exact ∙ c.if-has_families.false) in
     record { exact = grind (arith, none) }
