@@ -161,8 +161,7 @@ module _ (s : BodyContext) (n : ℕ) where
       let fit : Fit M n (map type_and_pass h.0.params) xs = subst (λ (qs : List (ArgType × Pass)). Fit M n qs xs) h.2 f' in
       (map typed_parameter h.0.params, h.1, script_arguments M n h.0.params xs fit)
   call_sound (calls.Host h) result ps xs k f =
-      let there = k.0 (host_takes M n ps xs k.1 f) in
-      (
+      let there = k.0 (host_takes M n ps xs k.1 f) in (
         record { kind = there.kind; entity = there.entity; params = there.params ∙ ap Some (host_count M n ps xs f) },
         host_arguments M n ps xs k.1 f,
       )

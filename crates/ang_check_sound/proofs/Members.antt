@@ -167,8 +167,7 @@ module _ (V : RegistrationList) (names : Names) (E : Space) (all : List (ScriptF
       let new : Member = record { name = z; access = access_of a; kind = member.Method y params.items (attributes_of constant attributes) } in
       let after = flat_map members_by rest in
       let n = length (filter is_method_tree before) in
-      let k = length (with_bodies true listed) in
-      (
+      let k = length (with_bodies true listed) in (
         record {
           method = _;
           there = method_there n _ (next_item n f.methods _ (methods_from (listed ++ new ∷ []) after) ms);
@@ -177,22 +176,21 @@ module _ (V : RegistrationList) (names : Names) (E : Space) (all : List (ScriptF
           body = let same : length names.functions + j + k ≡ length names.functions + (j + k) = omega arith in ap Some same;
         },
         subst (λ q. AreNumbered V names total i g q (each_after (member_parts c text x bases) (before ++ tree ∷ []) rest ++ ps))
-        (let one : k + 1 ≡ length (with_bodies true (listed ++ new ∷ [])) = counted (λ (m : Member). has_body true m.kind) listed new refl in
+            (let one : k + 1 ≡ length (with_bodies true (listed ++ new ∷ [])) = counted (λ (m : Member). has_body true m.kind) listed new refl in
             let same : j + length (with_bodies true (listed ++ new ∷ [])) ≡ j + k + 1 = omega arith in same)
-        (members_numbered (before ++ tree ∷ []) rest (listed ++ new ∷ []) ps
-        (subst (λ q. Behind Method q f.methods (methods_from (listed ++ new ∷ []) after)) (counted is_method_tree before tree refl)
-        (next_left n f.methods _ (methods_from (listed ++ new ∷ []) after) ms))
-        (subst (λ q. Behind Constructor q f.constructors (constructors_from (listed ++ new ∷ []) after))
-        (not_counted is_constructor_tree before tree refl) ks)
-        (subst (λ xs. AreNumbered V names total i g (j + length (with_bodies true xs)) ps) (sym (append_assoc listed (new ∷ []) after)) h)),
+            (members_numbered (before ++ tree ∷ []) rest (listed ++ new ∷ []) ps
+            (subst (λ q. Behind Method q f.methods (methods_from (listed ++ new ∷ []) after)) (counted is_method_tree before tree refl)
+            (next_left n f.methods _ (methods_from (listed ++ new ∷ []) after) ms))
+            (subst (λ q. Behind Constructor q f.constructors (constructors_from (listed ++ new ∷ []) after))
+            (not_counted is_constructor_tree before tree refl) ks)
+            (subst (λ xs. AreNumbered V names total i g (j + length (with_bodies true xs)) ps) (sym (append_assoc listed (new ∷ []) after)) h)),
       )
   members_numbered before (constructor z params left u ss right ∷ rest) listed ps ms ks h =
       let tree = constructor z params left u ss right in
       let new : Member = record { name = z; access = access.Public; kind = member.Constructor params.items } in
       let after = flat_map members_by rest in
       let n = length (filter is_constructor_tree before) in
-      let k = length (with_bodies true listed) in
-      (
+      let k = length (with_bodies true listed) in (
         record {
           constructor = _;
           there = constructor_there n _ (next_item n f.constructors _ (constructors_from (listed ++ new ∷ []) after) ks);
@@ -201,13 +199,13 @@ module _ (V : RegistrationList) (names : Names) (E : Space) (all : List (ScriptF
           body = let same : length names.functions + j + k ≡ length names.functions + (j + k) = omega arith in same;
         },
         subst (λ q. AreNumbered V names total i g q (each_after (member_parts c text x bases) (before ++ tree ∷ []) rest ++ ps))
-        (let one : k + 1 ≡ length (with_bodies true (listed ++ new ∷ [])) = counted (λ (m : Member). has_body true m.kind) listed new refl in
+            (let one : k + 1 ≡ length (with_bodies true (listed ++ new ∷ [])) = counted (λ (m : Member). has_body true m.kind) listed new refl in
             let same : j + length (with_bodies true (listed ++ new ∷ [])) ≡ j + k + 1 = omega arith in same)
-        (members_numbered (before ++ tree ∷ []) rest (listed ++ new ∷ []) ps
-        (subst (λ q. Behind Method q f.methods (methods_from (listed ++ new ∷ []) after)) (not_counted is_method_tree before tree refl) ms)
-        (subst (λ q. Behind Constructor q f.constructors (constructors_from (listed ++ new ∷ []) after)) (counted is_constructor_tree before tree refl)
-        (next_left n f.constructors _ (constructors_from (listed ++ new ∷ []) after) ks))
-        (subst (λ xs. AreNumbered V names total i g (j + length (with_bodies true xs)) ps) (sym (append_assoc listed (new ∷ []) after)) h)),
+            (members_numbered (before ++ tree ∷ []) rest (listed ++ new ∷ []) ps
+            (subst (λ q. Behind Method q f.methods (methods_from (listed ++ new ∷ []) after)) (not_counted is_method_tree before tree refl) ms)
+            (subst (λ q. Behind Constructor q f.constructors (constructors_from (listed ++ new ∷ []) after)) (counted is_constructor_tree before tree refl)
+            (next_left n f.constructors _ (constructors_from (listed ++ new ∷ []) after) ks))
+            (subst (λ xs. AreNumbered V names total i g (j + length (with_bodies true xs)) ps) (sym (append_assoc listed (new ∷ []) after)) h)),
       )
 
   -- a class without a constructor has none
@@ -236,12 +234,11 @@ module _ (V : RegistrationList) (names : Names) (E : Space) (all : List (ScriptF
       (methods_written parts (before ++ fields a y ns semicolon ∷ []) rest (listed ++ more) inside))
   methods_written parts before (method a y z params constant attributes b ∷ rest) listed inside =
       let tree = method a y z params constant attributes b in
-      let new : Member = record { name = z; access = access_of a; kind = member.Method y params.items (attributes_of constant attributes) } in
-      (
+      let new : Member = record { name = z; access = access_of a; kind = member.Method y params.items (attributes_of constant attributes) } in (
         λ k e. record { text = text; name = z; tree = b; written = inside _ (has_first _ _) },
         subst (λ n. EachFrom (IsMethodWritten parts c) n (methods_from (listed ++ new ∷ []) (flat_map members_by rest)))
-        (sym (counted is_method_tree before tree refl))
-        (methods_written parts (before ++ tree ∷ []) rest (listed ++ new ∷ []) (λ p h. inside p (has_later _ _ p h))),
+            (sym (counted is_method_tree before tree refl))
+            (methods_written parts (before ++ tree ∷ []) rest (listed ++ new ∷ []) (λ p h. inside p (has_later _ _ p h))),
       )
   methods_written parts before (constructor z params left u ss right ∷ rest) listed inside =
       let tree = constructor z params left u ss right in
@@ -269,12 +266,11 @@ module _ (V : RegistrationList) (names : Names) (E : Space) (all : List (ScriptF
       (constructors_written parts (before ++ tree ∷ []) rest (listed ++ new ∷ []) (λ p h. inside p (has_later _ _ p h)))
   constructors_written parts before (constructor z params left u ss right ∷ rest) listed inside =
       let tree = constructor z params left u ss right in
-      let new : Member = record { name = z; access = access.Public; kind = member.Constructor params.items } in
-      (
+      let new : Member = record { name = z; access = access.Public; kind = member.Constructor params.items } in (
         record { text = text; name = z; own = x; bases = bases; super = u; tree = ss; written = inside _ (has_first _ _) },
         subst (λ n. EachFrom (IsConstructorWritten parts c) n (constructors_from (listed ++ new ∷ []) (flat_map members_by rest)))
-        (sym (counted is_constructor_tree before tree refl))
-        (constructors_written parts (before ++ tree ∷ []) rest (listed ++ new ∷ []) (λ p h. inside p (has_later _ _ p h))),
+            (sym (counted is_constructor_tree before tree refl))
+            (constructors_written parts (before ++ tree ∷ []) rest (listed ++ new ∷ []) (λ p h. inside p (has_later _ _ p h))),
       )
 
   -- the parts of the class, in front of others

@@ -192,7 +192,7 @@ module _ (Q : NumberedBody → Type 0) where
       (each_method (length before) f.methods own.methods) (each_constructor (length before) f.constructors own.constructors))
       (each_family (before ++ f ∷ []) fs
       (λ i g e. let there : length before + suc i ≡ length (before ++ f ∷ []) + i = omega (arith, length-append before (f ∷ [])) in
-          subst (λ c. HoldsIn c g) there (h (suc i) g e)))
+      subst (λ c. HoldsIn c g) there (h (suc i) g e)))
 
   pub every_body : (names : Names) → ((c : ℕ) (f : Family) → slice_get names.families c ≡ Some f → HoldsIn c f) → Every Q (bodies_of names)
   every_body names h =

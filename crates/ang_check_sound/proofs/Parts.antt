@@ -109,8 +109,7 @@ module _ (V : RegistrationList) (names : Names) (declared : List (List ℕ)) (fs
   globals_numbered i g j first script text n y rest before (v ∷ vs) k ps is b h =
       let more = filter_map (global_of E) (globals_from script text n y (k + 1) vs ++ rest) in
       let next : g + 1 ≡ first + length (before ++ v ∷ []) = omega (arith, is, length-append before (v ∷ [])) in
-      let end : g + suc (length vs) ≡ g + 1 + length vs = omega arith in
-      (
+      let end : g + suc (length vs) ≡ g + 1 + length vs = omega arith in (
         sym is,
         (_, at_same names.globals g (first + length before) _ is (next_item g names.globals _ more b), ap (λ f. written_at f text y) (sym same_space)),
         globals_numbered i (g + 1) j first script text n y rest (before ++ v ∷ []) vs (k + 1) ps next (next_left g names.globals _ more b)
@@ -150,8 +149,7 @@ module _ (V : RegistrationList) (names : Names) (declared : List (List ℕ)) (fs
             refl refl refl refl (subst (λ k. AreNumbered V names total i g k ps) (sym (bodies_more front new _ refl)) behind.numbered);
         written = λ parts inside.
             let own = class_written V names E (signatures_of E fs) (stands_at script n 0) text x final bases members total i g (length front) j f there
-            parts (λ p h. inside p (Contains-append_left here ps p h)) in
-            (
+            parts (λ p h. inside p (Contains-append_left here ps p h)) in (
               record { methods = own.0; constructors = own.1 },
               subst (λ k. EachFrom (IsFamilyWritten parts) k after) (sym longer) (behind.written parts (λ p h. inside p (Contains-append_right here ps p h))),
             );

@@ -292,8 +292,7 @@ module _ (V : RegistrationList) (names : Names) where
         let js : List Judgement = of_member text typing ∷ J ps in
         let same : J (a_method c m text x body ∷ ps) ≡ js = ap (λ (o : Option Method). judged_method V names c text x body o ++ J ps) h.0.there in
         let next = next_member j text typing (J ps) (subst Clean same clean)
-        (subst (λ (l : List Judgement). Behind t.Function j members (filter_map member_given l)) same b) in
-        (
+        (subst (λ (l : List Judgement). Behind t.Function j members (filter_map member_given l)) same b) in (
           (y, next.0, number_of V names j, h.0.there, next.1, h.0.body, next.2),
           all_sit total i g (j + 1) ps h.1 (none_behind (judged V names (a_method c m text x body)) (J ps) clean) next.3,
         )
@@ -306,8 +305,7 @@ module _ (V : RegistrationList) (names : Names) where
         let same : J (a_constructor c m text x own bases u ss ∷ ps) ≡ js =
         ap (λ (o : Option Constructor). judged_constructor V names c text x base (base_of V names c) u ss o ++ J ps) h.0.there in
         let next = next_member j text typing (J ps) (subst Clean same clean)
-        (subst (λ (l : List Judgement). Behind t.Function j members (filter_map member_given l)) same b) in
-        (
+        (subst (λ (l : List Judgement). Behind t.Function j members (filter_map member_given l)) same b) in (
           (y, next.0, h.0.there, next.1, subst (λ k. slice_get (functions ++ members) k ≡ Some next.0) (sym h.0.body) next.2),
           all_sit total i g (j + 1) ps h.1 (none_behind (judged V names (a_constructor c m text x own bases u ss)) (J ps) clean) next.3,
         )
@@ -420,8 +418,7 @@ module _ (V : RegistrationList) (names : Names) (sources : List Source) (p : t.P
     methods = λ m y at k body.
         let b = method_is c m k y (ap (option_and_then (λ (g : Family). slice_get g.methods m)) e ∙ at) body in
         let w = within_of V names c y.read_only in
-        let typing = method_body_typing (context_in V names b.text (Some w)) w y.function b.name b.tree in
-        (
+        let typing = method_body_typing (context_in V names b.text (Some w)) w y.function b.name b.tree in (
           b.typed.0,
           in_tree k b.typed.0 b.typed.2,
           typed_as (with_this w y.function) typing b.typed.0 b.typed.1
@@ -431,8 +428,7 @@ module _ (V : RegistrationList) (names : Names) (sources : List Source) (p : t.P
         let b = constructor_is c m y (ap (option_and_then (λ (g : Family). slice_get g.constructors m)) e ∙ at) in
         let w = within_of V names c false in
         let base = base_name V names c b.text b.own b.bases in
-        let typing = constructor_typing (context_in V names b.text (Some w)) w y.function b.name base (base_of V names c) b.super b.tree in
-        (
+        let typing = constructor_typing (context_in V names b.text (Some w)) w y.function b.name base (base_of V names c) b.super b.tree in (
           b.typed.0,
           in_tree y.body b.typed.0 b.typed.2,
           typed_as (with_this w y.function) typing b.typed.0 b.typed.1
@@ -479,7 +475,7 @@ has_names V names sources e none =
     (each_other (IsFunctionAt V names) (λ k h. (f : ScriptFunction) × (slice_get names.functions k ≡ Some f) × (h.parameters ≡ typed_parameters f)) 0 functions
     (λ k h i. (i.0, i.1, i.2.parameters)) given.functions) count in
     let bodies : map (λ (h : t.Function). h.parameters) members
-        ≡ map (body_parameters names) (range_with_len (length names.functions) (length (bodies_of names))) =
+    ≡ map (body_parameters names) (range_with_len (length names.functions) (length (bodies_of names))) =
     let start : length names.functions + 0 ≡ length names.functions = omega arith in
     let many : length members ≡ length (bodies_of names) =
     member_count ∙ sym (total_is V sources) ∙ ap (λ (m : Names). length (bodies_of m)) (sym e) in

@@ -99,8 +99,12 @@ module _ (s : BodyContext) where
   unfolding parameters_of
   own_one plain i None e = tt
   own_one plain i (Some f) e = (
-    (f, at_front (map typed_parameters s.names.functions) _ i (typed_parameters f)
-        (slice_get-map typed_parameters s.names.functions i ∙ ap (option_map typed_parameters) e), refl),
+    (
+      f,
+      at_front (map typed_parameters s.names.functions) _ i (typed_parameters f)
+          (slice_get-map typed_parameters s.names.functions i ∙ ap (option_map typed_parameters) e),
+      refl,
+    ),
     (every_at IsPlainFunction s.names.functions i f plain.names.functions e).result,
   )
 

@@ -90,9 +90,10 @@ module _ (E : Space) (none : E.families ≡ []) where
       → Every (λ (p : ScriptParameter). IsPlainType p.written.ty) (map (parameter_of E text false) ps)
   parameters_plain text [] e = tt
   parameters_plain text (p ∷ ps) e =
-      let accepted = two_false (is_type_beyond V text p.declared_type) (are_parameters_beyond V text ps) e in
-      (settled_plain (type_in E (own_role p) text p.declared_type) (type_plain E none (own_role p) text p.declared_type accepted.0),
-        parameters_plain text ps accepted.1)
+      let accepted = two_false (is_type_beyond V text p.declared_type) (are_parameters_beyond V text ps) e in (
+        settled_plain (type_in E (own_role p) text p.declared_type) (type_plain E none (own_role p) text p.declared_type accepted.0),
+        parameters_plain text ps accepted.1,
+      )
 
   -- what these declarations declare is plain
   pub record ArePlain (ds : List Declared) : Type 0 where
