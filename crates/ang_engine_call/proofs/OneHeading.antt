@@ -156,7 +156,7 @@ module _ (V : RegistrationList) (small : length V ≤ 1024) (all : List Declared
 
 pub one_heading : (V : RegistrationList) → length V ≤ 1024 → (ss : List Source) → refusals_of V ss ≡ [] → (n k : ℕ) (f g : ScriptFunction)
     → slice_get (names_of V (declarations_of ss)).functions n ≡ Some f → slice_get (names_of V (declarations_of ss)).functions k ≡ Some g → heading_of f ≡ heading_of g → n ≡ k
-unfolding refusals_of names_of
+unfolding refusals_of names_of Differ
 one_heading V small ss e =
     let ds = declarations_of ss in
     let phases = (none_refused (map plain_refusal (not_yet V ss)) (first_refusals V ds all_phases) e).1 in

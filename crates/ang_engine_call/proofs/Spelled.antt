@@ -1,5 +1,5 @@
 -- Parameters of the same type as it is written, and of the same passing, are spelled the same.
-use Rattle.std.proofs.Common.{◌≡◌, ◌≢◌, ℕ, Bool, true, ◌==◌, ◌&&◌, ◌+◌, ◌-◌, ◌<◌, ◌≤◌, List, [], ◌∷◌, length, Option, Some, None, Ok, Err, refl, sym, ap, ◌∙◌, subst, map, eq-eqb, arith}
+use Rattle.std.proofs.Common.{◌≡◌, ◌≢◌, ℕ, Bool, true, false, ◌==◌, ◌&&◌, ◌+◌, ◌-◌, ◌<◌, ◌≤◌, List, [], ◌∷◌, length, Option, Some, None, Ok, Err, refl, sym, ap, ◌∙◌, subst, map, eq-eqb, arith}
 use Rattle.std.specs.Prelude.{bytes_eq, is_some, nat_lt}
 use Rattle.std.specs.List.{position}
 use Rattle.std.specs.Option.{option_or}
