@@ -1,5 +1,5 @@
 -- What a look-up in a view finds is an entity of the view, and no object passes by it where it is named or called.
-use Rattle.std.specs.Prelude.{◌≡◌, ◌≢◌, ℕ, suc, ◌+◌, Bool, true, false, bytes_eq, List, [], ◌∷◌, length, option_to_list, Option, Some, None, IfSome}
+use Rattle.std.specs.Prelude.{◌≡◌, ◌≢◌, ℕ, suc, ◌+◌, true, false, bytes_eq, List, [], ◌∷◌, length, option_to_list, Option, Some, None, IfSome}
 use Rattle.std.specs.List.{list_any}
 use Rattle.std.specs.Option.{option_or}
 use Rattle.std.proofs.Common.{refl, ap, sym, subst, arith}

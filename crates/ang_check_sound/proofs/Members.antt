@@ -1,5 +1,5 @@
 -- The parts of a class are those of its methods and constructors, each with its number and its body's.
-use Rattle.std.specs.Prelude.{◌≡◌, ℕ, ◌+◌, Bool, true, false, if◌then◌else◌, Contains, length, filter, List, [], ◌∷◌, ◌++◌, map, option_and_then, Option, Some, None, slice_get}
+use Rattle.std.specs.Prelude.{◌≡◌, ℕ, ◌+◌, Bool, true, false, if◌then◌else◌, Contains, length, filter, List, [], ◌∷◌, ◌++◌, map, option_and_then, Option, Some, slice_get}
 use Rattle.std.specs.List.{flat_map, list_any}
 use Rattle.std.proofs.Common.{refl, ap, sym, ◌∙◌, subst, arith, append_assoc, append-nil}
 use Rattle.ang_lex.specs.declared.token.Token.{Token}

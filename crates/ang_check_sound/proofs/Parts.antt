@@ -1,11 +1,10 @@
 -- Each part of a build belongs to what the names have at its number, and is judged; each body has the number that it is given.
-use Rattle.std.specs.Prelude.{◌≡◌, ℕ, suc, ◌+◌, Bool, true, false, All, Contains, if◌then◌else◌, length, List, [], ◌∷◌, ◌++◌, map, filter, sum_by, Option, Some, None, slice_get}
+use Rattle.std.specs.Prelude.{◌≡◌, ℕ, suc, ◌+◌, Bool, All, length, List, [], ◌∷◌, ◌++◌, map, sum_by, Option}
 use Rattle.std.specs.List.{filter_map, flat_map}
 use Rattle.std.proofs.Common.{refl, ap, sym, ◌∙◌, subst, arith, append_assoc, append-nil, length-append}
 use Rattle.std.proofs.lemmas.Grind.{flat_map-append}
 use Rattle.std.proofs.lemmas.List.Elements.{Contains-append_left, Contains-append_right}
 use Rattle.ang_view.specs.Registration.{RegistrationList}
-use Rattle.ang_lex.specs.declared.token.Token.{Token}
 use Rattle.ang_tree.specs.declared.type_name.TypeName.{TypeName}
 use Rattle.ang_tree.specs.Stmt.{Var, Every}
 use Rattle.ang_tree.specs.Declarations.{Decl, class, interface, import, function, globals, empty}
@@ -20,11 +19,11 @@ use Rattle.ang_names_known.specs.Spaces.{Space, space_of_names}
 use Rattle.ang_names_known.specs.declared.names.Written.{Written}
 use Rattle.ang_names_written.specs.declared.role.Role.TheVariants as role
 use Rattle.ang_names_written.specs.Types.{written_in}
-use Rattle.ang_names_written.specs.Sources.{Source, text_of}
+use Rattle.ang_names_written.specs.Sources.{Source}
 use Rattle.ang_names_listed.specs.declared.listed.Declared.{Declared}
-use Rattle.ang_names_listed.specs.Declarations.{Declaring, stands_at, members_by, member_of, class_shape, interface_shape, globals_from, declared_at, declarations_of, declaring_of, families_of, family_name}
+use Rattle.ang_names_listed.specs.Declarations.{Declaring, stands_at, class_shape, interface_shape, globals_from, declared_at, declarations_of, declaring_of, families_of, family_name}
 use Rattle.ang_names.specs.Meant.{space_of_declared}
-use Rattle.ang_names.specs.Resolved.{function_of, global_of, with_bodies, body_members, signatures_of, families_after, family_with, functions_in, families_in, names_of}
+use Rattle.ang_names.specs.Resolved.{function_of, global_of, body_members, signatures_of, families_after, family_with, functions_in, families_in, names_of}
 use Rattle.ang_check_bodies.specs.Bodies.{Part, a_function, a_global, a_method, a_constructor, a_default, InSection, function_count, global_count, family_count, initializer_parts, class_parts, declaration_parts, in_sections, parts_of, judged_method, judged_constructor, judged_function, judged_global, base_name, base_of, judged, judgements}
 use Rattle.ang_check_sound.specs.Parts.{IsPartOf}
 use Rattle.ang_check_sound.proofs.Declared.{Declare, all_declared}
@@ -306,14 +305,14 @@ names_have_parts V names sources e = subst (λ (m : Names). HasParts V m sources
 -- ---- each belongs to what has its number, and is judged
 
 module _ (V : RegistrationList) (names : Names) where
-  each_belongs : (total i g j : ℕ) (ps : List Part) → AreNumbered V names total i g j ps → Every (IsPartOf V names) ps
-  each_belongs total i g j [] h = tt
-  each_belongs total i g j (a_function n text x b ∷ ps) h = (h.1, each_belongs total (i + 1) g j ps h.2)
-  each_belongs total i g j (a_global n text y init ∷ ps) h = (h.1, each_belongs total i (g + 1) j ps h.2)
-  each_belongs total i g j (a_method c m text x b ∷ ps) h = ((h.0.method, h.0.there, h.0.name, h.0.place), each_belongs total i g (j + 1) ps h.1)
-  each_belongs total i g j (a_constructor c m text x own bases u ss ∷ ps) h =
-      ((h.0.constructor, h.0.there, h.0.name, h.0.place), each_belongs total i g (j + 1) ps h.1)
-  each_belongs total i g j (a_default c text x bases ∷ ps) h = (h.0, each_belongs total i g j ps h.1)
+  each_belongs : (many i g j : ℕ) (ps : List Part) → AreNumbered V names many i g j ps → Every (IsPartOf V names) ps
+  each_belongs many i g j [] h = tt
+  each_belongs many i g j (a_function n text x b ∷ ps) h = (h.1, each_belongs many (i + 1) g j ps h.2)
+  each_belongs many i g j (a_global n text y init ∷ ps) h = (h.1, each_belongs many i (g + 1) j ps h.2)
+  each_belongs many i g j (a_method c m text x b ∷ ps) h = ((h.0.method, h.0.there, h.0.name, h.0.place), each_belongs many i g (j + 1) ps h.1)
+  each_belongs many i g j (a_constructor c m text x own bases u ss ∷ ps) h =
+      ((h.0.constructor, h.0.there, h.0.name, h.0.place), each_belongs many i g (j + 1) ps h.1)
+  each_belongs many i g j (a_default c text x bases ∷ ps) h = (h.0, each_belongs many i g j ps h.1)
 
   one_judged : (p : Part) → IsPartOf V names p → length (judged V names p) ≡ 1
   one_judged (a_function n text x b) h = ap (λ (f : Option ScriptFunction). length (judged_function V names text x b f)) h.1

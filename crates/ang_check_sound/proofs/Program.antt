@@ -1,16 +1,14 @@
 -- The resolved tree of scripts without errors: it has what the names declare, each body at its number, and is sound.
-use Rattle.std.specs.Prelude.{◌≡◌, ℕ, suc, ◌+◌, ◌==◌, Bool, true, false, Contains, length, take, List, [], ◌∷◌, ◌++◌, map, find, unwrap_or, option_map, option_and_then, Option, Some, None, Ok, Err, IfOk, IfSome, slice_get}
+use Rattle.std.specs.Prelude.{◌≡◌, ℕ, suc, ◌+◌, true, false, Contains, length, take, List, [], ◌∷◌, ◌++◌, map, unwrap_or, option_map, option_and_then, Option, Some, None, Ok, Err, IfOk, slice_get}
 use Rattle.std.specs.List.{cons_option, filter_map, flat_map, list_any, range_with_len}
-use Rattle.std.proofs.Common.{refl, ap, sym, ◌∙◌, subst, arith, append-nil}
+use Rattle.std.proofs.Common.{refl, ap, sym, ◌∙◌, subst, arith}
 use Rattle.std.proofs.lemmas.Bool.{eqb-true}
 use Rattle.std.proofs.lemmas.List.{length-map, map-append}
-use Rattle.std.proofs.lemmas.List.Elements.{filter_map-append}
-use Rattle.std.proofs.lemmas.Option.{same_Some, slice_get-map}
+use Rattle.std.proofs.lemmas.Option.{same_Some}
 use Rattle.ang_lex.specs.declared.token.Token.{Token}
 use Rattle.ang_view.specs.Registration.{RegistrationList}
 use Rattle.ang_view.specs.Values.{TakesValues}
 use Rattle.ang_tree.specs.declared.type_name.TypeName.{TypeName}
-use Rattle.ang_tree.specs.declared.declaration.BaseName.{BaseName}
 use Rattle.ang_tree.specs.Declarations.{SuperTree}
 use Rattle.ang_tree.specs.Stmt.{Init, Body, Stmts, Every}
 use Rattle.ang_types.specs.declared.arg_type.ArgType.{ArgType}
@@ -36,14 +34,13 @@ use Rattle.ang_check_body.specs.Typing.{Base, typed_parameters, function_typing,
 use Rattle.ang_check_bodies.specs.Bodies.{Part, a_function, a_global, a_method, a_constructor, a_default, parts_of, Judgement, of_function, of_global, of_member, of_default, context_in, within_of, base_of, base_name, judged_function, judged_global, method_at, judged_method, constructor_at, judged_constructor, judged, judgements, refusal_in, function_given, member_given, global_given, body_refusals, typed_class, typed_classes, method_headings, import_heading, program_of, HasMethodBody, HasConstructorBody, HasBodies}
 use Rattle.ang_source.specs.Sound.{Module, module_of, SoundOption, SoundFunction, SoundFunctions, SoundGlobals, SoundClasses, SoundProgram}
 use Rattle.ang_check_sound.specs.Checked.{NumberedBody, with_this, bodies_of, body_parameters, module_in, HasNames}
-use Rattle.ang_check_sound.specs.Parts.{IsPartOf}
 use Rattle.ang_check_sound.specs.PlainNames.{IsPlainType, IsPlainFunction, ArePlainNames, IsPlainContext}
 use Rattle.ang_check_sound.proofs.Bodies.{IsOf, IsGlobal, function_declared, method_declared, constructor_declared, global_declared, function_sound, global_sound}
-use Rattle.ang_check_sound.proofs.Items.{every_joined, every_at}
-use Rattle.ang_check_sound.proofs.Members.{number_of, IsMethod, IsConstructor, AreNumbered, IsMethodWritten, IsConstructorWritten, MethodPart, ConstructorPart}
+use Rattle.ang_check_sound.proofs.Items.{every_at}
+use Rattle.ang_check_sound.proofs.Members.{number_of, IsMethod, IsConstructor, AreNumbered, IsMethodWritten, IsConstructorWritten}
 use Rattle.ang_check_sound.proofs.Numbers.{has_number, bodies_counted, method_numbered, constructor_numbered, HoldsIn, every_body, found}
 use Rattle.ang_check_sound.proofs.Parts.{total_of, IsFamilyWritten, HasParts, names_have_parts}
-use Rattle.ang_check_sound.proofs.Places.{Behind, all_left, next_item, next_left, none_left, EachFrom, at_number, all_of_each, in_second}
+use Rattle.ang_check_sound.proofs.Places.{Behind, all_left, next_item, next_left, EachFrom, at_number, all_of_each, in_second}
 use Rattle.ang_check_sound.proofs.Within.{names_plain, IsWithin, parts_within}
 
 -- ---- judgements without refusals
@@ -275,26 +272,26 @@ module _ (V : RegistrationList) (names : Names) where
     all_sit : (total i g j : ℕ) (ps : List Part) → AreNumbered V names total i g j ps → Clean (J ps)
         → Behind t.Function j members (filter_map member_given (J ps)) → Every Sits ps
     all_sit total i g j [] h clean b = tt
-    all_sit total i g j (a_function n text x body ∷ ps) h clean b = (
+    all_sit total i g j (a_function n text x code ∷ ps) h clean b = (
       tt,
-      all_sit total (i + 1) g j ps h.2 (none_behind (judged V names (a_function n text x body)) (J ps) clean)
-          (subst (Behind t.Function j members) (no_function text x body (slice_get names.functions n) (J ps)) b),
+      all_sit total (i + 1) g j ps h.2 (none_behind (judged V names (a_function n text x code)) (J ps) clean)
+          (subst (Behind t.Function j members) (no_function text x code (slice_get names.functions n) (J ps)) b),
     )
     all_sit total i g j (a_global n text y init ∷ ps) h clean b = (
       tt,
       all_sit total i (g + 1) j ps h.2 (none_behind (judged V names (a_global n text y init)) (J ps) clean)
           (subst (Behind t.Function j members) (no_global text y init (slice_get names.globals n) (J ps)) b),
     )
-    all_sit total i g j (a_method c m text x body ∷ ps) h clean b =
+    all_sit total i g j (a_method c m text x code ∷ ps) h clean b =
         let y = h.0.method in
         let w = within_of V names c y.read_only in
-        let typing = method_body_typing (context_in V names text (Some w)) w y.function x body in
+        let typing = method_body_typing (context_in V names text (Some w)) w y.function x code in
         let js : List Judgement = of_member text typing ∷ J ps in
-        let same : J (a_method c m text x body ∷ ps) ≡ js = ap (λ (o : Option Method). judged_method V names c text x body o ++ J ps) h.0.there in
+        let same : J (a_method c m text x code ∷ ps) ≡ js = ap (λ (o : Option Method). judged_method V names c text x code o ++ J ps) h.0.there in
         let next = next_member j text typing (J ps) (subst Clean same clean)
         (subst (λ (l : List Judgement). Behind t.Function j members (filter_map member_given l)) same b) in (
           (y, next.0, number_of V names j, h.0.there, next.1, h.0.body, next.2),
-          all_sit total i g (j + 1) ps h.1 (none_behind (judged V names (a_method c m text x body)) (J ps) clean) next.3,
+          all_sit total i g (j + 1) ps h.1 (none_behind (judged V names (a_method c m text x code)) (J ps) clean) next.3,
         )
     all_sit total i g j (a_constructor c m text x own bases u ss ∷ ps) h clean b =
         let y = h.0.constructor in

@@ -13,7 +13,6 @@ use Rattle.ang_tree.specs.Stmt as written
 use Rattle.ang_names_written.specs.NotYet.{is_beyond, are_beyond, is_option_beyond, is_initializer_beyond, are_variables_beyond, is_type_beyond, are_locals_beyond, is_start_beyond, is_statement_beyond, is_body_beyond, are_statements_beyond}
 use Rattle.ang_names_written.specs.declared.role.Role.TheVariants as role
 use Rattle.ang_names_written.specs.Types.{TypeOrError, is_unknown_type, type_in}
-use Rattle.ang_names_written.specs.Sources.{text_of}
 use Rattle.ang_typed.specs.Typed as t
 use Rattle.ang_names_known.specs.declared.names.Family.{Family}
 use Rattle.ang_types.specs.Ranks.{Ancestors}
