@@ -96,9 +96,9 @@ fn heading_alone(
     }
 }
 
-/// The function that a text declares without its body: with a line end and `{}` behind it, it is a script of
-/// one function and nothing else, each of whose types can stand where it is written. Types are those that the names of the
-/// space mean.
+/// The function that a text declares without its body: with a line end and `{}` behind it, it is a
+/// script of one function and nothing else, each of whose types can stand where it is written. Types are
+/// those that the names of the space mean.
 ///
 /// The only error is want of memory.
 #[tactic(auto, unfolding(crate::specs::Declaration::declared_by))]

@@ -10,13 +10,14 @@ use std::alloc::{AllocError, Global};
 /// The number of the module's function that the text declares without its body: its place in
 /// `names.functions`.
 ///
-/// `view` is what the module saw of the host when it was built, and `names` are those of its scripts. The text
-/// declares a function where it is, with a line end and `{}` behind it, a script of one function and nothing
-/// else, each of whose types can stand where it is written, among the types of the module (docs/LANGUAGE.md, "Names of
-/// a build"). The module's function is that of the same name, the same result and the same parameters, each type with its
-/// `const` as it is spelled, and each parameter with its passing; names of parameters don't count. None for every other
-/// text: one that is too long, that the lexer or the parser refuses, with a body of its own, with two declarations or none,
-/// with an unknown type, or of a function that the module doesn't have.
+/// `view` is what the module saw of the host when it was built, and `names` are those of its scripts. The
+/// text declares a function where it is, with a line end and `{}` behind it, a script of one function and
+/// nothing else, each of whose types can stand where it is written, among the types of the module
+/// (docs/LANGUAGE.md, "Names of a build"). The module's function is that of the same name, the same result
+/// and the same parameters, each type with its `const` as it is spelled, and each parameter with its
+/// passing; names of parameters don't count. None for every other text: one that is too long, that the lexer
+/// or the parser refuses, with a body of its own, with two declarations or none, with an unknown type, or of
+/// a function that the module doesn't have.
 ///
 /// The only error is want of memory.
 #[tactic(auto, unfolding(crate::specs::Named::function_named_by), using(crate::proofs::Found::place_within))]

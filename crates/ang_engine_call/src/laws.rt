@@ -27,9 +27,9 @@ pub fn first_of_its_heading()
         function_named_by V names decl ≡ None → ¬ IsNamedBy V names decl k }
 {}
 
-/// No two functions of a build, of which no phase refuses a declaration, have one heading, over a view with no more entries
-/// than a registration list has. So the function with the heading of the one that a text declares is the one that the text
-/// names.
+/// No two functions of a build, of which no phase refuses a declaration, have one heading, over a view with
+/// no more entries than a registration list has. So the function with the heading of the one that a text
+/// declares is the one that the text names.
 pub fn one_of_each_heading()
     ensures apart { (V : RegistrationList) (sources : List Source) (n k : ℕ) (f g : ScriptFunction) →
         length V ≤ 1024 → refusals_of V sources ≡ [] →
