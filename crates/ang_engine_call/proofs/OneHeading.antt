@@ -44,7 +44,7 @@ no_clash E fs d x (part.Function y ps) (part.Function z qs) f g small apart a b 
     let own : meant_heading E d.origin d.text d.name y ps ≡ f = cc in
     let others : meant_heading E x.origin x.text x.name z qs ≡ g = cc in
     let headings : heading_of (meant_heading E x.origin x.text x.name z qs) ≡ heading_of (meant_heading E d.origin d.text d.name y ps) =
-        ap heading_of others ∙ sym same ∙ sym (ap heading_of own) in
+    ap heading_of others ∙ sym same ∙ sym (ap heading_of own) in
     let names : declared_name x ≡ declared_name d = ap (λ (h : Heading). h.name) headings in
     let behind = both_none (type_refusal_of E d.text role.Result y) (parameter_list_refusal E d.text false d.name ps) a in
     let beyond = both_none (type_refusal_of E x.text role.Result z) (parameter_list_refusal E x.text false x.name qs) b in

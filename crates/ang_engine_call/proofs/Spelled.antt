@@ -83,12 +83,14 @@ one_of_two fs V a b (Some c) None x (Some m) n small e f g h s t = absurd (omega
   where
     above : {m : ℕ} → named.Object m ≡ named.Object n → m ≡ n
     above e = cc
+
     below : named.Object m ≡ named.Object n → m ≡ n
     below e = cc
 one_of_two fs V a b None (Some d) (Some m) y n small e f g h s t = absurd (omega (arith, below s, above t, host_below V a m small g))
   where
     above : {m : ℕ} → named.Object m ≡ named.Object n → m ≡ n
     above e = cc
+
     below : named.Object m ≡ named.Object n → m ≡ n
     below e = cc
 one_of_two fs V a b None None (Some l) (Some m) n small e f g h s t =
