@@ -33,7 +33,7 @@ fn errors_of(alloc: Global, refused: List<Refused>) -> Result<Vec<Error>, AllocE
 /// view; or the first error of each body and each initializer, in the order of the declarations.
 ///
 /// `Errors` are those, of which there is one at least; `Memory` is want of memory.
-#[tactic(auto, using(ang_names::proofs::Few::accepted_families, crate::proofs::Errors::some_errors))]
+#[tactic(auto, using(ang_names::proofs::Few::accepted_families, ang_names::proofs::Few::some_errors))]
 pub fn check(
     alloc: Global,
     view: &View,

@@ -1,8 +1,7 @@
 -- Families one after the other, as classes of the resolved tree and as their methods' headings.
-use Rattle.std.proofs.Common.{◌≡◌, ◌<◌, ◌≤◌, ◌+◌, ◌-◌, refl, ap, sym, ◌∙◌, ℕ, arith, List, [], ◌∷◌, ◌++◌, append_assoc, append-nil, length, get_or, drop, take, Option, Some, None, map as list_map}
+use Rattle.std.proofs.Common.{◌≡◌, ◌<◌, ◌+◌, ◌-◌, refl, ap, sym, ◌∙◌, ℕ, arith, List, [], ◌∷◌, ◌++◌, append_assoc, append-nil, length, get_or, drop, take, Option, Some, None, map as list_map}
 use Rattle.std.specs.Prelude.{slice_get}
 use Rattle.std.proofs.lemmas.List.{drop_more, length-take-le, take_more}
-use Rattle.ang_types.specs.declared.arg_type.ArgType.{ArgType}
 use Rattle.ang_names_known.specs.declared.names.Family.{Family}
 use Rattle.ang_names_known.specs.Items.{each_after}
 use Rattle.ang_names_known.specs.Lookup.{Numbered, with_family, families_at, fields_in, kin_of, kin_in}

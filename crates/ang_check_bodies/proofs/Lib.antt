@@ -1,4 +1,4 @@
 pub mod Lists
-pub mod Judging
-pub mod Members
+pub mod JudgedParts
+pub mod ClassMembers
 pub mod Classes

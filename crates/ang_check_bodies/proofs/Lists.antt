@@ -1,11 +1,15 @@
 -- Lists that grow, and what is left of one.
-use Rattle.std.proofs.Common.{◌≡◌, ◌<◌, ◌≤◌, ◌+◌, refl, ap, sym, ◌∙◌, ℕ, zero, suc, add-one, arith, List, [], ◌∷◌, ◌++◌, append_assoc, append-nil, length, get_or, drop, take, Option, Some, None, option_to_list, map as list_map}
+use Rattle.std.proofs.Common.{◌≡◌, ◌<◌, ◌≤◌, ◌+◌, refl, ap, sym, ◌∙◌, ℕ, zero, suc, add-one, arith, List, [], ◌∷◌, ◌++◌, append_assoc, append-nil, length, get_or, drop, take, Option, Some, None, Result, Ok, Err, OnOk, option_to_list, map as list_map}
 use Rattle.std.specs.Prelude.{slice_get, sum_by}
 use Rattle.std.specs.List.{filter_map, cons_option}
 use Rattle.std.proofs.lemmas.List.{map-append, take_more, take_all}
 use Rattle.std.proofs.lemmas.List.Sums.{sum_by_push}
 use Rattle.ang_names_known.specs.Items.{each_after}
 use Rattle.ang_check_bodies.specs.Judging.{tail}
+
+pub on_ok : {T E P Q : Type 0} (r : Result T E) → (P → Q) → OnOk r P → OnOk r Q
+on_ok (Ok v) f p = f p
+on_ok (Err e) f p = tt
 
 -- ---- an item more
 
@@ -59,6 +63,10 @@ each_on f before (x ∷ xs) ys =
     ∙ sym (append_assoc (f before x) (each_after f (before ++ x ∷ []) xs) (each_after f (before ++ x ∷ xs) ys))
 
 -- ---- what is left of a list
+
+pub empty_is : {A : Type 0} (xs : List A) → length xs ≡ 0 → xs ≡ []
+empty_is [] e = refl
+empty_is (x ∷ xs) e = absurd (omega (arith, e))
 
 pub tail_none : {A : Type 0} (xs : List A) → length xs ≡ 0 → xs ≡ tail xs
 tail_none [] e = refl

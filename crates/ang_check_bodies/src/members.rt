@@ -187,7 +187,12 @@ fn has_constructor(members: &[Member]) -> bool
     ensures exact { result
         ≡ list_any bodies.is_constructor_tree (list_map trees.view_member members.now) }
 {
-    members.iter().any(|member| is_constructor(member))
+    for member in members {
+        if is_constructor(member) {
+            return true;
+        }
+    }
+    false
 }
 
 /// The part of its own that a class without a constructor has: its base class has to have one without parameters.
@@ -229,7 +234,7 @@ fn name_among(text: &[u8], family: &Family, own: &Token, bases: &[BaseName]) -> 
 
 fn base_token(text: &[u8], family: Option<&Family>, own: &Token, bases: &[BaseName]) -> Token
     ensures exact { result
-        ≡ bodies.base_token text.now (option_copied family) own.now bases.now }
+        ≡ bodies.base_token text.now (option_copied family.entry) own.now bases.now }
 {
     match family {
         None => *own,

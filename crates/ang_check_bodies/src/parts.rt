@@ -1,5 +1,6 @@
 //! The bodies and initializers of declarations, one after the other.
-ghost use Rattle.std.specs.Prelude.{◌≡◌, ◌≤◌, ◌-◌, ◌∷◌, [], length, OnOk};
+ghost use Rattle.std.specs.Prelude.{◌≡◌, ◌≤◌, ◌-◌, ◌∷◌, [], length, option_copied, slice_get, OnOk, map as list_map};
+ghost use Rattle.ang_tree.specs.Declarations.{globals};
 ghost use Rattle.ang_tree.specs.View as trees;
 ghost use Rattle.ang_names_known.specs.Spaces.{ancestors_of};
 ghost use Rattle.ang_names_written.specs.Sources.{source_of};
@@ -95,9 +96,9 @@ fn add_initializers(
 ) -> Result<(), AllocError>
     requires few { length build.now.names.now.families ≤ 256 }
     requires ancestors { build.now.lineage.now ≡ ancestors_of build.now.names.now }
-    ensures judged { OnOk result (spec.Initializes build.now.view.now build.now.names.now
+    ensures judged { OnOk result (spec.Judges build.now.view.now build.now.names.now
         left.old left.new found.old found.new
-        text.now written.now.declared_type (trees.view_vars written.now).items) }
+        ((text.now, globals (trees.view_vars written.now)) ∷ [])) }
 {
     for variable in &written.items {
         add_global(
@@ -122,6 +123,13 @@ fn class_number(build: &Build<'_>, left: &Left<'_>) -> usize
     all.len().saturating_sub(left.families.len())
 }
 
+/// The class or interface of this number.
+fn family_of(families: &[Family], number: usize) -> Option<&Family>
+    ensures exact { option_copied result ≡ slice_get families.now number }
+{
+    families.get(number)
+}
+
 /// The members of the next class.
 fn add_next_class(
     alloc: Global,
@@ -142,7 +150,7 @@ fn add_next_class(
         return Ok(());
     };
     left.families = rest;
-    let Some(family) = build.names.families.as_slice().get(number) else {
+    let Some(family) = family_of(build.names.families.as_slice(), number) else {
         return Ok(());
     };
     add_class(alloc, build, text, number, family, written, found)
@@ -188,6 +196,29 @@ fn add_declaration(
     }
 }
 
+/// The bodies and initializers of declarations of a section with these bytes.
+///
+/// The only error is want of memory.
+fn add_declarations(
+    alloc: Global,
+    build: &Build<'_>,
+    text: &[u8],
+    declarations: &[Declaration],
+    left: &mut Left<'_>,
+    found: &mut Found,
+) -> Result<(), AllocError>
+    requires few { length build.now.names.now.families ≤ 256 }
+    requires ancestors { build.now.lineage.now ≡ ancestors_of build.now.names.now }
+    ensures judged { OnOk result (spec.Judges build.now.view.now build.now.names.now
+        left.old left.new found.old found.new
+        (list_map (λ d. (text.now, d)) (list_map trees.view_decl declarations.now))) }
+{
+    for declaration in declarations {
+        add_declaration(alloc, build, text, declaration, left, found)?;
+    }
+    Ok(())
+}
+
 /// The bodies and initializers of a section.
 ///
 /// The only error is want of memory.
@@ -203,9 +234,12 @@ pub fn add_script(
     ensures judged { OnOk result (spec.Judges build.now.view.now build.now.names.now
         left.old left.new found.old found.new (spec.section_of (source_of script.now))) }
 {
-    let text = script.source.as_slice();
-    for declaration in &script.declarations {
-        add_declaration(alloc, build, text, declaration, left, found)?;
-    }
-    Ok(())
+    add_declarations(
+        alloc,
+        build,
+        script.source.as_slice(),
+        script.declarations.as_slice(),
+        left,
+        found,
+    )
 }

@@ -1,12 +1,11 @@
 -- What makes objects of a base class, and what a constructor ends with.
-use Rattle.std.proofs.Common.{◌≡◌, ◌≤◌, ◌+◌, ◌-◌, refl, ap, sym, ◌∙◌, ℕ, Bool, false, cond, nat_lt, arith, List, [], ◌∷◌, ◌++◌, length, Option, Some, None, map as list_map}
-use Rattle.std.specs.Prelude.{slice_get}
+use Rattle.std.proofs.Common.{◌≡◌, ◌≤◌, ◌+◌, ◌-◌, refl, ap, sym, ◌∙◌, ℕ, Bool, false, cond, nat_lt, arith, List, [], ◌∷◌, ◌++◌, length, Some, None, map as list_map}
 use Rattle.std.proofs.lemmas.List.{map-append}
 use Rattle.std.proofs.lemmas.Option.{slice_get_past}
 use Rattle.ang_typed.specs.Typed as t
 use Rattle.ang_typed.specs.View.{view_stmt}
 use Rattle.ang_typed.specs.declared.statement.Statement.{Statement}
-use Rattle.ang_names_known.specs.Spaces.{family_type, family_of_type, first_family}
+use Rattle.ang_names_known.specs.Spaces.{family_type, family_of_type}
 use Rattle.ang_check_uses.specs.Uses.{Scope, makers_of, makers_for, makers_in}
 use Rattle.ang_check_body.specs.Typing.{with_last}
 

@@ -18,7 +18,7 @@ use Rattle.ang_check_typing.specs.declared.scope.LocalVariable.{LocalVariable}
 use Rattle.ang_check_typing.specs.declared.scope.Within.{Within}
 use Rattle.ang_check_typing.specs.Scope.{BodyContext}
 use Rattle.ang_check_statements.specs.Typing.{block_typing, stmts_typing, initializer_typing}
-use Rattle.ang_check_body.specs.Typing.{Base, parameter_local, typed_parameter, typed_parameters, this_local, this_parameter, is_void, ending, frame_of, function_typing, method_body_typing, base_typing, maker_frame, constructor_typing, global_typing}
+use Rattle.ang_check_body.specs.Typing.{Base, parameter_local, typed_parameter, typed_parameters, this_local, is_void, ending, frame_of, function_typing, method_body_typing, base_typing, maker_frame, constructor_typing, global_typing}
 use Rattle.ang_source.specs.Sound.{SoundOption, SoundStatements, SoundFunction}
 use Rattle.ang_check_sound.specs.Checked.{with_this}
 use Rattle.ang_check_sound.specs.PlainNames.{IsPlainType, IsPlainFunction, ArePlainLocals, IsPlainContext}

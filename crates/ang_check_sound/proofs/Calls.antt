@@ -1,5 +1,5 @@
 -- A name and a call make sound trees of sound operands.
-use Rattle.std.specs.Prelude.{◌≡◌, ◌≢◌, ℕ, suc, Bool, true, false, not, ◌&&◌, if◌then◌else◌, is_some, length, List, [], ◌∷◌, map, option_map, option_and_then, Option, Some, None, IfSome, Ok, Err, IfOk, slice_get}
+use Rattle.std.specs.Prelude.{◌≡◌, ◌≢◌, ℕ, suc, Bool, true, false, not, ◌&&◌, if◌then◌else◌, length, List, [], ◌∷◌, map, option_map, option_and_then, Option, Some, None, IfSome, Err, IfOk, slice_get}
 use Rattle.std.proofs.Common.{refl, ap, sym, ◌∙◌, subst}
 use Rattle.std.proofs.lemmas.List.{length-map}
 use Rattle.std.proofs.lemmas.Option.{slice_get_within}
@@ -15,7 +15,6 @@ use Rattle.ang_types.specs.Ranks.{Ancestors}
 use Rattle.ang_typed.specs.declared.expression.Variable.{Variable}
 use Rattle.ang_typed.specs.declared.expression.Variable.TheVariants as variable
 use Rattle.ang_typed.specs.Typed as t
-use Rattle.ang_view.specs.Types.{type_named}
 use Rattle.ang_names_known.specs.declared.names.Family.{Family}
 use Rattle.ang_names_known.specs.declared.names.FoundField.{FoundField}
 use Rattle.ang_names_known.specs.declared.names.ScriptParameter.{ScriptParameter}
@@ -23,12 +22,12 @@ use Rattle.ang_names_known.specs.Items.{is_empty}
 use Rattle.ang_names_known.specs.Lookup.{FoundMethod, type_and_pass, kin_of, field_named, methods_of, methods_named, may_use}
 use Rattle.ang_names_written.specs.Sources.{text_of}
 use Rattle.ang_check_operand.specs.declared.operand.Target.{Target}
-use Rattle.ang_check_operand.specs.Refusals.{Typing, ◌>>=◌, fault, refused}
-use Rattle.ang_check_operand.specs.Operands.{Operand, operand, fit, site_in}
+use Rattle.ang_check_operand.specs.Refusals.{Typing, fault}
+use Rattle.ang_check_operand.specs.Operands.{Operand, fit, site_in}
 use Rattle.ang_check_typing.specs.declared.scope.LocalVariable.{LocalVariable}
 use Rattle.ang_check_typing.specs.declared.scope.Within.{Within}
 use Rattle.ang_check_typing.specs.Scope.{BodyContext, scope_of, last_named, family_of, is_there}
-use Rattle.ang_check_typing.specs.Calls.{if_in_reach, is_out_variable, out_variable, is_out_type, is_out, variable_in, out_or, out_of, value_for, out_for, argument_by, argument, arguments_for, call_of, call_with, called, types_of, called_use, value_use, field_within, field_or_global, local_at, local_named, local_or, name_typing, named_methods, call_by, call_typing}
+use Rattle.ang_check_typing.specs.Calls.{if_in_reach, is_out_variable, is_out_type, is_out, variable_in, out_or, out_of, value_for, out_for, argument_by, argument, arguments_for, call_of, call_with, types_of, called_use, value_use, field_within, field_or_global, local_at, local_named, local_or, name_typing, named_methods, call_by, call_typing}
 use Rattle.ang_check_uses.specs.declared.uses.Callable.{Callable}
 use Rattle.ang_check_uses.specs.declared.uses.Called.{Called}
 use Rattle.ang_check_uses.specs.declared.uses.Called.TheVariants as calls
@@ -37,7 +36,7 @@ use Rattle.ang_check_uses.specs.declared.uses.Resolution.{Resolution}
 use Rattle.ang_check_uses.specs.declared.uses.Resolution.TheVariants as resolution
 use Rattle.ang_check_uses.specs.Uses.{resolution_of}
 use Rattle.ang_tree.specs.Stmt.{Every}
-use Rattle.ang_source.specs.Sound.{Module, IsVariable, IsStored, IsTarget, Sound, SoundArguments, SoundArgument, SoundValues, argument_count}
+use Rattle.ang_source.specs.Sound.{Module, IsStored, IsTarget, Sound, SoundArguments, SoundArgument, SoundValues, argument_count}
 use Rattle.ang_names_written.specs.NotYet.{is_host_type, is_object_call}
 use Rattle.ang_check_body.specs.Typing.{typed_parameter}
 use Rattle.ang_check_sound.proofs.Judged.{holds, either_holds, both_hold}
@@ -161,8 +160,7 @@ module _ (s : BodyContext) (n : ℕ) where
       let fit : Fit M n (map type_and_pass h.0.params) xs = subst (λ (qs : List (ArgType × Pass)). Fit M n qs xs) h.2 f' in
       (map typed_parameter h.0.params, h.1, script_arguments M n h.0.params xs fit)
   call_sound (calls.Host h) result ps xs k f =
-      let there = k.0 (host_takes M n ps xs k.1 f) in
-      (
+      let there = k.0 (host_takes M n ps xs k.1 f) in (
         record { kind = there.kind; entity = there.entity; params = there.params ∙ ap Some (host_count M n ps xs f) },
         host_arguments M n ps xs k.1 f,
       )

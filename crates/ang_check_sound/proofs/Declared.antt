@@ -1,6 +1,5 @@
 -- The declarations of all sections declare what is listed of them, each in its turn.
 use Rattle.std.specs.Prelude.{◌≡◌, ℕ, ◌+◌, List, [], ◌∷◌, ◌++◌, map}
-use Rattle.std.specs.List.{flat_map}
 use Rattle.std.proofs.Common.{refl, append_assoc}
 use Rattle.ang_tree.specs.Declarations.{Decl}
 use Rattle.ang_names_written.specs.Sources.{Source}

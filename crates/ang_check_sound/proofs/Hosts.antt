@@ -1,5 +1,5 @@
 -- What a look-up in a view finds is an entity of the view, and no object passes by it where it is named or called.
-use Rattle.std.specs.Prelude.{◌≡◌, ◌≢◌, ℕ, suc, ◌+◌, Bool, true, false, bytes_eq, List, [], ◌∷◌, length, option_to_list, Option, Some, None, IfSome}
+use Rattle.std.specs.Prelude.{◌≡◌, ◌≢◌, ℕ, suc, ◌+◌, true, false, bytes_eq, List, [], ◌∷◌, length, option_to_list, Option, Some, None, IfSome}
 use Rattle.std.specs.List.{list_any}
 use Rattle.std.specs.Option.{option_or}
 use Rattle.std.proofs.Common.{refl, ap, sym, subst, arith}
@@ -185,7 +185,7 @@ entry_global V name n None at values = tt
 entry_global V name n (Some x) at values =
     tested (IsHostProperty V) (is_wanted_property (property.Global name) x) (property_with n x (host_type V x.signature.result))
     (λ e. let kind = global_kind x.kind (first_true (is_global x.kind) (bytes_eq x.signature.name name) e) in
-        global_host V n x (host_type V x.signature.result) (sym at) kind refl (subst (λ (k : EntryKind). IsOfKind k x.signature) kind values.of_kind))
+    global_host V n x (host_type V x.signature.result) (sym at) kind refl (subst (λ (k : EntryKind). IsOfKind k x.signature) kind values.of_kind))
 
 either_global : (V : RegistrationList) (here rest : Option HostProperty) → IfSome here (IsHostProperty V)
     → IfSome rest (IsHostProperty V) → IfSome (option_or here rest) (IsHostProperty V)

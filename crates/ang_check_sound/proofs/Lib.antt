@@ -1,10 +1,10 @@
 pub mod Judged
-pub mod Operators
 pub mod Items
 pub mod Conversions
 pub mod Types
 pub mod Hosts
 pub mod Views
+pub mod Operators
 pub mod Uses
 pub mod Calls
 pub mod Expressions
@@ -15,4 +15,5 @@ pub mod Within
 pub mod Places
 pub mod Members
 pub mod Parts
+pub mod Numbers
 pub mod Program

@@ -1,7 +1,7 @@
 -- Where items stand in a list: what is left of it behind some of them, and what holds of each by its number.
-use Rattle.std.specs.Prelude.{◌≡◌, ℕ, zero, suc, ◌+◌, ◌<◌, Bool, true, false, if◌then◌else◌, cond, Contains, All, length, filter, List, [], ◌∷◌, ◌++◌, sum_by, slice_get, Option, Some, None}
+use Rattle.std.specs.Prelude.{◌≡◌, ℕ, zero, suc, ◌+◌, Bool, true, false, if◌then◌else◌, cond, Contains, All, length, filter, List, [], ◌∷◌, ◌++◌, sum_by, slice_get, Some}
 use Rattle.std.proofs.Common.{refl, ap, sym, ◌∙◌, subst, arith, append_assoc, append-nil, length-append}
-use Rattle.std.proofs.lemmas.List.Elements.{All-nil, All-cons, Contains-append_left, Contains-append_right, filter-append}
+use Rattle.std.proofs.lemmas.List.Elements.{All-nil, All-cons, Contains-append_right, filter-append}
 use Rattle.std.proofs.lemmas.List.Sums.{sum_by-append}
 use Rattle.std.proofs.lemmas.Option.{same_Some}
 use Rattle.ang_tree.specs.Stmt.{Every}
@@ -32,6 +32,10 @@ next_left n xs x rest b = (
 
 pub none_left : {A : Type 0} (n : ℕ) (xs : List A) → Behind A n xs [] → length xs ≡ n
 none_left n xs b = ap length (b.1 ∙ append-nil b.0) ∙ b.2
+
+-- the same place
+pub at_same : {A : Type 0} (xs : List A) (i k : ℕ) (a : A) → i ≡ k → slice_get xs i ≡ Some a → slice_get xs k ≡ Some a
+at_same xs i k a e h = subst (λ q. slice_get xs q ≡ Some a) e h
 
 -- ---- counts
 

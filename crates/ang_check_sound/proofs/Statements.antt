@@ -13,7 +13,6 @@ use Rattle.ang_tree.specs.Stmt as written
 use Rattle.ang_names_written.specs.NotYet.{is_beyond, are_beyond, is_option_beyond, is_initializer_beyond, are_variables_beyond, is_type_beyond, are_locals_beyond, is_start_beyond, is_statement_beyond, is_body_beyond, are_statements_beyond}
 use Rattle.ang_names_written.specs.declared.role.Role.TheVariants as role
 use Rattle.ang_names_written.specs.Types.{TypeOrError, is_unknown_type, type_in}
-use Rattle.ang_names_written.specs.Sources.{text_of}
 use Rattle.ang_typed.specs.Typed as t
 use Rattle.ang_names_known.specs.declared.names.Family.{Family}
 use Rattle.ang_types.specs.Ranks.{Ancestors}
@@ -67,7 +66,7 @@ module _ (s : BodyContext) (plain : IsPlainContext s) (ps : List LocalVariable) 
   fitted_sound : (ancestors : Ancestors) (ty : ArgType) (a : Operand) → SoundOperand N n a → IfOk (fitted ancestors ty a) (SoundOption N n)
   fitted_sound ancestors ty a sa = holds (Sound N n) (SoundOption N n) (fit ancestors ty a) _ (fit_sound N n ancestors ty a sa) (λ x sx. sx)
 
-  absent_sound : (y : TypeName) (ty : ArgType) → IsPlainType ty → IfOk (absent_typing s y ty) (SoundOption N n)
+  absent_sound : (y : TypeName) (ty : ArgType) → IsPlainType ty → IfOk (absent_typing s ps y ty) (SoundOption N n)
   absent_sound y type.Void one = tt
   absent_sound y type.Null one = tt
   absent_sound y (type.Plain p) one = tt
@@ -82,7 +81,7 @@ module _ (s : BodyContext) (plain : IsPlainContext s) (ps : List LocalVariable) 
   value_in_sound equals (type.Handle m c) a sa = fitted_sound s.ancestors (type.Handle m c) a sa
 
   arguments_in_sound : (y : TypeName) (ty : ArgType) (operands : List Operand) → IsPlainType ty
-      → IfOk (arguments_typing s y ty operands) (SoundOption N n)
+      → IfOk (arguments_typing s ps y ty operands) (SoundOption N n)
   arguments_in_sound y type.Void operands one = tt
   arguments_in_sound y type.Null operands one = tt
   arguments_in_sound y (type.Plain p) operands one = tt

@@ -1,5 +1,5 @@
 -- A use of a name means a variable or a function that is there, and no object is among what is meant.
-use Rattle.std.specs.Prelude.{◌≡◌, ℕ, zero, suc, Bool, true, false, if◌then◌else◌, is_some, length, List, [], ◌∷◌, ◌++◌, map, slice_get, option_map, Option, Some, None, IfSome}
+use Rattle.std.specs.Prelude.{◌≡◌, ℕ, Bool, true, false, if◌then◌else◌, is_some, length, List, [], map, slice_get, option_map, Option, Some, None, IfSome}
 use Rattle.std.specs.List.{list_any}
 use Rattle.std.proofs.Common.{refl, ap, sym, ◌∙◌, subst}
 use Rattle.std.proofs.lemmas.Option.{slice_get_within, slice_get-map}
@@ -8,13 +8,11 @@ use Rattle.ang_kinds.specs.declared.error.ErrorKind.TheVariants as kind
 use Rattle.ang_view.specs.Types.{type_named}
 use Rattle.ang_types.specs.declared.arg_type.ArgType.{ArgType}
 use Rattle.ang_types.specs.declared.asks.Asks.TheVariants as asks
-use Rattle.ang_types.specs.declared.candidate.Candidate.{Candidate}
 use Rattle.ang_types.specs.declared.candidate.Pick.{Pick}
 use Rattle.ang_types.specs.declared.candidate.Pick.TheVariants as pick
 use Rattle.ang_types.specs.Overloads.{Params, params_in, params_at}
 use Rattle.ang_types.specs.Best.{best_of}
 use Rattle.ang_types.proofs.BestLaws.{best_of-says}
-use Rattle.ang_typed.specs.declared.program.Parameter.{Parameter}
 use Rattle.ang_names_known.specs.declared.host.HostFunction.{HostFunction}
 use Rattle.ang_names_known.specs.declared.host.HostProperty.{HostProperty}
 use Rattle.ang_names_known.specs.declared.host.Wanted.TheVariants as wanted
@@ -99,8 +97,12 @@ module _ (s : BodyContext) where
   unfolding parameters_of
   own_one plain i None e = tt
   own_one plain i (Some f) e = (
-    (f, at_front (map typed_parameters s.names.functions) _ i (typed_parameters f)
-        (slice_get-map typed_parameters s.names.functions i ∙ ap (option_map typed_parameters) e), refl),
+    (
+      f,
+      at_front (map typed_parameters s.names.functions) _ i (typed_parameters f)
+          (slice_get-map typed_parameters s.names.functions i ∙ ap (option_map typed_parameters) e),
+      refl,
+    ),
     (every_at IsPlainFunction s.names.functions i f plain.names.functions e).result,
   )
 

@@ -8,7 +8,6 @@ use Rattle.ang_tree.specs.declared.type_name.TypeName.{TypeName}
 use Rattle.ang_tree.specs.declared.declaration.Parameter.{Parameter}
 use Rattle.ang_tree.specs.Stmt.{Var, Every}
 use Rattle.ang_tree.specs.Declarations.{Decl, class, interface, import, function, globals, empty}
-use Rattle.ang_names_known.specs.declared.names.ScriptFunction.{ScriptFunction}
 use Rattle.ang_names_known.specs.declared.names.ScriptGlobal.{ScriptGlobal}
 use Rattle.ang_names_known.specs.declared.names.ScriptParameter.{ScriptParameter}
 use Rattle.ang_names_known.specs.Items.{each_after}
@@ -21,7 +20,7 @@ use Rattle.ang_names_listed.specs.declared.listed.Declared.{Declared}
 use Rattle.ang_names_listed.specs.Declarations.{Declaring, globals_from, declared_at, declarations_of, declaring_of, families_of, family_name}
 use Rattle.ang_names.specs.Meant.{space_of_declared}
 use Rattle.ang_names.specs.Resolved.{parameter_of, function_of, imported_of, global_of, families_after, signatures_of, functions_in, families_in, names_of}
-use Rattle.ang_check_bodies.specs.Bodies.{Part, a_function, a_global, a_method, a_constructor, a_default, InSection, function_count, global_count, initializer_parts, declaration_parts, in_sections, parts_of}
+use Rattle.ang_check_bodies.specs.Bodies.{Part, a_function, a_global, a_method, a_constructor, a_default, InSection, initializer_parts, declaration_parts, in_sections, parts_of}
 use Rattle.ang_check_sound.specs.PlainNames.{IsPlainType, IsPlainFunction, ArePlainNames}
 use Rattle.ang_check_sound.proofs.Declared.{Declare, all_declared}
 use Rattle.ang_check_sound.proofs.Items.{every_joined, two_false, three_false}
@@ -90,9 +89,10 @@ module _ (E : Space) (none : E.families ≡ []) where
       → Every (λ (p : ScriptParameter). IsPlainType p.written.ty) (map (parameter_of E text false) ps)
   parameters_plain text [] e = tt
   parameters_plain text (p ∷ ps) e =
-      let accepted = two_false (is_type_beyond V text p.declared_type) (are_parameters_beyond V text ps) e in
-      (settled_plain (type_in E (own_role p) text p.declared_type) (type_plain E none (own_role p) text p.declared_type accepted.0),
-        parameters_plain text ps accepted.1)
+      let accepted = two_false (is_type_beyond V text p.declared_type) (are_parameters_beyond V text ps) e in (
+        settled_plain (type_in E (own_role p) text p.declared_type) (type_plain E none (own_role p) text p.declared_type accepted.0),
+        parameters_plain text ps accepted.1,
+      )
 
   -- what these declarations declare is plain
   pub record ArePlain (ds : List Declared) : Type 0 where

@@ -1,9 +1,8 @@
 -- The code of a table does what the trees of its modules mean.
-use Rattle.std.proofs.Common.{◌≡◌, ℕ, zero, suc, List, [], ◌∷◌, None, refl, sym, ap, subst}
+use Rattle.std.proofs.Common.{◌≡◌, ℕ, zero, suc, List, [], ◌∷◌, refl, sym, ap, subst}
 use Rattle.std.specs.Prelude.{slice_get, slice_index_or}
 use Rattle.std.specs.Option.{option_flatten}
 use Rattle.ang_meaning.specs.Setting.{Setting}
-use Rattle.ang_core.specs.Sound.{LinksFit}
 use Rattle.ang_source.specs.Meaning.{codes_in, nothing}
 use Rattle.ang_vm_stack.specs.declared.table.Table.{Table}
 use Rattle.ang_vm_stack.specs.Tables.{module_at as code_at, text_in, height_in, texts_of}
@@ -35,14 +34,11 @@ module _ (t : Table) (ms : List Module) (is : IsTableOf t ms) (nesting : ℕ) wh
   is_listed : (m : ℕ) → IsModule (setting_for ms nesting) m (module_at ms m).view (slice_index_or (trees_of ms) m nothing) (texts_of t)
   is_listed m = subst (λ p. IsModule (setting_for ms nesting) m (module_at ms m).view p (texts_of t)) (sym (tree_at ms m)) (is_module m)
 
-  -- no import is bound, and methods fit their slots
-  links : LinksFit (setting_for ms nesting)
-  links = modules_fit (setting_for ms nesting) (λ m. (module_at ms m).view) (λ m. (module_at ms m).tree) (texts_of t) is_module
-      (λ m i. ap (λ l. option_flatten (slice_get l i)) (is.each m).unbound)
-
   pub behaves : BehavesAsSource (setting_for ms nesting) (codes_in (trees_of ms)) (texts_of t)
   behaves =
       let z : Setting = setting_for ms nesting in
+      -- no import is bound, and methods fit their slots
+      let links = modules_fit z (λ m. (module_at ms m).view) (λ m. (module_at ms m).tree) (texts_of t) is_module (λ m i. ap (λ l. option_flatten (slice_get l i)) (is.each m).unbound) in
       behaves_as_source z (λ m. (module_at ms m).view) (λ m. slice_index_or (trees_of ms) m nothing) (texts_of t) is_listed links
 
   pub never : NeverStuck (setting_for ms nesting) (texts_of t)

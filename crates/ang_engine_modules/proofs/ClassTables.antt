@@ -1,12 +1,11 @@
 -- The classes of a table are those of the tree, each under its number, and so are their methods.
-use Rattle.std.proofs.Common.{◌≡◌, ◌+◌, ℕ, zero, suc, List, [], ◌∷◌, ◌++◌, length, refl, sym, ap, subst, ◌∙◌, arith, Option, Some, None}
+use Rattle.std.proofs.Common.{◌≡◌, ◌+◌, ℕ, zero, suc, List, [], ◌∷◌, length, refl, ap, ◌∙◌, arith, Option, Some, None}
 use Rattle.std.specs.Prelude.{Bool, true, false, cond, nat_eq, ◌==◌, if◌then◌else◌, find, option_map, option_and_then, slice_get, map as list_map}
 use Rattle.std.specs.Option.{option_or}
 use Rattle.std.proofs.lemmas.Bool.{eq-eqb}
 use Rattle.std.proofs.lemmas.List.Folds.{find-append}
 use Rattle.ang_typed.specs.declared.program.Class as families
 use Rattle.ang_meaning.specs.declared.class.Class.{Class}
-use Rattle.ang_meaning.specs.declared.routine.Routine.{Routine}
 use Rattle.ang_source.specs.Meaning.{class_of as class_in, class_among, own_body, body_by, method_among, routine}
 use Rattle.ang_vm_stack.specs.declared.table.ClassCode.{ClassCode}
 use Rattle.ang_vm_stack.specs.declared.table.Method.{Method}

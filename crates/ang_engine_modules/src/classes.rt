@@ -141,7 +141,8 @@ fn class_code(
 /// The code of all classes of a module, by number.
 ///
 /// # Errors
-/// Want of memory. It is also answered where a number has more than 32 bits, as none of a checked module has.
+/// Want of memory. It is also answered where a number has more than 32 bits, as none of a
+/// checked module has.
 pub fn classes_of(alloc: Global, home: u32, classes: &[Class]) -> Result<Vec<ClassCode>, AllocError>
     ensures exact { IfOk result (λ codes. list_map spec.class_of codes.items ≡ classes_from home classes.now 0 classes.now) }
 {

@@ -80,7 +80,8 @@ fn imports_of(alloc: Global, headings: &[Heading]) -> Result<Vec<Import>, AllocE
     Ok(imports)
 }
 
-/// A module's code in the place `home` of the table: its bodies, the entities of its view, and what its tree declares.
+/// A module's code in the place `home` of the table: its bodies, the entities of its view, and what
+/// its tree declares.
 ///
 /// # Errors
 /// Want of memory. It is also answered where a number of a body or a class has more than 32 bits, as none of a

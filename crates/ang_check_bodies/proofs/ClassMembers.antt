@@ -1,5 +1,5 @@
 -- Members that were judged.
-use Rattle.std.proofs.Common.{◌≡◌, ◌<◌, ◌≤◌, ◌+◌, ◌-◌, refl, ap, sym, ◌∙◌, ℕ, Bool, true, false, arith, List, [], ◌∷◌, ◌++◌, append_assoc, append-nil, length, get_or, drop, take, subst, Option, Some, None, map as list_map}
+use Rattle.std.proofs.Common.{◌≡◌, ◌<◌, ◌≤◌, ◌+◌, refl, ap, sym, ◌∙◌, ℕ, Bool, true, false, arith, List, [], ◌∷◌, ◌++◌, append_assoc, append-nil, length, get_or, drop, take, subst, Option, Some, None, map as list_map}
 use Rattle.std.specs.Prelude.{filter, slice_get, if◌then◌else◌, option_and_then}
 use Rattle.std.specs.List.{flat_map, list_any}
 use Rattle.std.proofs.lemmas.Grind.{flat_map-append}
@@ -23,10 +23,10 @@ use Rattle.ang_check_bodies.specs.declared.found.Found.{Found}
 use Rattle.ang_check_bodies.specs.declared.members.MembersLeft.{MembersLeft}
 use Rattle.ang_check_bodies.specs.declared.members.OfClass.{OfClass}
 use Rattle.ang_check_body.specs.Typing.{method_body_typing, constructor_typing, implicit_super}
-use Rattle.ang_check_bodies.specs.Bodies.{Judgement, of_member, of_default, a_method, a_constructor, a_default, context_in, within_of, base_of, base_name, base_token, method_at, constructor_at, is_method_tree, is_constructor_tree, member_parts, class_parts, judged, judged_method, judged_constructor}
+use Rattle.ang_check_bodies.specs.Bodies.{Judgement, of_member, of_default, a_method, a_constructor, a_default, context_in, within_of, base_of, base_name, method_at, constructor_at, is_method_tree, is_constructor_tree, member_parts, class_parts, judged, judged_method, judged_constructor}
 use Rattle.ang_check_bodies.specs.Judging.{Noted, Adds, IsMemberLeft, IsOf, JudgesMembers, default_parts}
 use Rattle.ang_check_bodies.proofs.Lists.{each_on, first_left, rest_left, none_left, still_none, map_turn, map_all}
-use Rattle.ang_check_bodies.proofs.Judging.{adds_none, adds_on, adds_noted}
+use Rattle.ang_check_bodies.proofs.JudgedParts.{adds_none, adds_on, adds_noted}
 
 -- the same judgements in other words
 adds_same : (a b : Found) (js ks : List Judgement) → ks ≡ js → Adds a b js → Adds a b ks

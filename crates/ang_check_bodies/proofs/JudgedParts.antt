@@ -16,7 +16,9 @@ use Rattle.ang_names_known.specs.declared.names.Names.{Names}
 use Rattle.ang_names_known.specs.declared.names.ScriptFunction.{ScriptFunction}
 use Rattle.ang_names_known.specs.declared.names.ScriptGlobal.{ScriptGlobal}
 use Rattle.ang_names_known.specs.Items.{each_after}
+use Rattle.ang_names_known.specs.Spaces.{ancestors_of}
 use Rattle.ang_check_typing.specs.Scope.{BodyContext}
+use Rattle.ang_check_typing.specs.declared.scope.Within.{Within}
 use Rattle.ang_check_bodies.specs.declared.found.Found.{Found}
 use Rattle.ang_check_bodies.specs.declared.parts.Left.{Left}
 use Rattle.ang_check_body.specs.Typing.{implicit_super, function_typing, global_typing}
@@ -62,6 +64,11 @@ adds_same : (a b : Found) (js ks : List Judgement) → ks ≡ js → Adds a b js
 adds_same a b js ks e f = subst (λ xs. Adds a b xs) (sym e) f
 
 module _ (V : RegistrationList) (names : Names) where
+  -- the context of a body by its parts
+  pub context_is : (s : BodyContext) (text : List ℕ) (w : Option Within)
+      → s.view ≡ V → s.names ≡ names → s.ancestors ≡ ancestors_of names → s.text ≡ text → s.within ≡ w → s ≡ context_in V names text w
+  context_is s text w a b c d e = λ j. record { view = a j; names = b j; ancestors = c j; text = d j; within = e j }
+
   -- ---- declarations
 
   left_same : (l k : Left) (before : List InSection) (d : InSection) → function_count d ≡ 0 → global_count d ≡ 0 → family_count d ≡ 0
@@ -264,7 +271,12 @@ module _ (V : RegistrationList) (names : Names) where
   -- ---- globals
 
   pub initializes_none : (l : Left) (f : Found) (text : List ℕ) (y : TypeName) → Initializes V names l l f f text y []
-  initializes_none l f text y = record { functions = refl; families = refl; globals = λ n h. h; added = λ n h. adds_none f }
+  initializes_none l f text y = record {
+    functions = refl;
+    families = refl;
+    globals = λ n h. h ∙ ap (λ i. drop i names.globals) (sym (add-zero n));
+    added = λ n h. adds_none f;
+  }
 
   initializer_parts_on : (n : ℕ) (text : List ℕ) (y : TypeName) (vs : List Var) (v : Var)
       → each_after (initializer_parts n text y) [] (vs ++ v ∷ []) ≡ each_after (initializer_parts n text y) [] vs ++ a_global (n + length vs) text y v.initializer ∷ []
