@@ -1,5 +1,1 @@
-pub mod Statements
-pub mod Bodies
-pub mod Judging
-pub mod Halts
-pub mod View
+pub mod Denials

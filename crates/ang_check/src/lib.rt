@@ -1,15 +1,7 @@
-//! The checker: bodies and initializers of a build, judged one by one, as a resolved tree or their errors.
+//! The checker: a build's resolved tree or its errors, and what the denials of a refused build are.
 #![tactic(auto)]
 
-mod bodies;
 mod checking;
-mod found;
-mod frame;
-mod halt;
-mod locals;
-mod loops;
-mod parts;
-mod statements;
-mod values;
+pub mod laws;
 
 pub use checking::check;

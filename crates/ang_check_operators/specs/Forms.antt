@@ -5,11 +5,11 @@ use Rattle.ang_lex.specs.declared.token.TokenKind.TheVariants as k
 use Rattle.ang_typed.specs.declared.expression.Operator.TheVariants as op
 use Rattle.ang_typed.specs.declared.expression.Comparison.TheVariants as cmp
 use Rattle.ang_check_operators.specs.declared.forms.Form.{Form}
-use Rattle.ang_check_operators.specs.declared.forms.Form.TheVariants.{Works, Order, Equality, And, Or, Xor}
+use Rattle.ang_check_operators.specs.declared.forms.Form.TheVariants.{Works, Order, Equality, And, Or, Xor, Same, Differ}
 use Rattle.ang_check_operators.specs.declared.forms.Work.{Work}
 use Rattle.ang_check_operators.specs.declared.forms.Work.TheVariants.{Arithmetic, Shift}
 
--- the binary operators, but for `is` and `!is`
+-- the binary operators
 abbrev pub binary_form : TokenKind → Option Form
 binary_form k.Star = Some (Works (Arithmetic op.Multiply))
 binary_form k.Slash = Some (Works (Arithmetic op.Divide))
@@ -29,6 +29,8 @@ binary_form k.GreaterEqual = Some (Order cmp.GreaterEqual)
 binary_form k.Equal = Some (Equality cmp.Equal)
 binary_form k.NotEqual = Some (Equality cmp.NotEqual)
 binary_form k.Xor = Some Xor
+binary_form k.Is = Some Same
+binary_form k.NotIs = Some Differ
 binary_form k.And = Some And
 binary_form k.Or = Some Or
 binary_form _ = None

@@ -1,5 +1,2 @@
-pub mod Refusals
-pub mod Operands
-pub mod View
 pub mod Forms
 pub mod Operations

@@ -1,36 +1,39 @@
 //! Assignments.
 ghost use Rattle.std.specs.Prelude.{◌≡◌};
+ghost use Rattle.ang_check_operand.specs.Refusals.{Gives};
+ghost use Rattle.ang_check_operand.specs.View.{view_operand};
 ghost use Rattle.ang_check_operators.specs.Operations as spec;
-ghost use Rattle.ang_check_operators.specs.Refusals.{Gives};
-ghost use Rattle.ang_check_operators.specs.View.{view_operand};
+ghost use Rattle.ang_typed.specs.View.{view_site};
 
-use crate::fitting::{fit, integer, target};
 use crate::forms::{Work, compound_work};
-use crate::operand::{Operand, plain_operand};
-use crate::refusal::{Stop, fault};
-use crate::trees;
-use ang_kinds::{ErrorKind, Prim};
-use ang_lex::TokenKind;
-use ang_typed::{Operator, Variable};
+use crate::trees::{assign, compound};
+use ang_check_operand::{Operand, Seat, Stop, fault, fit, integer, plain_operand, seat, target};
+use ang_kinds::{ErrorKind, Place, Prim};
+use ang_lex::Token;
+use ang_typed::{Operator, Site};
 use ang_types::{ArgType, Lineage, common};
 use std::alloc::Global;
 
+/// A value put at a site of this type, with `=` at this place.
 fn assign_in(
     alloc: Global,
     lineage: &Lineage,
-    variable: Variable,
-    written: Operand,
+    at: Place,
+    place: Place,
+    site: Site,
     value: Operand,
+    ty: ArgType,
 ) -> Result<Operand, Stop>
-    ensures exact { Gives view_operand result (spec.assign_in lineage.now variable (view_operand written) (view_operand value) written.ty) }
+    ensures exact { Gives view_operand result
+        (spec.assign_in lineage.now at place (view_site site) (view_operand value) ty) }
 {
-    match written.ty {
+    match ty {
         ArgType::Plain(ty) => {
             let value = fit(alloc, lineage, ArgType::Plain(ty), value)?;
-            let tree = trees::assign(alloc, variable, ArgType::Plain(ty), value)?;
-            Ok(plain_operand(written.place, ArgType::Plain(ty), tree))
+            let tree = assign(alloc, site, ArgType::Plain(ty), value)?;
+            Ok(plain_operand(place, ArgType::Plain(ty), tree))
         }
-        _ => Err(fault(ErrorKind::NotYet, written.place)),
+        _ => Err(fault(ErrorKind::NoAssign, at)),
     }
 }
 
@@ -38,30 +41,70 @@ fn assign_in(
 fn assigned(
     alloc: Global,
     lineage: &Lineage,
+    at: Place,
     written: Operand,
     value: Operand,
 ) -> Result<Operand, Stop>
-    ensures exact { Gives view_operand result (spec.assigned lineage.now (view_operand written) (view_operand value)) }
+    ensures exact { Gives view_operand result
+        (spec.assigned lineage.now at (view_operand written) (view_operand value)) }
 {
-    let variable = target(&written)?;
-    assign_in(alloc, lineage, variable, written, value)
+    let (place, ty) = (written.place, written.ty);
+    let site = target(written)?;
+    assign_in(alloc, lineage, at, place, site, value, ty)
 }
 
+/// `@t = e`
+#[tactic(auto, unfolding(crate::specs::Operations::reseated))]
+fn reseated(
+    alloc: Global,
+    lineage: &Lineage,
+    written: Operand,
+    value: Operand,
+) -> Result<Operand, Stop>
+    ensures exact { Gives view_operand result
+        (spec.reseated lineage.now (view_operand written) (view_operand value)) }
+{
+    let (place, ty) = (written.place, written.ty);
+    let site = seat(written)?;
+    let value = fit(alloc, lineage, ty, value)?;
+    let tree = assign(alloc, site, ty, value)?;
+    Ok(plain_operand(place, ty, tree))
+}
+
+fn assigned_by(
+    alloc: Global,
+    lineage: &Lineage,
+    at: Place,
+    written: Operand,
+    value: Operand,
+    seat: Option<Seat>,
+) -> Result<Operand, Stop>
+    ensures exact { Gives view_operand result
+        (spec.assigned_by lineage.now at (view_operand written) (view_operand value) seat) }
+{
+    match seat {
+        None => assigned(alloc, lineage, at, written, value),
+        Some(_) => reseated(alloc, lineage, written, value),
+    }
+}
+
+/// A compound assignment to a site of the integer type `ty`, whose operator works in the type `operating`.
 fn compound_in(
     alloc: Global,
     lineage: &Lineage,
     operator: Operator,
-    variable: Variable,
+    place: Place,
+    site: Site,
     ty: Prim,
     operating: Prim,
-    written: Operand,
     value: Operand,
 ) -> Result<Operand, Stop>
-    ensures exact { Gives view_operand result (spec.compound_in lineage.now operator variable ty operating (view_operand written) (view_operand value)) }
+    ensures exact { Gives view_operand result (spec.compound_in lineage.now operator place
+        (view_site site) ty operating (view_operand value)) }
 {
     let value = fit(alloc, lineage, ArgType::Plain(operating), value)?;
-    let tree = trees::compound(alloc, variable, ty, operator, operating, value)?;
-    Ok(plain_operand(written.place, written.ty, tree))
+    let tree = compound(alloc, site, ty, operator, operating, value)?;
+    Ok(plain_operand(place, ArgType::Plain(ty), tree))
 }
 
 #[tactic(auto, unfolding(crate::specs::Operations::compound_arithmetic))]
@@ -72,21 +115,16 @@ fn compound_arithmetic(
     written: Operand,
     value: Operand,
 ) -> Result<Operand, Stop>
-    ensures exact { Gives view_operand result (spec.compound_arithmetic lineage.now operator (view_operand written) (view_operand value)) }
+    ensures exact { Gives view_operand result (spec.compound_arithmetic lineage.now operator
+        (view_operand written) (view_operand value)) }
 {
-    let variable = target(&written)?;
-    let own = integer(&written)?;
+    let place = written.place;
+    let own = integer(&written);
+    let site = target(written)?;
+    let own = own?;
     let other = integer(&value)?;
-    compound_in(
-        alloc,
-        lineage,
-        operator,
-        variable,
-        own,
-        common(own, other),
-        written,
-        value,
-    )
+    let operating = common(own, other);
+    compound_in(alloc, lineage, operator, place, site, own, operating, value)
 }
 
 #[tactic(auto, unfolding(crate::specs::Operations::compound_shift))]
@@ -97,34 +135,34 @@ fn compound_shift(
     written: Operand,
     value: Operand,
 ) -> Result<Operand, Stop>
-    ensures exact { Gives view_operand result (spec.compound_shift lineage.now operator (view_operand written) (view_operand value)) }
+    ensures exact { Gives view_operand result (spec.compound_shift lineage.now operator
+        (view_operand written) (view_operand value)) }
 {
-    let variable = target(&written)?;
-    let own = integer(&written)?;
+    let place = written.place;
+    let own = integer(&written);
+    let site = target(written)?;
+    let own = own?;
     let _ = integer(&value)?;
-    compound_in(
-        alloc,
-        lineage,
-        operator,
-        variable,
-        own,
-        common(own, own),
-        written,
-        value,
-    )
+    let operating = common(own, own);
+    compound_in(alloc, lineage, operator, place, site, own, operating, value)
 }
 
 fn assignment_by(
     alloc: Global,
     lineage: &Lineage,
+    at: Place,
     work: Option<Work>,
     written: Operand,
     value: Operand,
 ) -> Result<Operand, Stop>
-    ensures exact { Gives view_operand result (spec.assignment_by lineage.now work (view_operand written) (view_operand value)) }
+    ensures exact { Gives view_operand result
+        (spec.assignment_by lineage.now at work (view_operand written) (view_operand value)) }
 {
     match work {
-        None => assigned(alloc, lineage, written, value),
+        None => {
+            let seat = written.seat;
+            assigned_by(alloc, lineage, at, written, value, seat)
+        }
         Some(Work::Arithmetic(operator)) => {
             compound_arithmetic(alloc, lineage, operator, written, value)
         }
@@ -132,23 +170,25 @@ fn assignment_by(
     }
 }
 
-/// A target and its value, with `=` or a compound assignment between them.
+/// A target and its value, with `=` or a compound assignment between them. `@t = e` puts the handle `e` in the place of
+/// that which stands at `t`.
 ///
 /// # Errors
 ///
-/// `BadConversion` at the first token of a target that is no variable's name, `Const` at the name of one that
-/// can't be written; then `NotYet` at the first token of a target of no primitive type, with `=`; then
-/// `BadConversion` at the first token of the first operand that can't stand there.
-/// `Memory` where a growth was refused.
+/// `BadConversion` at the first token of what is no target, `Const` at the name of one that can't be written; then
+/// `NoAssign` at the `=` in front of which an object or a handle stands without `@`; then `BadConversion` at the first
+/// token of the first operand that can't stand there. `Memory` where a growth was refused.
 #[tactic(auto, unfolding(crate::specs::Operations::assignment_typing))]
 pub fn assignment(
     alloc: Global,
     lineage: &Lineage,
     written: Operand,
-    operator: TokenKind,
+    operator: &Token,
     value: Operand,
 ) -> Result<Operand, Stop>
-    ensures exact { Gives view_operand result (spec.assignment_typing lineage.now (view_operand written) operator (view_operand value)) }
+    ensures exact { Gives view_operand result (spec.assignment_typing lineage.now
+        (view_operand written) operator.now (view_operand value)) }
 {
-    assignment_by(alloc, lineage, compound_work(operator), written, value)
+    let work = compound_work(operator.kind);
+    assignment_by(alloc, lineage, operator.place, work, written, value)
 }

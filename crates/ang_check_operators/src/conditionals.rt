@@ -1,45 +1,34 @@
 //! `?:`
 ghost use Rattle.std.specs.Prelude.{◌≡◌};
+ghost use Rattle.ang_check_operand.specs.Refusals.{Gives};
+ghost use Rattle.ang_check_operand.specs.View.{view_operand};
 ghost use Rattle.ang_check_operators.specs.Operations as spec;
-ghost use Rattle.ang_check_operators.specs.Refusals.{Gives};
 ghost use Rattle.ang_typed.specs.View.{view_tree};
-ghost use Rattle.ang_check_operators.specs.View.{view_operand};
 
-use crate::fitting::{fit, integer, truth};
-use crate::operand::{Operand, plain_operand};
-use crate::refusal::{Stop, fault};
 use crate::trees::choose;
+use ang_check_operand::{Operand, Stop, fault, fit, integer, object_of, plain_operand, truth};
 use ang_kinds::{ErrorKind, Place, Prim};
 use ang_typed::Expression;
-use ang_types::{ArgType, Lineage, common};
+use ang_types::{ArgType, Lineage, common, rank};
 use std::alloc::Global;
 
-/// The two values of a `?:`.
-#[derive(Drop)]
-pub struct Branches {
-    /// The value where the condition is true.
-    pub then: Operand,
-    /// The value where the condition is false.
-    pub otherwise: Operand,
-}
-
-/// Both values made values of one type.
-fn chosen_in(
+/// Both made values of this type.
+fn choice_as(
     alloc: Global,
     lineage: &Lineage,
-    ty: Prim,
+    ty: ArgType,
     place: Place,
     condition: Box<Expression>,
-    branches: Branches,
+    chosen: Operand,
+    otherwise: Operand,
 ) -> Result<Operand, Stop>
-    ensures exact { Gives view_operand result (spec.chosen_in lineage.now ty place (view_tree condition)
-        (view_operand branches.«then») (view_operand branches.otherwise)) }
+    ensures exact { Gives view_operand result (spec.choice_as lineage.now ty place
+        (view_tree condition) (view_operand chosen) (view_operand otherwise)) }
 {
-    let Branches { then, otherwise } = branches;
-    let then = fit(alloc, lineage, ArgType::Plain(ty), then)?;
-    let otherwise = fit(alloc, lineage, ArgType::Plain(ty), otherwise)?;
-    let tree = choose(alloc, condition, then, otherwise)?;
-    Ok(plain_operand(place, ArgType::Plain(ty), tree))
+    let chosen = fit(alloc, lineage, ty, chosen)?;
+    let otherwise = fit(alloc, lineage, ty, otherwise)?;
+    let tree = choose(alloc, condition, chosen, otherwise)?;
+    Ok(plain_operand(place, ty, tree))
 }
 
 fn choice_of_integers(
@@ -47,21 +36,66 @@ fn choice_of_integers(
     lineage: &Lineage,
     place: Place,
     condition: Box<Expression>,
-    branches: Branches,
+    chosen: Operand,
+    otherwise: Operand,
 ) -> Result<Operand, Stop>
-    ensures exact { Gives view_operand result (spec.choice_of_integers lineage.now place (view_tree condition)
-        (view_operand branches.«then») (view_operand branches.otherwise)) }
+    ensures exact { Gives view_operand result (spec.choice_of_integers lineage.now place
+        (view_tree condition) (view_operand chosen) (view_operand otherwise)) }
 {
-    let own = integer(&branches.then)?;
-    let other = integer(&branches.otherwise)?;
-    chosen_in(
-        alloc,
-        lineage,
-        common(own, other),
-        place,
-        condition,
-        branches,
-    )
+    let own = integer(&chosen)?;
+    let other = integer(&otherwise)?;
+    let ty = ArgType::Plain(common(own, other));
+    choice_as(alloc, lineage, ty, place, condition, chosen, otherwise)
+}
+
+/// Whether a value of the one type can stand for the other.
+fn stands_for(lineage: &Lineage, from: ArgType, to: ArgType) -> bool
+    ensures exact { result ≡ spec.stands_for lineage.now from to }
+{
+    match (from, to) {
+        (ArgType::Handle { .. }, ArgType::Object { .. }) => false,
+        _ => rank(lineage, from, to).is_some(),
+    }
+}
+
+/// Of two objects or handles, as a value of the type for which the other can stand.
+fn choice_of(
+    alloc: Global,
+    lineage: &Lineage,
+    place: Place,
+    condition: Box<Expression>,
+    chosen: Operand,
+    otherwise: Operand,
+) -> Result<Operand, Stop>
+    ensures exact { Gives view_operand result (spec.choice_of lineage.now place
+        (view_tree condition) (view_operand chosen) (view_operand otherwise)) }
+{
+    let (own, other) = (chosen.ty, otherwise.ty);
+    if stands_for(lineage, other, own) {
+        choice_as(alloc, lineage, own, place, condition, chosen, otherwise)
+    } else if stands_for(lineage, own, other) {
+        choice_as(alloc, lineage, other, place, condition, chosen, otherwise)
+    } else {
+        Err(fault(ErrorKind::BadConversion, otherwise.place))
+    }
+}
+
+fn choice_of_objects(
+    alloc: Global,
+    lineage: &Lineage,
+    place: Place,
+    condition: Box<Expression>,
+    chosen: Operand,
+    otherwise: Operand,
+    object: Option<(u32, bool)>,
+) -> Result<Operand, Stop>
+    ensures exact { Gives view_operand result (spec.choice_of_objects lineage.now place
+        (view_tree condition) (view_operand chosen) (view_operand otherwise) object) }
+{
+    match object {
+        None => Err(fault(ErrorKind::BadConversion, otherwise.place)),
+        Some(_) => choice_of(alloc, lineage, place, condition, chosen, otherwise),
+    }
 }
 
 #[tactic(auto, unfolding(crate::specs::Operations::choice))]
@@ -70,41 +104,44 @@ fn choice(
     lineage: &Lineage,
     place: Place,
     condition: Box<Expression>,
-    branches: Branches,
+    chosen: Operand,
+    otherwise: Operand,
 ) -> Result<Operand, Stop>
-    ensures exact { Gives view_operand result (spec.choice lineage.now place (view_tree condition)
-        (view_operand branches.«then») (view_operand branches.otherwise)) }
+    ensures exact { Gives view_operand result (spec.choice lineage.now place
+        (view_tree condition) (view_operand chosen) (view_operand otherwise)) }
 {
-    match branches.then.ty {
+    match chosen.ty {
         ArgType::Plain(Prim::Bool) => {
-            chosen_in(alloc, lineage, Prim::Bool, place, condition, branches)
+            let ty = ArgType::Plain(Prim::Bool);
+            choice_as(alloc, lineage, ty, place, condition, chosen, otherwise)
         }
         ArgType::Object { .. } | ArgType::Handle { .. } => {
-            Err(fault(ErrorKind::NotYet, branches.then.place))
+            let object = object_of(otherwise.ty);
+            choice_of_objects(alloc, lineage, place, condition, chosen, otherwise, object)
         }
-        _ => choice_of_integers(alloc, lineage, place, condition, branches),
+        _ => choice_of_integers(alloc, lineage, place, condition, chosen, otherwise),
     }
 }
 
-/// A condition and the two values that it chooses from: two truth values, or two integers, which are made
-/// values of their common type.
+/// A condition, and the two values of which it chooses one: two truth values, two integers, which are made values of
+/// their common type, or objects and handles of which one can stand for the other.
 ///
 /// # Errors
 ///
-/// `NotBool` at the condition's first token where it is no truth value; then `NotYet` at the first token of the
-/// first value where that is an object or a handle; then `BadConversion` at the first token of the first value
-/// that can't stand there. `Memory` where a growth was refused.
+/// `NotBool` at the condition's first token where it is no truth value; then `BadConversion` at the first token of the
+/// first value that can't stand there. `Memory` where a growth was refused.
 #[tactic(auto, unfolding(crate::specs::Operations::conditional_typing))]
 pub fn conditional(
     alloc: Global,
     lineage: &Lineage,
     condition: Operand,
-    branches: Branches,
+    chosen: Operand,
+    otherwise: Operand,
 ) -> Result<Operand, Stop>
-    ensures exact { Gives view_operand result (spec.conditional_typing lineage.now (view_operand condition)
-        (view_operand branches.«then») (view_operand branches.otherwise)) }
+    ensures exact { Gives view_operand result (spec.conditional_typing lineage.now
+        (view_operand condition) (view_operand chosen) (view_operand otherwise)) }
 {
     let place = condition.place;
     let condition = truth(condition)?;
-    choice(alloc, lineage, place, condition, branches)
+    choice(alloc, lineage, place, condition, chosen, otherwise)
 }

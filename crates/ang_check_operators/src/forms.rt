@@ -29,9 +29,13 @@ pub enum Form {
     Or,
     /// `xor`
     Xor,
+    /// `is`
+    Same,
+    /// `!is`
+    Differ,
 }
 
-/// What a binary operator does; nothing for `is`, `!is` and what is none.
+/// What a binary operator does; nothing for what is none.
 pub fn binary_form(operator: TokenKind) -> Option<Form>
     ensures exact { result ≡ spec.binary_form operator }
 {
@@ -54,6 +58,8 @@ pub fn binary_form(operator: TokenKind) -> Option<Form>
         TokenKind::Equal => Form::Equality(Comparison::Equal),
         TokenKind::NotEqual => Form::Equality(Comparison::NotEqual),
         TokenKind::Xor => Form::Xor,
+        TokenKind::Is => Form::Same,
+        TokenKind::NotIs => Form::Differ,
         TokenKind::And => Form::And,
         TokenKind::Or => Form::Or,
         _ => return None,

@@ -1,48 +1,18 @@
-//! One operand: literals, operators in front of it and behind it, and conversions.
-ghost use Rattle.std.specs.Prelude.{◌≡◌, IfOk};
-ghost use Rattle.ang_typed.specs.Typed as tree;
-ghost use Rattle.ang_check_operators.specs.Operands as operands;
+//! One operand: operators in front of it and behind it, conversions, and parentheses.
+ghost use Rattle.std.specs.Prelude.{◌≡◌};
+ghost use Rattle.ang_check_operand.specs.Refusals.{Gives};
+ghost use Rattle.ang_check_operand.specs.View.{view_operand};
 ghost use Rattle.ang_check_operators.specs.Operations as spec;
-ghost use Rattle.ang_check_operators.specs.Refusals.{Gives};
-ghost use Rattle.ang_check_operators.specs.View.{view_operand};
 
-use crate::fitting::{fit, integer, target, truth};
-use crate::operand::{NamedVariable, Operand, plain_operand};
-use crate::refusal::{Stop, fault};
-use crate::trees::{complement, negate, not, number_tree, step_of, truth_tree};
+use crate::trees::{complement, negate, not, step_of};
+use ang_check_operand::{
+    Operand, Seat, Stop, Target, fault, fit, integer, plain_operand, target, truth,
+};
 use ang_kinds::{ErrorKind, Place, Prim};
-use ang_lex::{Token, TokenKind, number};
+use ang_lex::{Token, TokenKind};
 use ang_typed::StepKind;
 use ang_types::{ArgType, Lineage, common};
-use std::alloc::{AllocError, Global};
-
-/// A number, `true` or `false`, of which `text` are the bytes.
-///
-/// # Errors
-///
-/// `NotYet` at any other token, such as `null`. `Memory` where a growth was refused.
-#[tactic(auto, unfolding(crate::specs::Operations::literal_typing))]
-pub fn literal(alloc: Global, token: &Token, text: &[u8]) -> Result<Operand, Stop>
-    ensures exact { Gives view_operand result (spec.literal_typing token.now text.now) }
-{
-    match token.kind {
-        TokenKind::Number => {
-            let written = number(text);
-            let tree = number_tree(alloc, written.ty, written.value)?;
-            Ok(plain_operand(token.place, ArgType::Plain(written.ty), tree))
-        }
-        TokenKind::True => Ok(truth_literal(alloc, token.place, true)?),
-        TokenKind::False => Ok(truth_literal(alloc, token.place, false)?),
-        _ => Err(fault(ErrorKind::NotYet, token.place)),
-    }
-}
-
-fn truth_literal(alloc: Global, place: Place, value: bool) -> Result<Operand, AllocError>
-    ensures exact { IfOk result (λ a. view_operand a ≡ operands.operand place (ArgType.Plain Prim.Bool) (tree.truth value)) }
-{
-    let tree = truth_tree(alloc, value)?;
-    Ok(plain_operand(place, ArgType::Plain(Prim::Bool), tree))
-}
+use std::alloc::Global;
 
 #[tactic(auto, unfolding(crate::specs::Operations::negated))]
 fn negated(
@@ -51,7 +21,8 @@ fn negated(
     place: Place,
     operand: Operand,
 ) -> Result<Operand, Stop>
-    ensures exact { Gives view_operand result (spec.negated lineage.now place (view_operand operand)) }
+    ensures exact { Gives view_operand result
+        (spec.negated lineage.now place (view_operand operand)) }
 {
     let own = integer(&operand)?;
     let ty = common(own, own);
@@ -67,7 +38,8 @@ fn complemented(
     place: Place,
     operand: Operand,
 ) -> Result<Operand, Stop>
-    ensures exact { Gives view_operand result (spec.complemented lineage.now place (view_operand operand)) }
+    ensures exact { Gives view_operand result
+        (spec.complemented lineage.now place (view_operand operand)) }
 {
     let own = integer(&operand)?;
     let ty = common(own, own);
@@ -83,7 +55,8 @@ fn raised_operand(
     place: Place,
     operand: Operand,
 ) -> Result<Operand, Stop>
-    ensures exact { Gives view_operand result (spec.raised_operand lineage.now place (view_operand operand)) }
+    ensures exact { Gives view_operand result
+        (spec.raised_operand lineage.now place (view_operand operand)) }
 {
     let own = integer(&operand)?;
     let ty = common(own, own);
@@ -100,23 +73,61 @@ fn opposite(alloc: Global, place: Place, operand: Operand) -> Result<Operand, St
     Ok(plain_operand(place, ArgType::Plain(Prim::Bool), tree))
 }
 
+fn seat_of(is_object: bool, target: Option<Target>) -> Option<Seat>
+    ensures exact { result ≡ spec.seat_of is_object target }
+{
+    match target {
+        None => None,
+        Some(target) => Some(Seat { target, is_object }),
+    }
+}
+
+/// `@` in front of an operand.
+#[tactic(auto, unfolding(crate::specs::Operations::handle_typing))]
+fn handle_of(place: Place, operand: Operand) -> Result<Operand, Stop>
+    ensures exact { Gives view_operand result (spec.handle_typing place (view_operand operand)) }
+{
+    match operand.ty {
+        ArgType::Void | ArgType::Plain(_) => Err(fault(ErrorKind::BadConversion, operand.place)),
+        ArgType::Null => Ok(plain_operand(place, ArgType::Null, operand.tree)),
+        ArgType::Object { number, read_only } => {
+            Ok(Operand {
+                place,
+                ty: ArgType::Handle { number, read_only },
+                tree: operand.tree,
+                target: None,
+                seat: seat_of(true, operand.target),
+            })
+        }
+        ArgType::Handle { number, read_only } => {
+            Ok(Operand {
+                place,
+                ty: ArgType::Handle { number, read_only },
+                tree: operand.tree,
+                target: None,
+                seat: seat_of(false, operand.target),
+            })
+        }
+    }
+}
+
 #[tactic(auto, unfolding(crate::specs::Operations::stepped))]
 fn stepped(alloc: Global, step: StepKind, place: Place, operand: Operand) -> Result<Operand, Stop>
     ensures exact { Gives view_operand result (spec.stepped step place (view_operand operand)) }
 {
-    let variable = target(&operand)?;
-    let ty = integer(&operand)?;
-    let tree = step_of(alloc, variable, ty, step)?;
-    Ok(plain_operand(place, operand.ty, tree))
+    let own = integer(&operand);
+    let site = target(operand)?;
+    let ty = own?;
+    let tree = step_of(alloc, site, ty, step)?;
+    Ok(plain_operand(place, ArgType::Plain(ty), tree))
 }
 
 /// An operand with an operator in front of it.
 ///
 /// # Errors
 ///
-/// `NotBool` or `BadConversion` at the first token of an operand that can't stand there, for `++` and `--`
-/// also where it is no variable's name; `Const` at the name of a variable that can't be changed. `NotYet` at `@`.
-/// `Memory` where a growth was refused.
+/// `NotBool` or `BadConversion` at the first token of an operand that can't stand there, for `++` and `--` also where it
+/// is no site; `Const` at the name of a site that can't be changed. `Memory` where a growth was refused.
 #[tactic(auto, unfolding(crate::specs::Operations::prefix_typing))]
 pub fn prefix(
     alloc: Global,
@@ -124,7 +135,8 @@ pub fn prefix(
     operator: &Token,
     operand: Operand,
 ) -> Result<Operand, Stop>
-    ensures exact { Gives view_operand result (spec.prefix_typing lineage.now operator.now (view_operand operand)) }
+    ensures exact { Gives view_operand result
+        (spec.prefix_typing lineage.now operator.now (view_operand operand)) }
 {
     match operator.kind {
         TokenKind::Not => opposite(alloc, operator.place, operand),
@@ -133,7 +145,8 @@ pub fn prefix(
         TokenKind::Tilde => complemented(alloc, lineage, operator.place, operand),
         TokenKind::Increment => stepped(alloc, StepKind::IncrementBefore, operator.place, operand),
         TokenKind::Decrement => stepped(alloc, StepKind::DecrementBefore, operator.place, operand),
-        _ => Err(fault(ErrorKind::NotYet, operator.place)),
+        TokenKind::At => handle_of(operator.place, operand),
+        _ => Err(fault(ErrorKind::BadConversion, operator.place)),
     }
 }
 
@@ -141,8 +154,7 @@ pub fn prefix(
 ///
 /// # Errors
 ///
-/// The refusals that `prefix` has for `++` and `--`, and `NotYet` at the operand's first token where the operator
-/// is neither. `Memory` where a growth was refused.
+/// The refusals that `prefix` has for `++` and `--`. `Memory` where a growth was refused.
 #[tactic(auto, unfolding(crate::specs::Operations::postfix_typing))]
 pub fn postfix(alloc: Global, operand: Operand, operator: TokenKind) -> Result<Operand, Stop>
     ensures exact { Gives view_operand result (spec.postfix_typing (view_operand operand) operator) }
@@ -151,16 +163,15 @@ pub fn postfix(alloc: Global, operand: Operand, operator: TokenKind) -> Result<O
     match operator {
         TokenKind::Increment => stepped(alloc, StepKind::IncrementAfter, place, operand),
         TokenKind::Decrement => stepped(alloc, StepKind::DecrementAfter, place, operand),
-        _ => Err(fault(ErrorKind::NotYet, place)),
+        _ => Err(fault(ErrorKind::BadConversion, place)),
     }
 }
 
-/// A conversion that is written, `int8(e)` and the like.
+/// A conversion that is written, `int8(e)` and the like, with the word in front.
 ///
 /// # Errors
 ///
-/// `BadConversion` at the operand's first token where it does not convert. `NotYet` at a word that is no
-/// primitive type's. `Memory` where a growth was refused.
+/// `BadConversion` at the operand's first token where it does not convert. `Memory` where a growth was refused.
 #[tactic(auto, unfolding(crate::specs::Operations::convert_typing))]
 pub fn convert(
     alloc: Global,
@@ -168,27 +179,28 @@ pub fn convert(
     word: &Token,
     operand: Operand,
 ) -> Result<Operand, Stop>
-    ensures exact { Gives view_operand result (spec.convert_typing lineage.now word.now (view_operand operand)) }
+    ensures exact { Gives view_operand result
+        (spec.convert_typing lineage.now word.now (view_operand operand)) }
 {
     match word.kind {
         TokenKind::Primitive(ty) => {
             let tree = fit(alloc, lineage, ArgType::Plain(ty), operand)?;
             Ok(plain_operand(word.place, ArgType::Plain(ty), tree))
         }
-        _ => Err(fault(ErrorKind::NotYet, word.place)),
+        _ => Err(fault(ErrorKind::BadConversion, word.place)),
     }
 }
 
-fn inside(named: Option<NamedVariable>) -> Option<NamedVariable>
-    ensures exact { result ≡ spec.inside named }
+fn inside(target: Option<Target>) -> Option<Target>
+    ensures exact { result ≡ spec.inside target }
 {
-    let mut named = named?;
-    named.bare = false;
-    Some(named)
+    let mut target = target?;
+    target.bare = false;
+    Some(target)
 }
 
-/// An expression in parentheses that begin at this place. A name in them is still a target, but no bare name.
-/// It takes no memory.
+/// An operand in parentheses, the first of which stands at this place. A name in them is still a target, but no bare
+/// name, and `@` in them names no site. It takes no memory.
 pub fn group(place: Place, operand: Operand) -> Operand
     ensures exact { view_operand result ≡ spec.group_typing place (view_operand operand) }
 {
@@ -196,6 +208,7 @@ pub fn group(place: Place, operand: Operand) -> Operand
         place,
         ty: operand.ty,
         tree: operand.tree,
-        named: inside(operand.named),
+        target: inside(operand.target),
+        seat: None,
     }
 }

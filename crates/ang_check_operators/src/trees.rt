@@ -1,76 +1,61 @@
-//! Resolved trees made of their parts, each in a box.
+//! Resolved trees made of their parts, each in a box. Each function fails for want of memory alone.
 ghost use Rattle.std.specs.Prelude.{◌≡◌, IfOk};
 ghost use Rattle.ang_typed.specs.Typed as tree;
-ghost use Rattle.ang_typed.specs.View.{view_expr, view_tree};
+ghost use Rattle.ang_typed.specs.View.{view_site, view_tree};
 
+use ang_check_operand::boxed;
 use ang_kinds::Prim;
-use ang_typed::{Comparison, Expression, Operator, StepKind, Variable};
+use ang_typed::{Comparison, Expression, Operator, Site, StepKind};
 use ang_types::ArgType;
 use std::alloc::{AllocError, Global};
 
-/// A tree in a box, into which it is put as soon as it is made.
-///
-/// # Errors
-///
-/// Want of memory alone.
-pub fn boxed(alloc: Global, tree: Expression) -> Result<Box<Expression>, AllocError>
-    ensures exact { IfOk result (λ b. view_tree b ≡ view_expr tree) }
-{
-    let tree = Box::new(alloc, tree)?;
-    Ok(tree)
-}
-
 /// A number as it is written: `value`, of the integer type `ty`.
-///
-/// # Errors
-///
-/// Want of memory alone.
-pub fn number_tree(alloc: Global, ty: Prim, value: u64) -> Result<Box<Expression>, AllocError>
+pub(crate) fn number_tree(
+    alloc: Global,
+    ty: Prim,
+    value: u64,
+) -> Result<Box<Expression>, AllocError>
     ensures exact { IfOk result (λ e. view_tree e ≡ tree.number ty value) }
 {
     boxed(alloc, Expression::Number { ty, value })
 }
 
 /// The word `true` or `false`, by its truth value.
-///
-/// # Errors
-///
-/// Want of memory alone.
-pub fn truth_tree(alloc: Global, value: bool) -> Result<Box<Expression>, AllocError>
+pub(crate) fn truth_tree(alloc: Global, value: bool) -> Result<Box<Expression>, AllocError>
     ensures exact { IfOk result (λ e. view_tree e ≡ tree.truth value) }
 {
     boxed(alloc, Expression::Truth(value))
 }
 
-/// `++` or `--` of a variable of the integer type `ty`.
-///
-/// # Errors
-///
-/// Want of memory alone.
-pub fn step_of(
+/// `null`
+pub(crate) fn null_tree(alloc: Global) -> Result<Box<Expression>, AllocError>
+    ensures exact { IfOk result (λ e. view_tree e ≡ tree.null) }
+{
+    boxed(alloc, Expression::Null)
+}
+
+/// `++` or `--` of what stands at a site of the integer type `ty`.
+pub(crate) fn step_of(
     alloc: Global,
-    variable: Variable,
+    site: Site,
     ty: Prim,
     step: StepKind,
 ) -> Result<Box<Expression>, AllocError>
-    ensures exact { IfOk result (λ e. view_tree e ≡ tree.step variable ty step) }
+    ensures exact { IfOk result (λ e. view_tree e ≡ tree.step (view_site site) ty step) }
 {
-    boxed(alloc, Expression::Step { variable, ty, step })
+    boxed(alloc, Expression::Step { site, ty, step })
 }
 
 /// An operator on two integers of type `ty`, which is the type of its result too.
-///
-/// # Errors
-///
-/// Want of memory alone.
-pub fn operate(
+pub(crate) fn operate(
     alloc: Global,
     operator: Operator,
     ty: Prim,
     left: Box<Expression>,
     right: Box<Expression>,
 ) -> Result<Box<Expression>, AllocError>
-    ensures exact { IfOk result (λ e. view_tree e ≡ tree.operate operator ty (view_tree left) (view_tree right)) }
+    ensures exact { IfOk result
+        (λ e. view_tree e ≡ tree.operate operator ty (view_tree left) (view_tree right)) }
 {
     boxed(
         alloc,
@@ -84,18 +69,15 @@ pub fn operate(
 }
 
 /// A comparison of two values of type `ty`. Its result is a `bool`.
-///
-/// # Errors
-///
-/// Want of memory alone.
-pub fn compare(
+pub(crate) fn compare(
     alloc: Global,
     comparison: Comparison,
     ty: Prim,
     left: Box<Expression>,
     right: Box<Expression>,
 ) -> Result<Box<Expression>, AllocError>
-    ensures exact { IfOk result (λ e. view_tree e ≡ tree.compare comparison ty (view_tree left) (view_tree right)) }
+    ensures exact { IfOk result
+        (λ e. view_tree e ≡ tree.compare comparison ty (view_tree left) (view_tree right)) }
 {
     boxed(
         alloc,
@@ -109,11 +91,7 @@ pub fn compare(
 }
 
 /// `&&` of two truth values.
-///
-/// # Errors
-///
-/// Want of memory alone.
-pub fn and(
+pub(crate) fn and(
     alloc: Global,
     left: Box<Expression>,
     right: Box<Expression>,
@@ -124,11 +102,7 @@ pub fn and(
 }
 
 /// `||` of two truth values.
-///
-/// # Errors
-///
-/// Want of memory alone.
-pub fn or(
+pub(crate) fn or(
     alloc: Global,
     left: Box<Expression>,
     right: Box<Expression>,
@@ -138,18 +112,26 @@ pub fn or(
     boxed(alloc, Expression::Or { left, right })
 }
 
+/// `is` of two objects or handles.
+pub(crate) fn same(
+    alloc: Global,
+    left: Box<Expression>,
+    right: Box<Expression>,
+) -> Result<Box<Expression>, AllocError>
+    ensures exact { IfOk result (λ e. view_tree e ≡ tree.same (view_tree left) (view_tree right)) }
+{
+    boxed(alloc, Expression::Same { left, right })
+}
+
 /// `?:`: of two values of one type the first where the condition is true, else the second.
-///
-/// # Errors
-///
-/// Want of memory alone.
-pub fn choose(
+pub(crate) fn choose(
     alloc: Global,
     condition: Box<Expression>,
     then: Box<Expression>,
     otherwise: Box<Expression>,
 ) -> Result<Box<Expression>, AllocError>
-    ensures exact { IfOk result (λ e. view_tree e ≡ tree.choose (view_tree condition) (view_tree «then») (view_tree otherwise)) }
+    ensures exact { IfOk result (λ e. view_tree e ≡
+        tree.choose (view_tree condition) (view_tree «then») (view_tree otherwise)) }
 {
     boxed(
         alloc,
@@ -162,11 +144,7 @@ pub fn choose(
 }
 
 /// `-` of an integer of type `ty`, which is the type of its result too.
-///
-/// # Errors
-///
-/// Want of memory alone.
-pub fn negate(
+pub(crate) fn negate(
     alloc: Global,
     ty: Prim,
     operand: Box<Expression>,
@@ -177,11 +155,7 @@ pub fn negate(
 }
 
 /// `~` of an integer of type `ty`, which is the type of its result too.
-///
-/// # Errors
-///
-/// Want of memory alone.
-pub fn complement(
+pub(crate) fn complement(
     alloc: Global,
     ty: Prim,
     operand: Box<Expression>,
@@ -192,59 +166,42 @@ pub fn complement(
 }
 
 /// `!` of a truth value.
-///
-/// # Errors
-///
-/// Want of memory alone.
-pub fn not(alloc: Global, operand: Box<Expression>) -> Result<Box<Expression>, AllocError>
+pub(crate) fn not(alloc: Global, operand: Box<Expression>) -> Result<Box<Expression>, AllocError>
     ensures exact { IfOk result (λ e. view_tree e ≡ tree.not (view_tree operand)) }
 {
     boxed(alloc, Expression::Not { operand })
 }
 
-/// `=`: a value of type `ty` stored in a variable of that type.
-///
-/// # Errors
-///
-/// Want of memory alone.
-pub fn assign(
+/// `=`: a value of type `ty` stored at a site of that type.
+pub(crate) fn assign(
     alloc: Global,
-    variable: Variable,
+    site: Site,
     ty: ArgType,
     value: Box<Expression>,
 ) -> Result<Box<Expression>, AllocError>
-    ensures exact { IfOk result (λ e. view_tree e ≡ tree.assign variable ty (view_tree value)) }
+    ensures exact { IfOk result
+        (λ e. view_tree e ≡ tree.assign (view_site site) ty (view_tree value)) }
 {
-    boxed(
-        alloc,
-        Expression::Assign {
-            variable,
-            ty,
-            value,
-        },
-    )
+    boxed(alloc, Expression::Assign { site, ty, value })
 }
 
-/// A compound assignment to a variable of the integer type `ty`, such as `+=`. The operator works in the type
+/// A compound assignment to a site of the integer type `ty`, such as `+=`. The operator works in the type
 /// `operating`, of which the value is.
-///
-/// # Errors
-///
-/// Want of memory alone.
-pub fn compound(
+pub(crate) fn compound(
     alloc: Global,
-    variable: Variable,
+    site: Site,
     ty: Prim,
     operator: Operator,
     operating: Prim,
     value: Box<Expression>,
 ) -> Result<Box<Expression>, AllocError>
-    ensures exact { IfOk result (λ e. view_tree e ≡ tree.compound variable ty operator operating (view_tree value)) }
+    ensures exact { IfOk result (λ e. view_tree e ≡
+        tree.compound (view_site site) ty operator operating (view_tree value)) }
 {
     boxed(
         alloc,
         Expression::Compound {
-            variable,
+            site,
             ty,
             operator,
             operating,

@@ -1,14 +1,12 @@
 //! Two operands with a binary operator between them.
 ghost use Rattle.std.specs.Prelude.{◌≡◌};
+ghost use Rattle.ang_check_operand.specs.Refusals.{Gives};
+ghost use Rattle.ang_check_operand.specs.View.{view_operand};
 ghost use Rattle.ang_check_operators.specs.Operations as spec;
-ghost use Rattle.ang_check_operators.specs.Refusals.{Gives};
-ghost use Rattle.ang_check_operators.specs.View.{view_operand};
 
-use crate::fitting::{fit, integer, truth};
 use crate::forms::{Form, Work, binary_form};
-use crate::operand::{Operand, plain_operand};
-use crate::refusal::{Stop, fault};
-use crate::trees::{and, compare, operate, or};
+use crate::trees::{and, compare, not, operate, or, same};
+use ang_check_operand::{Operand, Stop, fault, fit, identity, integer, plain_operand, truth};
 use ang_kinds::{ErrorKind, Prim};
 use ang_lex::TokenKind;
 use ang_typed::{Comparison, Operator};
@@ -24,7 +22,8 @@ fn worked_in(
     left: Operand,
     right: Operand,
 ) -> Result<Operand, Stop>
-    ensures exact { Gives view_operand result (spec.worked_in lineage.now ty operator (view_operand left) (view_operand right)) }
+    ensures exact { Gives view_operand result
+        (spec.worked_in lineage.now ty operator (view_operand left) (view_operand right)) }
 {
     let place = left.place;
     let left = fit(alloc, lineage, ArgType::Plain(ty), left)?;
@@ -41,7 +40,8 @@ fn arithmetic(
     left: Operand,
     right: Operand,
 ) -> Result<Operand, Stop>
-    ensures exact { Gives view_operand result (spec.arithmetic lineage.now operator (view_operand left) (view_operand right)) }
+    ensures exact { Gives view_operand result
+        (spec.arithmetic lineage.now operator (view_operand left) (view_operand right)) }
 {
     let own = integer(&left)?;
     let other = integer(&right)?;
@@ -56,7 +56,8 @@ fn shift(
     left: Operand,
     right: Operand,
 ) -> Result<Operand, Stop>
-    ensures exact { Gives view_operand result (spec.shift lineage.now operator (view_operand left) (view_operand right)) }
+    ensures exact { Gives view_operand result
+        (spec.shift lineage.now operator (view_operand left) (view_operand right)) }
 {
     let own = integer(&left)?;
     let _ = integer(&right)?;
@@ -72,7 +73,8 @@ fn compared_in(
     left: Operand,
     right: Operand,
 ) -> Result<Operand, Stop>
-    ensures exact { Gives view_operand result (spec.compared_in lineage.now ty comparison (view_operand left) (view_operand right)) }
+    ensures exact { Gives view_operand result
+        (spec.compared_in lineage.now ty comparison (view_operand left) (view_operand right)) }
 {
     let place = left.place;
     let left = fit(alloc, lineage, ArgType::Plain(ty), left)?;
@@ -89,7 +91,8 @@ fn order(
     left: Operand,
     right: Operand,
 ) -> Result<Operand, Stop>
-    ensures exact { Gives view_operand result (spec.order lineage.now comparison (view_operand left) (view_operand right)) }
+    ensures exact { Gives view_operand result
+        (spec.order lineage.now comparison (view_operand left) (view_operand right)) }
 {
     let own = integer(&left)?;
     let other = integer(&right)?;
@@ -104,7 +107,8 @@ fn equality(
     left: Operand,
     right: Operand,
 ) -> Result<Operand, Stop>
-    ensures exact { Gives view_operand result (spec.equality lineage.now comparison (view_operand left) (view_operand right)) }
+    ensures exact { Gives view_operand result
+        (spec.equality lineage.now comparison (view_operand left) (view_operand right)) }
 {
     match left.ty {
         ArgType::Plain(Prim::Bool) => {
@@ -116,7 +120,8 @@ fn equality(
 
 #[tactic(auto, unfolding(crate::specs::Operations::conjunction))]
 fn conjunction(alloc: Global, left: Operand, right: Operand) -> Result<Operand, Stop>
-    ensures exact { Gives view_operand result (spec.conjunction (view_operand left) (view_operand right)) }
+    ensures exact { Gives view_operand result
+        (spec.conjunction (view_operand left) (view_operand right)) }
 {
     let place = left.place;
     let left = truth(left)?;
@@ -127,7 +132,8 @@ fn conjunction(alloc: Global, left: Operand, right: Operand) -> Result<Operand, 
 
 #[tactic(auto, unfolding(crate::specs::Operations::disjunction))]
 fn disjunction(alloc: Global, left: Operand, right: Operand) -> Result<Operand, Stop>
-    ensures exact { Gives view_operand result (spec.disjunction (view_operand left) (view_operand right)) }
+    ensures exact { Gives view_operand result
+        (spec.disjunction (view_operand left) (view_operand right)) }
 {
     let place = left.place;
     let left = truth(left)?;
@@ -138,12 +144,38 @@ fn disjunction(alloc: Global, left: Operand, right: Operand) -> Result<Operand, 
 
 #[tactic(auto, unfolding(crate::specs::Operations::exclusion))]
 fn exclusion(alloc: Global, left: Operand, right: Operand) -> Result<Operand, Stop>
-    ensures exact { Gives view_operand result (spec.exclusion (view_operand left) (view_operand right)) }
+    ensures exact { Gives view_operand result
+        (spec.exclusion (view_operand left) (view_operand right)) }
 {
     let place = left.place;
     let left = truth(left)?;
     let right = truth(right)?;
     let tree = compare(alloc, Comparison::NotEqual, Prim::Bool, left, right)?;
+    Ok(plain_operand(place, ArgType::Plain(Prim::Bool), tree))
+}
+
+#[tactic(auto, unfolding(crate::specs::Operations::sameness))]
+fn sameness(alloc: Global, left: Operand, right: Operand) -> Result<Operand, Stop>
+    ensures exact { Gives view_operand result
+        (spec.sameness (view_operand left) (view_operand right)) }
+{
+    let place = left.place;
+    let left = identity(left)?;
+    let right = identity(right)?;
+    let tree = same(alloc, left, right)?;
+    Ok(plain_operand(place, ArgType::Plain(Prim::Bool), tree))
+}
+
+#[tactic(auto, unfolding(crate::specs::Operations::difference))]
+fn difference(alloc: Global, left: Operand, right: Operand) -> Result<Operand, Stop>
+    ensures exact { Gives view_operand result
+        (spec.difference (view_operand left) (view_operand right)) }
+{
+    let place = left.place;
+    let left = identity(left)?;
+    let right = identity(right)?;
+    let is_one = same(alloc, left, right)?;
+    let tree = not(alloc, is_one)?;
     Ok(plain_operand(place, ArgType::Plain(Prim::Bool), tree))
 }
 
@@ -154,19 +186,22 @@ fn formed(
     left: Operand,
     right: Operand,
 ) -> Result<Operand, Stop>
-    ensures exact { Gives view_operand result (spec.formed lineage.now form (view_operand left) (view_operand right)) }
+    ensures exact { Gives view_operand result
+        (spec.formed lineage.now form (view_operand left) (view_operand right)) }
 {
     match form {
-        None => Err(fault(ErrorKind::NotYet, left.place)),
-        Some(Form::Works(Work::Arithmetic(operator))) => arithmetic(
-            alloc, lineage, operator, left, right,
-        ),
+        None => Err(fault(ErrorKind::BadConversion, left.place)),
+        Some(Form::Works(Work::Arithmetic(operator))) => {
+            arithmetic(alloc, lineage, operator, left, right)
+        }
         Some(Form::Works(Work::Shift(operator))) => shift(alloc, lineage, operator, left, right),
         Some(Form::Order(comparison)) => order(alloc, lineage, comparison, left, right),
         Some(Form::Equality(comparison)) => equality(alloc, lineage, comparison, left, right),
         Some(Form::And) => conjunction(alloc, left, right),
         Some(Form::Or) => disjunction(alloc, left, right),
         Some(Form::Xor) => exclusion(alloc, left, right),
+        Some(Form::Same) => sameness(alloc, left, right),
+        Some(Form::Differ) => difference(alloc, left, right),
     }
 }
 
@@ -175,7 +210,7 @@ fn formed(
 /// # Errors
 ///
 /// `BadConversion` or, for `&&`, `||` and `xor`, `NotBool` at the first token of the first operand that can't
-/// stand there. `NotYet` at the first token of the left operand of `is` and `!is`. `Memory` where a growth was refused.
+/// stand there. `Memory` where a growth was refused.
 #[tactic(auto, unfolding(crate::specs::Operations::binary_typing))]
 pub fn binary(
     alloc: Global,
@@ -184,7 +219,8 @@ pub fn binary(
     operator: TokenKind,
     right: Operand,
 ) -> Result<Operand, Stop>
-    ensures exact { Gives view_operand result (spec.binary_typing lineage.now (view_operand left) operator (view_operand right)) }
+    ensures exact { Gives view_operand result
+        (spec.binary_typing lineage.now (view_operand left) operator (view_operand right)) }
 {
     formed(alloc, lineage, binary_form(operator), left, right)
 }

@@ -6,11 +6,11 @@ use Rattle.ang_tree.specs.Stmt.{Stmt, Body, Stmts, block, variables, expression,
 use Rattle.ang_check_paths.specs.Paths.{is_true_word}
 
 -- to what stands behind, to behind the loop around, to the next pass of that loop, or out of the function
-pub data Way : Type 0 where
-  ahead : Way
-  out : Way
-  around : Way
-  home : Way
+pub data Exit : Type 0 where
+  ahead : Exit
+  out : Exit
+  around : Exit
+  home : Exit
 
 abbrev pub CanFail : Tree → Type 0
 CanFail c = is_true_word c ≡ false
@@ -22,7 +22,7 @@ CanFailWhereWritten (Some c) = CanFail c
 -- Some path through the statement leaves it this way. A loop is left ahead where a test fails, which a pass has come to, or by its own
 -- `break`.
 abbrev mutual
-  pub Leaves : Way → Stmt → Type 0
+  pub Leaves : Exit → Stmt → Type 0
   Leaves w (block b) = LeavesBody w b
   Leaves w (variables vs) = w ≡ ahead
   Leaves w (expression e semicolon) = w ≡ ahead
@@ -36,10 +36,10 @@ abbrev mutual
       ((w ≡ ahead) × ((CanFail c × (Leaves ahead s ⊎ Leaves around s)) ⊎ Leaves out s)) ⊎ ((w ≡ home) × Leaves home s)
   Leaves w (for word left start c semicolon steps right s) = ((w ≡ ahead) × (CanFailWhereWritten c ⊎ Leaves out s)) ⊎ ((w ≡ home) × Leaves home s)
 
-  pub LeavesBody : Way → Body → Type 0
+  pub LeavesBody : Exit → Body → Type 0
   LeavesBody w (body left ss right) = LeavesAll w ss
 
   -- one statement behind the other
-  pub LeavesAll : Way → Stmts → Type 0
+  pub LeavesAll : Exit → Stmts → Type 0
   LeavesAll w end = w ≡ ahead
   LeavesAll w (then s ss) = (Leaves ahead s × LeavesAll w ss) ⊎ ((w ≢ ahead) × Leaves w s)

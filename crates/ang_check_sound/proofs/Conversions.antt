@@ -6,15 +6,15 @@ use Rattle.ang_kinds.specs.declared.types.Shape.{Shape}
 use Rattle.ang_kinds.specs.declared.types.Shape.TheVariants as shape
 use Rattle.ang_kinds.specs.declared.types.TypeRef.{TypeRef}
 use Rattle.ang_kinds.specs.declared.types.TypeRef.TheVariants as ref
-use Rattle.ang_registry.specs.Registration.{RegistrationList}
-use Rattle.ang_registry.specs.Types.{type_named}
-use Rattle.ang_registry.specs.Values.{IsPrimitive}
+use Rattle.ang_view.specs.Registration.{RegistrationList}
+use Rattle.ang_view.specs.Types.{type_named}
+use Rattle.ang_view.specs.Values.{IsPrimitive}
 use Rattle.ang_types.specs.declared.arg_type.ArgType.{ArgType}
 use Rattle.ang_types.specs.declared.arg_type.ArgType.TheVariants as type
-use Rattle.ang_types.specs.Ranks.{Lines, rank_of}
-use Rattle.ang_names_written.specs.HostNames.{shaped, object_with, host_type}
+use Rattle.ang_types.specs.Ranks.{Ancestors, rank_of}
+use Rattle.ang_names_known.specs.Host.{shaped, object_with, host_type}
 use Rattle.ang_names_written.specs.NotYet.{is_object}
-use Rattle.ang_check_operators.specs.Operands.{Operand, fit_by, fit}
+use Rattle.ang_check_operand.specs.Operands.{Operand, fit_by, fit}
 use Rattle.ang_source.specs.Sound.{IsNoObject}
 use Rattle.ang_check_sound.specs.PlainNames.{IsPlainType}
 
@@ -54,28 +54,28 @@ no_object (ref.Object name s o k) e = cc
 -- ---- conversions
 
 -- a plain value converts to a plain type alone
-ranked_plain : (lines : Lines) (from to : ArgType) (rank : ℕ) → IsPlainType from → rank_of lines from to ≡ Some rank → IsPlainType to
-ranked_plain lines type.Void type.Void rank h e = tt
-ranked_plain lines type.Void type.Null rank h e = cc
-ranked_plain lines type.Void (type.Plain q) rank h e = tt
-ranked_plain lines type.Void (type.Object m s) rank h e = cc
-ranked_plain lines type.Void (type.Handle m s) rank h e = cc
-ranked_plain lines type.Null to rank h e = absurd h
-ranked_plain lines (type.Plain p) type.Void rank h e = tt
-ranked_plain lines (type.Plain p) type.Null rank h e = cc
-ranked_plain lines (type.Plain p) (type.Plain q) rank h e = tt
-ranked_plain lines (type.Plain p) (type.Object m s) rank h e = cc
-ranked_plain lines (type.Plain p) (type.Handle m s) rank h e = cc
-ranked_plain lines (type.Object n r) to rank h e = absurd h
-ranked_plain lines (type.Handle n r) to rank h e = absurd h
+ranked_plain : (ancestors : Ancestors) (from to : ArgType) (rank : ℕ) → IsPlainType from → rank_of ancestors from to ≡ Some rank → IsPlainType to
+ranked_plain ancestors type.Void type.Void rank h e = tt
+ranked_plain ancestors type.Void type.Null rank h e = cc
+ranked_plain ancestors type.Void (type.Plain q) rank h e = tt
+ranked_plain ancestors type.Void (type.Object m s) rank h e = cc
+ranked_plain ancestors type.Void (type.Handle m s) rank h e = cc
+ranked_plain ancestors type.Null to rank h e = absurd h
+ranked_plain ancestors (type.Plain p) type.Void rank h e = tt
+ranked_plain ancestors (type.Plain p) type.Null rank h e = cc
+ranked_plain ancestors (type.Plain p) (type.Plain q) rank h e = tt
+ranked_plain ancestors (type.Plain p) (type.Object m s) rank h e = cc
+ranked_plain ancestors (type.Plain p) (type.Handle m s) rank h e = cc
+ranked_plain ancestors (type.Object n r) to rank h e = absurd h
+ranked_plain ancestors (type.Handle n r) to rank h e = absurd h
 
-fit_by_plain : (lines : Lines) (rank : Option ℕ) (ty : ArgType) (a : Operand) → rank_of lines a.ty ty ≡ rank → IsPlainType a.ty
+fit_by_plain : (ancestors : Ancestors) (rank : Option ℕ) (ty : ArgType) (a : Operand) → rank_of ancestors a.ty ty ≡ rank → IsPlainType a.ty
     → IfOk (fit_by rank ty a) (λ x. IsPlainType ty)
-fit_by_plain lines None ty a e h = tt
-fit_by_plain lines (Some zero) ty a e h = ranked_plain lines a.ty ty zero h e
-fit_by_plain lines (Some (suc r)) ty a e h = ranked_plain lines a.ty ty (suc r) h e
+fit_by_plain ancestors None ty a e h = tt
+fit_by_plain ancestors (Some zero) ty a e h = ranked_plain ancestors a.ty ty zero h e
+fit_by_plain ancestors (Some (suc r)) ty a e h = ranked_plain ancestors a.ty ty (suc r) h e
 
 -- what a plain operand fits is a plain type
-pub fit_plain : (lines : Lines) (ty : ArgType) (a : Operand) → IsPlainType a.ty → IfOk (fit lines ty a) (λ x. IsPlainType ty)
+pub fit_plain : (ancestors : Ancestors) (ty : ArgType) (a : Operand) → IsPlainType a.ty → IfOk (fit ancestors ty a) (λ x. IsPlainType ty)
 unfolding fit
-fit_plain lines ty a h = fit_by_plain lines (rank_of lines a.ty ty) ty a refl h
+fit_plain ancestors ty a h = fit_by_plain ancestors (rank_of ancestors a.ty ty) ty a refl h

@@ -1,5 +1,5 @@
 -- What holds of each item of a list, and of a value that is there or not.
-use Rattle.std.specs.Prelude.{◌≡◌, ℕ, zero, suc, Bool, true, false, ◌&&◌, ◌||◌, if◌then◌else◌, List, [], ◌∷◌, ◌++◌, map, option_to_list, Option, Some, None, IfSome, slice_get}
+use Rattle.std.specs.Prelude.{◌≡◌, ℕ, zero, suc, Bool, true, false, not, ◌&&◌, ◌||◌, if◌then◌else◌, List, [], ◌∷◌, ◌++◌, map, option_to_list, Option, Some, None, IfSome, slice_get}
 use Rattle.std.specs.List.{flat_map}
 use Rattle.std.proofs.Common.{refl, subst}
 use Rattle.std.proofs.lemmas.Option.{same_Some}
@@ -67,3 +67,13 @@ four_false true b c d e = cc
 four_false false true c d e = cc
 four_false false false true d e = cc
 four_false false false false d e = (refl, refl, refl, e)
+
+pub not_true : (b : Bool) → not b ≡ true → b ≡ false
+not_true true e = cc
+not_true false e = refl
+
+-- what stands in a list stands at its place with others behind it
+pub at_front : {A : Type 0} (xs ys : List A) (i : ℕ) (a : A) → slice_get xs i ≡ Some a → slice_get (xs ++ ys) i ≡ Some a
+at_front [] ys i a e = cc
+at_front (x ∷ xs) ys zero a e = e
+at_front (x ∷ xs) ys (suc i) a e = at_front xs ys i a e

@@ -1,5 +1,5 @@
--- The tree that an operator makes is sound where those of its operands are.
-use Rattle.std.specs.Prelude.{◌≡◌, ℕ, zero, suc, Bool, true, false, if◌then◌else◌, List, Option, Some, None, Ok, Err, IfOk}
+-- The tree that an operator makes is sound where those of its operands are, and of a plain type where these are.
+use Rattle.std.specs.Prelude.{◌≡◌, ℕ, zero, suc, Bool, true, false, if◌then◌else◌, List, Option, Some, None, IfSome, Ok, Err, IfOk}
 use Rattle.std.proofs.Common.{refl}
 use Rattle.ang_kinds.specs.declared.error.ErrorKind.TheVariants as why
 use Rattle.ang_kinds.specs.declared.place.Place.{Place}
@@ -11,7 +11,7 @@ use Rattle.ang_lex.specs.declared.token.TokenKind.TheVariants as k
 use Rattle.ang_types.specs.declared.arg_type.ArgType.{ArgType}
 use Rattle.ang_types.specs.declared.arg_type.ArgType.TheVariants as type
 use Rattle.ang_types.specs.Integers.{common_type}
-use Rattle.ang_types.specs.Ranks.{Lines, rank_of}
+use Rattle.ang_types.specs.Ranks.{Ancestors, rank_of}
 use Rattle.ang_typed.specs.declared.expression.Operator.{Operator}
 use Rattle.ang_typed.specs.declared.expression.Comparison.{Comparison}
 use Rattle.ang_typed.specs.declared.expression.Comparison.TheVariants as cmp
@@ -19,34 +19,61 @@ use Rattle.ang_typed.specs.declared.expression.StepKind.{StepKind}
 use Rattle.ang_typed.specs.declared.expression.StepKind.TheVariants as step
 use Rattle.ang_typed.specs.declared.expression.Variable.{Variable}
 use Rattle.ang_typed.specs.Typed as t
-use Rattle.ang_check_operators.specs.declared.operand.NamedVariable.{NamedVariable}
+use Rattle.ang_check_operand.specs.declared.operand.Seat.{Seat}
+use Rattle.ang_check_operand.specs.declared.operand.Target.{Target}
 use Rattle.ang_check_operators.specs.declared.forms.Form.{Form}
 use Rattle.ang_check_operators.specs.declared.forms.Form.TheVariants as form
 use Rattle.ang_check_operators.specs.declared.forms.Work.{Work}
 use Rattle.ang_check_operators.specs.declared.forms.Work.TheVariants as work
-use Rattle.ang_check_operators.specs.Refusals.{Judged, ◌>>=◌, refused_at}
+use Rattle.ang_check_operand.specs.Operands.{Operand, operand, reading, conversion, fit_by, fit, integer, truth_in, truth, identity_in, identity, site_in, site_or, target_by, target}
+use Rattle.ang_check_operand.specs.Refusals.{Typing, ◌>>=◌, refused}
 use Rattle.ang_check_operators.specs.Forms.{binary_form, compound_work}
-use Rattle.ang_check_operators.specs.Operands.{Operand, operand, conversion, fit_by, fit, integer, truth_in, truth, target_by, target}
-use Rattle.ang_check_operators.specs.Operations.{literal_by, literal_typing, raised_type, worked_in, arithmetic, shift, compared_in, order, equality_by, equality, conjunction, disjunction, exclusion, formed, binary_typing, negated, complemented, raised_operand, opposite, stepped, prefix_by, prefix_typing, postfix_by, postfix_typing, converted_by, convert_typing, inside, group_typing, chosen_in, choice_of_integers, choice_by, choice, conditional_typing, assign_in, assigned, compound_in, compound_arithmetic, compound_shift, assignment_by, assignment_typing}
-use Rattle.ang_source.specs.Sound.{Module, IsVariable, IsStored, Sound}
+use Rattle.ang_check_operators.specs.Operations.{literal_by, literal_typing, raised_type, worked_in, arithmetic, shift, compared_in, order, equality_by, equality, conjunction, disjunction, exclusion, sameness, difference, formed, binary_typing, negated, complemented, raised_operand, opposite, handle_in, handle_typing, stepped, prefix_by, prefix_typing, postfix_by, postfix_typing, converted_by, convert_typing, inside, group_typing, choice_as, choice_of_integers, choice_by, choice, conditional_typing, assign_in, assigned, assigned_by, compound_in, compound_arithmetic, compound_shift, assignment_by, assignment_typing}
+use Rattle.ang_names_written.specs.NotYet.{is_object_word}
+use Rattle.ang_source.specs.Sound.{Module, IsVariable, IsStored, IsStoredMember, Sound}
 use Rattle.ang_check_sound.specs.PlainNames.{IsPlainType}
 use Rattle.ang_check_sound.proofs.Judged.{holds, any}
 
 -- In a module, where n locals are alive:
 module _ (M : Module) (n : ℕ) where
-  -- the variable whose name it is, which may be stored into where it is not `const`
-  abbrev pub IsNamed : Option NamedVariable → Type 0
-  IsNamed None = Unit {0}
-  IsNamed (Some x) = IsVariable M n x.variable × (x.read_only ≡ false → IsStored M n x.variable)
+  -- a site that is stored into
+  abbrev pub IsStoredSite : t.Site → Type 0
+  IsStoredSite (t.named x) = IsStored M n x
+  IsStoredSite (t.member_of o a) = IsStoredMember M a × Sound M n o
 
+  -- The site that a tree reads may be stored into where it is not `const`.
+  abbrev pub IsTargeted : Option Target → t.Expr → Type 0
+  IsTargeted None e = Unit {0}
+  IsTargeted (Some x) e = x.read_only ≡ false → IfSome (site_in e) IsStoredSite
+
+  -- what was typed, without objects
   pub record SoundOperand (a : Operand) : Type 0 where
     pub ty : IsPlainType a.ty
     pub tree : Sound M n a.tree
-    pub named : IsNamed a.named
+    pub target : IsTargeted a.target a.tree
+    pub seat : a.seat ≡ None
 
-  -- no variable's name
+  -- no site
   pub plain : (place : Place) (ty : ArgType) (e : t.Expr) → IsPlainType ty → Sound M n e → SoundOperand (operand place ty e)
-  plain place ty e k s = record { ty = k; tree = s; named = tt }
+  plain place ty e k s = record { ty = k; tree = s; target = tt; seat = refl }
+
+  -- a variable by its bare name
+  pub read_sound : (place : Place) (x : Variable) (ty : ArgType) (how : Target) → IsPlainType ty → IsVariable M n x
+      → (how.read_only ≡ false → IsStored M n x) → SoundOperand (reading place (t.named x) ty how)
+  read_sound place x ty how k s stored = record { ty = k; tree = s; target = stored; seat = refl }
+
+  -- what is stored into a site
+  assign_sound : (x : t.Site) (ty : ArgType) (e : t.Expr) → IsStoredSite x → Sound M n e → Sound M n (t.assign x ty e)
+  assign_sound (t.named x) ty e sx se = (sx, se)
+  assign_sound (t.member_of o a) ty e sx se = (sx.0, sx.1, se)
+
+  change_sound : (x : t.Site) (q r : Primitive) (op : Operator) (e : t.Expr) → IsStoredSite x → Sound M n e → Sound M n (t.compound x q op r e)
+  change_sound (t.named x) q r op e sx se = (sx, se)
+  change_sound (t.member_of o a) q r op e sx se = (sx.0, sx.1, se)
+
+  step_sound : (x : t.Site) (q : Primitive) (kind : StepKind) → IsStoredSite x → Sound M n (t.step x q kind)
+  step_sound (t.named x) q kind sx = sx
+  step_sound (t.member_of o a) q kind sx = sx
 
   -- ---- parts of operations
 
@@ -66,9 +93,9 @@ module _ (M : Module) (n : ℕ) where
   fit_by_sound (Some zero) ty a s = s.tree
   fit_by_sound (Some (suc r)) ty a s = convert_sound a.ty ty a.tree s.tree
 
-  pub fit_sound : (lines : Lines) (ty : ArgType) (a : Operand) → SoundOperand a → IfOk (fit lines ty a) (Sound M n)
+  pub fit_sound : (ancestors : Ancestors) (ty : ArgType) (a : Operand) → SoundOperand a → IfOk (fit ancestors ty a) (Sound M n)
   unfolding fit
-  fit_sound lines ty a s = fit_by_sound (rank_of lines a.ty ty) ty a s
+  fit_sound ancestors ty a s = fit_by_sound (rank_of ancestors a.ty ty) ty a s
 
   truth_in_sound : (ty : ArgType) (a : Operand) → SoundOperand a → IfOk (truth_in a ty) (Sound M n)
   truth_in_sound (type.Plain p.Bool) a s = s.tree
@@ -78,32 +105,48 @@ module _ (M : Module) (n : ℕ) where
   unfolding truth
   truth_sound a s = truth_in_sound a.ty a s
 
-  stored_there : (x : NamedVariable) (b : Bool) → x.read_only ≡ b → IsNamed (Some x)
-      → IfOk (if b then Err (refused_at why.Const x.name) else Ok x.variable) (IsStored M n)
-  stored_there x true e s = tt
-  stored_there x false e s = s.1 e
+  site_sound : (place : Place) (x : Option t.Site) → IfSome x IsStoredSite → IfOk (site_or place x) IsStoredSite
+  site_sound place None s = tt
+  site_sound place (Some x) s = s
 
-  target_by_sound : (place : Place) (x : Option NamedVariable) → IsNamed x → IfOk (target_by place x) (IsStored M n)
-  target_by_sound place None s = tt
-  target_by_sound place (Some x) s = stored_there x x.read_only refl s
+  stored_there : (place : Place) (x : Target) (b : Bool) (e : t.Expr) → x.read_only ≡ b → IsTargeted (Some x) e
+      → IfOk (if b then Err (refused why.Const x.name) else site_or place (site_in e)) IsStoredSite
+  stored_there place x true e is s = tt
+  stored_there place x false e is s = site_sound place (site_in e) (s is)
 
-  pub target_sound : (a : Operand) → SoundOperand a → IfOk (target a) (IsStored M n)
+  target_by_sound : (place : Place) (x : Option Target) (e : t.Expr) → IsTargeted x e → IfOk (target_by place x e) IsStoredSite
+  target_by_sound place None e s = tt
+  target_by_sound place (Some x) e s = stored_there place x x.read_only e refl s
+
+  pub target_sound : (a : Operand) → SoundOperand a → IfOk (target a) IsStoredSite
   unfolding target
-  target_sound a s = target_by_sound a.place a.named s.named
+  target_sound a s = target_by_sound a.place a.target a.tree s.target
+
+  -- no plain operand is an object
+  identity_by_sound : (ty : ArgType) (a : Operand) → IsPlainType ty → IfOk (identity_in a ty) (Sound M n)
+  identity_by_sound type.Void a k = tt
+  identity_by_sound type.Null a k = absurd k
+  identity_by_sound (type.Plain q) a k = tt
+  identity_by_sound (type.Object m c) a k = absurd k
+  identity_by_sound (type.Handle m c) a k = absurd k
+
+  identity_sound : (a : Operand) → SoundOperand a → IfOk (identity a) (Sound M n)
+  unfolding identity
+  identity_sound a s = identity_by_sound a.ty a s.ty
 
   -- what comes of an integer's type
-  with_integer : {B : Type 0} (Q : B → Type 0) (a : Operand) (f : Primitive → Judged B) → ((q : Primitive) → IfOk (f q) Q) → IfOk (integer a >>= f) Q
+  with_integer : {B : Type 0} (Q : B → Type 0) (a : Operand) (f : Primitive → Typing B) → ((q : Primitive) → IfOk (f q) Q) → IfOk (integer a >>= f) Q
   with_integer Q a f g = holds (λ q. Unit {0}) Q (integer a) f (any (integer a)) (λ q h. g q)
 
   -- two operands in one type, and what is made of them
-  fit_two : (lines : Lines) (r : ArgType) (a b : Operand) (f : t.Expr → t.Expr → Judged Operand) → SoundOperand a → SoundOperand b
+  fit_two : (ancestors : Ancestors) (r : ArgType) (a b : Operand) (f : t.Expr → t.Expr → Typing Operand) → SoundOperand a → SoundOperand b
       → ((x y : t.Expr) → Sound M n x → Sound M n y → IfOk (f x y) SoundOperand)
-      → IfOk (fit lines r a >>= (λ x. fit lines r b >>= (λ y. f x y))) SoundOperand
-  fit_two lines r a b f sa sb g =
-      holds (Sound M n) SoundOperand (fit lines r a) (λ x. fit lines r b >>= (λ y. f x y)) (fit_sound lines r a sa)
-      (λ x sx. holds (Sound M n) SoundOperand (fit lines r b) (λ y. f x y) (fit_sound lines r b sb) (λ y sy. g x y sx sy))
+      → IfOk (fit ancestors r a >>= (λ x. fit ancestors r b >>= (λ y. f x y))) SoundOperand
+  fit_two ancestors r a b f sa sb g =
+      holds (Sound M n) SoundOperand (fit ancestors r a) (λ x. fit ancestors r b >>= (λ y. f x y)) (fit_sound ancestors r a sa)
+      (λ x sx. holds (Sound M n) SoundOperand (fit ancestors r b) (λ y. f x y) (fit_sound ancestors r b sb) (λ y sy. g x y sx sy))
 
-  truth_two : (a b : Operand) (f : t.Expr → t.Expr → Judged Operand) → SoundOperand a → SoundOperand b
+  truth_two : (a b : Operand) (f : t.Expr → t.Expr → Typing Operand) → SoundOperand a → SoundOperand b
       → ((x y : t.Expr) → Sound M n x → Sound M n y → IfOk (f x y) SoundOperand)
       → IfOk (truth a >>= (λ x. truth b >>= (λ y. f x y))) SoundOperand
   truth_two a b f sa sb g =
@@ -112,51 +155,53 @@ module _ (M : Module) (n : ℕ) where
 
   -- ---- literals
 
-  literal_by_sound : (x : Token) (text : List ℕ) (kind : TokenKind) → IfOk (literal_by x text kind) SoundOperand
-  literal_by_sound x text k.Number = plain _ _ _ tt tt
-  literal_by_sound x text k.True = plain _ _ _ tt tt
-  literal_by_sound x text k.False = plain _ _ _ tt tt
-  literal_by_sound x text _ = tt
+  literal_by_sound : (x : Token) (text : List ℕ) (kind : TokenKind) → is_object_word kind ≡ false → IfOk (literal_by x text kind) SoundOperand
+  literal_by_sound x text k.Number e = plain _ _ _ tt tt
+  literal_by_sound x text k.True e = plain _ _ _ tt tt
+  literal_by_sound x text k.False e = plain _ _ _ tt tt
+  literal_by_sound x text k.Null e = cc
+  literal_by_sound x text _ e = tt
 
-  pub literal_sound : (x : Token) (text : List ℕ) → IfOk (literal_typing x text) SoundOperand
+  -- but for `null`
+  pub literal_sound : (x : Token) (text : List ℕ) → is_object_word x.kind ≡ false → IfOk (literal_typing x text) SoundOperand
   unfolding literal_typing
-  literal_sound x text = literal_by_sound x text x.kind
+  literal_sound x text e = literal_by_sound x text x.kind e
 
   -- ---- two operands
 
-  worked_sound : (lines : Lines) (r : Primitive) (op : Operator) (a b : Operand) → SoundOperand a → SoundOperand b
-      → IfOk (worked_in lines r op a b) SoundOperand
-  worked_sound lines r op a b sa sb =
-      fit_two lines (type.Plain r) a b (λ x y. Ok (operand a.place (type.Plain r) (t.operate op r x y))) sa sb (λ x y sx sy. plain _ _ _ tt (sx, sy))
+  worked_sound : (ancestors : Ancestors) (r : Primitive) (op : Operator) (a b : Operand) → SoundOperand a → SoundOperand b
+      → IfOk (worked_in ancestors r op a b) SoundOperand
+  worked_sound ancestors r op a b sa sb =
+      fit_two ancestors (type.Plain r) a b (λ x y. Ok (operand a.place (type.Plain r) (t.operate op r x y))) sa sb (λ x y sx sy. plain _ _ _ tt (sx, sy))
 
-  compared_sound : (lines : Lines) (r : Primitive) (c : Comparison) (a b : Operand) → SoundOperand a → SoundOperand b
-      → IfOk (compared_in lines r c a b) SoundOperand
-  compared_sound lines r c a b sa sb =
-      fit_two lines (type.Plain r) a b (λ x y. Ok (operand a.place (type.Plain p.Bool) (t.compare c r x y))) sa sb (λ x y sx sy. plain _ _ _ tt (sx, sy))
+  compared_sound : (ancestors : Ancestors) (r : Primitive) (c : Comparison) (a b : Operand) → SoundOperand a → SoundOperand b
+      → IfOk (compared_in ancestors r c a b) SoundOperand
+  compared_sound ancestors r c a b sa sb =
+      fit_two ancestors (type.Plain r) a b (λ x y. Ok (operand a.place (type.Plain p.Bool) (t.compare c r x y))) sa sb (λ x y sx sy. plain _ _ _ tt (sx, sy))
 
-  arithmetic_sound : (lines : Lines) (op : Operator) (a b : Operand) → SoundOperand a → SoundOperand b → IfOk (arithmetic lines op a b) SoundOperand
+  arithmetic_sound : (ancestors : Ancestors) (op : Operator) (a b : Operand) → SoundOperand a → SoundOperand b → IfOk (arithmetic ancestors op a b) SoundOperand
   unfolding arithmetic
-  arithmetic_sound lines op a b sa sb =
-      with_integer SoundOperand a _ (λ q. with_integer SoundOperand b _ (λ r. worked_sound lines (common_type q r) op a b sa sb))
+  arithmetic_sound ancestors op a b sa sb =
+      with_integer SoundOperand a _ (λ q. with_integer SoundOperand b _ (λ r. worked_sound ancestors (common_type q r) op a b sa sb))
 
-  shift_sound : (lines : Lines) (op : Operator) (a b : Operand) → SoundOperand a → SoundOperand b → IfOk (shift lines op a b) SoundOperand
+  shift_sound : (ancestors : Ancestors) (op : Operator) (a b : Operand) → SoundOperand a → SoundOperand b → IfOk (shift ancestors op a b) SoundOperand
   unfolding shift
-  shift_sound lines op a b sa sb =
-      with_integer SoundOperand a _ (λ q. with_integer SoundOperand b _ (λ r. worked_sound lines (raised_type q) op a b sa sb))
+  shift_sound ancestors op a b sa sb =
+      with_integer SoundOperand a _ (λ q. with_integer SoundOperand b _ (λ r. worked_sound ancestors (raised_type q) op a b sa sb))
 
-  order_sound : (lines : Lines) (c : Comparison) (a b : Operand) → SoundOperand a → SoundOperand b → IfOk (order lines c a b) SoundOperand
+  order_sound : (ancestors : Ancestors) (c : Comparison) (a b : Operand) → SoundOperand a → SoundOperand b → IfOk (order ancestors c a b) SoundOperand
   unfolding order
-  order_sound lines c a b sa sb =
-      with_integer SoundOperand a _ (λ q. with_integer SoundOperand b _ (λ r. compared_sound lines (common_type q r) c a b sa sb))
+  order_sound ancestors c a b sa sb =
+      with_integer SoundOperand a _ (λ q. with_integer SoundOperand b _ (λ r. compared_sound ancestors (common_type q r) c a b sa sb))
 
-  equality_by_sound : (lines : Lines) (c : Comparison) (a b : Operand) (ty : ArgType) → SoundOperand a → SoundOperand b
-      → IfOk (equality_by lines c a b ty) SoundOperand
-  equality_by_sound lines c a b (type.Plain p.Bool) sa sb = compared_sound lines p.Bool c a b sa sb
-  equality_by_sound lines c a b _ sa sb = order_sound lines c a b sa sb
+  equality_by_sound : (ancestors : Ancestors) (c : Comparison) (a b : Operand) (ty : ArgType) → SoundOperand a → SoundOperand b
+      → IfOk (equality_by ancestors c a b ty) SoundOperand
+  equality_by_sound ancestors c a b (type.Plain p.Bool) sa sb = compared_sound ancestors p.Bool c a b sa sb
+  equality_by_sound ancestors c a b _ sa sb = order_sound ancestors c a b sa sb
 
-  equality_sound : (lines : Lines) (c : Comparison) (a b : Operand) → SoundOperand a → SoundOperand b → IfOk (equality lines c a b) SoundOperand
+  equality_sound : (ancestors : Ancestors) (c : Comparison) (a b : Operand) → SoundOperand a → SoundOperand b → IfOk (equality ancestors c a b) SoundOperand
   unfolding equality
-  equality_sound lines c a b sa sb = equality_by_sound lines c a b a.ty sa sb
+  equality_sound ancestors c a b sa sb = equality_by_sound ancestors c a b a.ty sa sb
 
   conjunction_sound : (a b : Operand) → SoundOperand a → SoundOperand b → IfOk (conjunction a b) SoundOperand
   unfolding conjunction
@@ -173,41 +218,60 @@ module _ (M : Module) (n : ℕ) where
   exclusion_sound a b sa sb =
       truth_two a b (λ x y. Ok (operand a.place (type.Plain p.Bool) (t.compare cmp.NotEqual p.Bool x y))) sa sb (λ x y sx sy. plain _ _ _ tt (sx, sy))
 
-  formed_sound : (lines : Lines) (f : Option Form) (a b : Operand) → SoundOperand a → SoundOperand b → IfOk (formed lines f a b) SoundOperand
-  formed_sound lines None a b sa sb = tt
-  formed_sound lines (Some (form.Works (work.Arithmetic op))) a b sa sb = arithmetic_sound lines op a b sa sb
-  formed_sound lines (Some (form.Works (work.Shift op))) a b sa sb = shift_sound lines op a b sa sb
-  formed_sound lines (Some (form.Order c)) a b sa sb = order_sound lines c a b sa sb
-  formed_sound lines (Some (form.Equality c)) a b sa sb = equality_sound lines c a b sa sb
-  formed_sound lines (Some form.And) a b sa sb = conjunction_sound a b sa sb
-  formed_sound lines (Some form.Or) a b sa sb = disjunction_sound a b sa sb
-  formed_sound lines (Some form.Xor) a b sa sb = exclusion_sound a b sa sb
+  identity_two : (a b : Operand) (f : t.Expr → t.Expr → Typing Operand) → SoundOperand a → SoundOperand b
+      → ((x y : t.Expr) → Sound M n x → Sound M n y → IfOk (f x y) SoundOperand)
+      → IfOk (identity a >>= (λ x. identity b >>= (λ y. f x y))) SoundOperand
+  identity_two a b f sa sb g =
+      holds (Sound M n) SoundOperand (identity a) (λ x. identity b >>= (λ y. f x y)) (identity_sound a sa)
+      (λ x sx. holds (Sound M n) SoundOperand (identity b) (λ y. f x y) (identity_sound b sb) (λ y sy. g x y sx sy))
 
-  pub binary_sound : (lines : Lines) (a : Operand) (op : TokenKind) (b : Operand) → SoundOperand a → SoundOperand b
-      → IfOk (binary_typing lines a op b) SoundOperand
+  sameness_sound : (a b : Operand) → SoundOperand a → SoundOperand b → IfOk (sameness a b) SoundOperand
+  unfolding sameness
+  sameness_sound a b sa sb =
+      identity_two a b (λ x y. Ok (operand a.place (type.Plain p.Bool) (t.same x y))) sa sb (λ x y sx sy. plain _ _ _ tt (sx, sy))
+
+  difference_sound : (a b : Operand) → SoundOperand a → SoundOperand b → IfOk (difference a b) SoundOperand
+  unfolding difference
+  difference_sound a b sa sb =
+      identity_two a b (λ x y. Ok (operand a.place (type.Plain p.Bool) (t.not (t.same x y)))) sa sb (λ x y sx sy. plain _ _ _ tt (sx, sy))
+
+  formed_sound : (ancestors : Ancestors) (f : Option Form) (a b : Operand) → SoundOperand a → SoundOperand b → IfOk (formed ancestors f a b) SoundOperand
+  formed_sound ancestors None a b sa sb = tt
+  formed_sound ancestors (Some (form.Works (work.Arithmetic op))) a b sa sb = arithmetic_sound ancestors op a b sa sb
+  formed_sound ancestors (Some (form.Works (work.Shift op))) a b sa sb = shift_sound ancestors op a b sa sb
+  formed_sound ancestors (Some (form.Order c)) a b sa sb = order_sound ancestors c a b sa sb
+  formed_sound ancestors (Some (form.Equality c)) a b sa sb = equality_sound ancestors c a b sa sb
+  formed_sound ancestors (Some form.And) a b sa sb = conjunction_sound a b sa sb
+  formed_sound ancestors (Some form.Or) a b sa sb = disjunction_sound a b sa sb
+  formed_sound ancestors (Some form.Xor) a b sa sb = exclusion_sound a b sa sb
+  formed_sound ancestors (Some form.Same) a b sa sb = sameness_sound a b sa sb
+  formed_sound ancestors (Some form.Differ) a b sa sb = difference_sound a b sa sb
+
+  pub binary_sound : (ancestors : Ancestors) (a : Operand) (op : TokenKind) (b : Operand) → SoundOperand a → SoundOperand b
+      → IfOk (binary_typing ancestors a op b) SoundOperand
   unfolding binary_typing
-  binary_sound lines a op b sa sb = formed_sound lines (binary_form op) a b sa sb
+  binary_sound ancestors a op b sa sb = formed_sound ancestors (binary_form op) a b sa sb
 
   -- ---- one operand
 
-  fit_one : (lines : Lines) (r : ArgType) (a : Operand) (f : t.Expr → Judged Operand) → SoundOperand a
-      → ((x : t.Expr) → Sound M n x → IfOk (f x) SoundOperand) → IfOk (fit lines r a >>= f) SoundOperand
-  fit_one lines r a f sa g = holds (Sound M n) SoundOperand (fit lines r a) f (fit_sound lines r a sa) g
+  fit_one : (ancestors : Ancestors) (r : ArgType) (a : Operand) (f : t.Expr → Typing Operand) → SoundOperand a
+      → ((x : t.Expr) → Sound M n x → IfOk (f x) SoundOperand) → IfOk (fit ancestors r a >>= f) SoundOperand
+  fit_one ancestors r a f sa g = holds (Sound M n) SoundOperand (fit ancestors r a) f (fit_sound ancestors r a sa) g
 
-  negated_sound : (lines : Lines) (place : Place) (a : Operand) → SoundOperand a → IfOk (negated lines place a) SoundOperand
+  negated_sound : (ancestors : Ancestors) (place : Place) (a : Operand) → SoundOperand a → IfOk (negated ancestors place a) SoundOperand
   unfolding negated
-  negated_sound lines place a sa =
-      with_integer SoundOperand a _ (λ q. fit_one lines (type.Plain (raised_type q)) a _ sa (λ x sx. plain _ _ _ tt sx))
+  negated_sound ancestors place a sa =
+      with_integer SoundOperand a _ (λ q. fit_one ancestors (type.Plain (raised_type q)) a _ sa (λ x sx. plain _ _ _ tt sx))
 
-  complemented_sound : (lines : Lines) (place : Place) (a : Operand) → SoundOperand a → IfOk (complemented lines place a) SoundOperand
+  complemented_sound : (ancestors : Ancestors) (place : Place) (a : Operand) → SoundOperand a → IfOk (complemented ancestors place a) SoundOperand
   unfolding complemented
-  complemented_sound lines place a sa =
-      with_integer SoundOperand a _ (λ q. fit_one lines (type.Plain (raised_type q)) a _ sa (λ x sx. plain _ _ _ tt sx))
+  complemented_sound ancestors place a sa =
+      with_integer SoundOperand a _ (λ q. fit_one ancestors (type.Plain (raised_type q)) a _ sa (λ x sx. plain _ _ _ tt sx))
 
-  raised_sound : (lines : Lines) (place : Place) (a : Operand) → SoundOperand a → IfOk (raised_operand lines place a) SoundOperand
+  raised_sound : (ancestors : Ancestors) (place : Place) (a : Operand) → SoundOperand a → IfOk (raised_operand ancestors place a) SoundOperand
   unfolding raised_operand
-  raised_sound lines place a sa =
-      with_integer SoundOperand a _ (λ q. fit_one lines (type.Plain (raised_type q)) a _ sa (λ x sx. plain _ _ _ tt sx))
+  raised_sound ancestors place a sa =
+      with_integer SoundOperand a _ (λ q. fit_one ancestors (type.Plain (raised_type q)) a _ sa (λ x sx. plain _ _ _ tt sx))
 
   opposite_sound : (place : Place) (a : Operand) → SoundOperand a → IfOk (opposite place a) SoundOperand
   unfolding opposite
@@ -216,20 +280,33 @@ module _ (M : Module) (n : ℕ) where
   stepped_sound : (kind : StepKind) (place : Place) (a : Operand) → SoundOperand a → IfOk (stepped kind place a) SoundOperand
   unfolding stepped
   stepped_sound kind place a sa =
-      holds (IsStored M n) SoundOperand (target a) _ (target_sound a sa) (λ x sx. with_integer SoundOperand a _ (λ q. plain _ _ _ sa.ty sx))
+      holds IsStoredSite SoundOperand (target a) _ (target_sound a sa)
+      (λ x sx. with_integer SoundOperand a _ (λ q. plain _ _ _ tt (step_sound x q kind sx)))
 
-  prefix_by_sound : (lines : Lines) (op : Token) (kind : TokenKind) (a : Operand) → SoundOperand a → IfOk (prefix_by lines op kind a) SoundOperand
-  prefix_by_sound lines op k.Not a sa = opposite_sound op.place a sa
-  prefix_by_sound lines op k.Minus a sa = negated_sound lines op.place a sa
-  prefix_by_sound lines op k.Plus a sa = raised_sound lines op.place a sa
-  prefix_by_sound lines op k.Tilde a sa = complemented_sound lines op.place a sa
-  prefix_by_sound lines op k.Increment a sa = stepped_sound step.IncrementBefore op.place a sa
-  prefix_by_sound lines op k.Decrement a sa = stepped_sound step.DecrementBefore op.place a sa
-  prefix_by_sound lines op _ a sa = tt
+  handle_by_sound : (place : Place) (a : Operand) (ty : ArgType) → IsPlainType ty → IfOk (handle_in place a ty) SoundOperand
+  handle_by_sound place a type.Void k = tt
+  handle_by_sound place a type.Null k = absurd k
+  handle_by_sound place a (type.Plain q) k = tt
+  handle_by_sound place a (type.Object m c) k = absurd k
+  handle_by_sound place a (type.Handle m c) k = absurd k
 
-  pub prefix_sound : (lines : Lines) (op : Token) (a : Operand) → SoundOperand a → IfOk (prefix_typing lines op a) SoundOperand
+  handle_sound : (place : Place) (a : Operand) → SoundOperand a → IfOk (handle_typing place a) SoundOperand
+  unfolding handle_typing
+  handle_sound place a sa = handle_by_sound place a a.ty sa.ty
+
+  prefix_by_sound : (ancestors : Ancestors) (op : Token) (kind : TokenKind) (a : Operand) → SoundOperand a → IfOk (prefix_by ancestors op kind a) SoundOperand
+  prefix_by_sound ancestors op k.Not a sa = opposite_sound op.place a sa
+  prefix_by_sound ancestors op k.Minus a sa = negated_sound ancestors op.place a sa
+  prefix_by_sound ancestors op k.Plus a sa = raised_sound ancestors op.place a sa
+  prefix_by_sound ancestors op k.Tilde a sa = complemented_sound ancestors op.place a sa
+  prefix_by_sound ancestors op k.Increment a sa = stepped_sound step.IncrementBefore op.place a sa
+  prefix_by_sound ancestors op k.Decrement a sa = stepped_sound step.DecrementBefore op.place a sa
+  prefix_by_sound ancestors op k.At a sa = handle_sound op.place a sa
+  prefix_by_sound ancestors op _ a sa = tt
+
+  pub prefix_sound : (ancestors : Ancestors) (op : Token) (a : Operand) → SoundOperand a → IfOk (prefix_typing ancestors op a) SoundOperand
   unfolding prefix_typing
-  prefix_sound lines op a sa = prefix_by_sound lines op op.kind a sa
+  prefix_sound ancestors op a sa = prefix_by_sound ancestors op op.kind a sa
 
   postfix_by_sound : (kind : TokenKind) (a : Operand) → SoundOperand a → IfOk (postfix_by kind a) SoundOperand
   postfix_by_sound k.Increment a sa = stepped_sound step.IncrementAfter a.place a sa
@@ -240,89 +317,96 @@ module _ (M : Module) (n : ℕ) where
   unfolding postfix_typing
   postfix_sound a kind sa = postfix_by_sound kind a sa
 
-  converted_by_sound : (lines : Lines) (word : Token) (kind : TokenKind) (a : Operand) → SoundOperand a
-      → IfOk (converted_by lines word kind a) SoundOperand
-  converted_by_sound lines word (k.Primitive q) a sa = fit_one lines (type.Plain q) a _ sa (λ x sx. plain _ _ _ tt sx)
-  converted_by_sound lines word _ a sa = tt
+  converted_by_sound : (ancestors : Ancestors) (word : Token) (kind : TokenKind) (a : Operand) → SoundOperand a
+      → IfOk (converted_by ancestors word kind a) SoundOperand
+  converted_by_sound ancestors word (k.Primitive q) a sa = fit_one ancestors (type.Plain q) a _ sa (λ x sx. plain _ _ _ tt sx)
+  converted_by_sound ancestors word _ a sa = tt
 
-  pub converted_sound : (lines : Lines) (word : Token) (a : Operand) → SoundOperand a → IfOk (convert_typing lines word a) SoundOperand
+  pub converted_sound : (ancestors : Ancestors) (word : Token) (a : Operand) → SoundOperand a → IfOk (convert_typing ancestors word a) SoundOperand
   unfolding convert_typing
-  converted_sound lines word a sa = converted_by_sound lines word word.kind a sa
+  converted_sound ancestors word a sa = converted_by_sound ancestors word word.kind a sa
 
-  inside_named : (x : Option NamedVariable) → IsNamed x → IsNamed (inside x)
-  inside_named None s = tt
-  inside_named (Some x) s = s
+  inside_targeted : (x : Option Target) (e : t.Expr) → IsTargeted x e → IsTargeted (inside x) e
+  inside_targeted None e s = tt
+  inside_targeted (Some x) e s = s
 
   pub group_sound : (place : Place) (a : Operand) → SoundOperand a → SoundOperand (group_typing place a)
-  group_sound place a sa = record { ty = sa.ty; tree = sa.tree; named = inside_named a.named sa.named }
+  group_sound place a sa = record { ty = sa.ty; tree = sa.tree; target = inside_targeted a.target a.tree sa.target; seat = refl }
 
   -- ---- `?:`
 
-  chosen_sound : (lines : Lines) (r : Primitive) (place : Place) (c : t.Expr) (a b : Operand) → Sound M n c → SoundOperand a → SoundOperand b
-      → IfOk (chosen_in lines r place c a b) SoundOperand
-  chosen_sound lines r place c a b sc sa sb =
-      fit_two lines (type.Plain r) a b (λ x y. Ok (operand place (type.Plain r) (t.choose c x y))) sa sb (λ x y sx sy. plain _ _ _ tt (sc, sx, sy))
+  chosen_sound : (ancestors : Ancestors) (r : Primitive) (place : Place) (c : t.Expr) (a b : Operand) → Sound M n c → SoundOperand a → SoundOperand b
+      → IfOk (choice_as ancestors (type.Plain r) place c a b) SoundOperand
+  chosen_sound ancestors r place c a b sc sa sb =
+      fit_two ancestors (type.Plain r) a b (λ x y. Ok (operand place (type.Plain r) (t.choose c x y))) sa sb (λ x y sx sy. plain _ _ _ tt (sc, sx, sy))
 
-  integers_sound : (lines : Lines) (place : Place) (c : t.Expr) (a b : Operand) → Sound M n c → SoundOperand a → SoundOperand b
-      → IfOk (choice_of_integers lines place c a b) SoundOperand
-  integers_sound lines place c a b sc sa sb =
-      with_integer SoundOperand a _ (λ q. with_integer SoundOperand b _ (λ r. chosen_sound lines (common_type q r) place c a b sc sa sb))
+  integers_sound : (ancestors : Ancestors) (place : Place) (c : t.Expr) (a b : Operand) → Sound M n c → SoundOperand a → SoundOperand b
+      → IfOk (choice_of_integers ancestors place c a b) SoundOperand
+  integers_sound ancestors place c a b sc sa sb =
+      with_integer SoundOperand a _ (λ q. with_integer SoundOperand b _ (λ r. chosen_sound ancestors (common_type q r) place c a b sc sa sb))
 
-  choice_by_sound : (lines : Lines) (place : Place) (c : t.Expr) (a b : Operand) (ty : ArgType) → Sound M n c → SoundOperand a → SoundOperand b
-      → IfOk (choice_by lines place c a b ty) SoundOperand
-  choice_by_sound lines place c a b (type.Plain p.Bool) sc sa sb = chosen_sound lines p.Bool place c a b sc sa sb
-  choice_by_sound lines place c a b (type.Object m r) sc sa sb = tt
-  choice_by_sound lines place c a b (type.Handle m r) sc sa sb = tt
-  choice_by_sound lines place c a b _ sc sa sb = integers_sound lines place c a b sc sa sb
+  choice_by_sound : (ancestors : Ancestors) (place : Place) (c : t.Expr) (a b : Operand) (ty : ArgType) → IsPlainType ty → Sound M n c → SoundOperand a
+      → SoundOperand b → IfOk (choice_by ancestors place c a b ty) SoundOperand
+  choice_by_sound ancestors place c a b (type.Plain p.Bool) k sc sa sb = chosen_sound ancestors p.Bool place c a b sc sa sb
+  choice_by_sound ancestors place c a b (type.Object m r) k sc sa sb = absurd k
+  choice_by_sound ancestors place c a b (type.Handle m r) k sc sa sb = absurd k
+  choice_by_sound ancestors place c a b _ k sc sa sb = integers_sound ancestors place c a b sc sa sb
 
-  choice_sound : (lines : Lines) (place : Place) (c : t.Expr) (a b : Operand) → Sound M n c → SoundOperand a → SoundOperand b
-      → IfOk (choice lines place c a b) SoundOperand
+  choice_sound : (ancestors : Ancestors) (place : Place) (c : t.Expr) (a b : Operand) → Sound M n c → SoundOperand a → SoundOperand b
+      → IfOk (choice ancestors place c a b) SoundOperand
   unfolding choice
-  choice_sound lines place c a b sc sa sb = choice_by_sound lines place c a b a.ty sc sa sb
+  choice_sound ancestors place c a b sc sa sb = choice_by_sound ancestors place c a b a.ty sa.ty sc sa sb
 
-  pub conditional_sound : (lines : Lines) (c a b : Operand) → SoundOperand c → SoundOperand a → SoundOperand b
-      → IfOk (conditional_typing lines c a b) SoundOperand
+  pub conditional_sound : (ancestors : Ancestors) (c a b : Operand) → SoundOperand c → SoundOperand a → SoundOperand b
+      → IfOk (conditional_typing ancestors c a b) SoundOperand
   unfolding conditional_typing
-  conditional_sound lines c a b sc sa sb =
-      holds (Sound M n) SoundOperand (truth c) _ (truth_sound c sc) (λ x sx. choice_sound lines c.place x a b sx sa sb)
+  conditional_sound ancestors c a b sc sa sb =
+      holds (Sound M n) SoundOperand (truth c) _ (truth_sound c sc) (λ x sx. choice_sound ancestors c.place x a b sx sa sb)
 
   -- ---- assignments
 
-  assign_in_sound : (lines : Lines) (x : Variable) (a b : Operand) (ty : ArgType) → IsStored M n x → SoundOperand b
-      → IfOk (assign_in lines x a b ty) SoundOperand
-  assign_in_sound lines x a b (type.Plain q) sx sb = fit_one lines (type.Plain q) b _ sb (λ y sy. plain _ _ _ tt (sx, sy))
-  assign_in_sound lines x a b _ sx sb = tt
+  assign_in_sound : (ancestors : Ancestors) (at place : Place) (x : t.Site) (b : Operand) (ty : ArgType) → IsStoredSite x → SoundOperand b
+      → IfOk (assign_in ancestors at place x b ty) SoundOperand
+  assign_in_sound ancestors at place x b (type.Plain q) sx sb =
+      fit_one ancestors (type.Plain q) b _ sb (λ y sy. plain _ _ _ tt (assign_sound x (type.Plain q) y sx sy))
+  assign_in_sound ancestors at place x b _ sx sb = tt
 
-  assigned_sound : (lines : Lines) (a b : Operand) → SoundOperand a → SoundOperand b → IfOk (assigned lines a b) SoundOperand
+  assigned_sound : (ancestors : Ancestors) (at : Place) (a b : Operand) → SoundOperand a → SoundOperand b → IfOk (assigned ancestors at a b) SoundOperand
   unfolding assigned
-  assigned_sound lines a b sa sb =
-      holds (IsStored M n) SoundOperand (target a) _ (target_sound a sa) (λ x sx. assign_in_sound lines x a b a.ty sx sb)
+  assigned_sound ancestors at a b sa sb =
+      holds IsStoredSite SoundOperand (target a) _ (target_sound a sa) (λ x sx. assign_in_sound ancestors at a.place x b a.ty sx sb)
 
-  compound_sound : (lines : Lines) (op : Operator) (x : Variable) (q r : Primitive) (a b : Operand) → IsStored M n x → SoundOperand a → SoundOperand b
-      → IfOk (compound_in lines op x q r a b) SoundOperand
-  compound_sound lines op x q r a b sx sa sb = fit_one lines (type.Plain r) b _ sb (λ y sy. plain _ _ _ sa.ty (sx, sy))
+  assigned_by_sound : (ancestors : Ancestors) (at : Place) (a b : Operand) (s : Option Seat) → s ≡ None → SoundOperand a → SoundOperand b
+      → IfOk (assigned_by ancestors at a b s) SoundOperand
+  assigned_by_sound ancestors at a b None e sa sb = assigned_sound ancestors at a b sa sb
+  assigned_by_sound ancestors at a b (Some s) e sa sb = cc
 
-  compound_arithmetic_sound : (lines : Lines) (op : Operator) (a b : Operand) → SoundOperand a → SoundOperand b
-      → IfOk (compound_arithmetic lines op a b) SoundOperand
+  compound_sound : (ancestors : Ancestors) (op : Operator) (place : Place) (x : t.Site) (q r : Primitive) (b : Operand) → IsStoredSite x → SoundOperand b
+      → IfOk (compound_in ancestors op place x q r b) SoundOperand
+  compound_sound ancestors op place x q r b sx sb =
+      fit_one ancestors (type.Plain r) b _ sb (λ y sy. plain _ _ _ tt (change_sound x q r op y sx sy))
+
+  compound_arithmetic_sound : (ancestors : Ancestors) (op : Operator) (a b : Operand) → SoundOperand a → SoundOperand b
+      → IfOk (compound_arithmetic ancestors op a b) SoundOperand
   unfolding compound_arithmetic
-  compound_arithmetic_sound lines op a b sa sb =
-      holds (IsStored M n) SoundOperand (target a) _ (target_sound a sa)
-      (λ x sx. with_integer SoundOperand a _ (λ q. with_integer SoundOperand b _ (λ r. compound_sound lines op x q (common_type q r) a b sx sa sb)))
+  compound_arithmetic_sound ancestors op a b sa sb =
+      holds IsStoredSite SoundOperand (target a) _ (target_sound a sa)
+      (λ x sx. with_integer SoundOperand a _ (λ q. with_integer SoundOperand b _ (λ r. compound_sound ancestors op a.place x q (common_type q r) b sx sb)))
 
-  compound_shift_sound : (lines : Lines) (op : Operator) (a b : Operand) → SoundOperand a → SoundOperand b
-      → IfOk (compound_shift lines op a b) SoundOperand
+  compound_shift_sound : (ancestors : Ancestors) (op : Operator) (a b : Operand) → SoundOperand a → SoundOperand b
+      → IfOk (compound_shift ancestors op a b) SoundOperand
   unfolding compound_shift
-  compound_shift_sound lines op a b sa sb =
-      holds (IsStored M n) SoundOperand (target a) _ (target_sound a sa)
-      (λ x sx. with_integer SoundOperand a _ (λ q. with_integer SoundOperand b _ (λ r. compound_sound lines op x q (raised_type q) a b sx sa sb)))
+  compound_shift_sound ancestors op a b sa sb =
+      holds IsStoredSite SoundOperand (target a) _ (target_sound a sa)
+      (λ x sx. with_integer SoundOperand a _ (λ q. with_integer SoundOperand b _ (λ r. compound_sound ancestors op a.place x q (raised_type q) b sx sb)))
 
-  assignment_by_sound : (lines : Lines) (w : Option Work) (a b : Operand) → SoundOperand a → SoundOperand b
-      → IfOk (assignment_by lines w a b) SoundOperand
-  assignment_by_sound lines None a b sa sb = assigned_sound lines a b sa sb
-  assignment_by_sound lines (Some (work.Arithmetic op)) a b sa sb = compound_arithmetic_sound lines op a b sa sb
-  assignment_by_sound lines (Some (work.Shift op)) a b sa sb = compound_shift_sound lines op a b sa sb
+  assignment_by_sound : (ancestors : Ancestors) (at : Place) (w : Option Work) (a b : Operand) → SoundOperand a → SoundOperand b
+      → IfOk (assignment_by ancestors at w a b) SoundOperand
+  assignment_by_sound ancestors at None a b sa sb = assigned_by_sound ancestors at a b a.seat sa.seat sa sb
+  assignment_by_sound ancestors at (Some (work.Arithmetic op)) a b sa sb = compound_arithmetic_sound ancestors op a b sa sb
+  assignment_by_sound ancestors at (Some (work.Shift op)) a b sa sb = compound_shift_sound ancestors op a b sa sb
 
-  pub assignment_sound : (lines : Lines) (a : Operand) (op : TokenKind) (b : Operand) → SoundOperand a → SoundOperand b
-      → IfOk (assignment_typing lines a op b) SoundOperand
+  pub assignment_sound : (ancestors : Ancestors) (a : Operand) (op : Token) (b : Operand) → SoundOperand a → SoundOperand b
+      → IfOk (assignment_typing ancestors a op b) SoundOperand
   unfolding assignment_typing
-  assignment_sound lines a op b sa sb = assignment_by_sound lines (compound_work op) a b sa sb
+  assignment_sound ancestors a op b sa sb = assignment_by_sound ancestors op.place (compound_work op.kind) a b sa sb

@@ -1,174 +1,622 @@
--- The resolved tree of scripts without errors: it has what the names declare, and is sound.
-use Rattle.std.specs.Prelude.{◌≡◌, ℕ, length, List, [], ◌∷◌, map, Ok, Err, IfOk}
-use Rattle.std.specs.List.{filter_map, flat_map}
-use Rattle.std.proofs.Common.{refl, ap, sym, ◌∙◌, subst}
-use Rattle.std.proofs.lemmas.List.{length-map}
+-- The resolved tree of scripts without errors: it has what the names declare, each body at its number, and is sound.
+use Rattle.std.specs.Prelude.{◌≡◌, ℕ, suc, ◌+◌, true, false, Contains, length, take, List, [], ◌∷◌, ◌++◌, map, unwrap_or, option_map, option_and_then, Option, Some, None, Ok, Err, IfOk, slice_get}
+use Rattle.std.specs.List.{cons_option, filter_map, flat_map, list_any, range_with_len}
+use Rattle.std.proofs.Common.{refl, ap, sym, ◌∙◌, subst, arith}
+use Rattle.std.proofs.lemmas.Bool.{eqb-true}
+use Rattle.std.proofs.lemmas.List.{length-map, map-append}
+use Rattle.std.proofs.lemmas.Option.{same_Some}
 use Rattle.ang_lex.specs.declared.token.Token.{Token}
-use Rattle.ang_registry.specs.Registration.{RegistrationList}
+use Rattle.ang_view.specs.Registration.{RegistrationList}
+use Rattle.ang_view.specs.Values.{TakesValues}
 use Rattle.ang_tree.specs.declared.type_name.TypeName.{TypeName}
-use Rattle.ang_tree.specs.Stmt.{Init, Body, Every}
+use Rattle.ang_tree.specs.Declarations.{SuperTree}
+use Rattle.ang_tree.specs.Stmt.{Init, Body, Stmts, Every}
+use Rattle.ang_types.specs.declared.arg_type.ArgType.{ArgType}
+use Rattle.ang_types.specs.declared.asks.Refused.{Refused}
+use Rattle.ang_typed.specs.declared.program.Heading.{Heading}
 use Rattle.ang_typed.specs.declared.program.Parameter.{Parameter}
 use Rattle.ang_typed.specs.Typed as t
-use Rattle.ang_names_written.specs.Sources.{Source}
+use Rattle.ang_names_known.specs.declared.names.Constructor.{Constructor}
+use Rattle.ang_names_known.specs.declared.names.Family.{Family}
+use Rattle.ang_names_known.specs.declared.names.Method.{Method}
+use Rattle.ang_names_known.specs.declared.names.Names.{Names}
+use Rattle.ang_names_known.specs.declared.names.ScriptFunction.{ScriptFunction}
+use Rattle.ang_names_known.specs.declared.names.ScriptGlobal.{ScriptGlobal}
+use Rattle.ang_names_known.specs.Items.{each_after}
 use Rattle.ang_names_written.specs.NotYet.{not_yet}
-use Rattle.ang_names.specs.declared.names.Names.{Names}
-use Rattle.ang_names.specs.declared.names.ScriptFunction.{ScriptFunction}
-use Rattle.ang_names.specs.declared.names.ScriptGlobal.{ScriptGlobal}
-use Rattle.ang_names.specs.Declarations.{declarations_of}
-use Rattle.ang_names.specs.Resolved.{names_of}
-use Rattle.ang_check_operators.specs.Refusals.{Judged}
-use Rattle.ang_check.specs.Bodies.{parameter_of, Part, a_body, an_initializer, parts_of, Judgement, a_function, a_global, setting_in, judged_from, judgements, refusal_in, function_in, global_in, function_typing, global_typing, body_errors, program_of}
-use Rattle.ang_source.specs.Sound.{Module, module_of, SoundOption, SoundFunction, SoundFunctions, SoundGlobals, SoundProgram}
-use Rattle.ang_registry.specs.Values.{TakesValues}
-use Rattle.ang_check_sound.specs.Checked.{module_in, HasNames}
-use Rattle.ang_check_sound.specs.Parts.{Belong}
-use Rattle.ang_check_sound.specs.PlainNames.{IsPlainFunction, ArePlainNames, IsPlainSetting}
-use Rattle.ang_check_sound.proofs.Items.{every_any}
+use Rattle.ang_names_written.specs.Sources.{Source}
+use Rattle.ang_names_listed.specs.Declarations.{declarations_of, families_of}
+use Rattle.ang_names.specs.Meant.{space_of_declared}
+use Rattle.ang_names.specs.Resolved.{signatures_of, functions_in, families_in, names_of}
+use Rattle.ang_check_operand.specs.Refusals.{Typing}
+use Rattle.ang_check_typing.specs.declared.scope.Within.{Within}
+use Rattle.ang_check_body.specs.Typing.{Base, typed_parameters, function_typing, method_body_typing, constructor_typing, global_typing}
+use Rattle.ang_check_bodies.specs.Bodies.{Part, a_function, a_global, a_method, a_constructor, a_default, parts_of, Judgement, of_function, of_global, of_member, of_default, context_in, within_of, base_of, base_name, judged_function, judged_global, method_at, judged_method, constructor_at, judged_constructor, judged, judgements, refusal_in, function_given, member_given, global_given, body_refusals, typed_class, typed_classes, method_headings, import_heading, program_of, HasMethodBody, HasConstructorBody, HasBodies}
+use Rattle.ang_source.specs.Sound.{Module, module_of, SoundOption, SoundFunction, SoundFunctions, SoundGlobals, SoundClasses, SoundProgram}
+use Rattle.ang_check_sound.specs.Checked.{NumberedBody, with_this, bodies_of, body_parameters, module_in, HasNames}
+use Rattle.ang_check_sound.specs.PlainNames.{IsPlainType, IsPlainFunction, ArePlainNames, IsPlainContext}
+use Rattle.ang_check_sound.proofs.Bodies.{IsOf, IsGlobal, function_declared, method_declared, constructor_declared, global_declared, function_sound, global_sound}
+use Rattle.ang_check_sound.proofs.Items.{every_at}
+use Rattle.ang_check_sound.proofs.Members.{number_of, IsMethod, IsConstructor, AreNumbered, IsMethodWritten, IsConstructorWritten}
+use Rattle.ang_check_sound.proofs.Numbers.{has_number, bodies_counted, method_numbered, constructor_numbered, HoldsIn, every_body, found}
+use Rattle.ang_check_sound.proofs.Parts.{total_of, IsFamilyWritten, HasParts, names_have_parts}
+use Rattle.ang_check_sound.proofs.Places.{Behind, all_left, next_item, next_left, EachFrom, at_number, all_of_each, in_second}
 use Rattle.ang_check_sound.proofs.Within.{names_plain, IsWithin, parts_within}
-use Rattle.ang_check_sound.proofs.Bodies.{IsFunction, IsGlobal, function_declared, global_declared, function_sound, global_sound}
-use Rattle.ang_check_sound.proofs.Parts.{all_belong}
 
--- as many of the one as of the other, and each of one is so with that of the other at its place
-abbrev pub Pairwise : {A B : Type 0} → (A → B → Type 0) → List A → List B → Type 0
-Pairwise R [] [] = Unit {0}
-Pairwise R [] (y ∷ ys) = ⊥
-Pairwise R (x ∷ xs) [] = ⊥
-Pairwise R (x ∷ xs) (y ∷ ys) = R x y × Pairwise R xs ys
+-- ---- judgements without refusals
 
--- ---- what holds of each judgement holds of what all give
+none_behind : (xs ys : List Judgement) → filter_map refusal_in (xs ++ ys) ≡ [] → filter_map refusal_in ys ≡ []
+none_behind [] ys e = e
+none_behind (x ∷ xs) ys e = none_behind xs ys (behind_first (refusal_in x) (filter_map refusal_in (xs ++ ys)) e)
+  where
+    behind_first : (o : Option Refused) (rs : List Refused) → cons_option o rs ≡ [] → rs ≡ []
+    behind_first None rs e = e
+    behind_first (Some r) rs e = cc
 
-module _ (V : RegistrationList) (names : Names) (P : ScriptFunction → t.Function → Type 0) (Q : ScriptGlobal → t.Global → Type 0)
-    (W : Part → Type 0) (F : ScriptFunction → Type 0)
-    (each_function : (text : List ℕ) (f : ScriptFunction) (x : Token) (b : Body) → W (a_body text x b) → F f
-    → IfOk (function_typing (setting_in V names text) f x b) (P f))
-    (each_global : (text : List ℕ) (g : ScriptGlobal) (y : TypeName) (i : Init) → W (an_initializer text y i)
-    → IfOk (global_typing (setting_in V names text) g y i) (Q g)) where
-  -- what these judgements give, of these functions and globals
-  record Gives (fs : List ScriptFunction) (gs : List ScriptGlobal) (js : List Judgement) : Type 0 where
-    functions : Pairwise P fs (filter_map function_in js)
-    globals : Pairwise Q gs (filter_map global_in js)
+each_has : {A : Type 0} (P : A → Type 0) (xs : List A) (x : A) → Every P xs → Contains xs x → P x
+each_has P xs x h c = subst P c.2 (all_of_each P xs h c.0 x c.1)
 
-  first_function : (text : List ℕ) (f : ScriptFunction) (fs : List ScriptFunction) (gs : List ScriptGlobal) (x : Judged t.Function) (js : List Judgement)
-      → IfOk x (P f) → filter_map refusal_in (a_function text x ∷ js) ≡ [] → (filter_map refusal_in js ≡ [] → Gives fs gs js)
-      → Gives (f ∷ fs) gs (a_function text x ∷ js)
-  first_function text f fs gs (Ok g) js h e rest = let r = rest e in record { functions = (h, r.functions); globals = r.globals }
-  first_function text f fs gs (Err why) js h e rest = cc
+-- ---- what the parts give, over a view and names
 
-  first_global : (text : List ℕ) (g : ScriptGlobal) (fs : List ScriptFunction) (gs : List ScriptGlobal) (x : Judged t.Global) (js : List Judgement)
-      → IfOk x (Q g) → filter_map refusal_in (a_global text x ∷ js) ≡ [] → (filter_map refusal_in js ≡ [] → Gives fs gs js)
-      → Gives fs (g ∷ gs) (a_global text x ∷ js)
-  first_global text g fs gs (Ok y) js h e rest = let r = rest e in record { functions = r.functions; globals = (h, r.globals) }
-  first_global text g fs gs (Err why) js h e rest = cc
+module _ (V : RegistrationList) (names : Names) where
+  abbrev J : List Part → List Judgement
+  J ps = flat_map (judged V names) ps
 
-  all_given : (parts : List Part) (fs : List ScriptFunction) (gs : List ScriptGlobal) → Every W parts → Every F fs → Belong V parts fs gs
-      → filter_map refusal_in (judged_from V names fs gs parts) ≡ [] → Gives fs gs (judged_from V names fs gs parts)
-  all_given [] [] [] w k h e = record { functions = tt; globals = tt }
-  all_given [] [] (g ∷ gs) w k h e = absurd h
-  all_given [] (f ∷ fs) gs w k h e = absurd h
-  all_given (a_body text x b ∷ parts) [] gs w k h e = absurd h
-  all_given (a_body text x b ∷ parts) (f ∷ fs) gs w k h e =
-      first_function text f fs gs (function_typing (setting_in V names text) f x b) (judged_from V names fs gs parts) (each_function text f x b w.0 k.0) e
-      (λ none. all_given parts fs gs w.1 k.1 h.2 none)
-  all_given (an_initializer text y i ∷ parts) [] [] w k h e = absurd h
-  all_given (an_initializer text y i ∷ parts) (f ∷ fs) [] w k h e = absurd h
-  all_given (an_initializer text y i ∷ parts) [] (g ∷ gs) w k h e =
-      first_global text g [] gs (global_typing (setting_in V names text) g y i) (judged_from V names [] gs parts) (each_global text g y i w.0) e
-      (λ none. all_given parts [] gs w.1 k h.1 none)
-  all_given (an_initializer text y i ∷ parts) (f ∷ fs) (g ∷ gs) w k h e =
-      first_global text g (f ∷ fs) gs (global_typing (setting_in V names text) g y i) (judged_from V names (f ∷ fs) gs parts) (each_global text g y i w.0) e
-      (λ none. all_given parts (f ∷ fs) gs w.1 k h.1 none)
+  -- ---- functions and globals
+
+  abbrev IsFunctionAt : ℕ → t.Function → Type 0
+  IsFunctionAt n h = (f : ScriptFunction) × (slice_get names.functions n ≡ Some f) × IsOf (typed_parameters f) f.result.ty h
+
+  abbrev IsGlobalAt : ℕ → t.Global → Type 0
+  IsGlobalAt n x = (g : ScriptGlobal) × (slice_get names.globals n ≡ Some g) × IsGlobal g x
+
+  -- a body of this number is listed
+  abbrev IsListed : ℕ → t.Function → Type 0
+  IsListed j h = list_any (has_number (number_of V names j)) (bodies_of names) ≡ true
+
+  -- what these judgements give, where i functions, g globals and j bodies of members stand before them
+  record Given (total i g j : ℕ) (js : List Judgement) : Type 0 where
+    functions : EachFrom IsFunctionAt i (filter_map function_given js)
+    function_count : i + length (filter_map function_given js) ≡ length names.functions
+    globals : EachFrom IsGlobalAt g (filter_map global_given js)
+    global_count : g + length (filter_map global_given js) ≡ length names.globals
+    members : EachFrom IsListed j (filter_map member_given js)
+    member_count : j + length (filter_map member_given js) ≡ total
+
+  abbrev Clean : List Judgement → Type 0
+  Clean js = filter_map refusal_in js ≡ []
+
+  function_more : (total i g j : ℕ) (text : List ℕ) (f : ScriptFunction) (x : Typing t.Function) (js : List Judgement)
+      → slice_get names.functions i ≡ Some f → IfOk x (IsOf (typed_parameters f) f.result.ty) → Clean (of_function text x ∷ js)
+      → Given total (i + 1) g j js → Given total i g j (of_function text x ∷ js)
+  function_more total i g j text f (Ok h) js at is e r = record {
+    functions = ((f, at, is), r.functions);
+    function_count = let n = length (filter_map function_given js) in
+        let was : i + 1 + n ≡ length names.functions = r.function_count in let goal : i + suc n ≡ length names.functions = omega arith in goal;
+    globals = r.globals;
+    global_count = r.global_count;
+    members = r.members;
+    member_count = r.member_count;
+  }
+  function_more total i g j text f (Err why) js at is e r = cc
+
+  global_more : (total i g j : ℕ) (text : List ℕ) (f : ScriptGlobal) (x : Typing t.Global) (js : List Judgement)
+      → slice_get names.globals g ≡ Some f → IfOk x (IsGlobal f) → Clean (of_global text x ∷ js)
+      → Given total i (g + 1) j js → Given total i g j (of_global text x ∷ js)
+  global_more total i g j text f (Ok h) js at is e r = record {
+    functions = r.functions;
+    function_count = r.function_count;
+    globals = ((f, at, is), r.globals);
+    global_count = let n = length (filter_map global_given js) in
+        let was : g + 1 + n ≡ length names.globals = r.global_count in let goal : g + suc n ≡ length names.globals = omega arith in goal;
+    members = r.members;
+    member_count = r.member_count;
+  }
+  global_more total i g j text f (Err why) js at is e r = cc
+
+  member_more : (total i g j : ℕ) (text : List ℕ) (x : Typing t.Function) (js : List Judgement)
+      → list_any (has_number (number_of V names j)) (bodies_of names) ≡ true → Clean (of_member text x ∷ js)
+      → Given total i g (j + 1) js → Given total i g j (of_member text x ∷ js)
+  member_more total i g j text (Ok h) js listed e r = record {
+    functions = r.functions;
+    function_count = r.function_count;
+    globals = r.globals;
+    global_count = r.global_count;
+    members = (listed, r.members);
+    member_count = let n = length (filter_map member_given js) in
+        let was : j + 1 + n ≡ total = r.member_count in let goal : j + suc n ≡ total = omega arith in goal;
+  }
+  member_more total i g j text (Err why) js listed e r = cc
+
+  default_more : (total i g j : ℕ) (text : List ℕ) (x : Typing Base) (js : List Judgement) → Clean (of_default text x ∷ js)
+      → Given total i g j js → Given total i g j (of_default text x ∷ js)
+  default_more total i g j text (Ok b) js e r = record {
+    functions = r.functions;
+    function_count = r.function_count;
+    globals = r.globals;
+    global_count = r.global_count;
+    members = r.members;
+    member_count = r.member_count;
+  }
+  default_more total i g j text (Err why) js e r = cc
+
+  by_function : (total i g j : ℕ) (text : List ℕ) (x : Token) (b : Body) (o : Option ScriptFunction) (f : ScriptFunction) (js : List Judgement)
+      → slice_get names.functions i ≡ o → o ≡ Some f → Clean (judged_function V names text x b o ++ js)
+      → Given total (i + 1) g j js → Given total i g j (judged_function V names text x b o ++ js)
+  by_function total i g j text x b None f js at e clean r = cc
+  by_function total i g j text x b (Some h) f js at e clean r =
+      function_more total i g j text h (function_typing (context_in V names text None) h x b) js at
+      (function_declared (context_in V names text None) h x b) clean r
+
+  by_global : (total i g j : ℕ) (text : List ℕ) (y : TypeName) (init : Init) (o : Option ScriptGlobal) (f : ScriptGlobal) (js : List Judgement)
+      → slice_get names.globals g ≡ o → o ≡ Some f → Clean (judged_global V names text y init o ++ js)
+      → Given total i (g + 1) j js → Given total i g j (judged_global V names text y init o ++ js)
+  by_global total i g j text y init None f js at e clean r = cc
+  by_global total i g j text y init (Some h) f js at e clean r =
+      global_more total i g j text h (global_typing (context_in V names text None) h y init) js at
+      (global_declared (context_in V names text None) h y init) clean r
+
+  -- what a number of a family has
+  family_method : (c m : ℕ) (o : Option Family) (y : Method) → slice_get names.families c ≡ o
+      → option_and_then (λ (f : Family). slice_get f.methods m) o ≡ Some y
+      → (f : Family) × (slice_get names.families c ≡ Some f) × (slice_get f.methods m ≡ Some y)
+  family_method c m None y is e = cc
+  family_method c m (Some f) y is e = (f, is, e)
+
+  family_constructor : (c m : ℕ) (o : Option Family) (y : Constructor) → slice_get names.families c ≡ o
+      → option_and_then (λ (f : Family). slice_get f.constructors m) o ≡ Some y
+      → (f : Family) × (slice_get names.families c ≡ Some f) × (slice_get f.constructors m ≡ Some y)
+  family_constructor c m None y is e = cc
+  family_constructor c m (Some f) y is e = (f, is, e)
+
+  method_listed : (j c m : ℕ) (text : List ℕ) (x : Token) → IsMethod V names j c m text x
+      → list_any (has_number (number_of V names j)) (bodies_of names) ≡ true
+  method_listed j c m text x h =
+      let there = family_method c m (slice_get names.families c) h.method refl h.there in
+      method_numbered names (number_of V names j) c m there.0 h.method there.1 there.2 h.body
+
+  constructor_listed : (j c m : ℕ) (text : List ℕ) (x : Token) → IsConstructor V names j c m text x
+      → list_any (has_number (number_of V names j)) (bodies_of names) ≡ true
+  constructor_listed j c m text x h =
+      let there = family_constructor c m (slice_get names.families c) h.constructor refl h.there in
+      constructor_numbered names (number_of V names j) c m there.0 h.constructor there.1 there.2 h.body
+
+  by_method : (total i g j c : ℕ) (text : List ℕ) (x : Token) (b : Body) (o : Option Method) (y : Method) (js : List Judgement) → o ≡ Some y
+      → list_any (has_number (number_of V names j)) (bodies_of names) ≡ true → Clean (judged_method V names c text x b o ++ js)
+      → Given total i g (j + 1) js → Given total i g j (judged_method V names c text x b o ++ js)
+  by_method total i g j c text x b None y js e listed clean r = cc
+  by_method total i g j c text x b (Some z) y js e listed clean r =
+      let w = within_of V names c z.read_only in
+      member_more total i g j text (method_body_typing (context_in V names text (Some w)) w z.function x b) js listed clean r
+
+  by_constructor : (total i g j c : ℕ) (text : List ℕ) (x base : Token) (bn : Option ℕ) (u : Option SuperTree) (ss : Stmts) (o : Option Constructor) (y : Constructor)
+      (js : List Judgement) → o ≡ Some y → list_any (has_number (number_of V names j)) (bodies_of names) ≡ true
+      → Clean (judged_constructor V names c text x base bn u ss o ++ js)
+      → Given total i g (j + 1) js → Given total i g j (judged_constructor V names c text x base bn u ss o ++ js)
+  by_constructor total i g j c text x base bn u ss None y js e listed clean r = cc
+  by_constructor total i g j c text x base bn u ss (Some z) y js e listed clean r =
+      let w = within_of V names c false in
+      member_more total i g j text (constructor_typing (context_in V names text (Some w)) w z.function x base bn u ss) js listed clean r
+
+  all_given : (total i g j : ℕ) (ps : List Part) → AreNumbered V names total i g j ps → Clean (J ps) → Given total i g j (J ps)
+  all_given total i g j [] h clean = record {
+    functions = tt;
+    function_count = let e : length names.functions ≡ i = h.0 in let goal : i + 0 ≡ length names.functions = omega arith in goal;
+    globals = tt;
+    global_count = let e : length names.globals ≡ g = h.1 in let goal : g + 0 ≡ length names.globals = omega arith in goal;
+    members = tt;
+    member_count = let e : total ≡ j = h.2 in let goal : j + 0 ≡ total = omega arith in goal;
+  }
+  all_given total i g j (a_function n text x b ∷ ps) h clean =
+      let at : slice_get names.functions i ≡ slice_get names.functions n = ap (slice_get names.functions) (sym h.0) in
+      by_function total i g j text x b (slice_get names.functions n) h.1.0 (J ps) at h.1.1 clean
+      (all_given total (i + 1) g j ps h.2 (none_behind (judged V names (a_function n text x b)) (J ps) clean))
+  all_given total i g j (a_global n text y init ∷ ps) h clean =
+      let at : slice_get names.globals g ≡ slice_get names.globals n = ap (slice_get names.globals) (sym h.0) in
+      by_global total i g j text y init (slice_get names.globals n) h.1.0 (J ps) at h.1.1 clean
+      (all_given total i (g + 1) j ps h.2 (none_behind (judged V names (a_global n text y init)) (J ps) clean))
+  all_given total i g j (a_method c m text x b ∷ ps) h clean =
+      by_method total i g j c text x b (method_at V names c m) h.0.method (J ps) h.0.there (method_listed j c m text x h.0) clean
+      (all_given total i g (j + 1) ps h.1 (none_behind (judged V names (a_method c m text x b)) (J ps) clean))
+  all_given total i g j (a_constructor c m text x own bases u ss ∷ ps) h clean =
+      by_constructor total i g j c text x (base_name V names c text own bases) (base_of V names c) u ss (constructor_at V names c m) h.0.constructor (J ps)
+      h.0.there (constructor_listed j c m text x h.0) clean
+      (all_given total i g (j + 1) ps h.1 (none_behind (judged V names (a_constructor c m text x own bases u ss)) (J ps) clean))
+  all_given total i g j (a_default c text x bases ∷ ps) h clean =
+      default_more total i g j text _ (J ps) clean
+      (all_given total i g j ps h.1 (none_behind (judged V names (a_default c text x bases)) (J ps) clean))
+
+  -- ---- each body of a member at its number
+
+  -- of all functions and of the bodies of members
+  module _ (functions members : List t.Function) (functions_first : length functions ≡ length names.functions) where
+    -- The body of this part was typed, and is at the number that it has.
+    abbrev Sits : Part → Type 0
+    Sits (a_function n text x b) = Unit {0}
+    Sits (a_global n text y i) = Unit {0}
+    Sits (a_method c m text x b) =
+        (y : Method) × (h : t.Function) × (k : ℕ) × (method_at V names c m ≡ Some y)
+        × (method_body_typing (context_in V names text (Some (within_of V names c y.read_only))) (within_of V names c y.read_only) y.function x b ≡ Ok h)
+        × (y.body ≡ Some k) × (slice_get (functions ++ members) k ≡ Some h)
+    Sits (a_constructor c m text x own bases u ss) =
+        (y : Constructor) × (h : t.Function) × (constructor_at V names c m ≡ Some y)
+        × (constructor_typing (context_in V names text (Some (within_of V names c false))) (within_of V names c false) y.function x
+        (base_name V names c text own bases) (base_of V names c) u ss ≡ Ok h)
+        × (slice_get (functions ++ members) y.body ≡ Some h)
+    Sits (a_default c text x bases) = Unit {0}
+
+    -- the typing of a member that comes next
+    next_member : (j : ℕ) (text : List ℕ) (x : Typing t.Function) (js : List Judgement) → Clean (of_member text x ∷ js)
+        → Behind t.Function j members (filter_map member_given (of_member text x ∷ js))
+        → (h : t.Function) × (x ≡ Ok h) × (slice_get (functions ++ members) (number_of V names j) ≡ Some h)
+        × Behind t.Function (j + 1) members (filter_map member_given js)
+    next_member j text (Ok h) js clean b = (
+      h,
+      refl,
+      in_second functions members (length names.functions) j h functions_first (next_item j members h (filter_map member_given js) b),
+      next_left j members h (filter_map member_given js) b,
+    )
+    next_member j text (Err why) js clean b = cc
+
+    -- a list of one judgement that is no member's
+    no_function : (text : List ℕ) (x : Token) (b : Body) (o : Option ScriptFunction) (js : List Judgement)
+        → filter_map member_given (judged_function V names text x b o ++ js) ≡ filter_map member_given js
+    no_function text x b None js = refl
+    no_function text x b (Some f) js = refl
+
+    no_global : (text : List ℕ) (y : TypeName) (i : Init) (o : Option ScriptGlobal) (js : List Judgement)
+        → filter_map member_given (judged_global V names text y i o ++ js) ≡ filter_map member_given js
+    no_global text y i None js = refl
+    no_global text y i (Some g) js = refl
+
+    all_sit : (total i g j : ℕ) (ps : List Part) → AreNumbered V names total i g j ps → Clean (J ps)
+        → Behind t.Function j members (filter_map member_given (J ps)) → Every Sits ps
+    all_sit total i g j [] h clean b = tt
+    all_sit total i g j (a_function n text x code ∷ ps) h clean b = (
+      tt,
+      all_sit total (i + 1) g j ps h.2 (none_behind (judged V names (a_function n text x code)) (J ps) clean)
+          (subst (Behind t.Function j members) (no_function text x code (slice_get names.functions n) (J ps)) b),
+    )
+    all_sit total i g j (a_global n text y init ∷ ps) h clean b = (
+      tt,
+      all_sit total i (g + 1) j ps h.2 (none_behind (judged V names (a_global n text y init)) (J ps) clean)
+          (subst (Behind t.Function j members) (no_global text y init (slice_get names.globals n) (J ps)) b),
+    )
+    all_sit total i g j (a_method c m text x code ∷ ps) h clean b =
+        let y = h.0.method in
+        let w = within_of V names c y.read_only in
+        let typing = method_body_typing (context_in V names text (Some w)) w y.function x code in
+        let js : List Judgement = of_member text typing ∷ J ps in
+        let same : J (a_method c m text x code ∷ ps) ≡ js = ap (λ (o : Option Method). judged_method V names c text x code o ++ J ps) h.0.there in
+        let next = next_member j text typing (J ps) (subst Clean same clean)
+        (subst (λ (l : List Judgement). Behind t.Function j members (filter_map member_given l)) same b) in (
+          (y, next.0, number_of V names j, h.0.there, next.1, h.0.body, next.2),
+          all_sit total i g (j + 1) ps h.1 (none_behind (judged V names (a_method c m text x code)) (J ps) clean) next.3,
+        )
+    all_sit total i g j (a_constructor c m text x own bases u ss ∷ ps) h clean b =
+        let y = h.0.constructor in
+        let w = within_of V names c false in
+        let base = base_name V names c text own bases in
+        let typing = constructor_typing (context_in V names text (Some w)) w y.function x base (base_of V names c) u ss in
+        let js : List Judgement = of_member text typing ∷ J ps in
+        let same : J (a_constructor c m text x own bases u ss ∷ ps) ≡ js =
+        ap (λ (o : Option Constructor). judged_constructor V names c text x base (base_of V names c) u ss o ++ J ps) h.0.there in
+        let next = next_member j text typing (J ps) (subst Clean same clean)
+        (subst (λ (l : List Judgement). Behind t.Function j members (filter_map member_given l)) same b) in (
+          (y, next.0, h.0.there, next.1, subst (λ k. slice_get (functions ++ members) k ≡ Some next.0) (sym h.0.body) next.2),
+          all_sit total i g (j + 1) ps h.1 (none_behind (judged V names (a_constructor c m text x own bases u ss)) (J ps) clean) next.3,
+        )
+    all_sit total i g j (a_default c text x bases ∷ ps) h clean b = (
+      tt,
+      all_sit total i g j ps h.1 (none_behind (judged V names (a_default c text x bases)) (J ps) clean) b,
+    )
+
+-- ---- lists that are alike
+
+same_by_place : {A B C : Type 0} (f : A → C) (g : B → C) (all : List B) (n : ℕ) (xs : List A) (ys : List B) → Behind B n all ys
+    → EachFrom (λ k x. (y : B) × (slice_get all k ≡ Some y) × (f x ≡ g y)) n xs → length xs ≡ length ys → map f xs ≡ map g ys
+same_by_place f g all n [] [] b h e = refl
+same_by_place f g all n [] (y ∷ ys) b h e = cc
+same_by_place f g all n (x ∷ xs) [] b h e = cc
+same_by_place f g all n (x ∷ xs) (y ∷ ys) b h e =
+    let is = same_Some h.0.0 y (sym h.0.1 ∙ next_item n all y ys b) in
+    let less : length xs ≡ length ys = cc in
+    ap (λ c. c ∷ map f xs) (h.0.2 ∙ ap g is) ∙ ap (λ cs. g y ∷ cs) (same_by_place f g all (n + 1) xs ys (next_left n all y ys b) h.1 less)
+
+each_other : {A : Type 0} (P Q : ℕ → A → Type 0) (n : ℕ) (xs : List A) → ((k : ℕ) (x : A) → P k x → Q k x) → EachFrom P n xs → EachFrom Q n xs
+each_other P Q n [] go h = tt
+each_other P Q n (x ∷ xs) go h = (go n x h.0, each_other P Q (n + 1) xs go h.1)
+
+each_at_place : {A : Type 0} (P : ℕ → A → Type 0) (all : List A) (n : ℕ) (xs : List A) → Behind A n all xs
+    → ((k : ℕ) (x : A) → slice_get all k ≡ Some x → P k x) → EachFrom P n xs
+each_at_place P all n [] b go = tt
+each_at_place P all n (x ∷ xs) b go = (go n x (next_item n all x xs b), each_at_place P all (n + 1) xs (next_left n all x xs b) go)
+
+ranged : (B : ℕ → List Parameter) (first j : ℕ) (xs : List t.Function) → EachFrom (λ k (h : t.Function). B (first + k) ≡ h.parameters) j xs
+    → map (λ (h : t.Function). h.parameters) xs ≡ map B (range_with_len (first + j) (length xs))
+ranged B first j [] h = refl
+ranged B first j (x ∷ xs) h =
+    let next : first + (j + 1) ≡ first + j + 1 = omega arith in
+    ap (λ ps. ps ∷ map (λ (h : t.Function). h.parameters) xs) (sym h.0)
+    ∙ ap (λ rest. B (first + j) ∷ rest) (ranged B first (j + 1) xs h.1 ∙ ap (λ k. map B (range_with_len k (length xs))) next)
+
+take_front : {A : Type 0} (xs ys : List A) → take (length xs) (xs ++ ys) ≡ xs
+take_front [] ys = refl
+take_front (x ∷ xs) ys = ap (λ zs. x ∷ zs) (take_front xs ys)
 
 -- ---- what the names declare
 
-declared_parameters : (fs : List ScriptFunction) (gs : List t.Function) → Pairwise IsFunction fs gs
-    → map (λ g. g.parameters) gs ≡ map (λ f. map parameter_of f.params) fs
-declared_parameters [] [] h = refl
-declared_parameters [] (g ∷ gs) h = absurd h
-declared_parameters (f ∷ fs) [] h = absurd h
-declared_parameters (f ∷ fs) (g ∷ gs) h = let first = h.0.parameters in let rest = declared_parameters fs gs h.1 in cc
+-- Over a view, names and sources, of functions and bodies of members that are given:
+module _ (V : RegistrationList) (names : Names) (sources : List Source) (p : t.Program) (functions members : List t.Function)
+    (tree : p.functions ≡ functions ++ members) (count : length functions ≡ length names.functions) (has : HasParts V names sources)
+    (sit : Every (Sits V names functions members count) (parts_of sources)) where
+  at_tree : (k : ℕ) (h : t.Function) → slice_get (functions ++ members) k ≡ Some h → slice_get p.functions k ≡ Some h
+  at_tree k h e = ap (λ fs. slice_get fs k) tree ∙ e
 
-declared_results : (fs : List ScriptFunction) (gs : List t.Function) → Pairwise IsFunction fs gs → map (λ g. g.result) gs ≡ map (λ f. f.result) fs
-declared_results [] [] h = refl
-declared_results [] (g ∷ gs) h = absurd h
-declared_results (f ∷ fs) [] h = absurd h
-declared_results (f ∷ fs) (g ∷ gs) h = let first = h.0.result in let rest = declared_results fs gs h.1 in cc
+  method_is : (c m k : ℕ) (x : Method) → method_at V names c m ≡ Some x → x.body ≡ Some k → HasMethodBody V names sources p c m k x
+  method_is c m k x e body =
+      let family = family_method V names c m (slice_get names.families c) x refl e in
+      let written = at_number (IsFamilyWritten (parts_of sources)) c names.families family.0 has.written family.1 in
+      let part = at_number (IsMethodWritten (parts_of sources) c) m family.0.methods x written.methods family.2 k body in
+      let s = each_has (Sits V names functions members count) (parts_of sources) (a_method c m part.text part.name part.tree) sit part.written in
+      let same : s.0 ≡ x = same_Some s.0 x (sym s.3 ∙ e) in
+      let number : s.2 ≡ k = same_Some s.2 k (sym s.5 ∙ ap (λ (y : Method). y.body) same ∙ body) in
+      record {
+        text = part.text;
+        name = part.name;
+        tree = part.tree;
+        written = part.written;
+        typed = subst (λ (y : Method). (h : t.Function)
+            × (method_body_typing (context_in V names part.text (Some (within_of V names c y.read_only))) (within_of V names c y.read_only) y.function part.name part.tree ≡ Ok h)
+            × (slice_get p.functions k ≡ Some h)) same (s.1, s.4, subst (λ n. slice_get p.functions n ≡ Some s.1) number (at_tree s.2 s.1 s.6));
+      }
 
-declared_types : (gs : List ScriptGlobal) (xs : List t.Global) → Pairwise IsGlobal gs xs → map (λ x. x.ty) xs ≡ map (λ g. g.ty) gs
-declared_types [] [] h = refl
-declared_types [] (x ∷ xs) h = absurd h
-declared_types (g ∷ gs) [] h = absurd h
-declared_types (g ∷ gs) (x ∷ xs) h = let first = h.0 in let rest = declared_types gs xs h.1 in cc
+  constructor_is : (c m : ℕ) (x : Constructor) → constructor_at V names c m ≡ Some x → HasConstructorBody V names sources p c m x
+  constructor_is c m x e =
+      let family = family_constructor V names c m (slice_get names.families c) x refl e in
+      let written = at_number (IsFamilyWritten (parts_of sources)) c names.families family.0 has.written family.1 in
+      let part = at_number (IsConstructorWritten (parts_of sources) c) m family.0.constructors x written.constructors family.2 in
+      let s = each_has (Sits V names functions members count) (parts_of sources)
+      (a_constructor c m part.text part.name part.own part.bases part.super part.tree) sit part.written in
+      let same : s.0 ≡ x = same_Some s.0 x (sym s.2 ∙ e) in
+      record {
+        text = part.text;
+        name = part.name;
+        own = part.own;
+        bases = part.bases;
+        super = part.super;
+        tree = part.tree;
+        written = part.written;
+        typed = subst (λ (y : Constructor). (h : t.Function)
+            × (constructor_typing (context_in V names part.text (Some (within_of V names c false))) (within_of V names c false) y.function part.name
+            (base_name V names c part.text part.own part.bases) (base_of V names c) part.super part.tree ≡ Ok h)
+            × (slice_get p.functions y.body ≡ Some h)) same (s.1, s.3, at_tree s.0.body s.1 s.4);
+      }
+
+  has_bodies : HasBodies V names sources p
+  has_bodies = record { methods = method_is; constructors = constructor_is }
+
+  -- The function of a body's number has its parameters.
+  abbrev HasParameters : NumberedBody → Type 0
+  HasParameters b = (h : t.Function) × (slice_get (functions ++ members) b.0 ≡ Some h) × (h.parameters ≡ b.1)
+
+  typed_as : (ps : List Parameter) (x : Typing t.Function) (h : t.Function) → x ≡ Ok h → IfOk x (λ g. g.parameters ≡ ps) → h.parameters ≡ ps
+  typed_as ps x h e is = subst (λ y. IfOk y (λ (g : t.Function). g.parameters ≡ ps)) e is
+
+  only_parameters : (ps : List Parameter) (ty : ArgType) (x : Typing t.Function) → IfOk x (IsOf ps ty) → IfOk x (λ g. g.parameters ≡ ps)
+  only_parameters ps ty (Ok h) is = is.parameters
+  only_parameters ps ty (Err why) is = tt
+
+  in_tree : (k : ℕ) (h : t.Function) → slice_get p.functions k ≡ Some h → slice_get (functions ++ members) k ≡ Some h
+  in_tree k h e = ap (λ fs. slice_get fs k) (sym tree) ∙ e
+
+  family_holds : (c : ℕ) (f : Family) → slice_get names.families c ≡ Some f → HoldsIn HasParameters c f
+  family_holds c f e = record {
+    methods = λ m y at k body.
+        let b = method_is c m k y (ap (option_and_then (λ (g : Family). slice_get g.methods m)) e ∙ at) body in
+        let w = within_of V names c y.read_only in
+        let typing = method_body_typing (context_in V names b.text (Some w)) w y.function b.name b.tree in (
+          b.typed.0,
+          in_tree k b.typed.0 b.typed.2,
+          typed_as (with_this w y.function) typing b.typed.0 b.typed.1
+              (only_parameters (with_this w y.function) y.function.result.ty typing (method_declared (context_in V names b.text (Some w)) w y.function b.name b.tree)),
+        );
+    constructors = λ m y at.
+        let b = constructor_is c m y (ap (option_and_then (λ (g : Family). slice_get g.constructors m)) e ∙ at) in
+        let w = within_of V names c false in
+        let base = base_name V names c b.text b.own b.bases in
+        let typing = constructor_typing (context_in V names b.text (Some w)) w y.function b.name base (base_of V names c) b.super b.tree in (
+          b.typed.0,
+          in_tree y.body b.typed.0 b.typed.2,
+          typed_as (with_this w y.function) typing b.typed.0 b.typed.1
+              (constructor_declared (context_in V names b.text (Some w)) w y.function b.name base (base_of V names c) b.super b.tree),
+        );
+  }
+
+  parameters_at : (k : ℕ) (h : t.Function) → list_any (has_number k) (bodies_of names) ≡ true → slice_get (functions ++ members) k ≡ Some h
+      → body_parameters names k ≡ h.parameters
+  parameters_at k h listed e =
+      let b = found (has_number k) HasParameters (bodies_of names) listed (every_body HasParameters names family_holds) in
+      let number : b.0.0 ≡ k = eqb-true b.0.0 k b.2 in
+      let there : slice_get (functions ++ members) k ≡ Some b.3.0 = subst (λ n. slice_get (functions ++ members) n ≡ Some b.3.0) number b.3.1 in
+      let same : b.3.0 ≡ h = same_Some b.3.0 h (sym there ∙ e) in
+      ap (λ (o : Option NumberedBody). unwrap_or (option_map (λ (c : NumberedBody). c.1) o) []) b.1 ∙ sym b.3.2 ∙ ap (λ (g : t.Function). g.parameters) same
+
+-- how many bodies the names have
+total_is : (V : RegistrationList) (sources : List Source) → length (bodies_of (names_of V (declarations_of sources))) ≡ total_of sources
+unfolding names_of families_in
+total_is V sources =
+    let ds = declarations_of sources in
+    let E = space_of_declared V ds in
+    bodies_counted E (signatures_of E (families_of ds)) (families_of ds) (length (functions_in E ds)) [] [] (families_of ds)
 
 pub has_names : (V : RegistrationList) (names : Names) (sources : List Source) → names ≡ names_of V (declarations_of sources)
-    → body_errors V names sources ≡ [] → HasNames names (program_of V names sources)
-unfolding judgements body_errors program_of
+    → body_refusals V names sources ≡ [] → HasNames V names sources (program_of V names sources)
+unfolding judgements body_refusals program_of
 has_names V names sources e none =
-    let given = all_given V names IsFunction IsGlobal (λ (p : Part). Unit {0}) (λ (f : ScriptFunction). Unit {0})
-    (λ text f x b w k. function_declared (setting_in V names text) f x b) (λ text g y i w. global_declared (setting_in V names text) g y i)
-    (flat_map parts_of sources) names.functions names.globals (every_any (flat_map parts_of sources)) (every_any names.functions)
-    (all_belong V sources names e) none in
+    let parts = parts_of sources in
+    let js = J V names parts in
+    let functions = filter_map function_given js in
+    let members = filter_map member_given js in
+    let globals = filter_map global_given js in
+    let p = program_of V names sources in
+    let has = names_have_parts V names sources e in
+    let total = total_of sources in
+    let given = all_given V names total 0 0 0 parts has.numbered none in
+    let count : length functions ≡ length names.functions = let c = given.function_count in omega (arith, c) in
+    let global_count : length globals ≡ length names.globals = let c = given.global_count in omega (arith, c) in
+    let member_count : length members ≡ total = let c = given.member_count in omega (arith, c) in
+    let sit = all_sit V names functions members count total 0 0 0 parts has.numbered none (all_left members) in
+    let own : map (λ (h : t.Function). h.parameters) functions ≡ map typed_parameters names.functions =
+    same_by_place (λ (h : t.Function). h.parameters) typed_parameters names.functions 0 functions names.functions (all_left names.functions)
+    (each_other (IsFunctionAt V names) (λ k h. (f : ScriptFunction) × (slice_get names.functions k ≡ Some f) × (h.parameters ≡ typed_parameters f)) 0 functions
+    (λ k h i. (i.0, i.1, i.2.parameters)) given.functions) count in
+    let bodies : map (λ (h : t.Function). h.parameters) members
+    ≡ map (body_parameters names) (range_with_len (length names.functions) (length (bodies_of names))) =
+    let start : length names.functions + 0 ≡ length names.functions = omega arith in
+    let many : length members ≡ length (bodies_of names) =
+    member_count ∙ sym (total_is V sources) ∙ ap (λ (m : Names). length (bodies_of m)) (sym e) in
+    ranged (body_parameters names) (length names.functions) 0 members
+    (each_at_place (λ k (h : t.Function). body_parameters names (length names.functions + k) ≡ h.parameters) members 0 members (all_left members)
+    (λ k h i. parameters_at V names sources p functions members refl count has sit (length names.functions + k) h
+    (at_number (IsListed V names) k members h given.members i) (in_second functions members (length names.functions) k h count i)))
+    ∙ ap (λ n. map (body_parameters names) (range_with_len n (length members))) start
+    ∙ ap (λ n. map (body_parameters names) (range_with_len (length names.functions) n)) many in
+    let results : map (λ (h : t.Function). h.result) functions ≡ map (λ (f : ScriptFunction). f.result.ty) names.functions =
+    same_by_place (λ (h : t.Function). h.result) (λ (f : ScriptFunction). f.result.ty) names.functions 0 functions names.functions (all_left names.functions)
+    (each_other (IsFunctionAt V names) (λ k h. (f : ScriptFunction) × (slice_get names.functions k ≡ Some f) × (h.result ≡ f.result.ty)) 0 functions
+    (λ k h i. (i.0, i.1, i.2.result)) given.functions) count in
+    let as_many : length names.functions ≡ length (map (λ (h : t.Function). h.result) functions) = sym count ∙ sym (length-map functions (λ (h : t.Function). h.result)) in
     record {
-      parameters = declared_parameters names.functions _ given.functions;
-      results = declared_results names.functions _ given.functions;
-      types = declared_types names.globals _ given.globals;
+      parameters = map-append (λ (h : t.Function). h.parameters) functions members
+          ∙ ap (λ ps. ps ++ map (λ (h : t.Function). h.parameters) members) own ∙ ap (λ ps. map typed_parameters names.functions ++ ps) bodies;
+      results = ap (take (length names.functions)) (map-append (λ (h : t.Function). h.result) functions members)
+          ∙ ap (λ n. take n (map (λ (h : t.Function). h.result) functions ++ map (λ (h : t.Function). h.result) members)) as_many
+          ∙ take_front (map (λ (h : t.Function). h.result) functions) (map (λ (h : t.Function). h.result) members) ∙ results;
+      types = same_by_place (λ (x : t.Global). x.ty) (λ (g : ScriptGlobal). g.written.ty) names.globals 0 globals names.globals (all_left names.globals)
+          given.globals global_count;
+      bodies = has_bodies V names sources p functions members refl count has sit;
     }
 
 -- ---- soundness
 
-module _ (M : Module) where
-  abbrev IsSound : ScriptFunction → t.Function → Type 0
-  IsSound f g = SoundFunction M g
+module _ (V : RegistrationList) (names : Names) (values : TakesValues V) (plain : ArePlainNames names) where
+  abbrev M : Module
+  M = module_in V names
 
-  abbrev IsSoundGlobal : ScriptGlobal → t.Global → Type 0
-  IsSoundGlobal g x = SoundOption M 0 x.initializer
+  in_body : (text : List ℕ) (within : Option Within) → IsPlainContext (context_in V names text within)
+  in_body text within = record { values = values; names = plain }
 
-  sound_functions : (fs : List ScriptFunction) (gs : List t.Function) → Pairwise IsSound fs gs → SoundFunctions M gs
-  sound_functions [] [] h = tt
-  sound_functions [] (g ∷ gs) h = absurd h
-  sound_functions (f ∷ fs) [] h = absurd h
-  sound_functions (f ∷ fs) (g ∷ gs) h = (h.0, sound_functions fs gs h.1)
+  function_then : (text : List ℕ) (x : Typing t.Function) (js : List Judgement) → IfOk x (SoundFunction M) → filter_map refusal_in (of_function text x ∷ js) ≡ []
+      → SoundFunctions M (filter_map function_given js) → SoundFunctions M (filter_map function_given (of_function text x ∷ js))
+  function_then text (Ok h) js s e r = (s, r)
+  function_then text (Err why) js s e r = cc
 
-  sound_globals : (gs : List ScriptGlobal) (xs : List t.Global) → Pairwise IsSoundGlobal gs xs → SoundGlobals M xs
-  sound_globals [] [] h = tt
-  sound_globals [] (x ∷ xs) h = absurd h
-  sound_globals (g ∷ gs) [] h = absurd h
-  sound_globals (g ∷ gs) (x ∷ xs) h = (h.0, sound_globals gs xs h.1)
+  global_then : (text : List ℕ) (x : Typing t.Global) (js : List Judgement) → IfOk x (λ g. SoundOption M 0 g.initializer)
+      → filter_map refusal_in (of_global text x ∷ js) ≡ [] → SoundGlobals M (filter_map global_given js)
+      → SoundGlobals M (filter_map global_given (of_global text x ∷ js))
+  global_then text (Ok g) js s e r = (s, r)
+  global_then text (Err why) js s e r = cc
+
+  record AreSound (js : List Judgement) : Type 0 where
+    functions : SoundFunctions M (filter_map function_given js)
+    members : filter_map member_given js ≡ []
+    globals : SoundGlobals M (filter_map global_given js)
+
+  one_function : (n : ℕ) (text : List ℕ) (x : Token) (b : Body) (o : Option ScriptFunction) (js : List Judgement) → slice_get names.functions n ≡ o
+      → IsWithin V (a_function n text x b) → filter_map refusal_in (judged_function V names text x b o ++ js) ≡ [] → AreSound js
+      → AreSound (judged_function V names text x b o ++ js)
+  one_function n text x b None js at w e r = r
+  one_function n text x b (Some f) js at w e r = record {
+    functions = function_then text (function_typing (context_in V names text None) f x b) js
+        (function_sound (context_in V names text None) (in_body text None) f x b (every_at IsPlainFunction names.functions n f plain.functions at) w) e r.functions;
+    members = r.members;
+    globals = r.globals;
+  }
+
+  one_global : (n : ℕ) (text : List ℕ) (y : TypeName) (i : Init) (o : Option ScriptGlobal) (js : List Judgement) → slice_get names.globals n ≡ o
+      → IsWithin V (a_global n text y i) → filter_map refusal_in (judged_global V names text y i o ++ js) ≡ [] → AreSound js
+      → AreSound (judged_global V names text y i o ++ js)
+  one_global n text y i None js at w e r = r
+  one_global n text y i (Some g) js at w e r = record {
+    functions = r.functions;
+    members = r.members;
+    globals = global_then text (global_typing (context_in V names text None) g y i) js
+        (global_sound (context_in V names text None) (in_body text None) g y i
+        (every_at (λ (g : ScriptGlobal). IsPlainType g.written.ty) names.globals n g plain.globals at) w) e r.globals;
+  }
+
+  all_sound : (ps : List Part) → Every (IsWithin V) ps → filter_map refusal_in (J V names ps) ≡ [] → AreSound (J V names ps)
+  all_sound [] w e = record { functions = tt; members = refl; globals = tt }
+  all_sound (a_function n text x b ∷ ps) w e =
+      one_function n text x b (slice_get names.functions n) (J V names ps) refl w.0 e
+      (all_sound ps w.1 (none_behind (judged V names (a_function n text x b)) (J V names ps) e))
+  all_sound (a_global n text y i ∷ ps) w e =
+      one_global n text y i (slice_get names.globals n) (J V names ps) refl w.0 e
+      (all_sound ps w.1 (none_behind (judged V names (a_global n text y i)) (J V names ps) e))
+  all_sound (a_method c m text x b ∷ ps) w e = absurd w.0
+  all_sound (a_constructor c m text x own bases u ss ∷ ps) w e = absurd w.0
+  all_sound (a_default c text x bases ∷ ps) w e = absurd w.0
 
 -- the tree's module is that of its names
-module_with : (V : RegistrationList) (ps : List (List Parameter)) (n : ℕ) → Module
-module_with V ps n = record { view = V; parameters = ps; globals = n }
+module_with : RegistrationList → List (List Parameter) → List (List Parameter) → List (List Parameter) → ℕ → ℕ → Module
+module_with V ps ms is gs cs = record { view = V; parameters = ps; methods = ms; imports = is; globals = gs; classes = cs }
 
-same_module : (V : RegistrationList) (names : Names) (p : t.Program) → HasNames names p → module_in V names ≡ module_of V p
-unfolding module_with
-same_module V names p h =
-    let count : length names.globals ≡ length p.globals =
-    sym (length-map names.globals (λ g. g.ty)) ∙ ap length (sym h.types) ∙ length-map p.globals (λ g. g.ty) in
-    ap (λ ps. module_with V ps (length names.globals)) (sym h.parameters) ∙ ap (λ n. module_with V (map (λ f. f.parameters) p.functions) n) count
+imports_same : (fs : List ScriptFunction) → map typed_parameters fs ≡ map (λ (h : Heading). h.parameters) (map import_heading fs)
+imports_same [] = refl
+imports_same (f ∷ fs) = ap (λ ps. typed_parameters f ∷ ps) (imports_same fs)
+
+classes_counted : (all before fs : List Family) → length fs ≡ length (each_after (λ (front : List Family) (f : Family). typed_class all (length front) f ∷ []) before fs)
+classes_counted all before [] = refl
+classes_counted all before (f ∷ fs) = ap suc (classes_counted all (before ++ f ∷ []) fs)
+
+same_module : (V : RegistrationList) (names : Names) (sources : List Source) → HasNames V names sources (program_of V names sources)
+    → module_in V names ≡ module_of V (program_of V names sources)
+unfolding module_with program_of
+same_module V names sources h =
+    let p = program_of V names sources in
+    let globals : length names.globals ≡ length p.globals =
+    sym (length-map names.globals (λ (g : ScriptGlobal). g.written.ty)) ∙ ap length (sym h.types) ∙ length-map p.globals (λ (g : t.Global). g.ty) in
+    let methods = map (λ (g : Heading). g.parameters) (method_headings names.families) in
+    let imports = map typed_parameters names.imports in
+    ap (λ ps. module_with V ps methods imports (length names.globals) (length names.families)) (sym h.parameters)
+    ∙ ap (λ is. module_with V (map (λ (f : t.Function). f.parameters) p.functions) methods is (length names.globals) (length names.families)) (imports_same names.imports)
+    ∙ ap (λ n. module_with V (map (λ (f : t.Function). f.parameters) p.functions) methods (map (λ (g : Heading). g.parameters) p.imports) n (length names.families)) globals
+    ∙ ap (λ n. module_with V (map (λ (f : t.Function). f.parameters) p.functions) methods (map (λ (g : Heading). g.parameters) p.imports) (length p.globals) n)
+    (classes_counted names.families [] names.families)
+
+sound_joined : (M : Module) (xs ys : List t.Function) → SoundFunctions M xs → ys ≡ [] → SoundFunctions M (xs ++ ys)
+sound_joined M [] ys h e = subst (SoundFunctions M) (sym e) tt
+sound_joined M (x ∷ xs) ys h e = (h.0, sound_joined M xs ys h.1 e)
+
+no_classes : (M : Module) (fs : List Family) → fs ≡ [] → SoundClasses M (typed_classes fs)
+no_classes M fs e = subst (λ (gs : List Family). SoundClasses M (typed_classes gs)) (sym e) tt
 
 record SoundOver (M : Module) (p : t.Program) : Type 0 where
   functions : SoundFunctions M p.functions
   globals : SoundGlobals M p.globals
+  classes : SoundClasses M p.classes
 
 sound_over : (V : RegistrationList) (names : Names) (sources : List Source) → TakesValues V → names ≡ names_of V (declarations_of sources)
-    → not_yet V sources ≡ [] → body_errors V names sources ≡ [] → SoundOver (module_in V names) (program_of V names sources)
-unfolding judgements body_errors program_of
+    → not_yet V sources ≡ [] → body_refusals V names sources ≡ [] → SoundOver (module_in V names) (program_of V names sources)
+unfolding judgements body_refusals program_of
 sound_over V names sources values e built none =
-    let M = module_in V names in
     let plain : ArePlainNames names = subst ArePlainNames (sym e) (names_plain V sources built) in
-    let setting : (text : List ℕ) → IsPlainSetting (setting_in V names text) = λ text. record { values = values; names = plain } in
-    let given = all_given V names (IsSound M) (IsSoundGlobal M) (IsWithin V) IsPlainFunction
-    (λ text f x b w k. function_sound (setting_in V names text) (setting text) f x b k w)
-    (λ text g y i w. global_sound (setting_in V names text) (setting text) g y i w) (flat_map parts_of sources) names.functions names.globals
-    (parts_within V sources built) plain.functions (all_belong V sources names e) none in
-    record { functions = sound_functions M names.functions _ given.functions; globals = sound_globals M names.globals _ given.globals }
+    let all = all_sound V names values plain (parts_of sources) (parts_within V sources built) none in
+    record {
+      functions = sound_joined (module_in V names) _ _ all.functions all.members;
+      globals = all.globals;
+      classes = no_classes (module_in V names) names.families plain.no_families;
+    }
 
 pub program_is_sound : (V : RegistrationList) (names : Names) (sources : List Source) → TakesValues V → names ≡ names_of V (declarations_of sources)
-    → not_yet V sources ≡ [] → body_errors V names sources ≡ [] → SoundProgram V (program_of V names sources)
+    → not_yet V sources ≡ [] → body_refusals V names sources ≡ [] → SoundProgram V (program_of V names sources)
 program_is_sound V names sources values e built none =
     let p = program_of V names sources in
-    let same = same_module V names p (has_names V names sources e none) in
+    let same = same_module V names sources (has_names V names sources e none) in
     let sound = sound_over V names sources values e built none in
     record {
       functions = subst (λ (N : Module). SoundFunctions N p.functions) same sound.functions;
       globals = subst (λ (N : Module). SoundGlobals N p.globals) same sound.globals;
+      classes = subst (λ (N : Module). SoundClasses N p.classes) same sound.classes;
     }

@@ -1,9 +1,9 @@
 -- What the view of a mask has.
 use Rattle.std.specs.Prelude.{◌≡◌, ℕ, Bool, true, false, if◌then◌else◌, Option, Some, None}
 use Rattle.std.proofs.Common.{refl, sym, ◌∙◌}
-use Rattle.ang_registry.specs.declared.entry.Entry.{Entry}
-use Rattle.ang_registry.specs.Registration.{RegistrationList, entry_at, is_seen, seen_entry, seen}
-use Rattle.ang_registry.proofs.Seen.{entry_at-seen}
+use Rattle.ang_view.specs.declared.entry.Entry.{Entry}
+use Rattle.ang_view.specs.Registration.{RegistrationList, entry_at, is_seen, seen_entry, seen}
+use Rattle.ang_view.proofs.Seen.{entry_at-seen}
 use Rattle.ang_check_sound.specs.Views.{Entitled}
 
 seen_by : (b : Bool) (x y : Entry) → (if b then Some x else None) ≡ Some y → (x ≡ y) × (b ≡ true)

@@ -1,24 +1,23 @@
 //! What the checker promises.
-ghost use Rattle.std.specs.Prelude.{◌≡◌, ℕ, false, List, [], length, Some, IfOk};
-ghost use Rattle.std.specs.List.{flat_map};
-ghost use Rattle.ang_registry.specs.declared.entry.Entry.{Entry};
-ghost use Rattle.ang_registry.specs.Registration.{RegistrationList, entry_at, seen};
-ghost use Rattle.ang_registry.specs.Values.{TakesValues};
+ghost use Rattle.std.specs.Prelude.{◌≡◌, ℕ, false, List, [], All, length, Some, IfOk};
+ghost use Rattle.ang_view.specs.declared.entry.Entry.{Entry};
+ghost use Rattle.ang_view.specs.Registration.{RegistrationList, entry_at, seen};
+ghost use Rattle.ang_view.specs.Values.{TakesValues};
 ghost use Rattle.ang_tree.specs.Tree.{Tree};
 ghost use Rattle.ang_names_written.specs.NotYet.{is_beyond, not_yet};
 ghost use Rattle.ang_names_written.specs.Sources.{Source};
-ghost use Rattle.ang_names.specs.declared.names.Names.{Names};
-ghost use Rattle.ang_names.specs.Declarations.{declarations_of};
+ghost use Rattle.ang_names_known.specs.declared.names.Names.{Names};
+ghost use Rattle.ang_names_listed.specs.Declarations.{declarations_of};
 ghost use Rattle.ang_names.specs.Resolved.{names_of};
-ghost use Rattle.ang_check_typing.specs.declared.scope.Pair.{Pair};
-ghost use Rattle.ang_check_typing.specs.Scope.{Setting};
+ghost use Rattle.ang_check_typing.specs.declared.scope.LocalVariable.{LocalVariable};
+ghost use Rattle.ang_check_typing.specs.Scope.{BodyContext};
 ghost use Rattle.ang_check_typing.specs.Typing.{typing_of};
-ghost use Rattle.ang_check.specs.Bodies.{parts_of, judgements, body_errors, program_of};
+ghost use Rattle.ang_check_bodies.specs.Bodies.{parts_of, judgements, body_refusals, program_of};
 ghost use Rattle.ang_source.specs.Sound.{Sound, SoundProgram};
 ghost use Rattle.ang_check_sound.specs.Views.{Entitled};
 ghost use Rattle.ang_check_sound.specs.Checked.{module_in, HasNames};
-ghost use Rattle.ang_check_sound.specs.Parts.{Belong};
-ghost use Rattle.ang_check_sound.specs.PlainNames.{ArePlainPairs, IsPlainSetting};
+ghost use Rattle.ang_check_sound.specs.Parts.{IsPartOf};
+ghost use Rattle.ang_check_sound.specs.PlainNames.{ArePlainLocals, IsPlainContext};
 
 /// The resolved tree of scripts without errors, with the names that `declare` gives for them, is sound: its
 /// locals are alive, its functions and globals are there, each call has an argument for each parameter, and what
@@ -31,38 +30,39 @@ pub fn program_is_sound()
         → TakesValues V
         → names ≡ names_of V (declarations_of sources)
         → not_yet V sources ≡ []
-        → body_errors V names sources ≡ [] → SoundProgram V (program_of V names sources) }
+        → body_refusals V names sources ≡ [] → SoundProgram V (program_of V names sources) }
 {}
 
 /// Its functions and globals are those of the names, each at its number, with the parameters, results and types
-/// that they were declared with.
+/// that they were declared with; and a method's or a constructor's body is the function at its number, which was typed of
+/// its own tree.
 pub fn program_has_the_names()
     ensures declared { (V : RegistrationList) (names : Names) (sources : List Source)
         → names ≡ names_of V (declarations_of sources)
-        → body_errors V names sources ≡ [] → HasNames names (program_of V names sources) }
+        → body_refusals V names sources ≡ [] → HasNames V names sources (program_of V names sources) }
 {}
 
 /// Each expression that was typed is sound, where these parameters and locals are alive, over any names: where
 /// these and the names have no object types, and the expression uses none.
 #[tactic(auto, using(crate::proofs::Expressions::expression_sound))]
 pub fn expression_is_sound()
-    ensures sound { (s : Setting) (pairs : List Pair) (e : Tree)
-        → IsPlainSetting s
-        → ArePlainPairs pairs
+    ensures sound { (s : BodyContext) (locals : List LocalVariable) (e : Tree)
+        → IsPlainContext s
+        → ArePlainLocals locals
         → is_beyond s.view s.text e ≡ false
-        → IfOk (typing_of s pairs e) (λ a. Sound (module_in s.view s.names) (length pairs) a.tree) }
+        → IfOk (typing_of s locals e) (λ a. Sound (module_in s.view s.names) (length locals) a.tree) }
 {}
 
-/// Of the names that `declare` gives each function has the body that stands at its own name, and each global an
-/// initializer of its own type; and each body and each initializer is judged.
+/// Of the names that `declare` gives each function, method and constructor has the body that stands at its own name, and each
+/// global an initializer of its own type; and each body and each initializer is judged.
 #[tactic(auto, using(crate::proofs::Parts::all_belong, crate::proofs::Parts::all_judged))]
 pub fn each_part_is_judged()
     ensures belong { (V : RegistrationList) (names : Names) (sources : List Source)
         → names ≡ names_of V (declarations_of sources)
-        → Belong V (flat_map parts_of sources) names.functions names.globals }
+        → All (IsPartOf V names) (parts_of sources) }
     ensures judged { (V : RegistrationList) (names : Names) (sources : List Source)
         → names ≡ names_of V (declarations_of sources)
-        → length (judgements V names sources) ≡ length (flat_map parts_of sources) }
+        → length (judgements V names sources) ≡ length (parts_of sources) }
 {}
 
 /// What the view of a mask has is registered, and the mask sees it.

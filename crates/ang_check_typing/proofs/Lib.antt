@@ -1,3 +1,4 @@
-pub mod SoFar
-pub mod Arguments
+pub mod Classes
 pub mod Operands
+pub mod Passing
+pub mod SoFar

@@ -1,5 +1,5 @@
-pub mod Scope
-pub mod Uses
 pub mod Calls
+pub mod Methods
 pub mod Operands
+pub mod Scope
 pub mod Typing

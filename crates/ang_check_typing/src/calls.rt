@@ -1,265 +1,207 @@
-//! Names and calls.
-ghost use Rattle.std.specs.Prelude.{◌≡◌, ◌∷◌, [], map as list_map, IfOk};
-ghost use Rattle.ang_types.specs.declared.arg_type.ArgType.{ArgType};
-ghost use Rattle.ang_typed.specs.View.{view_arg, view_tree};
+//! Calls by a name alone, and those of a class above.
+ghost use Rattle.std.specs.Prelude.{◌≡◌, ◌<◌, ◌==◌, ◌&&◌, ◌∷◌, not, bytes_eq, option_map, Some, IfOk, IfSome, map as list_map};
+ghost use Rattle.std.specs.List.{flat_map, position};
+ghost use Rattle.ang_names_known.specs.Lookup as lookup;
+ghost use Rattle.ang_names_known.specs.Spaces as spaces;
+ghost use Rattle.ang_check_operand.specs.Refusals.{Gives};
+ghost use Rattle.ang_check_operand.specs.View.{view_operand, view_operands};
 ghost use Rattle.ang_check_typing.specs.Calls as spec;
-ghost use Rattle.ang_check_operators.specs.Refusals.{Gives};
-ghost use Rattle.ang_check_operators.specs.View.{view_operand, view_operands};
+ghost use Rattle.ang_check_uses.specs.Uses as uses;
+ghost use Rattle.ang_check_typing.specs.Scope as scopes;
+ghost use Rattle.ang_names_written.specs.Sources as sources;
 
-use crate::scope::Pair;
-use crate::setting::Setting;
-use crate::uses::{Callable, Callee, Meant, resolve_call, resolve_name};
-use ang_check_operators::{
-    Asks, NamedVariable, Operand, Stop, boxed, fault, fit, plain_operand, use_refused,
-};
-use ang_kinds::{ErrorKind, List, Pass, Place};
+use crate::arguments::types_of;
+use crate::called::{CallSite, called_use};
+use crate::context::{BodyContext, is_there, resolved};
+use crate::methods::{Receiver, called_on, direct_meant, own_method};
+use crate::names::this_operand;
+use crate::scope::{LocalVariable, Within};
+use ang_check_operand::{Operand, Stop, refused};
+use ang_check_uses::Resolution;
+use ang_kinds::{ErrorKind, List};
 use ang_lex::Token;
-use ang_typed::{Argument, Expression, Variable};
-use ang_types::{ArgType, Lineage};
+use ang_names_known::{Family, FoundMethod, is_under, methods_named};
+use ang_types::Asks;
 use std::alloc::{AllocError, Global};
 
-fn variable_at(
-    alloc: Global,
-    name: &Token,
-    variable: Variable,
-    ty: ArgType,
-    read_only: bool,
-) -> Result<Operand, AllocError>
-    ensures exact { IfOk result (λ a. view_operand a ≡ spec.variable_at name.now variable ty read_only) }
+/// The number of the first family as a type.
+const FIRST_FAMILY: u32 = 1024;
+
+/// `this` as the receiver of a method.
+fn receiver_within(within: Within) -> Receiver
+    requires few { within.family < 256 }
+    ensures number { result.number ≡ spaces.family_type within.family }
+    ensures read_only { result.read_only ≡ within.read_only }
 {
-    let tree = boxed(alloc, Expression::Variable { variable, ty })?;
-    Ok(Operand {
+    Receiver {
+        number: FIRST_FAMILY + within.family as u32,
+        read_only: within.read_only,
+    }
+}
+
+/// The methods of this name that `this` has, with the body's class; none where there are none.
+#[tactic(auto, using(ang_names_known::proofs::Kin::empty_is))]
+fn named_methods<'a>(
+    alloc: Global,
+    context: &BodyContext<'a>,
+    name: &[u8],
+) -> Result<Option<(Within, Vec<FoundMethod<'a>>)>, AllocError>
+    ensures exact { IfOk result (λ found. option_map (λ m. (m.0, m.1.items)) found
+        ≡ spec.named_methods context.now context.now.within name.now) }
+    ensures few { IfOk result (λ found. IfSome found (λ m. m.0.family < 256)) }
+{
+    let Some(within) = context.within() else {
+        return Ok(None);
+    };
+    let methods = methods_named(alloc, context.families(), within.family, name)?;
+    if methods.is_empty() {
+        return Ok(None);
+    }
+    Ok(Some((within, methods)))
+}
+
+/// A call of a function by its name, or of what makes an object of the type of the name.
+fn function_call(
+    alloc: Global,
+    context: &BodyContext<'_>,
+    name: &Token,
+    is_there: bool,
+    operands: Vec<Operand>,
+) -> Result<Operand, Stop>
+    ensures exact { Gives view_operand result (spec.called_use context.now name.now.place name.now
+        (Asks.Call (spec.types_of (view_operands operands.items))) is_there
+        (view_operands operands.items)
+        (uses.resolution_of (scopes.scope_of context.now)
+        (sources.text_of context.now.text name.now)
+        (Asks.Call (spec.types_of (view_operands operands.items))))) }
+{
+    let types = types_of(alloc, operands.as_slice())?;
+    let asks = Asks::Call(List::from_vec(types));
+    let resolution = resolved(alloc, context, name, &asks)?;
+    let site = CallSite {
         place: name.place,
-        ty,
-        tree,
-        named: Some(NamedVariable {
-            variable,
-            read_only,
-            name: *name,
-            bare: true,
-        }),
-    })
+        name: *name,
+    };
+    called_use(alloc, context, site, asks, is_there, operands, resolution)
 }
 
-fn named_by(alloc: Global, name: &Token, meant: Meant) -> Result<Operand, Stop>
-    ensures exact { Gives view_operand result (spec.named_by name.now meant) }
-{
-    match meant {
-        Meant::Variable(variable, ty, read_only) => {
-            Ok(variable_at(alloc, name, variable, ty, read_only)?)
-        }
-        Meant::Call(_) | Meant::Type(_) => {
-            Err(use_refused(ErrorKind::UnknownName, name, Asks::Value))
-        }
-        Meant::Refused(kind) => Err(use_refused(kind, name, Asks::Value)),
-    }
-}
-
-/// A bare name that is not called.
-///
-/// `UnknownName` at the name where it is no variable's.
-#[tactic(auto, unfolding(crate::specs::Calls::name_typing))]
-pub fn named(
+/// A call of one of these methods on `this`.
+fn method_of_this(
     alloc: Global,
-    setting: &Setting<'_>,
-    pairs: &[Pair<'_>],
-    token: &Token,
-) -> Result<Operand, Stop>
-    ensures exact { Gives view_operand result (spec.name_typing setting.now pairs.now token.now) }
-{
-    let name = setting.text_at(token);
-    let meant = resolve_name(setting, pairs, name.bytes());
-    named_by(alloc, token, meant)
-}
-
-fn is_property(variable: Variable) -> bool
-    ensures exact { result ≡ spec.is_property variable }
-{
-    matches!(variable, Variable::Property(_))
-}
-
-fn is_out(named: NamedVariable) -> bool
-    ensures exact { result ≡ spec.is_out named }
-{
-    named.bare && !named.read_only && !is_property(named.variable)
-}
-
-fn out_by(place: Place, named: Option<NamedVariable>) -> Result<Variable, Stop>
-    ensures exact { Gives (λ x. x) result (spec.out_by place named) }
-{
-    match named {
-        Some(named) if is_out(named) => Ok(named.variable),
-        _ => Err(fault(ErrorKind::BadOut, place)),
-    }
-}
-
-fn value_for(
-    alloc: Global,
-    lineage: &Lineage,
-    ty: ArgType,
-    operand: Operand,
-) -> Result<Argument, Stop>
-    ensures exact { Gives view_arg result (spec.value_for lineage.now ty (view_operand operand)) }
-{
-    let value = fit(alloc, lineage, ty, operand)?;
-    Ok(Argument::Value {
-        ty,
-        value: Box::into_inner(value),
-    })
-}
-
-fn out_for(ty: ArgType, operand: Operand) -> Result<Argument, Stop>
-    ensures exact { Gives view_arg result (spec.out_for ty (view_operand operand)) }
-{
-    let variable = out_by(operand.place, operand.named)?;
-    Ok(Argument::Out {
-        variable,
-        from: ty,
-        to: operand.ty,
-    })
-}
-
-/// An argument for a parameter.
-///
-/// `BadOut` at the first token of an `&out` argument that is not the bare name of a variable which can be
-/// written; `BadConversion` at that of another one that does not convert to the parameter's type.
-#[tactic(auto, unfolding(crate::specs::Calls::argument))]
-fn argument(
-    alloc: Global,
-    lineage: &Lineage,
-    param: (ArgType, Pass),
-    operand: Operand,
-) -> Result<Argument, Stop>
-    ensures exact { Gives view_arg result (spec.argument lineage.now param (view_operand operand)) }
-{
-    match param.1 {
-        Pass::Value | Pass::RefIn | Pass::RefInOut => value_for(alloc, lineage, param.0, operand),
-        Pass::RefOut => out_for(param.0, operand),
-    }
-}
-
-/// Each argument for its parameter, from left to right.
-fn arguments_for(
-    alloc: Global,
-    lineage: &Lineage,
-    params: &[(ArgType, Pass)],
-    operands: Vec<Operand>,
-) -> Result<Vec<Argument>, Stop>
-    ensures exact { Gives (λ v. list_map view_arg v.items) result (spec.arguments_for lineage.now params.now (view_operands operands.items)) }
-{
-    let mut arguments = Vec::new(alloc);
-    let mut rest = operands.into_iter();
-    for param in params {
-        let Some(operand) = rest.next() else {
-            return Ok(arguments);
-        };
-        let value = argument(alloc, lineage, *param, operand)?;
-        arguments.push(value)?;
-    }
-    Ok(arguments)
-}
-
-fn call_of(
-    alloc: Global,
-    callee: Callee,
-    gives: ArgType,
-    arguments: Vec<Argument>,
-) -> Result<Box<Expression>, AllocError>
-    ensures exact { IfOk result (λ e. view_tree e ≡ spec.call_of callee gives (list_map view_arg arguments.items)) }
-{
-    match callee {
-        Callee::Script(function) => boxed(
-            alloc,
-            Expression::Call {
-                function,
-                result: gives,
-                arguments,
-            },
-        ),
-        Callee::Host(host) => boxed(
-            alloc,
-            Expression::HostCall {
-                host,
-                result: gives,
-                arguments,
-            },
-        ),
-    }
-}
-
-fn called(
-    alloc: Global,
-    lineage: &Lineage,
-    place: Place,
-    callable: Callable,
-    operands: Vec<Operand>,
-) -> Result<Operand, Stop>
-    ensures exact { Gives view_operand result (spec.called lineage.now place callable (view_operands operands.items)) }
-{
-    let arguments = arguments_for(
-        alloc,
-        lineage,
-        callable.candidate.params.as_slice(),
-        operands,
-    )?;
-    let tree = call_of(alloc, callable.callee, callable.result, arguments)?;
-    Ok(plain_operand(place, callable.result, tree))
-}
-
-fn types_of(alloc: Global, operands: &[Operand]) -> Result<Vec<ArgType>, AllocError>
-    ensures exact { IfOk result (λ v. v.items ≡ spec.types_of (view_operands operands.now)) }
-{
-    let mut types = Vec::new(alloc);
-    for operand in operands {
-        types.push(operand.ty)?;
-    }
-    Ok(types)
-}
-
-fn called_by(
-    alloc: Global,
-    lineage: &Lineage,
+    context: &BodyContext<'_>,
+    within: Within,
+    methods: &[FoundMethod<'_>],
     name: &Token,
     operands: Vec<Operand>,
-    types: List<ArgType>,
-    meant: Meant,
 ) -> Result<Operand, Stop>
-    requires types { types ≡ spec.types_of (view_operands operands.items) }
-    ensures exact { Gives view_operand result (spec.called_by lineage.now name.now (view_operands operands.items) meant) }
+    requires few { within.family < 256 }
+    ensures exact { Gives view_operand result (spec.called_own context.now name.now.place name.now
+        (spec.this_operand name.now.place within ∷ view_operands operands.items)
+        (uses.best_method context.now.ancestors
+        (list_map (spec.virtual_method (spaces.family_type within.family)) methods.now)
+        (spaces.family_type within.family) within.read_only
+        (spec.types_of (view_operands operands.items)))) }
 {
-    match meant {
-        Meant::Call(callable) => called(alloc, lineage, name.place, callable, operands),
-        Meant::Variable(..) | Meant::Type(_) => Err(use_refused(
-            ErrorKind::UnknownName,
-            name,
-            Asks::Call(types),
-        )),
-        Meant::Refused(kind) => Err(use_refused(kind, name, Asks::Call(types))),
-    }
+    let on = receiver_within(within);
+    let receiver = this_operand(alloc, name.place, within)?;
+    own_method(alloc, context, methods, on, name, receiver, operands)
 }
 
-/// A call of a bare name with these arguments.
-///
-/// `UnknownName` at the name where there is nothing to call, `NoMatch` where nothing takes the arguments,
-/// `Ambiguous` where no candidate is the best; then `BadOut` and `BadConversion` at an argument's first token.
+/// A name with typed arguments: inside a class its methods, if one has the name, else what makes an
+/// object of the type of the name, else functions. Locals and fields of the name play no part.
 #[tactic(auto, unfolding(crate::specs::Calls::call_typing))]
 pub fn call(
     alloc: Global,
-    setting: &Setting<'_>,
+    context: &BodyContext<'_>,
+    locals: &[LocalVariable<'_>],
     token: &Token,
     operands: Vec<Operand>,
 ) -> Result<Operand, Stop>
-    ensures exact { Gives view_operand result (spec.call_typing setting.now token.now (view_operands operands.items)) }
+    ensures exact { Gives view_operand result
+        (spec.call_typing context.now locals.now token.now (view_operands operands.items)) }
 {
-    let name = setting.text_at(token);
-    let types = types_of(alloc, operands.as_slice())?;
-    let meant = resolve_call(alloc, setting, name.bytes(), types.as_slice())?;
-    called_by(
-        alloc,
-        setting.lineage(),
-        token,
-        operands,
-        List::from_vec(types),
-        meant,
-    )
+    let name = context.text_of(token);
+    match named_methods(alloc, context, name)? {
+        None => {
+            let is_there = is_there(context, locals, name);
+            function_call(alloc, context, token, is_there, operands)
+        }
+        Some((within, methods)) => {
+            method_of_this(alloc, context, within, methods.as_slice(), token, operands)
+        }
+    }
+}
+
+fn family_named(families: &[Family], name: &[u8]) -> Option<usize>
+    ensures exact { result ≡ position (λ f. bytes_eq f.name name.now) families.now }
+{
+    families
+        .iter()
+        .position(|family| family.name.as_slice() == name)
+}
+
+/// Whether a family is a class above another one.
+fn is_class_above(families: &[Family], family: usize, other: usize, above: &Family) -> bool
+    ensures exact { result ≡ (above.now.is_class
+        && (not (other == family) && lookup.is_under families.now family other)) }
+{
+    above.is_class && other != family && is_under(families, family, other)
+}
+
+/// The class of this name that stands above the body's class.
+fn ancestor(context: &BodyContext<'_>, within: Within, class: &Token) -> Option<usize>
+    ensures exact { option_map (λ d. (within, d)) result
+        ≡ spec.ancestor_in context.now class.now (Some within) }
+{
+    let families = context.families();
+    let number = family_named(families, context.text_of(class))?;
+    let above = families.get(number)?;
+    if is_class_above(families, within.family, number, above) {
+        Some(number)
+    } else {
+        None
+    }
+}
+
+/// What a call of a method of this class on `this` means, as that class has it.
+fn method_above(
+    alloc: Global,
+    context: &BodyContext<'_>,
+    family: usize,
+    name: &Token,
+    on: Receiver,
+    operands: &[Operand],
+) -> Result<Resolution, AllocError>
+    ensures exact { IfOk result (λ r. r ≡ uses.best_method context.now.ancestors
+        (flat_map (spec.direct_method on.number)
+        (lookup.methods_named context.now.names.families family
+        (sources.text_of context.now.text name.now)))
+        on.number on.read_only (spec.types_of (view_operands operands.now))) }
+{
+    let methods = methods_named(alloc, context.families(), family, context.text_of(name))?;
+    direct_meant(alloc, context.lineage(), methods.as_slice(), on, operands)
+}
+
+/// A method of a class above the body's, as that class has it, called on `this`.
+#[tactic(auto, unfolding(crate::specs::Calls::scoped_typing))]
+pub fn scoped_call(
+    alloc: Global,
+    context: &BodyContext<'_>,
+    class: &Token,
+    name: &Token,
+    operands: Vec<Operand>,
+) -> Result<Operand, Stop>
+    ensures exact { Gives view_operand result
+        (spec.scoped_typing context.now class.now name.now (view_operands operands.items)) }
+{
+    let Some(within) = context.within() else {
+        return Err(refused(ErrorKind::UnknownName, class));
+    };
+    let Some(family) = ancestor(context, within, class) else {
+        return Err(refused(ErrorKind::UnknownName, class));
+    };
+    let on = receiver_within(within);
+    let resolution = method_above(alloc, context, family, name, on, operands.as_slice())?;
+    let receiver = this_operand(alloc, class.place, within)?;
+    called_on(alloc, context, name, receiver, operands, resolution)
 }

@@ -1,50 +1,66 @@
 //! The typing of expressions.
 ghost use Rattle.std.specs.Prelude.{◌≡◌, IfOk, true, ◌++◌, ◌∷◌, []};
 ghost use Rattle.ang_tree.specs.View as trees;
-ghost use Rattle.ang_check_operators.specs.Refusals.{Gives};
-ghost use Rattle.ang_check_typing.specs.Operands.{has_one_operand, has_more_operands};
+ghost use Rattle.ang_check_operand.specs.Refusals.{Gives};
+ghost use Rattle.ang_check_operand.specs.View.{view_operand, view_operands};
+ghost use Rattle.ang_check_typing.specs.Operands.{has_one_operand, has_two_operands, has_three_operands, is_of_object};
 ghost use Rattle.ang_check_typing.specs.Typing as spec;
-ghost use Rattle.ang_check_operators.specs.View.{view_operand, view_operands};
 
-use crate::calls::{call, named};
-use crate::scope::Pair;
-use crate::setting::Setting;
+use crate::calls::{call, scoped_call};
+use crate::casts::{cast, cast_type};
+use crate::context::BodyContext;
+use crate::members::{member_of, method_call};
+use crate::names::{named, this};
+use crate::scope::LocalVariable;
+use ang_check_operand::{Operand, Stop};
 use ang_check_operators::{
-    Branches, Operand, Stop, assignment, binary, conditional, convert, fault, group, literal,
-    postfix, prefix,
+    assignment, binary, conditional, convert, group, literal, postfix, prefix,
 };
-use ang_kinds::ErrorKind;
+use ang_lex::{Token, TokenKind};
 use ang_tree::{Argument, Expression};
 use std::alloc::{AllocError, Global};
 
 /// The list with one more operand at its end.
 fn with_operand(first: Vec<Operand>, operand: Operand) -> Result<Vec<Operand>, AllocError>
-    ensures exact { IfOk result (λ v. view_operands v.items ≡ view_operands first.items ++ (view_operand operand ∷ [])) }
+    ensures exact { IfOk result
+        (λ v. view_operands v.items ≡ view_operands first.items ++ (view_operand operand ∷ [])) }
 {
     let mut found = first;
     found.push(operand)?;
     Ok(found)
 }
 
-/// Expressions with commas between them, typed from left to right, with these parameters and locals alive, the
-/// innermost last.
+/// A number, `true`, `false`, `null` or `this`.
+fn word(alloc: Global, context: &BodyContext<'_>, token: &Token) -> Result<Operand, Stop>
+    ensures exact { Gives view_operand result
+        (spec.word_by context.now token.now token.now.kind) }
+{
+    match token.kind {
+        TokenKind::This => this(alloc, context, token),
+        _ => literal(alloc, token, context.text_of(token)),
+    }
+}
+
+/// Expressions with commas between them, typed from left to right, with these parameters and locals
+/// alive, the innermost last.
 ///
 /// # Errors
 ///
-/// The first refusal of an item, as `typing` has it; the items behind that one are not typed. `Memory` where a
-/// growth was refused.
+/// The first refusal of an item, as `typing` has it; the items behind that one are not typed.
+/// `Memory` where a growth was refused.
 #[cycle(typing)]
 pub fn typing_of_all(
     alloc: Global,
-    setting: &Setting<'_>,
-    pairs: &[Pair<'_>],
+    context: &BodyContext<'_>,
+    locals: &[LocalVariable<'_>],
     items: &[Argument],
 ) -> Result<Vec<Operand>, Stop>
-    ensures exact { Gives (λ v. view_operands v.items) result (spec.typing_of_all setting.now pairs.now (trees.view_items items.now)) }
+    ensures exact { Gives (λ v. view_operands v.items) result
+        (spec.typing_of_all context.now locals.now (trees.view_items items.now)) }
 {
     let mut found = Vec::new(alloc);
     for item in items {
-        let operand = typing(alloc, setting, pairs, &item.value)?;
+        let operand = typing(alloc, context, locals, &item.value)?;
         found = with_operand(found, operand)?;
     }
     Ok(found)
@@ -57,44 +73,97 @@ struct Asked {
     then: Operand,
 }
 
-/// The type and the resolved tree of an expression, with these parameters and locals alive, the innermost last.
+/// The type and the resolved tree of an expression, with these parameters and locals alive, the
+/// innermost last.
 ///
 /// # Errors
 ///
-/// The first refusal in reading order: operands from left to right, then the operation. That of a literal, a
-/// conversion or an operator comes from a function of `ang_check_operators`, which says when. That of a name or a call is
-/// `UnknownName`, `NoMatch` or `Ambiguous` at the name, `NotYet` where a type's name is called, or `BadOut` or
-/// `BadConversion` at an argument. `NotYet` comes also at the class of a call with `::`, at the word `cast`, and at
-/// the dot of a member or a method call, before what stands in front of the dot is typed.
+/// The first refusal in reading order: operands from left to right, then the operation. That of a
+/// literal, a conversion or an operator comes from a function of `ang_check_operators`, which says
+/// when. A name, a member or a method that is not known is `UnknownName` at the name, one that
+/// can't be used there `Private` or `Protected`; a call is `NoMatch`, `Ambiguous` or `Const` at the
+/// name, then `BadOut` or `BadConversion` at an argument. A cast is `UnknownType` or `BadType` at
+/// the type's name, then `BadConversion` at its operand.
 ///
 /// `Memory` where a growth was refused.
 #[cycle(typing)]
 pub fn typing(
     alloc: Global,
-    setting: &Setting<'_>,
-    pairs: &[Pair<'_>],
+    context: &BodyContext<'_>,
+    locals: &[LocalVariable<'_>],
     expression: &Expression,
 ) -> Result<Operand, Stop>
-    ensures exact { Gives view_operand result (spec.typing_of setting.now pairs.now (trees.view_expr expression.now)) }
+    ensures exact { Gives view_operand result
+        (spec.typing_of context.now locals.now (trees.view_expr expression.now)) }
 {
     match expression {
-        Expression::Literal(token) => literal(alloc, token, setting.text_at(token).bytes()),
-        Expression::Name(token) => named(alloc, setting, pairs, token),
+        Expression::Literal(token) => word(alloc, context, token),
+        Expression::Name(token) => named(alloc, context, locals, token),
         Expression::Call { name, arguments } => {
-            let operands = typing_of_all(alloc, setting, pairs, arguments.items.as_slice())?;
-            call(alloc, setting, name, operands)
+            let operands = typing_of_all(alloc, context, locals, arguments.items.as_slice())?;
+            call(alloc, context, locals, name, operands)
         }
-        Expression::ScopedCall { class, .. } => Err(fault(ErrorKind::NotYet, class.place)),
-        Expression::Cast { word, .. } => Err(fault(ErrorKind::NotYet, word.place)),
-        Expression::Member { dot, .. } => Err(fault(ErrorKind::NotYet, dot.place)),
-        Expression::MethodCall { dot, .. } => Err(fault(ErrorKind::NotYet, dot.place)),
+        Expression::ScopedCall {
+            class,
+            name,
+            arguments,
+            ..
+        } => {
+            let operands = typing_of_all(alloc, context, locals, arguments.items.as_slice())?;
+            scoped_call(alloc, context, class, name, operands)
+        }
+        Expression::Cast { .. } | Expression::Member { .. } | Expression::MethodCall { .. } => {
+            typing_over_object(alloc, context, locals, expression)
+        }
         Expression::Convert { .. }
         | Expression::Parenthesized { .. }
         | Expression::Postfix { .. }
-        | Expression::Prefix { .. } => typing_over_one(alloc, setting, pairs, expression),
-        Expression::Binary { .. }
-        | Expression::Conditional { .. }
-        | Expression::Assignment { .. } => typing_over_more(alloc, setting, pairs, expression),
+        | Expression::Prefix { .. } => typing_over_one(alloc, context, locals, expression),
+        Expression::Binary { .. } | Expression::Assignment { .. } => {
+            typing_over_two(alloc, context, locals, expression)
+        }
+        Expression::Conditional { .. } => typing_over_three(alloc, context, locals, expression),
+    }
+}
+
+/// The typing of a cast, a member or a call of a method.
+#[cycle(typing)]
+fn typing_over_object(
+    alloc: Global,
+    context: &BodyContext<'_>,
+    locals: &[LocalVariable<'_>],
+    expression: &Expression,
+) -> Result<Operand, Stop>
+    requires kind { is_of_object (trees.view_expr expression.now) ≡ true }
+    ensures exact { Gives view_operand result
+        (spec.typing_of context.now locals.now (trees.view_expr expression.now)) }
+{
+    match expression {
+        Expression::Cast {
+            word,
+            target,
+            operand,
+            ..
+        } => {
+            let ty = cast_type(context, locals, target)?;
+            let written = typing(alloc, context, locals, operand)?;
+            cast(alloc, word, ty, written)
+        }
+        Expression::Member { object, name, .. } => {
+            let object = typing(alloc, context, locals, object)?;
+            member_of(alloc, context, object, name)
+        }
+        Expression::MethodCall {
+            object,
+            name,
+            arguments,
+            ..
+        } => {
+            let object = typing(alloc, context, locals, object)?;
+            let operands = typing_of_all(alloc, context, locals, arguments.items.as_slice())?;
+            method_call(alloc, context, object, name, operands)
+        }
+        _ => unreachable!(),
     }
 }
 
@@ -102,12 +171,13 @@ pub fn typing(
 #[cycle(typing)]
 fn typing_over_one(
     alloc: Global,
-    setting: &Setting<'_>,
-    pairs: &[Pair<'_>],
+    context: &BodyContext<'_>,
+    locals: &[LocalVariable<'_>],
     expression: &Expression,
 ) -> Result<Operand, Stop>
     requires kind { has_one_operand (trees.view_expr expression.now) ≡ true }
-    ensures exact { Gives view_operand result (spec.typing_of setting.now pairs.now (trees.view_expr expression.now)) }
+    ensures exact { Gives view_operand result
+        (spec.typing_of context.now locals.now (trees.view_expr expression.now)) }
 {
     match expression {
         Expression::Convert {
@@ -115,35 +185,36 @@ fn typing_over_one(
             operand,
             ..
         } => {
-            let operand = typing(alloc, setting, pairs, operand)?;
-            convert(alloc, setting.lineage(), primitive, operand)
+            let operand = typing(alloc, context, locals, operand)?;
+            convert(alloc, context.lineage(), primitive, operand)
         }
         Expression::Parenthesized { open, inner, .. } => {
-            let operand = typing(alloc, setting, pairs, inner)?;
+            let operand = typing(alloc, context, locals, inner)?;
             Ok(group(open.place, operand))
         }
         Expression::Postfix { operand, operator } => {
-            let operand = typing(alloc, setting, pairs, operand)?;
+            let operand = typing(alloc, context, locals, operand)?;
             postfix(alloc, operand, operator.kind)
         }
         Expression::Prefix { operator, operand } => {
-            let operand = typing(alloc, setting, pairs, operand)?;
-            prefix(alloc, setting.lineage(), operator, operand)
+            let operand = typing(alloc, context, locals, operand)?;
+            prefix(alloc, context.lineage(), operator, operand)
         }
         _ => unreachable!(),
     }
 }
 
-/// The typing of an expression with two or three operands.
+/// The typing of an operation on two operands, or of an assignment.
 #[cycle(typing)]
-fn typing_over_more(
+fn typing_over_two(
     alloc: Global,
-    setting: &Setting<'_>,
-    pairs: &[Pair<'_>],
+    context: &BodyContext<'_>,
+    locals: &[LocalVariable<'_>],
     expression: &Expression,
 ) -> Result<Operand, Stop>
-    requires kind { has_more_operands (trees.view_expr expression.now) ≡ true }
-    ensures exact { Gives view_operand result (spec.typing_of setting.now pairs.now (trees.view_expr expression.now)) }
+    requires kind { has_two_operands (trees.view_expr expression.now) ≡ true }
+    ensures exact { Gives view_operand result
+        (spec.typing_of context.now locals.now (trees.view_expr expression.now)) }
 {
     match expression {
         Expression::Binary {
@@ -151,32 +222,48 @@ fn typing_over_more(
             operator,
             right,
         } => {
-            let left = typing(alloc, setting, pairs, left)?;
-            let right = typing(alloc, setting, pairs, right)?;
-            binary(alloc, setting.lineage(), left, operator.kind, right)
-        }
-        Expression::Conditional {
-            condition,
-            then,
-            otherwise,
-            ..
-        } => {
-            let condition = typing(alloc, setting, pairs, condition)?;
-            let then = typing(alloc, setting, pairs, then)?;
-            let asked = Asked { condition, then };
-            let otherwise = typing(alloc, setting, pairs, otherwise)?;
-            let Asked { condition, then } = asked;
-            let branches = Branches { then, otherwise };
-            conditional(alloc, setting.lineage(), condition, branches)
+            let left = typing(alloc, context, locals, left)?;
+            let right = typing(alloc, context, locals, right)?;
+            binary(alloc, context.lineage(), left, operator.kind, right)
         }
         Expression::Assignment {
             target,
             operator,
             value,
         } => {
-            let target = typing(alloc, setting, pairs, target)?;
-            let value = typing(alloc, setting, pairs, value)?;
-            assignment(alloc, setting.lineage(), target, operator.kind, value)
+            let target = typing(alloc, context, locals, target)?;
+            let value = typing(alloc, context, locals, value)?;
+            assignment(alloc, context.lineage(), target, operator, value)
+        }
+        _ => unreachable!(),
+    }
+}
+
+/// The typing of `?:`.
+#[cycle(typing)]
+fn typing_over_three(
+    alloc: Global,
+    context: &BodyContext<'_>,
+    locals: &[LocalVariable<'_>],
+    expression: &Expression,
+) -> Result<Operand, Stop>
+    requires kind { has_three_operands (trees.view_expr expression.now) ≡ true }
+    ensures exact { Gives view_operand result
+        (spec.typing_of context.now locals.now (trees.view_expr expression.now)) }
+{
+    match expression {
+        Expression::Conditional {
+            condition,
+            then,
+            otherwise,
+            ..
+        } => {
+            let condition = typing(alloc, context, locals, condition)?;
+            let then = typing(alloc, context, locals, then)?;
+            let asked = Asked { condition, then };
+            let otherwise = typing(alloc, context, locals, otherwise)?;
+            let Asked { condition, then } = asked;
+            conditional(alloc, context.lineage(), condition, then, otherwise)
         }
         _ => unreachable!(),
     }

@@ -1,18 +1,21 @@
 //! The typing of expressions: what each use of a name means, what type each expression has, and its
-//! resolved tree; or the first refusal in reading order.
-//!
-//! A *use* is a name, what is asked of it, and the types of the operands that it is asked with. What a use
-//! means over a view and the declarations of the scripts, `resolve_name` and `resolve_call` say, and nothing
-//! else does.
+//! resolved tree; or the first refusal in reading order (docs/LANGUAGE.md, "Expressions").
 #![tactic(auto)]
 
+mod arguments;
+mod called;
 mod calls;
+mod casts;
+mod context;
 mod expressions;
+mod made;
+mod members;
+mod methods;
+mod names;
 mod scope;
-mod setting;
-mod uses;
 
+pub use arguments::{arguments_for, types_of};
+pub use context::{BodyContext, is_there, type_or_refusal};
 pub use expressions::{typing, typing_of_all};
-pub use scope::{Pair, find_pair};
-pub use setting::Setting;
-pub use uses::{Callable, Callee, Meant, resolve_call, resolve_name};
+pub use made::{default_typing, made_typing};
+pub use scope::{LocalVariable, Within};

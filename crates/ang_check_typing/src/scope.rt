@@ -1,14 +1,14 @@
 //! The parameters and locals that are alive, and their names.
-ghost use Rattle.std.specs.Prelude.{◌≡◌, ◌<◌, length, IfSome, option_map};
+ghost use Rattle.std.specs.Prelude.{◌≡◌};
 ghost use Rattle.ang_check_typing.specs.Scope as spec;
 
-use ang_names_written::Text;
+use ang_names_known::Text;
 use ang_types::ArgType;
 
 /// A parameter or a local.
 #[derive(Drop)]
-pub struct Pair<'a> {
-    /// Its name, empty for a parameter without one.
+pub struct LocalVariable<'a> {
+    /// Its name, empty for a parameter without one and for `this`.
     pub name: Text<'a>,
     /// Its type.
     pub ty: ArgType,
@@ -16,14 +16,22 @@ pub struct Pair<'a> {
     pub read_only: bool,
 }
 
-/// The number of the innermost pair of the name. The innermost pair is the last.
-pub fn find_pair(pairs: &[Pair<'_>], name: &[u8]) -> Option<usize>
-    ensures exact { result ≡ spec.last_named name.now 0 pairs.now }
-    ensures within { IfSome result (λ number. number < length pairs.now) }
+/// The class in whose body an expression stands.
+#[derive(Clone, Copy, PartialEq, Eq, Debug)]
+pub struct Within {
+    /// The class's number among the families.
+    pub family: usize,
+    /// Whether `this` may not be changed.
+    pub read_only: bool,
+}
+
+/// The number of the innermost local or parameter of the name. The innermost one is the last.
+pub fn last_named(locals: &[LocalVariable<'_>], name: &[u8]) -> Option<usize>
+    ensures exact { result ≡ spec.last_named name.now 0 locals.now }
 {
     let mut found = None;
-    for number in 0..pairs.len() {
-        if pairs[number].name.bytes() == name {
+    for number in 0..locals.len() {
+        if locals[number].name.bytes() == name {
             found = Some(number);
         }
     }

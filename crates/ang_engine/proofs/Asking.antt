@@ -10,7 +10,7 @@ use Rattle.ang_host.specs.Boxes.{members}
 use Rattle.ang_host.specs.Laws.{Meaning}
 use Rattle.ang_host.specs.Events.{DriversFollow}
 use Rattle.ang_host.proofs.Events.{AllFollow-none}
-use Rattle.ang_registry.specs.Registration.{RegistrationList}
+use Rattle.ang_view.specs.Registration.{RegistrationList}
 use Rattle.ang_registry.specs.Roles.{roles_of}
 use Rattle.ang_meaning.specs.World.{World as RunWorld}
 use Rattle.ang_meaning.specs.Counting.{IsCounted}

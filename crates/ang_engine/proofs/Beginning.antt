@@ -7,7 +7,7 @@ use Rattle.std.specs.List.{AllZip}
 use Rattle.ang_host.specs.declared.event.HostEvent.{HostEvent}
 use Rattle.ang_host.specs.State.{State, count_of}
 use Rattle.ang_host.specs.Members.{AreFresh}
-use Rattle.ang_registry.specs.Registration.{RegistrationList}
+use Rattle.ang_view.specs.Registration.{RegistrationList}
 use Rattle.ang_meaning.specs.declared.slot.Slot.{Slot}
 use Rattle.ang_meaning.specs.World.{World as RunWorld, ScriptObjects}
 use Rattle.ang_meaning.specs.Counting.{IsCounted, counts_by}

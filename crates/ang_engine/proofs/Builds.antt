@@ -5,7 +5,7 @@ use Rattle.ang_kinds.specs.declared.error.Error.{Error}
 use Rattle.ang_kinds.specs.declared.error.Unbuilt.{Unbuilt}
 use Rattle.ang_kinds.specs.declared.error.Unbuilt.TheVariants as unbuilt
 use Rattle.ang_kinds.specs.declared.fault.Fault.{Fault}
-use Rattle.ang_registry.specs.Registration.{RegistrationList, seen}
+use Rattle.ang_view.specs.Registration.{RegistrationList, seen}
 use Rattle.ang_typed.specs.View.{view_typed}
 use Rattle.ang_meaning.specs.declared.slot.Slot.{Slot}
 use Rattle.ang_meaning.specs.declared.slot.Slot.TheVariants.{Bits}

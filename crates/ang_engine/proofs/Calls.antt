@@ -8,12 +8,15 @@ use Rattle.ang_kinds.specs.declared.primitive.Primitive.{Primitive}
 use Rattle.ang_kinds.specs.declared.primitive.Primitive.TheVariants.{I8, I16, I32, I64, U8, U16, U32, U64, Bool as TruthType}
 use Rattle.ang_kinds.specs.declared.value.Value.{Value}
 use Rattle.ang_kinds.specs.declared.value.Value.TheVariants.{Int, Uint, Bool as Truth, Key}
+use Rattle.ang_view.specs.Registration.{RegistrationList}
+use Rattle.ang_typed.specs.declared.program.Parameter.{Parameter}
 use Rattle.ang_typed.specs.Typed as t
-use Rattle.ang_names.specs.declared.names.Names.{Names}
-use Rattle.ang_names.specs.declared.names.ScriptFunction.{ScriptFunction}
-use Rattle.ang_names.specs.declared.names.ScriptParameter.{ScriptParameter}
-use Rattle.ang_check.specs.Bodies.{parameter_of}
-use Rattle.ang_check_sound.specs.Checked.{HasNames}
+use Rattle.ang_names_known.specs.declared.names.Names.{Names}
+use Rattle.ang_names_known.specs.declared.names.ScriptFunction.{ScriptFunction}
+use Rattle.ang_names_known.specs.declared.names.ScriptParameter.{ScriptParameter}
+use Rattle.ang_names_written.specs.Sources.{Source}
+use Rattle.ang_check_body.specs.Typing.{typed_parameter, typed_parameters}
+use Rattle.ang_check_sound.specs.Checked.{HasNames, module_in}
 use Rattle.ang_meaning.specs.declared.slot.Slot.{Slot}
 use Rattle.ang_meaning.specs.declared.slot.Slot.TheVariants.{Bits}
 use Rattle.ang_meaning.specs.declared.host.HostType.TheVariants.{Plain as PlainType}
@@ -159,7 +162,7 @@ arguments_for-plain [] [] slots x e = let same : [] ≡ slots = cc in ap (how_ma
 arguments_for-plain [] (v ∷ vs) slots x e = cc
 arguments_for-plain (p ∷ ps) [] slots x e = cc
 arguments_for-plain (p ∷ ps) (v ∷ vs) slots x e =
-    in_front-plain (argument_of p v) (arguments_for ps vs) slots x (λ s h. plain_plain (primitive_of p.ty) v s x h) (λ xs h. arguments_for-plain ps vs xs x h) e
+    in_front-plain (argument_of p v) (arguments_for ps vs) slots x (λ s h. plain_plain (primitive_of p.written.ty) v s x h) (λ xs h. arguments_for-plain ps vs xs x h) e
 
 pub arguments-plain : (f : ScriptFunction) (vs : List Value) (slots : List Slot) → arguments_of f vs ≡ Some slots → NameNothing slots
 unfolding arguments_of
@@ -189,16 +192,22 @@ map-get h [] n y e = absurd (cc)
 map-get h (x ∷ xs) zero y e = record { item = x; at = refl; same = cc }
 map-get h (x ∷ xs) (suc n) y e = let r = map-get h xs n y e in record { item = r.item; at = r.at; same = r.same }
 
+get-front : {A : Type 0} (xs ys : List A) (n : ℕ) (x : A) → slice_get xs n ≡ Some x → slice_get (xs ++ ys) n ≡ Some x
+get-front [] ys n x e = absurd (cc)
+get-front (z ∷ xs) ys zero x e = e
+get-front (z ∷ xs) ys (suc n) x e = get-front xs ys n x e
+
 -- a function of the names takes as many arguments in the tree
-pub takes-named : (names : Names) (ms : List Module) (m n : ℕ) (f : ScriptFunction) (slots : List Slot) → HasNames names (module_at ms m).tree → IsOneOf names.functions n f slots
-    → TakesSoMany ms m n (length slots)
-takes-named names ms m n f slots has one =
-    let named = get-map (λ (g : ScriptFunction). map parameter_of g.params) names.functions n f one.at in
-    let here = map-get (λ (g : t.Function). g.parameters) (module_at ms m).tree.functions n (map parameter_of f.params) (ap (λ xs. slice_get xs n) has.parameters ∙ named) in
+pub takes-named : (V : RegistrationList) (names : Names) (ss : List Source) (ms : List Module) (m n : ℕ) (f : ScriptFunction) (slots : List Slot)
+    → HasNames V names ss (module_at ms m).tree → IsOneOf names.functions n f slots → TakesSoMany ms m n (length slots)
+takes-named V names ss ms m n f slots has one =
+    let ps : List Parameter = typed_parameters f in
+    let named : slice_get (module_in V names).parameters n ≡ Some ps = get-front (map typed_parameters names.functions) _ n ps (get-map typed_parameters names.functions n f one.at) in
+    let here = map-get (λ (g : t.Function). g.parameters) (module_at ms m).tree.functions n ps (ap (λ xs. slice_get xs n) has.parameters ∙ named) in
     record {
       function = here.item;
       at = here.at;
-      params = ap length here.same ∙ length-map f.params parameter_of ∙ sym one.count;
+      params = ap length here.same ∙ length-map f.params typed_parameter ∙ sym one.count;
     }
 
 -- ---- its run

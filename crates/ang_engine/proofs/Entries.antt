@@ -8,13 +8,13 @@ use Rattle.ang_host.specs.declared.event.HostEvent.{HostEvent}
 use Rattle.ang_host.specs.declared.event.HostEvent.TheVariants.{Called, Ended}
 use Rattle.ang_host.specs.declared.event.Role.{Role}
 use Rattle.ang_host.specs.Events.{role_at}
-use Rattle.ang_registry.specs.declared.entry.Entry.{Entry}
-use Rattle.ang_registry.specs.declared.entry.EntryKind.{EntryKind}
-use Rattle.ang_registry.specs.declared.entry.EntryKind.TheVariants.{HostType, Factory, Method, Property, Function, Global}
-use Rattle.ang_registry.specs.Registration.{RegistrationList, entry_at, is_seen, seen_entry, seen, is_type}
+use Rattle.ang_view.specs.declared.entry.Entry.{Entry}
+use Rattle.ang_view.specs.declared.entry.EntryKind.{EntryKind}
+use Rattle.ang_view.specs.declared.entry.EntryKind.TheVariants.{HostType, Factory, Method, Property, Function, Global}
+use Rattle.ang_view.specs.Registration.{RegistrationList, entry_at, is_seen, seen_entry, seen, is_type}
 use Rattle.ang_registry.specs.Roles.{roles_of, role_by}
 use Rattle.ang_registry.proofs.Roles.{role_at-entry}
-use Rattle.ang_registry.proofs.Seen.{entry_at-seen}
+use Rattle.ang_view.proofs.Seen.{entry_at-seen}
 use Rattle.ang_meaning.specs.declared.host.HostUse.{HostUse}
 use Rattle.ang_meaning.specs.World.{World as RunWorld}
 use Rattle.ang_lower.specs.Hosts.{use_of, asked_as, use_in, role_in}

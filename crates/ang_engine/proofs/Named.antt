@@ -1,14 +1,16 @@
 -- A call on the module of a name.
-use Rattle.std.proofs.Common.{◌≡◌, ◌<◌, refl, ap, sym, ◌∙◌, subst, inl, inr, ℕ, zero, suc, Bool, true, false, List, [], ◌∷◌, length, arith, Option, Some, None, option_map}
+use Rattle.std.proofs.Common.{◌≡◌, ◌<◌, ◌≤◌, refl, ap, sym, ◌∙◌, subst, inl, inr, ℕ, zero, suc, Bool, true, false, List, [], ◌∷◌, length, arith, Option, Some, None, option_map}
 use Rattle.std.specs.Prelude.{Result, Ok, Err, if◌then◌else◌, slice_index_or}
 use Rattle.std.specs.List.{AllZip}
 use Rattle.ang_kinds.specs.declared.value.Value.{Value}
 use Rattle.ang_host.specs.declared.event.HostEvent.{HostEvent}
-use Rattle.ang_registry.specs.Registration.{RegistrationList}
+use Rattle.ang_view.specs.Registration.{RegistrationList}
+use Rattle.ang_typed.specs.Typed as t
 use Rattle.ang_typed.specs.View.{view_typed}
+use Rattle.ang_names_written.specs.Sources.{Source}
 use Rattle.ang_check_sound.specs.Checked.{HasNames}
 use Rattle.ang_meaning.specs.World.{Input}
-use Rattle.ang_engine_build.proofs.Programs.{program-named}
+use Rattle.ang_engine_build.proofs.Programs.{program-families, program-named}
 use Rattle.ang_engine_modules.specs.declared.modules.LoadedModule.{LoadedModule}
 use Rattle.ang_engine_modules.specs.Loaded.{module_of, modules_of}
 use Rattle.ang_engine_modules.specs.Modules.{module_at as run_module_at, TakesSoMany}
@@ -35,27 +37,47 @@ program_there (m ∷ ms) [] (suc i) o lt e = program_there ms [] i o (omega (ari
 program_there (m ∷ ms) (l ∷ ls) zero o lt e = ap (λ x. option_map program_in x) (sym e)
 program_there (m ∷ ms) (l ∷ ls) (suc i) o lt e = program_there ms ls i o (omega (arith, lt)) e
 
--- the functions of its tree are those of its names
-loaded_named : (R : RegistrationList) (m : Module) (o : Option LoadedModule) (l : LoadedModule) → IsSoundModule R m o → Some l ≡ o → HasNames l.names (module_of o).tree
+-- a tree has what the names of a loaded module declare
+abbrev AreNamed : LoadedModule → t.Program → Type 0
+AreNamed l p = (ss : List Source) × HasNames l.view l.names ss p
+
+loaded_named : (R : RegistrationList) (m : Module) (o : Option LoadedModule) (l : LoadedModule) → IsSoundModule R m o → Some l ≡ o → AreNamed l (module_of o).tree
 loaded_named R m None l h e = cc
 loaded_named R m (Some k) l h e =
     let same : k ≡ l = cc in
-    subst (λ x. HasNames x.names (view_typed k.tree)) same (program-named k.view h.sections (resolved_in k) h.built)
+    let named = program-named k.view h.sections (resolved_in k) h.built in
+    subst (λ x. AreNamed x (view_typed k.tree)) same (named.sources, named.names)
 
 there_named : (R : RegistrationList) (ms : List Module) (ls : List (Option LoadedModule)) (i : ℕ) (l : LoadedModule) → AllZip (IsSoundModule R) ms ls → Some l ≡ slice_index_or ls i None
-    → HasNames l.names (run_module_at (modules_of ls) i).tree
+    → AreNamed l (run_module_at (modules_of ls) i).tree
 there_named R [] [] i l h e = cc
 there_named R [] (k ∷ ls) i l h e = absurd h
 there_named R (m ∷ ms) [] i l h e = absurd h
 there_named R (m ∷ ms) (k ∷ ls) zero l h e = loaded_named R m k l h.0 e
 there_named R (m ∷ ms) (k ∷ ls) (suc i) l h e = there_named R ms ls i l h.1 e
 
+-- its classes and interfaces are few
+loaded_few : (R : RegistrationList) (m : Module) (o : Option LoadedModule) (l : LoadedModule) → IsSoundModule R m o → Some l ≡ o → length l.names.families ≤ 256
+loaded_few R m None l h e = cc
+loaded_few R m (Some k) l h e =
+    let same : k ≡ l = cc in
+    subst (λ (x : LoadedModule). length x.names.families ≤ 256) same (program-families k.view h.sections (resolved_in k) h.built).few
+
+pub few_families : (R : RegistrationList) (ms : List Module) (ls : List (Option LoadedModule)) (i : ℕ) (l : LoadedModule) → AllZip (IsSoundModule R) ms ls → Some l ≡ slice_index_or ls i None
+    → length l.names.families ≤ 256
+few_families R [] [] i l h e = cc
+few_families R [] (k ∷ ls) i l h e = absurd h
+few_families R (m ∷ ms) [] i l h e = absurd h
+few_families R (m ∷ ms) (k ∷ ls) zero l h e = loaded_few R m k l h.0 e
+few_families R (m ∷ ms) (k ∷ ls) (suc i) l h e = few_families R ms ls i l h.1 e
+
 -- a function that was chosen takes the arguments that were chosen
 pub takes_chosen : (R : RegistrationList) (ms : List Module) (ls : List (Option LoadedModule)) (i : ℕ) (l : LoadedModule) (decl : List ℕ) (vs : List Value) (c : ChosenCall)
     → AllZip (IsSoundModule R) ms ls → Some l ≡ slice_index_or ls i None → IsChosen (Ok c) (choice_of (program_in l) decl vs)
     → TakesSoMany (modules_of ls) i c.number (length c.args.items)
 takes_chosen R ms ls i l decl vs c h e chosen =
-    takes-named l.names (modules_of ls) i c.number chosen.0 c.args.items (there_named R ms ls i l h e) (choice-one (program_in l) decl vs c.number chosen.0 c.args.items chosen.1)
+    let named = there_named R ms ls i l h e in
+    takes-named l.view l.names named.0 (modules_of ls) i c.number chosen.0 c.args.items named.1 (choice-one (program_in l) decl vs c.number chosen.0 c.args.items chosen.1)
 
 -- no function was chosen
 pub chosen_refused : (why : Refusal) (q : Choice) (w : World) (i budget : ℕ) → IsChosen (Err why) q → IsRefused why (call_chosen q w i budget) w w

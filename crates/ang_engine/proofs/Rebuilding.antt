@@ -11,7 +11,7 @@ use Rattle.ang_host.specs.declared.event.Role.{Role}
 use Rattle.ang_host.specs.Boxes.{members}
 use Rattle.ang_host.specs.Laws.{Meaning}
 use Rattle.ang_host.proofs.Events.{AllFollow-length}
-use Rattle.ang_registry.specs.Registration.{RegistrationList, seen}
+use Rattle.ang_view.specs.Registration.{RegistrationList, seen}
 use Rattle.ang_meaning.specs.World.{Input, World as RunWorld, with_inputs}
 use Rattle.ang_meaning.specs.Told.{answers_listed}
 use Rattle.ang_meaning.specs.Counting.{IsCounted}

@@ -2,7 +2,7 @@
 use Rattle.std.proofs.Common.{◌≡◌, ◌<◌, refl, ap, sym, ◌∙◌, ℕ, zero, suc, List, [], ◌∷◌, ◌++◌, length, arith, Option, Some, None}
 use Rattle.std.specs.Prelude.{slice_index_or, slice_set}
 use Rattle.std.specs.List.{AllZip}
-use Rattle.ang_registry.specs.Registration.{RegistrationList, seen}
+use Rattle.ang_view.specs.Registration.{RegistrationList, seen}
 use Rattle.ang_typed.specs.View.{view_typed}
 use Rattle.ang_engine_modules.specs.declared.modules.LoadedModule.{LoadedModule}
 use Rattle.ang_engine_modules.specs.Loaded.{module_of, modules_of}

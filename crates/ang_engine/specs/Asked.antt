@@ -6,7 +6,7 @@ use Rattle.ang_host.specs.declared.event.Role.{Role}
 use Rattle.ang_host.specs.Boxes.{members}
 use Rattle.ang_host.specs.Laws.{Meaning}
 use Rattle.ang_host.specs.Events.{DriversFollow}
-use Rattle.ang_registry.specs.Registration.{RegistrationList}
+use Rattle.ang_view.specs.Registration.{RegistrationList}
 use Rattle.ang_registry.specs.Roles.{roles_of}
 use Rattle.ang_meaning.specs.Counting.{IsCounted}
 use Rattle.ang_heap.specs.declared.store.Store.{Store}

@@ -4,7 +4,7 @@ use Rattle.std.specs.declared.alloc.Global.{Global}
 use Rattle.std.specs.declared.dyn_box.DynBox.{DynBox}
 use Rattle.ang_host.specs.Boxes.{members}
 use Rattle.ang_host.specs.Laws.{Meaning}
-use Rattle.ang_registry.specs.Registration.{RegistrationList}
+use Rattle.ang_view.specs.Registration.{RegistrationList}
 use Rattle.ang_typed.specs.View.{view_typed}
 use Rattle.ang_heap.specs.Stores.{world_of}
 use Rattle.ang_engine_build.specs.Build.{Resolved}

@@ -2,8 +2,8 @@
 use Rattle.std.specs.Prelude.{ℕ, ◌≡◌, ◌<◌, ◌≤◌, List, [], length, Option, Some, None}
 use Rattle.std.specs.List.{AllZip}
 use Rattle.ang_host.specs.Laws.{Meaning}
-use Rattle.ang_registry.specs.declared.entry.Entry.{Entry}
-use Rattle.ang_registry.specs.Registration.{RegistrationList, entry_at, seen}
+use Rattle.ang_view.specs.declared.entry.Entry.{Entry}
+use Rattle.ang_view.specs.Registration.{RegistrationList, entry_at, seen}
 use Rattle.ang_meaning.specs.Counting.{IsCounted}
 use Rattle.ang_heap.specs.Stores.{world_of, IsKept}
 use Rattle.ang_engine_build.specs.Build.{Compiled, build_of}

@@ -6,8 +6,8 @@ use Rattle.ang_kinds.specs.declared.value.Value.{Value}
 use Rattle.ang_host.specs.declared.event.HostEvent.{HostEvent}
 use Rattle.ang_host.specs.declared.event.HostEvent.TheVariants.{Called, Ended as ObjectEnded}
 use Rattle.ang_lex.specs.Spelling.{is_identifier}
-use Rattle.ang_registry.specs.Registration.{RegistrationList, seen, entry_at}
-use Rattle.ang_names.specs.declared.names.ScriptFunction.{ScriptFunction}
+use Rattle.ang_view.specs.Registration.{RegistrationList, seen, entry_at}
+use Rattle.ang_names_known.specs.declared.names.ScriptFunction.{ScriptFunction}
 use Rattle.ang_meaning.specs.declared.slot.Slot.{Slot}
 use Rattle.ang_meaning.specs.World.{Input, Room, World as RunWorld}
 use Rattle.ang_meaning.specs.Told.{has_room, stopped_by, answers_told, answers_listed}

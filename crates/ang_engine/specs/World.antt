@@ -1,9 +1,9 @@
 -- What an engine keeps from one command to the next (docs/MEANING.md, "A command").
 use Rattle.std.specs.Prelude.{ℕ, zero, suc, ◌+◌, List, [], ◌∷◌, length, Option, Some, None, if◌then◌else◌, bytes_eq, slice_index_or, slice_set, map as list_map}
 use Rattle.std.specs.FinMap as map
-use Rattle.ang_registry.specs.Registration.{RegistrationList}
+use Rattle.ang_view.specs.Registration.{RegistrationList}
 use Rattle.ang_typed.specs.Typed as t
-use Rattle.ang_names.specs.declared.names.Names.{Names}
+use Rattle.ang_names_known.specs.declared.names.Names.{Names}
 use Rattle.ang_meaning.specs.declared.slot.Slot.{Slot}
 use Rattle.ang_meaning.specs.declared.routine.Routine.{Routine}
 use Rattle.ang_meaning.specs.World.{Input, ScriptObjects, HostCounts, World as RunWorld}

@@ -1,7 +1,7 @@
 //! Builds.
 ghost use Rattle.std.specs.Prelude.{◌≡◌, ◌<◌, ◌≤◌, ◌^◌, [], Option, Some, None, length, IfOk, OnOk, OnErr, slice_set, slice_index_or};
 ghost use Rattle.ang_host.specs.Boxes.{members};
-ghost use Rattle.ang_registry.specs.Registration.{seen};
+ghost use Rattle.ang_view.specs.Registration.{seen};
 ghost use Rattle.ang_source.specs.Sound.{SoundProgram};
 ghost use Rattle.ang_typed.specs.View.{view_typed};
 ghost use Rattle.ang_meaning.specs.Counting.{IsCounted};
@@ -29,7 +29,8 @@ use ang_engine_modules::{LoadedModule, Modules};
 use ang_host::{Driver, HostEvent};
 use ang_kinds::{Error, Fault, List, Mask, Unbuilt};
 use ang_meaning::Slot;
-use ang_registry::{Registry, View};
+use ang_registry::Registry;
+use ang_view::View;
 use ang_vm::Machine;
 use std::alloc::{AllocError, Global};
 use std::mem;

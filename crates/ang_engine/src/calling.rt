@@ -1,5 +1,5 @@
 //! Calls from outside.
-ghost use Rattle.std.specs.Prelude.{◌≡◌, ◌<◌, [], Some, length, IfOk};
+ghost use Rattle.std.specs.Prelude.{◌≡◌, ◌<◌, ◌≤◌, [], Some, length, IfOk};
 ghost use Rattle.ang_host.specs.Boxes.{members};
 ghost use Rattle.ang_meaning.specs.Counting.{IsCounted};
 ghost use Rattle.ang_heap.specs.Stores.{world_of, IsReady};
@@ -17,7 +17,7 @@ use ang_engine_modules::{LoadedModule, Modules};
 use ang_host::{Driver, HostEvent};
 use ang_kinds::{Fault, Value};
 use ang_meaning::Slot;
-use ang_names::ScriptFunction;
+use ang_names_known::ScriptFunction;
 use ang_vm::Machine;
 use std::alloc::Global;
 
@@ -58,6 +58,7 @@ pub fn choose(
     decl: &[u8],
     args: &[Value],
 ) -> Result<ChosenCall, Refusal>
+    requires few { length loaded.now.names.families ≤ 256 }
     ensures chosen { IsChosen result (choice_of (program_in loaded.now) decl.now args.now) }
     ensures within { IfOk result (λ c. c.number < length loaded.now.names.functions) }
     ensures plain { IfOk result (λ c. NameNothing c.args.items) }

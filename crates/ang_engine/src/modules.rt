@@ -1,7 +1,7 @@
 //! The modules of an engine, by name, and their waiting sections.
 ghost use Rattle.std.specs.Prelude.{◌≡◌, ◌<◌, ◌≤◌, ◌^◌, ◌++◌, ◌∷◌, [], List, Option, None, length, IfSome, OnOk, OnErr, slice_set};
 ghost use Rattle.std.specs.List.{AllZip};
-ghost use Rattle.ang_registry.specs.Registration.{RegistrationList};
+ghost use Rattle.ang_view.specs.Registration.{RegistrationList};
 ghost use Rattle.ang_meaning.specs.World.{World as RunWorld};
 ghost use Rattle.ang_meaning.specs.Counting.{IsCounted};
 ghost use Rattle.ang_heap.specs.Globals.{values_in};

@@ -1,2 +1,3 @@
 pub mod SoFar
+pub mod Scripts
 pub mod Programs

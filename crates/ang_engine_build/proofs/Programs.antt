@@ -1,58 +1,78 @@
 -- What holds of each program that a build gives.
 use Rattle.std.proofs.Common.{◌≡◌, refl, subst, ℕ, List, [], ◌∷◌}
-use Rattle.std.specs.Prelude.{Result, Ok, Err}
+use Rattle.std.specs.Prelude.{map, Result, Ok, Err}
 use Rattle.ang_kinds.specs.declared.error.Error.{Error}
-use Rattle.ang_registry.specs.Registration.{RegistrationList}
-use Rattle.ang_registry.specs.Values.{TakesValues}
+use Rattle.ang_view.specs.Registration.{RegistrationList}
+use Rattle.ang_view.specs.Values.{TakesValues}
+use Rattle.ang_types.specs.declared.asks.Refused.{Refused}
 use Rattle.ang_source.specs.Sound.{SoundProgram}
+use Rattle.ang_names_known.specs.Items.{list_or}
+use Rattle.ang_names_known.specs.Spaces.{AreFamilies}
 use Rattle.ang_names_written.specs.Sources.{Source}
 use Rattle.ang_names_written.specs.NotYet.{not_yet}
-use Rattle.ang_names.specs.Declarations.{declarations_of}
-use Rattle.ang_names.specs.Phases.{errors_of, errors_or}
+use Rattle.ang_names_listed.specs.Declarations.{declarations_of}
+use Rattle.ang_names_listed.specs.Taken.{plain_refusal}
+use Rattle.ang_names.specs.Phases.{all_phases, errors_in, first_refusals, refusals_of}
 use Rattle.ang_names.specs.Resolved.{names_of}
-use Rattle.ang_check.specs.Bodies.{body_errors, program_of}
+use Rattle.ang_names.proofs.Few.{accepted_families}
+use Rattle.ang_check_bodies.specs.Bodies.{body_refusals, program_of}
+use Rattle.ang_check.specs.Denials.{script_refusals}
 use Rattle.ang_check_sound.specs.Checked.{HasNames}
 use Rattle.ang_check_sound.proofs.Program.{has_names, program_is_sound}
 use Rattle.ang_engine_build.specs.Script.{sources_of}
 use Rattle.ang_engine_build.specs.Build.{Resolved, Compiled, resolution_of, script_errors, unless_refused, build_of_scripts, after_reading, build_of}
+use Rattle.ang_engine_build.specs.Named.{HasNamesOf}
 
 -- ---- what a built program is
 
 -- These scripts are resolved to it, and each declaration, body and initializer is accepted.
 record IsResolution (V : RegistrationList) (ss : List Source) (r : Resolved) : Type 0 where
-  within : not_yet V ss ≡ []
-  accepted : body_errors V (names_of V (declarations_of ss)) ss ≡ []
+  declared : refusals_of V ss ≡ []
+  accepted : body_refusals V (names_of V (declarations_of ss)) ss ≡ []
   is : resolution_of V ss ≡ r
 
-none_of_both : (first later : List Error) → errors_or first later ≡ [] → (first ≡ []) × (later ≡ [])
+none_of_both : (first later : List Refused) → list_or first later ≡ [] → (first ≡ []) × (later ≡ [])
 none_of_both [] later h = (refl, h)
-none_of_both (e ∷ es) later h = cc
+none_of_both (x ∷ xs) later h = cc
 
-none_beyond : (V : RegistrationList) (ss : List Source) → errors_of V ss ≡ [] → not_yet V ss ≡ []
-unfolding errors_of
-none_beyond V ss h = (none_of_both (not_yet V ss) _ h).0
+none_is_plain : (es : List Error) → map plain_refusal es ≡ [] → es ≡ []
+none_is_plain [] h = refl
+none_is_plain (e ∷ es) h = cc
+
+none_beyond : (V : RegistrationList) (ss : List Source) → refusals_of V ss ≡ [] → not_yet V ss ≡ []
+unfolding refusals_of
+none_beyond V ss h =
+    none_is_plain (not_yet V ss) (none_of_both (map plain_refusal (not_yet V ss)) (first_refusals V (declarations_of ss) all_phases) h).0
+
+none_refused : (rs : List Refused) → errors_in rs ≡ [] → rs ≡ []
+none_refused [] h = refl
+none_refused (r ∷ rs) h = cc
 
 passed : (es : List Error) (r s : Resolved) → unless_refused es r ≡ Compiled s → (es ≡ []) × (r ≡ s)
 passed [] r s is = (refl, cc)
 passed (e ∷ es) r s is = cc
 
 scripts_resolve : (V : RegistrationList) (ss : List Source) (r : Resolved) → build_of_scripts V ss ≡ Compiled r → IsResolution V ss r
+unfolding script_refusals
 scripts_resolve V ss r is =
     let p = passed (script_errors V ss) (resolution_of V ss) r is in
-    let none = none_of_both (errors_of V ss) _ p.0 in
-    record { within = none_beyond V ss none.0; accepted = none.1; is = p.1 }
+    let none = none_of_both (refusals_of V ss) (body_refusals V (names_of V (declarations_of ss)) ss) (none_refused (script_refusals V ss) p.0) in
+    record { declared = none.0; accepted = none.1; is = p.1 }
 
 -- ---- the laws, of scripts
 
 sound_scripts : (V : RegistrationList) (ss : List Source) (r : Resolved) → TakesValues V → IsResolution V ss r → SoundProgram V r.tree
 sound_scripts V ss r values h =
     let names = names_of V (declarations_of ss) in
-    let sound : SoundProgram V (program_of V names ss) = program_is_sound V names ss values refl h.within h.accepted in
+    let sound : SoundProgram V (program_of V names ss) = program_is_sound V names ss values refl (none_beyond V ss h.declared) h.accepted in
     subst (λ (q : Resolved). SoundProgram V q.tree) h.is sound
 
-named_scripts : (V : RegistrationList) (ss : List Source) (r : Resolved) → IsResolution V ss r → HasNames r.names r.tree
+named_scripts : (V : RegistrationList) (ss : List Source) (r : Resolved) → IsResolution V ss r → HasNames V r.names ss r.tree
 named_scripts V ss r h =
-    subst (λ (q : Resolved). HasNames q.names q.tree) h.is (has_names V (names_of V (declarations_of ss)) ss refl h.accepted)
+    subst (λ (q : Resolved). HasNames V q.names ss q.tree) h.is (has_names V (names_of V (declarations_of ss)) ss refl h.accepted)
+
+few_scripts : (V : RegistrationList) (ss : List Source) (r : Resolved) → IsResolution V ss r → AreFamilies r.names.families
+few_scripts V ss r h = subst (λ (q : Resolved). AreFamilies q.names.families) h.is (accepted_families V ss h.declared)
 
 -- ---- the laws, of sections
 
@@ -61,9 +81,14 @@ sound_read : (V : RegistrationList) (read : Result (List Source) Error) (r : Res
 sound_read V (Ok ss) r values is = sound_scripts V ss r values (scripts_resolve V ss r is)
 sound_read V (Err e) r values is = cc
 
-named_read : (V : RegistrationList) (read : Result (List Source) Error) (r : Resolved) → after_reading V read ≡ Compiled r → HasNames r.names r.tree
-named_read V (Ok ss) r is = named_scripts V ss r (scripts_resolve V ss r is)
-named_read V (Err e) r is = cc
+named_read : (V : RegistrationList) (sections : List (List ℕ)) (read : Result (List Source) Error) (r : Resolved) → sources_of 0 sections ≡ read
+    → after_reading V read ≡ Compiled r → HasNamesOf V sections r
+named_read V sections (Ok ss) r same is = record { sources = ss; are_read = same; names = named_scripts V ss r (scripts_resolve V ss r is) }
+named_read V sections (Err e) r same is = cc
+
+few_read : (V : RegistrationList) (read : Result (List Source) Error) (r : Resolved) → after_reading V read ≡ Compiled r → AreFamilies r.names.families
+few_read V (Ok ss) r is = few_scripts V ss r (scripts_resolve V ss r is)
+few_read V (Err e) r is = cc
 
 -- the tree is sound over the view
 pub program-sound : (V : RegistrationList) (sections : List (List ℕ)) (r : Resolved) → TakesValues V → build_of V sections ≡ Compiled r
@@ -71,5 +96,9 @@ pub program-sound : (V : RegistrationList) (sections : List (List ℕ)) (r : Res
 program-sound V sections r values is = sound_read V (sources_of 0 sections) r values is
 
 -- the functions and globals of the tree are those of the names
-pub program-named : (V : RegistrationList) (sections : List (List ℕ)) (r : Resolved) → build_of V sections ≡ Compiled r → HasNames r.names r.tree
-program-named V sections r is = named_read V (sources_of 0 sections) r is
+pub program-named : (V : RegistrationList) (sections : List (List ℕ)) (r : Resolved) → build_of V sections ≡ Compiled r → HasNamesOf V sections r
+program-named V sections r is = named_read V sections (sources_of 0 sections) r refl is
+
+-- the families are few
+pub program-families : (V : RegistrationList) (sections : List (List ℕ)) (r : Resolved) → build_of V sections ≡ Compiled r → AreFamilies r.names.families
+program-families V sections r is = few_read V (sources_of 0 sections) r is

@@ -2,15 +2,16 @@
 -- that refuses something, or the program.
 use Rattle.std.specs.Prelude.{ℕ, List, [], ◌∷◌, Result, Ok, Err}
 use Rattle.ang_kinds.specs.declared.error.Error.{Error}
-use Rattle.ang_registry.specs.Registration.{RegistrationList}
+use Rattle.ang_view.specs.Registration.{RegistrationList}
 use Rattle.ang_typed.specs.Typed as t
 use Rattle.ang_typed.specs.View.{view_typed}
 use Rattle.ang_names_written.specs.Sources.{Source}
-use Rattle.ang_names.specs.declared.names.Names.{Names}
-use Rattle.ang_names.specs.Declarations.{declarations_of}
-use Rattle.ang_names.specs.Phases.{errors_of, errors_or}
+use Rattle.ang_names_known.specs.declared.names.Names.{Names}
+use Rattle.ang_names_listed.specs.Declarations.{declarations_of}
+use Rattle.ang_names.specs.Phases.{errors_in}
 use Rattle.ang_names.specs.Resolved.{names_of}
-use Rattle.ang_check.specs.Bodies.{body_errors, program_of}
+use Rattle.ang_check_bodies.specs.Bodies.{program_of}
+use Rattle.ang_check.specs.Denials.{script_refusals}
 use Rattle.ang_engine_build.specs.declared.program.Program.{Program}
 use Rattle.ang_engine_build.specs.Script.{sources_of}
 
@@ -38,7 +39,7 @@ pub data Built : Type 0 where
 -- The errors of scripts: of the first phase over their declarations that refuses some; else of their bodies and initializers, judged
 -- over the names that they declare.
 abbrev pub script_errors : RegistrationList → List Source → List Error
-script_errors V ss = errors_or (errors_of V ss) (body_errors V (names_of V (declarations_of ss)) ss)
+script_errors V ss = errors_in (script_refusals V ss)
 
 -- the program, where nothing is refused
 abbrev pub unless_refused : List Error → Resolved → Built

@@ -2,3 +2,4 @@ pub mod Script
 pub mod Reading
 pub mod Build
 pub mod Answer
+pub mod Named

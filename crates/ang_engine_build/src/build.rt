@@ -10,8 +10,8 @@ use crate::stop::Stop;
 use ang_check::check;
 use ang_kinds::{List, Unbuilt};
 use ang_names::declare;
-use ang_registry::View;
 use ang_tree::Script;
+use ang_view::View;
 use std::alloc::Global;
 
 /// The one error at which a build stops.

@@ -1,10 +1,11 @@
 //! What holds of each program that a build gives.
 ghost use Rattle.std.specs.Prelude.{◌≡◌, ℕ, List};
-ghost use Rattle.ang_registry.specs.Registration.{RegistrationList};
-ghost use Rattle.ang_registry.specs.Values.{TakesValues};
+ghost use Rattle.ang_view.specs.Registration.{RegistrationList};
+ghost use Rattle.ang_view.specs.Values.{TakesValues};
 ghost use Rattle.ang_source.specs.Sound.{SoundProgram};
-ghost use Rattle.ang_check_sound.specs.Checked.{HasNames};
+ghost use Rattle.ang_names_known.specs.Spaces.{AreFamilies};
 ghost use Rattle.ang_engine_build.specs.Build.{Resolved, Compiled, build_of};
+ghost use Rattle.ang_engine_build.specs.Named.{HasNamesOf};
 
 /// The tree of a built program is sound over its view: its locals are alive, its functions and globals are
 /// there, each call has an argument for each parameter, and each host function and host property that it names
@@ -18,9 +19,18 @@ pub fn programs_are_sound()
 {}
 
 /// The functions and globals of its tree are those of its names, each at its number, with the parameters,
-/// results and types that they were declared with.
+/// results and types that they were declared with; and the bodies of its methods and constructors are the
+/// functions at their numbers.
 pub fn programs_have_their_names()
     ensures named { (V : RegistrationList) (sections : List (List ℕ)) (r : Resolved)
         → build_of V sections ≡ Compiled r
-        → HasNames r.names r.tree }
+        → HasNamesOf V sections r }
+{}
+
+/// Its classes and interfaces are few enough for each to have a number as a type, and what stands above one is
+/// among them.
+pub fn programs_have_few_families()
+    ensures few { (V : RegistrationList) (sections : List (List ℕ)) (r : Resolved)
+        → build_of V sections ≡ Compiled r
+        → AreFamilies r.names.families }
 {}

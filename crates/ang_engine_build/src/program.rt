@@ -1,5 +1,5 @@
 //! What a build gives.
-use ang_names::Names;
+use ang_names_known::Names;
 use ang_typed::Typed;
 
 /// What a build gives: the names that the scripts declare, and their resolved tree.

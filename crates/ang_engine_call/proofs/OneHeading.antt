@@ -1,26 +1,28 @@
 -- No two functions of a build have one heading.
-use Rattle.std.proofs.Common.{◌≡◌, ℕ, zero, suc, Bool, true, false, ◌&&◌, ◌||◌, cond, List, [], ◌∷◌, ◌++◌, Option, Some, None, refl, sym, ap, ◌∙◌}
+use Rattle.std.proofs.Common.{◌≡◌, ◌≤◌, ℕ, zero, suc, Bool, true, false, ◌&&◌, ◌||◌, cond, List, [], ◌∷◌, ◌++◌, map, length, Option, Some, None, refl, sym, ap, ◌∙◌}
 use Rattle.std.specs.Prelude.{bytes_eq, option_to_list, slice_get}
 use Rattle.std.specs.List.{list_any, cons_option, filter_map}
 use Rattle.std.proofs.lemmas.List.Folds.{list_any-append}
 use Rattle.std.proofs.lemmas.Slice.Eq.{bytes_eq-Decides}
-use Rattle.ang_kinds.specs.declared.error.Error.{Error}
-use Rattle.ang_registry.specs.Registration.{RegistrationList}
-use Rattle.ang_names.specs.declared.listed.Declared.{Declared}
-use Rattle.ang_names.specs.declared.listed.Part.{Part}
-use Rattle.ang_names.specs.declared.listed.Part.TheVariants as part
-use Rattle.ang_names.specs.declared.phase.Phase.TheVariants as phase
-use Rattle.ang_names.specs.declared.names.ScriptFunction.{ScriptFunction}
-use Rattle.ang_names.specs.Declarations.{declarations_of}
-use Rattle.ang_names.specs.Meant.{refused, parameter_limit, parameters_refusal, part_refusal, type_refusal}
-use Rattle.ang_names.specs.Phases.{refusals, errors_or, first_errors, all_phases, errors_of}
-use Rattle.ang_names.specs.Resolved.{function_with, function_by, function_of, names_of}
-use Rattle.ang_names.specs.Taken.{declared_name, excludes, clashes, clashes_with_host, is_taken, is_first_above, name_refusal}
+use Rattle.ang_view.specs.Registration.{RegistrationList}
+use Rattle.ang_types.specs.declared.asks.Refused.{Refused}
+use Rattle.ang_names_known.specs.declared.names.Names.{Names}
+use Rattle.ang_names_known.specs.declared.names.ScriptFunction.{ScriptFunction}
+use Rattle.ang_names_known.specs.Items.{each_after, list_or}
+use Rattle.ang_names_known.specs.Spaces.{Space}
 use Rattle.ang_names_written.specs.NotYet.{not_yet}
 use Rattle.ang_names_written.specs.Sources.{Source}
-use Rattle.ang_names_written.specs.Spellings.{same_parameters}
-use Rattle.ang_names_written.specs.Types.{type_of}
-use Rattle.ang_names.specs.declared.names.Names.{Names}
+use Rattle.ang_names_written.specs.Spellings.{same_spellings}
+use Rattle.ang_names_listed.specs.declared.listed.Declared.{Declared}
+use Rattle.ang_names_listed.specs.declared.listed.Part.{Part}
+use Rattle.ang_names_listed.specs.declared.listed.Part.TheVariants as part
+use Rattle.ang_names_listed.specs.Declarations.{Declaring, declarations_of, declared_name, families_of}
+use Rattle.ang_names_listed.specs.Taken.{excludes, clashes, clashes_with_host, is_taken, is_first_above, name_refusal, plain_refusal}
+use Rattle.ang_names.specs.declared.phase.Phase.TheVariants as phase
+use Rattle.ang_names.specs.Meant.{parameter_limit, parameters_refusal, parameter_list_refusal, part_refusal, space_of_declared, type_refusal, type_refusal_of}
+use Rattle.ang_names_written.specs.declared.role.Role.TheVariants as role
+use Rattle.ang_names.specs.Phases.{all_phases, first_refusals, refusals, refusals_of}
+use Rattle.ang_names.specs.Resolved.{function_by, function_of, heading_of as meant_heading, names_of}
 use Rattle.ang_engine_call.specs.Headings.{Heading, heading_of}
 use Rattle.ang_engine_call.specs.Named.{IsNamedBy, function_named_by}
 use Rattle.ang_engine_call.proofs.Found.{found, only}
@@ -29,35 +31,41 @@ use Rattle.ang_engine_call.proofs.Spelled.{same_lists, both_none}
 -- ---- two declarations
 
 -- A function and one of the same heading, which no phase refuses, can't stand beside each other.
-no_clash : (V : RegistrationList) (d x : Declared) (p q : Part) (f g : ScriptFunction) → (bytes_eq (declared_name x) (declared_name d) && excludes x.text q d.text p) ≡ false
-    → part_refusal V d.text d.name p ≡ None → part_refusal V x.text x.name q ≡ None → function_by V d p ≡ Some f → function_by V x q ≡ Some g → heading_of f ≡ heading_of g → ⊥
-no_clash V d x (part.Global y) q f g apart a b e h same = cc
-no_clash V d x part.Other q f g apart a b e h same = cc
-no_clash V d x (part.Function y ps) (part.Global z) f g apart a b e h same = cc
-no_clash V d x (part.Function y ps) part.Other f g apart a b e h same = cc
-no_clash V d x (part.Function y ps) (part.Function z qs) f g apart a b e h same =
-    let own : function_with V d y ps ≡ f = cc in
-    let others : function_with V x z qs ≡ g = cc in
-    let headings : heading_of (function_with V x z qs) ≡ heading_of (function_with V d y ps) = ap heading_of others ∙ sym same ∙ sym (ap heading_of own) in
+no_clash : (E : Space) (fs : List Declaring) (d x : Declared) (p q : Part) (f g : ScriptFunction) → length E.view ≤ 1024
+    → (bytes_eq (declared_name x) (declared_name d) && excludes x.text q d.text p) ≡ false → part_refusal E fs d p ≡ None → part_refusal E fs x q ≡ None
+    → function_by E d p ≡ Some f → function_by E x q ≡ Some g → heading_of f ≡ heading_of g → ⊥
+no_clash E fs d x (part.Family s) q f g small apart a b e h same = cc
+no_clash E fs d x (part.Import y ps) q f g small apart a b e h same = cc
+no_clash E fs d x (part.Global y) q f g small apart a b e h same = cc
+no_clash E fs d x (part.Function y ps) (part.Family s) f g small apart a b e h same = cc
+no_clash E fs d x (part.Function y ps) (part.Import z qs) f g small apart a b e h same = cc
+no_clash E fs d x (part.Function y ps) (part.Global z) f g small apart a b e h same = cc
+no_clash E fs d x (part.Function y ps) (part.Function z qs) f g small apart a b e h same =
+    let own : meant_heading E d.origin d.text d.name y ps ≡ f = cc in
+    let others : meant_heading E x.origin x.text x.name z qs ≡ g = cc in
+    let headings : heading_of (meant_heading E x.origin x.text x.name z qs) ≡ heading_of (meant_heading E d.origin d.text d.name y ps) =
+    ap heading_of others ∙ sym same ∙ sym (ap heading_of own) in
     let names : declared_name x ≡ declared_name d = ap (λ (h : Heading). h.name) headings in
-    let here = both_none (parameter_limit d.text d.name ps) (parameters_refusal V d.text ps) (both_none (refused d.text y.name (type_of V d.text y)) _ a).1 in
-    let there = both_none (parameter_limit x.text x.name qs) (parameters_refusal V x.text qs) (both_none (refused x.text z.name (type_of V x.text z)) _ b).1 in
-    let params = same_lists V x.text d.text qs ps there.1 here.1 (ap (λ (h : Heading). h.params) headings) in
+    let behind = both_none (type_refusal_of E d.text role.Result y) (parameter_list_refusal E d.text false d.name ps) a in
+    let beyond = both_none (type_refusal_of E x.text role.Result z) (parameter_list_refusal E x.text false x.name qs) b in
+    let here = both_none (parameter_limit d.text d.name ps) (parameters_refusal E d.text false ps) behind.1 in
+    let there = both_none (parameter_limit x.text x.name qs) (parameters_refusal E x.text false qs) beyond.1 in
+    let params = same_lists E x.text d.text qs ps small there.1 here.1 (ap (λ (h : Heading). h.params) headings) in
     let name = (bytes_eq-Decides (declared_name x) (declared_name d)).1 names in
-    let clash : (bytes_eq (declared_name x) (declared_name d) && same_parameters x.text qs d.text ps) ≡ true = λ i. name i && params i in
+    let clash : (bytes_eq (declared_name x) (declared_name d) && same_spellings x.text qs d.text ps) ≡ true = λ i. name i && params i in
     cc
 
 -- ---- what the phases tell
 
-nothing_more : (o : Option Error) (es : List Error) → option_to_list o ++ es ≡ [] → (o ≡ None) × (es ≡ [])
+nothing_more : (o : Option Refused) (es : List Refused) → option_to_list o ++ es ≡ [] → (o ≡ None) × (es ≡ [])
 nothing_more None es h = (refl, h)
 nothing_more (Some e) es h = cc
 
-no_errors : (es later : List Error) → errors_or es later ≡ [] → (es ≡ []) × (later ≡ [])
-no_errors [] later h = (refl, h)
-no_errors (e ∷ es) later h = cc
+none_refused : (rs later : List Refused) → list_or rs later ≡ [] → (rs ≡ []) × (later ≡ [])
+none_refused [] later h = (refl, h)
+none_refused (r ∷ rs) later h = cc
 
-untaken : (b c : Bool) (e g : Error) → cond b (Some e) (cond c (Some g) None) ≡ None → b ≡ false
+untaken : (b c : Bool) (e g : Refused) → cond b (Some e) (cond c (Some g) None) ≡ None → b ≡ false
 untaken true c e g h = cc
 untaken false c e g h = refl
 
@@ -101,18 +109,28 @@ at_or_behind None rest k g e P now later = later k e
 at_or_behind (Some f) rest zero g e P now later = now e
 at_or_behind (Some f) rest (suc k) g e P now later = later k e
 
-module _ (V : RegistrationList) where
+-- What the first two phases refuse of a list, behind these declarations.
+abbrev names_behind : RegistrationList → List Declared → List Declared → List Refused
+names_behind V before xs = each_after (λ before d. option_to_list (name_refusal V before d)) before xs
+
+abbrev types_behind : RegistrationList → List Declared → List Declared → List Declared → List Refused
+types_behind V all before xs = each_after (λ before d. option_to_list (type_refusal (space_of_declared V all) all d)) before xs
+
+module _ (V : RegistrationList) (small : length V ≤ 1024) (all : List Declared) where
+  abbrev E : Space
+  E = space_of_declared V all
+
   -- none behind a function has its heading
-  apart_from : (d : Declared) (f : ScriptFunction) → function_of V d ≡ Some f → type_refusal V d ≡ None → (before typed xs : List Declared) → Stands d before
-      → refusals V phase.Names before xs ≡ [] → refusals V phase.Types typed xs ≡ [] → (k : ℕ) (g : ScriptFunction) → slice_get (filter_map (function_of V) xs) k ≡ Some g → heading_of f ≡ heading_of g → ⊥
+  apart_from : (d : Declared) (f : ScriptFunction) → function_of E d ≡ Some f → type_refusal E all d ≡ None → (before typed xs : List Declared) → Stands d before
+      → names_behind V before xs ≡ [] → types_behind V all typed xs ≡ [] → (k : ℕ) (g : ScriptFunction) → slice_get (filter_map (function_of E) xs) k ≡ Some g → heading_of f ≡ heading_of g → ⊥
   unfolding function_of type_refusal
   apart_from d f is fine before typed [] stands names types k g at same = cc
   apart_from d f is fine before typed (x ∷ xs) stands names types k g at same =
-      let name = nothing_more (name_refusal V before x) (refusals V phase.Names (before ++ x ∷ []) xs) names in
-      let meant = nothing_more (type_refusal V x) (refusals V phase.Types (typed ++ x ∷ []) xs) types in
+      let name = nothing_more (name_refusal V before x) (names_behind V (before ++ x ∷ []) xs) names in
+      let meant = nothing_more (type_refusal E all x) (types_behind V all (typed ++ x ∷ []) xs) types in
       let free = stands_apart d x before stands (free_name V before x name.0) in
-      at_or_behind (function_of V x) (filter_map (function_of V) xs) k g at ⊥
-      (λ e. no_clash V d x d.part x.part f g free fine meant.0 is e same)
+      at_or_behind (function_of E x) (filter_map (function_of E) xs) k g at ⊥
+      (λ e. no_clash E (families_of all) d x d.part x.part f g small free fine meant.0 is e same)
       (λ j e. apart_from d f is fine (before ++ x ∷ []) (typed ++ x ∷ []) xs (stands_more d x before stands) name.1 meant.1 j g e same)
 
   Differ : List ScriptFunction → Type 0
@@ -127,37 +145,38 @@ module _ (V : RegistrationList) where
   differ_with (Some x) rest h apart (suc n) zero f g e i same = absurd (apart g i n f e (sym same))
   differ_with (Some x) rest h apart (suc n) (suc k) f g e i same = ap suc (h n k f g e i same)
 
-  differ : (before typed ds : List Declared) → refusals V phase.Names before ds ≡ [] → refusals V phase.Types typed ds ≡ [] → Differ (filter_map (function_of V) ds)
+  differ : (before typed ds : List Declared) → names_behind V before ds ≡ [] → types_behind V all typed ds ≡ [] → Differ (filter_map (function_of E) ds)
   unfolding Differ
   differ before typed [] names types = λ n k f g e i same. cc
   differ before typed (d ∷ ds) names types =
-      let name = nothing_more (name_refusal V before d) (refusals V phase.Names (before ++ d ∷ []) ds) names in
-      let meant = nothing_more (type_refusal V d) (refusals V phase.Types (typed ++ d ∷ []) ds) types in
-      differ_with (function_of V d) (filter_map (function_of V) ds) (differ (before ++ d ∷ []) (typed ++ d ∷ []) ds name.1 meant.1)
+      let name = nothing_more (name_refusal V before d) (names_behind V (before ++ d ∷ []) ds) names in
+      let meant = nothing_more (type_refusal E all d) (types_behind V all (typed ++ d ∷ []) ds) types in
+      differ_with (function_of E d) (filter_map (function_of E) ds) (differ (before ++ d ∷ []) (typed ++ d ∷ []) ds name.1 meant.1)
       (λ f is k g at same. apart_from d f is meant.0 (before ++ d ∷ []) (typed ++ d ∷ []) ds (stands_last d before) name.1 meant.1 k g at same)
 
-  pub one_heading : (ss : List Source) → errors_of V ss ≡ [] → (n k : ℕ) (f g : ScriptFunction) → slice_get (names_of V (declarations_of ss)).functions n ≡ Some f
-      → slice_get (names_of V (declarations_of ss)).functions k ≡ Some g → heading_of f ≡ heading_of g → n ≡ k
-  unfolding errors_of names_of Differ
-  one_heading ss e =
-      let ds = declarations_of ss in
-      let phases = (no_errors (not_yet V ss) (first_errors V all_phases ds) e).1 in
-      let names = no_errors (refusals V phase.Names [] ds) (first_errors V (phase.Types ∷ []) ds) phases in
-      let types = no_errors (refusals V phase.Types [] ds) (first_errors V [] ds) names.1 in
-      differ [] [] ds names.0 types.0
+pub one_heading : (V : RegistrationList) → length V ≤ 1024 → (ss : List Source) → refusals_of V ss ≡ [] → (n k : ℕ) (f g : ScriptFunction)
+    → slice_get (names_of V (declarations_of ss)).functions n ≡ Some f → slice_get (names_of V (declarations_of ss)).functions k ≡ Some g → heading_of f ≡ heading_of g → n ≡ k
+unfolding refusals_of names_of Differ
+one_heading V small ss e =
+    let ds = declarations_of ss in
+    let phases = (none_refused (map plain_refusal (not_yet V ss)) (first_refusals V ds all_phases) e).1 in
+    let later = phase.Types ∷ phase.Ancestors ∷ phase.Heirs ∷ phase.Cycles ∷ [] in
+    let names = none_refused (refusals V ds phase.Names) (first_refusals V ds later) phases in
+    let types = none_refused (refusals V ds phase.Types) (first_refusals V ds (phase.Ancestors ∷ phase.Heirs ∷ phase.Cycles ∷ [])) names.1 in
+    differ V small ds [] [] ds names.0 types.0
 
-  -- So a text names the function that has the heading, whichever it is.
-  pub named_by_it : (ss : List Source) (names : Names) (decl : List ℕ) (n : ℕ) → errors_of V ss ≡ [] → names ≡ names_of V (declarations_of ss)
-      → IsNamedBy V names decl n → function_named_by V names decl ≡ Some n
-  named_by_it ss names decl n e own h = by_number (function_named_by V names decl) refl
-    where
-      by_number : (r : Option ℕ) → function_named_by V names decl ≡ r → r ≡ Some n
-      by_number None r = absurd (only V names decl n r h)
-      by_number (Some m) r =
-          let first = found V names decl m r in
-          let same : Some first.declared ≡ Some h.declared = sym first.has ∙ h.has in
-          let declared : first.declared ≡ h.declared = cc in
-          let heading = first.same ∙ ap heading_of declared ∙ sym h.same in
-          let at = ap (λ (x : Names). slice_get x.functions m) (sym own) ∙ first.at in
-          let here = ap (λ (x : Names). slice_get x.functions n) (sym own) ∙ h.at in
-          ap Some (one_heading ss e m n first.function h.function at here heading)
+-- So a text names the function that has the heading, whichever it is.
+pub named_by_it : (V : RegistrationList) → length V ≤ 1024 → (ss : List Source) (names : Names) (decl : List ℕ) (n : ℕ) → refusals_of V ss ≡ [] → names ≡ names_of V (declarations_of ss)
+    → IsNamedBy V names decl n → function_named_by V names decl ≡ Some n
+named_by_it V small ss names decl n e own h = by_number (function_named_by V names decl) refl
+  where
+    by_number : (r : Option ℕ) → function_named_by V names decl ≡ r → r ≡ Some n
+    by_number None r = absurd (only V names decl n r h)
+    by_number (Some m) r =
+        let first = found V names decl m r in
+        let same : Some first.declared ≡ Some h.declared = sym first.has ∙ h.has in
+        let declared : first.declared ≡ h.declared = cc in
+        let heading = first.same ∙ ap heading_of declared ∙ sym h.same in
+        let at = ap (λ (x : Names). slice_get x.functions m) (sym own) ∙ first.at in
+        let here = ap (λ (x : Names). slice_get x.functions n) (sym own) ∙ h.at in
+        ap Some (one_heading V small ss e m n first.function h.function at here heading)

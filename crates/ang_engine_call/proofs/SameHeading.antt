@@ -11,12 +11,14 @@ use Rattle.ang_kinds.specs.declared.primitive.Primitive.{Primitive}
 use Rattle.ang_kinds.specs.declared.primitive.Primitive.TheVariants.{I8, I16, I32, I64, U8, U16, U32, U64, Bool as Truth}
 use Rattle.ang_kinds.specs.declared.types.Pass.{Pass}
 use Rattle.ang_kinds.specs.declared.types.Pass.TheVariants.{Value, RefIn, RefOut, RefInOut}
-use Rattle.ang_registry.specs.Overloads.{primitive_number, pass_number}
+use Rattle.ang_view.specs.Numbers.{primitive_number, pass_number}
 use Rattle.ang_types.specs.declared.arg_type.ArgType.{ArgType}
 use Rattle.ang_types.specs.declared.arg_type.ArgType.TheVariants.{Void, Null, Plain, Object, Handle}
-use Rattle.ang_names.specs.declared.names.ScriptFunction.{ScriptFunction}
-use Rattle.ang_names.specs.declared.names.ScriptParameter.{ScriptParameter}
-use Rattle.ang_engine_call.specs.Headings.{Passed, Heading, passed_of, heading_of, same_type, same_parameter, same_heading}
+use Rattle.ang_names_known.specs.declared.names.ScriptFunction.{ScriptFunction}
+use Rattle.ang_names_known.specs.declared.names.ScriptParameter.{ScriptParameter}
+use Rattle.ang_names_known.specs.declared.names.Written.{Written}
+use Rattle.ang_names_known.specs.Lookup.{same_type, same_written, same_parameter, same_parameters, same_call, same_heading}
+use Rattle.ang_engine_call.specs.Headings.{Passed, Heading, passed_of, heading_of}
 
 -- ---- types and passings by their numbers
 
@@ -91,32 +93,32 @@ type-Decides (Handle m r) (Plain q) = (λ e. cc, λ e. cc)
 type-Decides (Handle m r) (Object n s) = (λ e. cc, λ e. cc)
 type-Decides (Handle m r) (Handle n s) = handle-Decides m n r s
 
--- ---- parameters and functions
+-- ---- types as they are written, parameters and functions
+
+written-Decides : (a b : Written) → Decides (same_written a b) (a ≡ b)
+written-Decides a b =
+    Decides-like (same_written a b) (λ h. λ i. record { ty = h.0.0 i; constant = h.0.1 i; const_handle = h.1 i })
+    (λ e. ((ap (λ (w : Written). w.ty) e, ap (λ (w : Written). w.constant) e), ap (λ (w : Written). w.const_handle) e))
+    (Decides-and (same_type a.ty b.ty && beq a.constant b.constant) (beq a.const_handle b.const_handle)
+    (Decides-and (same_type a.ty b.ty) (beq a.constant b.constant) (type-Decides a.ty b.ty) (booleans_Decides a.constant b.constant))
+    (booleans_Decides a.const_handle b.const_handle))
 
 abbrev same_passed : Passed → Passed → Bool
-same_passed a b = same_type a.ty b.ty && pass_number a.pass == pass_number b.pass && beq a.read_only b.read_only
+same_passed a b = same_written a.written b.written && pass_number a.pass == pass_number b.pass
 
 passed-Decides : (a b : Passed) → Decides (same_passed a b) (a ≡ b)
 passed-Decides a b =
-    Decides-like (same_passed a b) (λ h. λ i. record { ty = h.0.0 i; pass = h.0.1 i; read_only = h.1 i })
-    (λ e. ((ap (λ (p : Passed). p.ty) e, ap (λ (p : Passed). p.pass) e), ap (λ (p : Passed). p.read_only) e))
-    (Decides-and (same_type a.ty b.ty && pass_number a.pass == pass_number b.pass) (beq a.read_only b.read_only)
-    (Decides-and (same_type a.ty b.ty) (pass_number a.pass == pass_number b.pass) (type-Decides a.ty b.ty) (pass-Decides a.pass b.pass))
-    (booleans_Decides a.read_only b.read_only))
+    Decides-like (same_passed a b) (λ h. λ i. record { written = h.0 i; pass = h.1 i }) (λ e. (ap (λ (p : Passed). p.written) e, ap (λ (p : Passed). p.pass) e))
+    (Decides-and (same_written a.written b.written) (pass_number a.pass == pass_number b.pass) (written-Decides a.written b.written) (pass-Decides a.pass b.pass))
 
-params-Decides : (ps qs : List ScriptParameter) → Decides (pointwise same_parameter ps qs) (map passed_of ps ≡ map passed_of qs)
+params-Decides : (ps qs : List ScriptParameter) → Decides (same_parameters ps qs) (map passed_of ps ≡ map passed_of qs)
 params-Decides ps qs =
     Decides-at (pointwise same_parameter ps qs) (pointwise same_passed (map passed_of ps) (map passed_of qs)) (sym (pointwise-map passed_of same_passed ps qs))
     (pointwise_decides passed-Decides (map passed_of ps) (map passed_of qs))
 
 pub heading-Decides : (f g : ScriptFunction) → Decides (same_heading f g) (heading_of f ≡ heading_of g)
-unfolding same_heading
 heading-Decides f g =
-    let name = bytes_eq-Decides f.name g.name in
-    let gives = type-Decides f.result g.result in
-    let constant = booleans_Decides f.const_result g.const_result in
-    Decides-like (same_heading f g) (λ h. λ i. record { name = h.0.0.0 i; result_type = h.0.0.1 i; const_result = h.0.1 i; params = h.1 i })
-    (λ e. (((ap (λ (x : Heading). x.name) e, ap (λ (x : Heading). x.result_type) e), ap (λ (x : Heading). x.const_result) e), ap (λ (x : Heading). x.params) e))
-    (Decides-and (bytes_eq f.name g.name && same_type f.result g.result && beq f.const_result g.const_result) (pointwise same_parameter f.params g.params)
-    (Decides-and (bytes_eq f.name g.name && same_type f.result g.result) (beq f.const_result g.const_result)
-    (Decides-and (bytes_eq f.name g.name) (same_type f.result g.result) name gives) constant) (params-Decides f.params g.params))
+    Decides-like (same_heading f g) (λ h. λ i. record { name = h.0 i; result_type = h.1.0 i; params = h.1.1 i })
+    (λ e. (ap (λ (x : Heading). x.name) e, (ap (λ (x : Heading). x.result_type) e, ap (λ (x : Heading). x.params) e)))
+    (Decides-and (bytes_eq f.name g.name) (same_call f g) (bytes_eq-Decides f.name g.name)
+    (Decides-and (same_written f.result g.result) (same_parameters f.params g.params) (written-Decides f.result g.result) (params-Decides f.params g.params)))

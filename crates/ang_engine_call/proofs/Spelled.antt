@@ -1,36 +1,43 @@
--- Parameters of the same type, `const` and passing are spelled the same.
-use Rattle.std.proofs.Common.{◌≡◌, ◌≢◌, ℕ, Bool, true, ◌==◌, ◌&&◌, List, [], ◌∷◌, Option, Some, None, Ok, Err, refl, sym, ap, ◌∙◌, subst, map, eq-eqb}
-use Rattle.std.specs.Prelude.{bytes_eq, is_some}
+-- Parameters of the same type as it is written, and of the same passing, are spelled the same.
+use Rattle.std.proofs.Common.{◌≡◌, ◌≢◌, ℕ, Bool, true, false, ◌==◌, ◌&&◌, ◌+◌, ◌-◌, ◌<◌, ◌≤◌, List, [], ◌∷◌, length, Option, Some, None, Ok, Err, refl, sym, ap, ◌∙◌, subst, map, eq-eqb, arith}
+use Rattle.std.specs.Prelude.{bytes_eq, is_some, nat_lt}
+use Rattle.std.specs.List.{position}
+use Rattle.std.specs.Option.{option_or}
 use Rattle.std.specs.Cmp.{booleans_Decides}
 use Rattle.std.proofs.Math.Bool.{beq}
 use Rattle.std.proofs.lemmas.List.Quantifiers.{position-Some}
 use Rattle.std.proofs.lemmas.Slice.Eq.{bytes_eq-Decides}
-use Rattle.ang_kinds.specs.declared.error.Error.{Error}
 use Rattle.ang_kinds.specs.declared.types.Pass.{Pass}
 use Rattle.ang_kinds.specs.declared.types.Pass.TheVariants as pass
 use Rattle.ang_kinds.specs.declared.primitive.Primitive.{Primitive}
 use Rattle.ang_lex.specs.declared.token.Token.{Token}
 use Rattle.ang_lex.specs.declared.token.TokenKind.{TokenKind}
 use Rattle.ang_lex.specs.declared.token.TokenKind.TheVariants as k
-use Rattle.ang_registry.specs.declared.entry.Entry.{Entry}
-use Rattle.ang_registry.specs.Overloads.{primitive_number, pass_number}
-use Rattle.ang_registry.specs.Registration.{RegistrationList, is_type}
-use Rattle.ang_registry.specs.Types.{is_type_named, type_named}
-use Rattle.ang_registry.proofs.Lists.{and_gives}
+use Rattle.ang_view.specs.declared.entry.Entry.{Entry}
+use Rattle.ang_view.specs.Numbers.{primitive_number, pass_number}
+use Rattle.ang_view.specs.Registration.{RegistrationList, is_type}
+use Rattle.ang_view.specs.Types.{is_type_named, type_named}
+use Rattle.ang_view.proofs.Lists.{and_gives}
 use Rattle.ang_tree.specs.declared.declaration.Parameter.{Parameter}
 use Rattle.ang_tree.specs.declared.type_name.TypeName.{TypeName}
 use Rattle.ang_tree.specs.declared.type_name.Handle.{Handle}
 use Rattle.ang_types.specs.declared.arg_type.ArgType.{ArgType}
 use Rattle.ang_types.specs.declared.arg_type.ArgType.TheVariants as type
+use Rattle.ang_types.specs.declared.asks.Refused.{Refused}
+use Rattle.ang_names_known.specs.declared.names.Written.{Written}
+use Rattle.ang_names_known.specs.declared.space.Named.{Named}
+use Rattle.ang_names_known.specs.declared.space.Named.TheVariants as named
+use Rattle.ang_names_known.specs.Spaces.{Space, family_or_host, type_of_name}
+use Rattle.ang_names_written.specs.declared.role.Role.TheVariants as role
 use Rattle.ang_names_written.specs.declared.spelling.Base.{Base}
 use Rattle.ang_names_written.specs.declared.spelling.Base.TheVariants as base
 use Rattle.ang_names_written.specs.declared.spelling.Sign.{Sign}
 use Rattle.ang_names_written.specs.declared.spelling.Sign.TheVariants as sign
-use Rattle.ang_names_written.specs.Sources.{text_of, first_of}
-use Rattle.ang_names_written.specs.Spellings.{base_by, sign_by, sign_of, sign_number, spelling_of, same_base, same_spelling, same_parameters}
-use Rattle.ang_names_written.specs.Types.{Meaning, without_handle, object_type, type_by, type_of, no_void, value_type_of, pass_of, passed, parameter_type_of, is_const_handle, is_read_only_by, is_read_only}
-use Rattle.ang_names.specs.Meant.{refused, parameters_refusal}
-use Rattle.ang_names.specs.Resolved.{settled, parameter_of}
+use Rattle.ang_names_written.specs.Sources.{text_of}
+use Rattle.ang_names_written.specs.Spellings.{base_by, sign_by, sign_of, sign_number, spelling_of, same_base, same_spelling, same_spellings}
+use Rattle.ang_names_written.specs.Types.{TypeOrError, without_handle, object_type, written_type, no_void, passed, own_role, pass_of, type_in, is_const_handle, settled, ◌and_then◌}
+use Rattle.ang_names.specs.Meant.{parameters_refusal, type_refusal_of, why_refused}
+use Rattle.ang_names.specs.Resolved.{parameter_of}
 use Rattle.ang_engine_call.specs.Headings.{Passed, passed_of}
 
 -- ---- a type's name by its number
@@ -46,94 +53,165 @@ one_entry a b here h g =
     let same : x.0 ≡ y.0 = cc in
     sym x.2 ∙ ap (λ (t : Entry). t.signature.name) same ∙ y.2
 
-one_name : (V : RegistrationList) (a b : List ℕ) (n : ℕ) → type_named V a ≡ Some n → type_named V b ≡ Some n → a ≡ b
+one_host_type : (V : RegistrationList) (a b : List ℕ) (n : ℕ) → type_named V a ≡ Some n → type_named V b ≡ Some n → a ≡ b
 unfolding type_named
-one_name V a b n e f =
+one_host_type V a b n e f =
     one_entry a b _ (position-Some (is_type_named a) V n None e).1 (position-Some (is_type_named b) V n None f).1
+
+-- a host type's number is below those of families
+host_below : (V : RegistrationList) (a : List ℕ) (n : ℕ) → length V ≤ 1024 → type_named V a ≡ Some n → n < 1024
+unfolding type_named
+host_below V a n small e = omega (arith, small, (position-Some (is_type_named a) V n None e).0)
+
+one_family : (fs : List (List ℕ)) (a b : List ℕ) (c : ℕ) → position (bytes_eq a) fs ≡ Some c → position (bytes_eq b) fs ≡ Some c → a ≡ b
+one_family fs a b c e f =
+    let x = (bytes_eq-Decides a _).0 (position-Some (bytes_eq a) fs c [] e).1 in
+    let y = (bytes_eq-Decides b _).0 (position-Some (bytes_eq b) fs c [] f).1 in
+    x ∙ sym y
+
+-- What two names are found as, a family or a host type, and that they are of one number.
+one_of_two : (fs : List (List ℕ)) (V : RegistrationList) (a b : List ℕ) (c d x y : Option ℕ) (n : ℕ) → length V ≤ 1024
+    → position (bytes_eq a) fs ≡ c → position (bytes_eq b) fs ≡ d → type_named V a ≡ x → type_named V b ≡ y
+    → family_or_host c x ≡ named.Object n → family_or_host d y ≡ named.Object n → a ≡ b
+one_of_two fs V a b (Some c) (Some d) x y n small e f g h s t =
+    let same : c ≡ d = omega (arith, number_is s, number_is t) in
+    one_family fs a b c e (f ∙ ap Some (sym same))
+  where
+    number_is : {m : ℕ} → named.Object m ≡ named.Object n → m ≡ n
+    number_is e = cc
+one_of_two fs V a b (Some c) None x (Some m) n small e f g h s t = absurd (omega (arith, above s, below t, host_below V b m small h))
+  where
+    above : {m : ℕ} → named.Object m ≡ named.Object n → m ≡ n
+    above e = cc
+
+    below : named.Object m ≡ named.Object n → m ≡ n
+    below e = cc
+one_of_two fs V a b None (Some d) (Some m) y n small e f g h s t = absurd (omega (arith, below s, above t, host_below V a m small g))
+  where
+    above : {m : ℕ} → named.Object m ≡ named.Object n → m ≡ n
+    above e = cc
+
+    below : named.Object m ≡ named.Object n → m ≡ n
+    below e = cc
+one_of_two fs V a b None None (Some l) (Some m) n small e f g h s t =
+    let first : l ≡ n = cc in
+    let second : m ≡ n = cc in
+    one_host_type V a b n (g ∙ ap Some first) (h ∙ ap Some second)
+one_of_two fs V a b (Some c) None x None n small e f g h s t = cc
+one_of_two fs V a b None (Some d) None y n small e f g h s t = cc
+one_of_two fs V a b None None None y n small e f g h s t = cc
+one_of_two fs V a b None None (Some l) None n small e f g h s t = cc
+
+one_name : (E : Space) (a b : List ℕ) (n : ℕ) → length E.view ≤ 1024 → type_of_name E a ≡ named.Object n → type_of_name E b ≡ named.Object n → a ≡ b
+unfolding type_of_name
+one_name E a b n small s t = one_of_two E.families E.view a b _ _ _ _ n small refl refl refl refl s t
 
 -- ---- what a type tells of its spelling
 
--- A type, with whether its parameter is read only, that is spelled by this base and sign, behind `const` or not.
-abbrev IsSpelled : RegistrationList → ArgType → Bool → Base → Sign → Bool → Type 0
-IsSpelled V type.Void r b s c = ⊥
-IsSpelled V type.Null r b s c = ⊥
-IsSpelled V (type.Plain p) r b s c = (b ≡ base.Primitive p) × (s ≡ sign.Absent) × (c ≡ r)
-IsSpelled V (type.Object n o) r b s c = (name : List ℕ) × (b ≡ base.Named name) × (type_named V name ≡ Some n) × (s ≡ sign.Absent) × (c ≡ o)
-IsSpelled V (type.Handle n o) r b s c = (name : List ℕ) × (b ≡ base.Named name) × (type_named V name ≡ Some n) × (s ≡ sign_by r) × (c ≡ o)
+-- A type, with whether `const` stands behind its `@`, that is spelled by this base and sign.
+abbrev IsSpelled : Space → ArgType → Bool → Base → Sign → Type 0
+IsSpelled E type.Void r b s = ⊥
+IsSpelled E type.Null r b s = ⊥
+IsSpelled E (type.Plain p) r b s = (b ≡ base.Primitive p) × (s ≡ sign.Absent)
+IsSpelled E (type.Object n o) r b s = (name : List ℕ) × (b ≡ base.Named name) × (type_of_name E name ≡ named.Object n) × (s ≡ sign.Absent)
+IsSpelled E (type.Handle n o) r b s = (name : List ℕ) × (b ≡ base.Named name) × (type_of_name E name ≡ named.Object n) × (s ≡ sign_by r)
 
 -- two spellings that are the same
-abbrev AreSame : Base → Base → Sign → Sign → Bool → Bool → Type 0
-AreSame b b' s s' c c' = (same_base b b' ≡ true) × (s ≡ s') × (c ≡ c')
+abbrev AreSame : Base → Base → Sign → Sign → Type 0
+AreSame b b' s s' = (same_base b b' ≡ true) × (s ≡ s')
 
 same_primitive : (b b' : Base) (p : Primitive) → b ≡ base.Primitive p → b' ≡ base.Primitive p → same_base b b' ≡ true
 same_primitive b b' p e f =
     (λ i. same_base (e i) (f i)) ∙ eq-eqb (primitive_number p) (primitive_number p) refl
 
-same_named : (V : RegistrationList) (b b' : Base) (name name' : List ℕ) (n : ℕ) → b ≡ base.Named name → b' ≡ base.Named name' → type_named V name ≡ Some n → type_named V name' ≡ Some n → same_base b b' ≡ true
-same_named V b b' name name' n e f g h =
-    (λ i. same_base (e i) (f i)) ∙ (bytes_eq-Decides name name').1 (one_name V name name' n g h)
+same_named : (E : Space) (b b' : Base) (name name' : List ℕ) (n : ℕ) → length E.view ≤ 1024 → b ≡ base.Named name → b' ≡ base.Named name'
+    → type_of_name E name ≡ named.Object n → type_of_name E name' ≡ named.Object n → same_base b b' ≡ true
+same_named E b b' name name' n small e f g h =
+    (λ i. same_base (e i) (f i)) ∙ (bytes_eq-Decides name name').1 (one_name E name name' n small g h)
 
-spelled_alike : (V : RegistrationList) (t : ArgType) (r : Bool) (b b' : Base) (s s' : Sign) (c c' : Bool) → IsSpelled V t r b s c → IsSpelled V t r b' s' c' → AreSame b b' s s' c c'
-spelled_alike V type.Void r b b' s s' c c' x y = absurd x
-spelled_alike V type.Null r b b' s s' c c' x y = absurd x
-spelled_alike V (type.Plain p) r b b' s s' c c' x y = (same_primitive b b' p x.0 y.0, x.1 ∙ sym y.1, x.2 ∙ sym y.2)
-spelled_alike V (type.Object n o) r b b' s s' c c' x y = (same_named V b b' x.0 y.0 n x.1 y.1 x.2 y.2, x.3 ∙ sym y.3, x.4 ∙ sym y.4)
-spelled_alike V (type.Handle n o) r b b' s s' c c' x y = (same_named V b b' x.0 y.0 n x.1 y.1 x.2 y.2, x.3 ∙ sym y.3, x.4 ∙ sym y.4)
+spelled_alike : (E : Space) (t : ArgType) (r : Bool) (b b' : Base) (s s' : Sign) → length E.view ≤ 1024 → IsSpelled E t r b s → IsSpelled E t r b' s' → AreSame b b' s s'
+spelled_alike E type.Void r b b' s s' small x y = absurd x
+spelled_alike E type.Null r b b' s s' small x y = absurd x
+spelled_alike E (type.Plain p) r b b' s s' small x y = (same_primitive b b' p x.0 y.0, x.1 ∙ sym y.1)
+spelled_alike E (type.Object n o) r b b' s s' small x y = (same_named E b b' x.0 y.0 n small x.1 y.1 x.2 y.2, x.3 ∙ sym y.3)
+spelled_alike E (type.Handle n o) r b b' s s' small x y = (same_named E b b' x.0 y.0 n small x.1 y.1 x.2 y.2, x.3 ∙ sym y.3)
 
 -- ---- the spelling of a written type
 
-plain_is : (V : RegistrationList) (p : Primitive) (h : Option Handle) (c : Bool) (t : ArgType) → without_handle (type.Plain p) h ≡ Ok t → IsSpelled V t (is_read_only_by h c) (base.Primitive p) (sign_of h) c
-plain_is V p None c t e =
+plain_is : (E : Space) (p : Primitive) (h : Option Handle) (t : ArgType) → without_handle (type.Plain p) h ≡ Ok t → IsSpelled E t (is_const_handle h) (base.Primitive p) (sign_of h)
+plain_is E p None t e =
     let own : type.Plain p ≡ t = cc in
-    subst (λ (u : ArgType). IsSpelled V u c (base.Primitive p) sign.Absent c) own (refl, refl, refl)
-plain_is V p (Some h) c t e = cc
+    subst (λ (u : ArgType). IsSpelled E u (is_const_handle None) (base.Primitive p) sign.Absent) own (refl, refl)
+plain_is E p (Some h) t e = cc
 
 void_is_none : (h : Option Handle) (t : ArgType) → without_handle type.Void h ≡ Ok t → t ≢ type.Void → ⊥
 void_is_none None t e n = n cc
 void_is_none (Some h) t e n = cc
 
-object_is : (V : RegistrationList) (found : Option ℕ) (name : List ℕ) (h : Option Handle) (c : Bool) (t : ArgType) → type_named V name ≡ found → object_type found c h ≡ Ok t
-    → IsSpelled V t (is_read_only_by h c) (base.Named name) (sign_of h) c
-object_is V None name h c t e f = cc
-object_is V (Some n) name None c t e f =
+object_is : (E : Space) (found : Named) (name : List ℕ) (h : Option Handle) (c : Bool) (t : ArgType) → type_of_name E name ≡ found → object_type found c h ≡ Ok t
+    → IsSpelled E t (is_const_handle h) (base.Named name) (sign_of h)
+object_is E named.Unknown name h c t e f = cc
+object_is E (named.Object n) name None c t e f =
     let own : type.Object n c ≡ t = cc in
-    subst (λ (u : ArgType). IsSpelled V u c (base.Named name) sign.Absent c) own (name, refl, e, refl, refl)
-object_is V (Some n) name (Some h) c t e f =
+    subst (λ (u : ArgType). IsSpelled E u (is_const_handle None) (base.Named name) sign.Absent) own (name, refl, e, refl)
+object_is E (named.Object n) name (Some h) c t e f =
     let own : type.Handle n c ≡ t = cc in
-    subst (λ (u : ArgType). IsSpelled V u (is_const_handle h) (base.Named name) (sign_by (is_const_handle h)) c) own (name, refl, e, refl, refl)
+    subst (λ (u : ArgType). IsSpelled E u (is_const_handle (Some h)) (base.Named name) (sign_of (Some h))) own (name, refl, e, refl)
 
-type_is : (V : RegistrationList) (text : List ℕ) (y : TypeName) (kind : TokenKind) (t : ArgType) → type_by V text y kind ≡ Ok t → t ≢ type.Void
-    → IsSpelled V t (is_read_only y) (base_by text y kind) (sign_of y.handle) (is_some y.constant)
-type_is V text y (k.Primitive p) t e n = plain_is V p y.handle (is_some y.constant) t e
-type_is V text y k.Void t e n = absurd (void_is_none y.handle t e n)
-type_is V text y _ t e n = object_is V (type_named V (text_of text y.name)) (text_of text y.name) y.handle (is_some y.constant) t refl e
+type_is : (E : Space) (text : List ℕ) (y : TypeName) (kind : TokenKind) (t : ArgType) → written_type E text y kind ≡ Ok t → t ≢ type.Void
+    → IsSpelled E t (is_const_handle y.handle) (base_by text y kind) (sign_of y.handle)
+type_is E text y (k.Primitive p) t e n = plain_is E p y.handle t e
+type_is E text y k.Void t e n = absurd (void_is_none y.handle t e n)
+type_is E text y _ t e n = object_is E (type_of_name E (text_of text y.name)) (text_of text y.name) y.handle (is_some y.constant) t refl e
 
-passed_is : (p : Pass) (m : Meaning) (t : ArgType) → passed p m ≡ Ok t → m ≡ Ok t
-passed_is p (Err e) t h = cc
-passed_is pass.Value (Ok u) t h = h
-passed_is pass.RefIn (Ok u) t h = h
-passed_is pass.RefOut (Ok u) t h = h
-passed_is pass.RefInOut (Ok type.Void) t h = cc
-passed_is pass.RefInOut (Ok type.Null) t h = cc
-passed_is pass.RefInOut (Ok (type.Plain p)) t h = cc
-passed_is pass.RefInOut (Ok (type.Object n c)) t h = h
-passed_is pass.RefInOut (Ok (type.Handle n c)) t h = cc
+-- ---- where it can stand
 
-no_void_is : (m : Meaning) (t : ArgType) → no_void m ≡ Ok t → (m ≡ Ok t) × (t ≢ type.Void)
-no_void_is (Err e) t h = cc
-no_void_is (Ok type.Void) t h = cc
-no_void_is (Ok type.Null) t h = (h, λ v. cc)
-no_void_is (Ok (type.Plain p)) t h = (h, λ v. cc)
-no_void_is (Ok (type.Object n c)) t h = (h, λ v. cc)
-no_void_is (Ok (type.Handle n c)) t h = (h, λ v. cc)
+then_is : (m : TypeOrError) (f : ArgType → TypeOrError) (t : ArgType) → (m and_then f) ≡ Ok t → (u : ArgType) × (m ≡ Ok u) × (f u ≡ Ok t)
+then_is (Ok u) f t e = (u, refl, e)
+then_is (Err why) f t e = cc
 
-parameter_is : (V : RegistrationList) (text : List ℕ) (p : Parameter) (t : ArgType) → parameter_type_of V text p ≡ Ok t
-    → IsSpelled V t (is_read_only p.declared_type) (base_by text p.declared_type p.declared_type.name.kind) (sign_of p.declared_type.handle) (is_some p.declared_type.constant)
-unfolding parameter_type_of value_type_of type_of
-parameter_is V text p t e =
+no_void_is : (u t : ArgType) → no_void u ≡ Ok t → (u ≡ t) × (t ≢ type.Void)
+no_void_is type.Void t h = cc
+no_void_is type.Null t h = let own : type.Null ≡ t = cc in (own, λ v. cc)
+no_void_is (type.Plain p) t h = let own : type.Plain p ≡ t = cc in (own, λ v. cc)
+no_void_is (type.Object n c) t h = let own : type.Object n c ≡ t = cc in (own, λ v. cc)
+no_void_is (type.Handle n c) t h = let own : type.Handle n c ≡ t = cc in (own, λ v. cc)
+
+passed_is : (p : Pass) (u t : ArgType) → passed p u ≡ Ok t → u ≡ t
+passed_is pass.Value type.Void t h = cc
+passed_is pass.Value type.Null t h = cc
+passed_is pass.Value (type.Plain p) t h = cc
+passed_is pass.Value (type.Object n c) t h = cc
+passed_is pass.Value (type.Handle n c) t h = cc
+passed_is pass.RefIn type.Void t h = cc
+passed_is pass.RefIn type.Null t h = cc
+passed_is pass.RefIn (type.Plain p) t h = cc
+passed_is pass.RefIn (type.Object n true) t h = cc
+passed_is pass.RefIn (type.Object n false) t h = cc
+passed_is pass.RefIn (type.Handle n c) t h = cc
+passed_is pass.RefOut type.Void t h = cc
+passed_is pass.RefOut type.Null t h = cc
+passed_is pass.RefOut (type.Plain p) t h = cc
+passed_is pass.RefOut (type.Object n c) t h = cc
+passed_is pass.RefOut (type.Handle n c) t h = cc
+passed_is pass.RefInOut type.Void t h = cc
+passed_is pass.RefInOut type.Null t h = cc
+passed_is pass.RefInOut (type.Plain p) t h = cc
+passed_is pass.RefInOut (type.Object n c) t h = cc
+passed_is pass.RefInOut (type.Handle n c) t h = cc
+
+parameter_is : (E : Space) (text : List ℕ) (p : Parameter) (t : ArgType) → type_in E (own_role p) text p.declared_type ≡ Ok t
+    → IsSpelled E t (is_const_handle p.declared_type.handle) (base_by text p.declared_type p.declared_type.name.kind) (sign_of p.declared_type.handle)
+unfolding type_in
+parameter_is E text p t e =
     let y = p.declared_type in
-    let m = no_void_is (type_by V text y y.name.kind) t (passed_is (pass_of p.reference) (no_void (type_by V text y y.name.kind)) t e) in
-    type_is V text y y.name.kind t m.0 m.1
+    let way = pass_of p.reference in
+    let w = then_is (written_type E text y y.name.kind) (λ u. no_void u and_then passed way) t e in
+    let v = then_is (no_void w.0) (passed way) t w.2 in
+    let n = no_void_is w.0 v.0 v.1 in
+    let own : v.0 ≡ t = passed_is way v.0 t v.2 in
+    let no : t ≢ type.Void = subst (λ (u : ArgType). u ≢ type.Void) own n.1 in
+    type_is E text y y.name.kind t (w.1 ∙ ap Ok (n.0 ∙ own)) no
 
 -- ---- parameters
 
@@ -141,47 +219,50 @@ all_hold : (a b c d : Bool) → a ≡ true → b ≡ true → c ≡ true → d �
 all_hold a b c d e f g h = λ i. e i && f i && g i && h i
 
 -- of two parameters with types
-one_spelling : (V : RegistrationList) (text other : List ℕ) (p q : Parameter) (t u : ArgType) → parameter_type_of V text p ≡ Ok t → parameter_type_of V other q ≡ Ok u
-    → passed_of (parameter_of V text p) ≡ passed_of (parameter_of V other q) → same_spelling (spelling_of text p) (spelling_of other q) ≡ true
+one_spelling : (E : Space) (text other : List ℕ) (p q : Parameter) (t u : ArgType) → length E.view ≤ 1024 → type_in E (own_role p) text p.declared_type ≡ Ok t
+    → type_in E (own_role q) other q.declared_type ≡ Ok u → passed_of (parameter_of E text false p) ≡ passed_of (parameter_of E other false q)
+    → same_spelling (spelling_of text p) (spelling_of other q) ≡ true
 unfolding spelling_of
-one_spelling V text other p q t u e f same =
+one_spelling E text other p q t u small e f same =
     let y = p.declared_type in
     let z = q.declared_type in
-    let types : u ≡ t = sym (ap settled f) ∙ sym (ap (λ (x : Passed). x.ty) same) ∙ ap settled e in
-    let only : is_read_only z ≡ is_read_only y = sym (ap (λ (x : Passed). x.read_only) same) in
+    let types : u ≡ t = sym (ap settled f) ∙ sym (ap (λ (x : Passed). x.written.ty) same) ∙ ap settled e in
+    let handles : is_const_handle z.handle ≡ is_const_handle y.handle = sym (ap (λ (x : Passed). x.written.const_handle) same) in
+    let constants : is_some y.constant ≡ is_some z.constant = ap (λ (x : Passed). x.written.constant) same in
     let way : pass_of p.reference ≡ pass_of q.reference = ap (λ (x : Passed). x.pass) same in
     let b = base_by other z z.name.kind in
     let s = sign_of z.handle in
-    let c = is_some z.constant in
-    let here = parameter_is V text p t e in
-    let there = parameter_is V other q u f in
-    let moved = subst (λ (x : ArgType). IsSpelled V x (is_read_only z) b s c) types there in
-    let shown = subst (λ (r : Bool). IsSpelled V t r b s c) only moved in
-    let alike = spelled_alike V t (is_read_only y) (base_by text y y.name.kind) b (sign_of y.handle) s (is_some y.constant) c here shown in
-    all_hold (same_base (base_by text y y.name.kind) b) (sign_number (sign_of y.handle) == sign_number s) (beq (is_some y.constant) c) (pass_number (pass_of p.reference) == pass_number (pass_of q.reference))
-    alike.0 (eq-eqb _ _ (ap sign_number alike.1)) ((booleans_Decides _ _).1 alike.2) (eq-eqb _ _ (ap pass_number way))
+    let here = parameter_is E text p t e in
+    let there = parameter_is E other q u f in
+    let moved = subst (λ (x : ArgType). IsSpelled E x (is_const_handle z.handle) b s) types there in
+    let shown = subst (λ (r : Bool). IsSpelled E t r b s) handles moved in
+    let alike = spelled_alike E t (is_const_handle y.handle) (base_by text y y.name.kind) b (sign_of y.handle) s small here shown in
+    all_hold (same_base (base_by text y y.name.kind) b) (sign_number (sign_of y.handle) == sign_number s) (beq (is_some y.constant) (is_some z.constant))
+    (pass_number (pass_of p.reference) == pass_number (pass_of q.reference)) alike.0 (eq-eqb _ _ (ap sign_number alike.1)) ((booleans_Decides _ _).1 constants) (eq-eqb _ _ (ap pass_number way))
 
-typed_from : (m : Meaning) (text : List ℕ) (name : Token) → refused text name m ≡ None → (t : ArgType) × (m ≡ Ok t)
-typed_from (Ok t) text name e = (t, refl)
-typed_from (Err kind) text name e = cc
+typed_from : (E : Space) (p : Parameter) (text : List ℕ) (m : TypeOrError) → type_in E (own_role p) text p.declared_type ≡ m
+    → type_refusal_of E text (own_role p) p.declared_type ≡ None → (t : ArgType) × (type_in E (own_role p) text p.declared_type ≡ Ok t)
+typed_from E p text (Ok t) is e = (t, is)
+typed_from E p text (Err kind) is e = let refused = ap (λ m. why_refused text p.declared_type.name m) (sym is) ∙ e in cc
 
-pub both_none : (a b : Option Error) → first_of a b ≡ None → (a ≡ None) × (b ≡ None)
+pub both_none : (a b : Option Refused) → option_or a b ≡ None → (a ≡ None) × (b ≡ None)
 both_none None b e = (refl, e)
 both_none (Some x) b e = cc
 
 -- Lists of parameters that no phase refuses, and that are equal but for their names, are spelled the same.
-pub same_lists : (V : RegistrationList) (text other : List ℕ) (ps qs : List Parameter) → parameters_refusal V text ps ≡ None → parameters_refusal V other qs ≡ None
-    → map passed_of (map (parameter_of V text) ps) ≡ map passed_of (map (parameter_of V other) qs) → same_parameters text ps other qs ≡ true
-same_lists V text other [] [] e f same = refl
-same_lists V text other [] (q ∷ qs) e f same = cc
-same_lists V text other (p ∷ ps) [] e f same = cc
-same_lists V text other (p ∷ ps) (q ∷ qs) e f same =
-    let x = both_none (refused text p.declared_type.name (parameter_type_of V text p)) (parameters_refusal V text ps) e in
-    let y = both_none (refused other q.declared_type.name (parameter_type_of V other q)) (parameters_refusal V other qs) f in
-    let t = typed_from (parameter_type_of V text p) text p.declared_type.name x.0 in
-    let u = typed_from (parameter_type_of V other q) other q.declared_type.name y.0 in
-    let head : passed_of (parameter_of V text p) ≡ passed_of (parameter_of V other q) = cc in
-    let tail : map passed_of (map (parameter_of V text) ps) ≡ map passed_of (map (parameter_of V other) qs) = cc in
-    let first = one_spelling V text other p q t.0 u.0 t.1 u.1 head in
-    let rest = same_lists V text other ps qs x.1 y.1 tail in
+pub same_lists : (E : Space) (text other : List ℕ) (ps qs : List Parameter) → length E.view ≤ 1024 → parameters_refusal E text false ps ≡ None
+    → parameters_refusal E other false qs ≡ None → map passed_of (map (parameter_of E text false) ps) ≡ map passed_of (map (parameter_of E other false) qs)
+    → same_spellings text ps other qs ≡ true
+same_lists E text other [] [] small e f same = refl
+same_lists E text other [] (q ∷ qs) small e f same = cc
+same_lists E text other (p ∷ ps) [] small e f same = cc
+same_lists E text other (p ∷ ps) (q ∷ qs) small e f same =
+    let x = both_none (type_refusal_of E text (own_role p) p.declared_type) (parameters_refusal E text false ps) e in
+    let y = both_none (type_refusal_of E other (own_role q) q.declared_type) (parameters_refusal E other false qs) f in
+    let t = typed_from E p text _ refl x.0 in
+    let u = typed_from E q other _ refl y.0 in
+    let head : passed_of (parameter_of E text false p) ≡ passed_of (parameter_of E other false q) = cc in
+    let tail : map passed_of (map (parameter_of E text false) ps) ≡ map passed_of (map (parameter_of E other false) qs) = cc in
+    let first = one_spelling E text other p q t.0 u.0 small t.1 u.1 head in
+    let rest = same_lists E text other ps qs small x.1 y.1 tail in
     λ i. first i && rest i

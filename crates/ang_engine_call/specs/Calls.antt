@@ -12,8 +12,8 @@ use Rattle.ang_meaning.specs.declared.host.HostType.TheVariants.{Plain as PlainT
 use Rattle.ang_meaning.specs.Hosts.{slot_of, value_of}
 use Rattle.ang_types.specs.declared.arg_type.ArgType.{ArgType}
 use Rattle.ang_types.specs.declared.arg_type.ArgType.TheVariants.{Void, Null, Plain, Object, Handle}
-use Rattle.ang_names.specs.declared.names.ScriptFunction.{ScriptFunction}
-use Rattle.ang_names.specs.declared.names.ScriptParameter.{ScriptParameter}
+use Rattle.ang_names_known.specs.declared.names.ScriptFunction.{ScriptFunction}
+use Rattle.ang_names_known.specs.declared.names.ScriptParameter.{ScriptParameter}
 
 -- the primitive type that it is, if it is one
 abbrev pub primitive_of : ArgType → Option Primitive
@@ -38,11 +38,11 @@ is_by_value pass.RefInOut = false
 
 -- a primitive by value
 abbrev pub is_plain_parameter : ScriptParameter → Bool
-is_plain_parameter p = is_by_value p.pass && is_some (primitive_of p.ty)
+is_plain_parameter p = is_by_value p.pass && is_some (primitive_of p.written.ty)
 
 -- Whether it can be called from outside: each parameter is a primitive by value, and the result is a primitive or `void`.
 unfoldable pub is_callable : ScriptFunction → Bool
-is_callable f = list_all is_plain_parameter f.params && (is_void f.result || is_some (primitive_of f.result))
+is_callable f = list_all is_plain_parameter f.params && (is_void f.result.ty || is_some (primitive_of f.result.ty))
 
 -- ---- values, which are those of no driver: for a primitive type a driver's number plays no part
 
@@ -52,7 +52,7 @@ plain_slot (Some p) v = slot_of 0 (PlainType p) v
 
 -- the slot of a value for a parameter, if the value is of its type and in its range
 abbrev pub argument_of : ScriptParameter → Value → Option Slot
-argument_of p v = plain_slot (primitive_of p.ty) v
+argument_of p v = plain_slot (primitive_of p.written.ty) v
 
 abbrev pub in_front : Option Slot → Option (List Slot) → Option (List Slot)
 in_front None rest = None
@@ -76,4 +76,4 @@ AreArguments (Some slots) found = found ≡ Some slots.items
 
 -- the value of a function's result, where its type is a primitive one
 unfoldable pub result_of : ScriptFunction → Slot → Option Value
-result_of f x = option_map (λ p. value_of 0 (PlainType p) x) (primitive_of f.result)
+result_of f x = option_map (λ p. value_of 0 (PlainType p) x) (primitive_of f.result.ty)

@@ -1,21 +1,20 @@
 -- The function that a text declares without its body (docs/EMBEDDING.md, "Commands"; the AngelScript manual, "Calling a script
 -- function"; what the text may be is this profile's own).
-use Rattle.std.specs.Prelude.{◌≡◌, ℕ, Bool, true, false, if◌then◌else◌, List, [], ◌∷◌, ◌++◌, Option, Some, None, Result, Ok, Err, slice_get}
+use Rattle.std.specs.Prelude.{◌≡◌, ℕ, List, [], ◌∷◌, ◌++◌, Option, Some, None, Result, Ok, Err}
 use Rattle.std.specs.Result.{result_ok}
-use Rattle.ang_kinds.specs.declared.error.Error.{Error}
 use Rattle.ang_lex.specs.declared.token.Token.{Token}
 use Rattle.ang_lex.specs.declared.error.LexError.{LexError}
 use Rattle.ang_lex.specs.Tokens.{tokens_of}
 use Rattle.ang_tree.specs.declared.declaration.Script.{Script}
-use Rattle.ang_tree.specs.Declarations.{Decl, function}
+use Rattle.ang_tree.specs.Declarations.{Decl, class, interface, import, function, globals, empty}
 use Rattle.ang_tree.specs.View.{view_script}
 use Rattle.ang_parse.specs.Answers.{script_of}
-use Rattle.ang_registry.specs.Registration.{RegistrationList}
-use Rattle.ang_names_written.specs.Sources.{Source}
-use Rattle.ang_names.specs.declared.names.ScriptFunction.{ScriptFunction}
-use Rattle.ang_names.specs.Declarations.{declarations_of}
-use Rattle.ang_names.specs.Phases.{errors_of}
-use Rattle.ang_names.specs.Resolved.{names_of}
+use Rattle.ang_types.specs.declared.asks.Refused.{Refused}
+use Rattle.ang_names_known.specs.declared.names.Origin.{Origin}
+use Rattle.ang_names_known.specs.declared.names.ScriptFunction.{ScriptFunction}
+use Rattle.ang_names_known.specs.Spaces.{Space}
+use Rattle.ang_names.specs.Meant.{function_refusal}
+use Rattle.ang_names.specs.Resolved.{heading_of}
 
 -- the text, a line end and `{}`
 abbrev pub with_empty_body : List ℕ → List ℕ
@@ -34,25 +33,34 @@ abbrev pub IsScript : Option Script → List ℕ → Option (List Decl) → Type
 IsScript None text found = found ≡ None
 IsScript (Some s) text found = (s.source.items ≡ text) × (found ≡ Some (view_script s))
 
--- a function, and nothing else
-abbrev pub is_one_function : List Decl → Bool
-is_one_function (function y x ps b ∷ []) = true
-is_one_function _ = false
+-- where the text's function stands, which plays no part in what it names
+abbrev pub nowhere : Origin
+nowhere = record { script = 0; declaration = 0; variable = 0 }
 
-abbrev pub unless_refused : List Error → Option ScriptFunction → Option ScriptFunction
-unless_refused [] f = f
-unless_refused (e ∷ es) f = None
+abbrev pub unless_refused : Option Refused → ScriptFunction → Option ScriptFunction
+unless_refused None f = Some f
+unless_refused (Some r) f = None
 
--- the first function of a source of which no phase refuses a declaration
-unfoldable pub first_function : RegistrationList → Source → Option ScriptFunction
-first_function V s = unless_refused (errors_of V (s ∷ [])) (slice_get (names_of V (declarations_of (s ∷ []))).functions 0)
+-- the heading of a function in a section of these bytes, where each of its types can stand where it is written
+abbrev pub heading_by : Space → List ℕ → Decl → Option ScriptFunction
+heading_by E text (class final word x bases left members right) = None
+heading_by E text (interface word x bases left methods right) = None
+heading_by E text (import word y x ps from module_name semicolon) = None
+heading_by E text (function y x ps b) = unless_refused (function_refusal E text x y ps.items) (heading_of E nowhere text x y ps.items)
+heading_by E text (globals vs) = None
+heading_by E text (empty semicolon) = None
 
-abbrev pub function_alone : RegistrationList → List ℕ → Option (List Decl) → Option ScriptFunction
-function_alone V text None = None
-function_alone V text (Some ds) =
-    if is_one_function ds then first_function V (record { text = text; declarations = ds }) else None
+-- of a function, and nothing else
+abbrev pub heading_of_one : Space → List ℕ → List Decl → Option ScriptFunction
+heading_of_one E text [] = None
+heading_of_one E text (d ∷ []) = heading_by E text d
+heading_of_one E text (d ∷ e ∷ ds) = None
+
+abbrev pub heading_alone : Space → List ℕ → Option (List Decl) → Option ScriptFunction
+heading_alone E text None = None
+heading_alone E text (Some ds) = heading_of_one E text ds
 
 -- The function that the text declares: with a line end and an empty body behind it, it is a script of one function and nothing
--- else, which no phase of a build over the view refuses.
-unfoldable pub declared_by : RegistrationList → List ℕ → Option ScriptFunction
-declared_by V decl = function_alone V (with_empty_body decl) (declarations_in (with_empty_body decl))
+-- else, each of whose types can stand where it is written.
+unfoldable pub declared_by : Space → List ℕ → Option ScriptFunction
+declared_by E decl = heading_alone E (with_empty_body decl) (declarations_in (with_empty_body decl))

@@ -5,15 +5,15 @@ ghost use Rattle.ang_engine_call.specs.Calls as spec;
 use crate::callable::{NO_DRIVER, primitive_of};
 use ang_kinds::Value;
 use ang_meaning::{HostType, Slot};
-use ang_names::{ScriptFunction, ScriptParameter};
-use ang_vm_ask::slot_from;
+use ang_names_known::{ScriptFunction, ScriptParameter};
+use ang_vm_numbers::slot_from;
 use std::alloc::{AllocError, Global};
 
 /// The slot of a value for a parameter, if the value is of its type and in its range.
 fn argument_of(param: &ScriptParameter, value: &Value) -> Option<Slot>
     ensures exact { result ≡ spec.argument_of param.now value.now }
 {
-    match primitive_of(param.ty) {
+    match primitive_of(param.written.ty) {
         Some(of) => slot_from(NO_DRIVER, HostType::Plain(of), value),
         None => None,
     }

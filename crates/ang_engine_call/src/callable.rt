@@ -4,7 +4,7 @@ ghost use Rattle.std.specs.List.{list_all};
 ghost use Rattle.ang_engine_call.specs.Calls as spec;
 
 use ang_kinds::{Pass, Prim};
-use ang_names::{ScriptFunction, ScriptParameter};
+use ang_names_known::{ScriptFunction, ScriptParameter};
 use ang_types::ArgType;
 
 /// The driver of values that are no driver's. For a primitive type a driver's number plays no part.
@@ -39,7 +39,7 @@ fn is_by_value(pass: Pass) -> bool
 fn is_plain_parameter(param: &ScriptParameter) -> bool
     ensures exact { result ≡ spec.is_plain_parameter param.now }
 {
-    is_by_value(param.pass) && primitive_of(param.ty).is_some()
+    is_by_value(param.pass) && primitive_of(param.written.ty).is_some()
 }
 
 fn are_plain(params: &[ScriptParameter]) -> bool
@@ -55,5 +55,5 @@ pub fn is_callable(function: &ScriptFunction) -> bool
     ensures exact { result ≡ spec.is_callable function.now }
 {
     are_plain(function.params.as_slice())
-        && (is_void(function.result) || primitive_of(function.result).is_some())
+        && (is_void(function.result.ty) || primitive_of(function.result.ty).is_some())
 }

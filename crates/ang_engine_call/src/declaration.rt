@@ -1,16 +1,21 @@
 //! The function that a text declares without its body.
-ghost use Rattle.std.specs.Prelude.{◌≡◌, IfOk, Some, map, slice_get};
-ghost use Rattle.ang_tree.specs.View.{view_script};
-ghost use Rattle.ang_names_written.specs.Sources.{source_of};
+ghost use Rattle.std.specs.Prelude.{◌≡◌, IfOk};
+ghost use Rattle.ang_tree.specs.View.{view_decl, view_function, view_script};
 ghost use Rattle.ang_engine_call.specs.Declaration as spec;
 
-use ang_kinds::Unbuilt;
 use ang_lex::{LexError, lex};
-use ang_names::{Names, ScriptFunction, declare};
+use ang_names::{function_refusal, heading_of};
+use ang_names_known::{Origin, ScriptFunction, Space};
 use ang_parse::{ParseError, parse};
-use ang_registry::View;
-use ang_tree::{Declaration, Script};
+use ang_tree::{Declaration, Function, Script};
 use std::alloc::{AllocError, Global};
+
+/// Where the text's function stands, which plays no part in what it names.
+const NOWHERE: Origin = Origin {
+    script: 0,
+    declaration: 0,
+    variable: 0,
+};
 
 /// The text, a line end and `{}`.
 fn with_empty_body(alloc: Global, decl: &[u8]) -> Result<Vec<u8>, AllocError>
@@ -38,62 +43,75 @@ fn script_in(alloc: Global, text: &[u8]) -> Result<Option<Script>, AllocError>
     }
 }
 
-/// Whether the script is a function, and nothing else.
-fn is_one_function(script: &Script) -> bool
-    ensures exact { result ≡ spec.is_one_function (view_script script.now) }
+/// The function's heading, where each of its types can stand where it is written.
+fn function_heading(
+    alloc: Global,
+    space: &Space<'_>,
+    text: &[u8],
+    function: &Function,
+) -> Result<Option<ScriptFunction>, AllocError>
+    ensures exact { IfOk result
+        (λ found. found ≡ spec.heading_by space.now text.now (view_function function.now)) }
+{
+    let name = &function.name;
+    let params = function.parameters.items.as_slice();
+    let refusal = function_refusal(alloc, space, text, name, &function.result, params)?;
+    if refusal.is_some() {
+        return Ok(None);
+    }
+    let heading = heading_of(alloc, space, NOWHERE, text, name, &function.result, params)?;
+    Ok(Some(heading))
+}
+
+/// The heading of a declaration that is a function.
+fn heading_by(
+    alloc: Global,
+    space: &Space<'_>,
+    text: &[u8],
+    declaration: &Declaration,
+) -> Result<Option<ScriptFunction>, AllocError>
+    ensures exact { IfOk result
+        (λ found. found ≡ spec.heading_by space.now text.now (view_decl declaration.now)) }
+{
+    match declaration {
+        Declaration::Function(function) => function_heading(alloc, space, text, function),
+        Declaration::Class(_) | Declaration::Interface(_) | Declaration::Import(_) => Ok(None),
+        Declaration::Globals(_) | Declaration::Empty(_) => Ok(None),
+    }
+}
+
+/// The heading of a script that is one function, and nothing else.
+fn heading_alone(
+    alloc: Global,
+    space: &Space<'_>,
+    text: &[u8],
+    script: &Script,
+) -> Result<Option<ScriptFunction>, AllocError>
+    ensures exact { IfOk result
+        (λ found. found ≡ spec.heading_of_one space.now text.now (view_script script.now)) }
 {
     match script.declarations.as_slice() {
-        [Declaration::Function(_)] => true,
-        _ => false,
+        [declaration] => heading_by(alloc, space, text, declaration),
+        _ => Ok(None),
     }
 }
 
-/// The first function of the names.
-fn first_of(names: Names) -> Option<ScriptFunction>
-    ensures exact { result ≡ slice_get names.functions 0 }
-{
-    let mut functions = names.functions.into_vec();
-    if functions.is_empty() {
-        return None;
-    }
-    Some(functions.remove(0))
-}
-
-/// The first function of a script, where no phase of a build over the view refuses one of its declarations.
-#[tactic(auto, unfolding(crate::specs::Declaration::first_function))]
-fn first_function(
-    alloc: Global,
-    view: &View,
-    script: Script,
-) -> Result<Option<ScriptFunction>, AllocError>
-    ensures exact { IfOk result (λ found. found ≡ spec.first_function view.now (source_of script)) }
-{
-    let scripts = [script];
-    match declare(alloc, view, &scripts) {
-        Ok(names) => Ok(first_of(names)),
-        Err(Unbuilt::Errors(_)) => Ok(None),
-        Err(Unbuilt::Memory) => Err(AllocError),
-    }
-}
-
-/// The function that a text declares without its body: with a line end and `{}` behind it, it is a script of
-/// one function and nothing else, which no phase of a build over the view refuses.
+/// The function that a text declares without its body: with a line end and `{}` behind it, it is a
+/// script of one function and nothing else, each of whose types can stand where it is written. Types are
+/// those that the names of the space mean.
 ///
 /// The only error is want of memory.
 #[tactic(auto, unfolding(crate::specs::Declaration::declared_by))]
 pub fn declared_function(
     alloc: Global,
-    view: &View,
+    space: &Space<'_>,
     decl: &[u8],
 ) -> Result<Option<ScriptFunction>, AllocError>
-    ensures exact { IfOk result (λ found. found ≡ spec.declared_by view.now decl.now) }
+    ensures exact { IfOk result (λ found. found ≡ spec.declared_by space.now decl.now) }
 {
     let text = with_empty_body(alloc, decl)?;
-    let Some(script) = script_in(alloc, &text)? else {
-        return Ok(None);
-    };
-    if !is_one_function(&script) {
-        return Ok(None);
+    match script_in(alloc, &text)? {
+        Some(script) => heading_alone(alloc, space, &text, &script),
+        None => Ok(None),
     }
-    first_function(alloc, view, script)
 }

@@ -1,48 +1,39 @@
 //! The function of a module that a text names.
-ghost use Rattle.std.specs.Prelude.{◌≡◌, ◌<◌, length, IfOk, IfSome};
-ghost use Rattle.std.specs.List.{position};
-ghost use Rattle.ang_engine_call.specs.Headings.{same_heading};
+ghost use Rattle.std.specs.Prelude.{◌≡◌, ◌<◌, ◌≤◌, length, IfOk, IfSome};
 ghost use Rattle.ang_engine_call.specs.Named.{function_named_by};
 
 use crate::declaration::declared_function;
-use crate::heading::have_same_heading;
-use ang_names::{Names, ScriptFunction};
-use ang_registry::View;
+use ang_names_known::{Names, Space, function_with};
+use ang_view::View;
 use std::alloc::{AllocError, Global};
-
-/// The first function of this heading.
-fn number_of(declared: &ScriptFunction, functions: &[ScriptFunction]) -> Option<usize>
-    ensures exact { result ≡ position (same_heading declared.now) functions.now }
-{
-    functions
-        .iter()
-        .position(|function| have_same_heading(declared, function))
-}
 
 /// The number of the module's function that the text declares without its body: its place in
 /// `names.functions`.
 ///
-/// `view` is what the module saw of the host when it was built, and `names` are those of its scripts. The text
-/// declares a function where it is, with a line end and `{}` behind it, a script of one function and nothing
-/// else, of which no phase of a build over `view` refuses anything (docs/LANGUAGE.md, "Names of a build"). The
-/// module's function is that of the same name, the same result with its `const`, and the same parameters, each
-/// with its type, its `const` and its passing; names of parameters don't count. None for every other text: one
-/// that is too long, that the lexer or the parser refuses, with a body of its own, with two declarations or
-/// none, with an unknown type, or of a function that the module doesn't have.
+/// `view` is what the module saw of the host when it was built, and `names` are those of its scripts. The
+/// text declares a function where it is, with a line end and `{}` behind it, a script of one function and
+/// nothing else, each of whose types can stand where it is written, among the types of the module
+/// (docs/LANGUAGE.md, "Names of a build"). The module's function is that of the same name, the same result
+/// and the same parameters, each type with its `const` as it is spelled, and each parameter with its
+/// passing; names of parameters don't count. None for every other text: one that is too long, that the lexer
+/// or the parser refuses, with a body of its own, with two declarations or none, with an unknown type, or of
+/// a function that the module doesn't have.
 ///
 /// The only error is want of memory.
-#[tactic(auto, unfolding(crate::specs::Named::function_named_by))]
+#[tactic(auto, unfolding(crate::specs::Named::function_named_by), using(crate::proofs::Found::place_within))]
 pub fn find_function(
     alloc: Global,
     view: &View,
     names: &Names,
     decl: &[u8],
 ) -> Result<Option<usize>, AllocError>
+    requires few { length names.now.families ≤ 256 }
     ensures exact { IfOk result (λ found. found ≡ function_named_by view.now names.now decl.now) }
     ensures within { IfOk result (λ found. IfSome found (λ number. number < length names.now.functions)) }
 {
-    match declared_function(alloc, view, decl)? {
-        Some(declared) => Ok(number_of(&declared, names.functions.as_slice())),
+    let space = Space::of_names(view, names);
+    match declared_function(alloc, &space, decl)? {
+        Some(declared) => Ok(function_with(names.functions.as_slice(), &declared)),
         None => Ok(None),
     }
 }

@@ -1,13 +1,14 @@
 //! Laws of the definitions, each the contract of a function that does nothing.
-ghost use Rattle.std.specs.Prelude.{◌≡◌, ◌↔◌, ◌<◌, ℕ, List, [], Some, None, true, slice_get};
-ghost use Rattle.ang_registry.specs.Registration.{RegistrationList};
-ghost use Rattle.ang_names.specs.declared.names.Names.{Names};
-ghost use Rattle.ang_names.specs.declared.names.ScriptFunction.{ScriptFunction};
-ghost use Rattle.ang_names.specs.Declarations.{declarations_of};
-ghost use Rattle.ang_names.specs.Phases.{errors_of};
+ghost use Rattle.std.specs.Prelude.{◌≡◌, ◌↔◌, ◌<◌, ◌≤◌, ℕ, List, [], Some, None, true, length, slice_get};
+ghost use Rattle.ang_view.specs.Registration.{RegistrationList};
+ghost use Rattle.ang_names_known.specs.declared.names.Names.{Names};
+ghost use Rattle.ang_names_known.specs.declared.names.ScriptFunction.{ScriptFunction};
+ghost use Rattle.ang_names_known.specs.Lookup.{same_heading};
+ghost use Rattle.ang_names_listed.specs.Declarations.{declarations_of};
+ghost use Rattle.ang_names.specs.Phases.{refusals_of};
 ghost use Rattle.ang_names.specs.Resolved.{names_of};
 ghost use Rattle.ang_names_written.specs.Sources.{Source};
-ghost use Rattle.ang_engine_call.specs.Headings.{heading_of, same_heading};
+ghost use Rattle.ang_engine_call.specs.Headings.{heading_of};
 ghost use Rattle.ang_engine_call.specs.Named.{IsNamedBy, function_named_by};
 
 /// The test by which headings are compared says whether they are equal.
@@ -26,15 +27,16 @@ pub fn first_of_its_heading()
         function_named_by V names decl ≡ None → ¬ IsNamedBy V names decl k }
 {}
 
-/// No two functions of a build, of which no phase refuses a declaration, have one heading. So the function with
-/// the heading of the one that a text declares is the one that the text names.
+/// No two functions of a build, of which no phase refuses a declaration, have one heading, over a view with
+/// no more entries than a registration list has. So the function with the heading of the one that a text
+/// declares is the one that the text names.
 pub fn one_of_each_heading()
     ensures apart { (V : RegistrationList) (sources : List Source) (n k : ℕ) (f g : ScriptFunction) →
-        errors_of V sources ≡ [] →
+        length V ≤ 1024 → refusals_of V sources ≡ [] →
         slice_get (names_of V (declarations_of sources)).functions n ≡ Some f →
         slice_get (names_of V (declarations_of sources)).functions k ≡ Some g →
         heading_of f ≡ heading_of g → n ≡ k }
     ensures named { (V : RegistrationList) (sources : List Source) (names : Names) (decl : List ℕ) (n : ℕ) →
-        errors_of V sources ≡ [] → names ≡ names_of V (declarations_of sources) →
+        length V ≤ 1024 → refusals_of V sources ≡ [] → names ≡ names_of V (declarations_of sources) →
         IsNamedBy V names decl n → function_named_by V names decl ≡ Some n }
 {}

@@ -9,7 +9,6 @@ mod argument_slots;
 mod callable;
 mod declaration;
 mod finding;
-mod heading;
 pub mod laws;
 mod results;
 

@@ -4,7 +4,7 @@ use Rattle.std.specs.Prelude.{false, true, IsSome}
 use Rattle.std.specs.List.{AllByRecursion}
 use Rattle.ang_host.specs.declared.event.HostEvent.{HostEvent}
 use Rattle.ang_host.specs.declared.event.HostEvent.TheVariants.{Called, Ended}
-use Rattle.ang_registry.specs.declared.entry.Entry.{Entry}
+use Rattle.ang_view.specs.declared.entry.Entry.{Entry}
 use Rattle.ang_meaning.specs.declared.slot.Slot.{Slot}
 use Rattle.ang_meaning.specs.World.{World, give}
 use Rattle.ang_meaning.specs.Told.{answers_listed}

@@ -1,5 +1,5 @@
 -- The code of a table does what the trees of its modules mean.
-use Rattle.std.proofs.Common.{◌≡◌, ℕ, zero, suc, List, [], ◌∷◌, None, refl, sym, ap, subst}
+use Rattle.std.proofs.Common.{◌≡◌, ℕ, zero, suc, List, [], ◌∷◌, refl, sym, ap, subst}
 use Rattle.std.specs.Prelude.{slice_get, slice_index_or}
 use Rattle.std.specs.Option.{option_flatten}
 use Rattle.ang_meaning.specs.Setting.{Setting}
@@ -7,7 +7,7 @@ use Rattle.ang_source.specs.Meaning.{codes_in, nothing}
 use Rattle.ang_vm_stack.specs.declared.table.Table.{Table}
 use Rattle.ang_vm_stack.specs.Tables.{module_at as code_at, text_in, height_in, texts_of}
 use Rattle.ang_gen.specs.Behaves.{IsModule, BehavesAsSource, NeverStuck}
-use Rattle.ang_gen.proofs.Composed.{behaves_as_source, unbound_fit, never_stuck}
+use Rattle.ang_gen.proofs.Composed.{behaves_as_source, modules_fit, never_stuck}
 use Rattle.ang_engine_modules.specs.Modules.{Module, module_at, trees_of}
 use Rattle.ang_engine_modules.specs.Executed.{setting_for}
 use Rattle.ang_engine_modules.specs.Loaded.{codes_of, IsTableOf}
@@ -25,7 +25,7 @@ module _ (t : Table) (ms : List Module) (is : IsTableOf t ms) (nesting : ℕ) wh
       record {
         sound = x.sound;
         view = record { each = λ e. refl };
-        functions = record { each = λ k. refl };
+        program = record { bodies = λ k. refl; imports = λ i. refl; slots = λ s. refl; classes = λ n. refl; methods = λ n s. refl };
         codes = codes_of (code_at t m);
         compiled = x.compiled;
         texts = record { text = λ k c at. ap text_in at; height = λ k c at. ap height_in at };
@@ -34,14 +34,12 @@ module _ (t : Table) (ms : List Module) (is : IsTableOf t ms) (nesting : ℕ) wh
   is_listed : (m : ℕ) → IsModule (setting_for ms nesting) m (module_at ms m).view (slice_index_or (trees_of ms) m nothing) (texts_of t)
   is_listed m = subst (λ p. IsModule (setting_for ms nesting) m (module_at ms m).view p (texts_of t)) (sym (tree_at ms m)) (is_module m)
 
-  -- no import is bound
-  unbound : (m i : ℕ) → option_flatten (slice_get (module_at ms m).links i) ≡ None
-  unbound m i = ap (λ l. option_flatten (slice_get l i)) (is.each m).unbound
-
   pub behaves : BehavesAsSource (setting_for ms nesting) (codes_in (trees_of ms)) (texts_of t)
   behaves =
       let z : Setting = setting_for ms nesting in
-      behaves_as_source z (λ m. (module_at ms m).view) (λ m. slice_index_or (trees_of ms) m nothing) (texts_of t) is_listed (unbound_fit z unbound (λ m c s. refl))
+      -- no import is bound, and methods fit their slots
+      let links = modules_fit z (λ m. (module_at ms m).view) (λ m. (module_at ms m).tree) (texts_of t) is_module (λ m i. ap (λ l. option_flatten (slice_get l i)) (is.each m).unbound) in
+      behaves_as_source z (λ m. (module_at ms m).view) (λ m. slice_index_or (trees_of ms) m nothing) (texts_of t) is_listed links
 
   pub never : NeverStuck (setting_for ms nesting) (texts_of t)
   never = never_stuck (setting_for ms nesting) (codes_in (trees_of ms)) (texts_of t) behaves

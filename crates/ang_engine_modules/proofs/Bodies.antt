@@ -4,8 +4,7 @@ use Rattle.std.specs.Prelude.{slice_get}
 use Rattle.ang_typed.specs.Typed as tree
 use Rattle.ang_meaning.specs.declared.routine.Routine.{Routine}
 use Rattle.ang_meaning.specs.declared.routine.Passing.{Passing}
-use Rattle.ang_source.specs.Meaning.{Code, passings_of, passings_in, initializers_from}
-use Rattle.ang_lower.specs.Same.{routine}
+use Rattle.ang_source.specs.Meaning.{Code, passings_of, passings_in, initializers_from, routine}
 use Rattle.ang_engine_modules.specs.Executed.{routines_from, initializers_of}
 
 -- how a function takes its arguments

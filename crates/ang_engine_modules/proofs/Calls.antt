@@ -17,8 +17,7 @@ use Rattle.ang_code.proofs.Telling.{calls_come_from}
 use Rattle.ang_code_laws.proofs.Whole.{call_runs_ask}
 use Rattle.ang_code_laws.proofs.Counting.{call_runs_count}
 use Rattle.ang_gen_body.specs.Behaves.{outcome_of}
-use Rattle.ang_source.specs.Meaning.{passings_of, passings_in}
-use Rattle.ang_lower.specs.Same.{routine}
+use Rattle.ang_source.specs.Meaning.{passings_of, passings_in, routine}
 use Rattle.ang_lower.proofs.Follows.{passings_count}
 use Rattle.ang_vm_stack.specs.declared.table.Table.{Table}
 use Rattle.ang_vm_stack.specs.Tables.{texts_of}

@@ -22,8 +22,7 @@ use Rattle.ang_code.proofs.Telling.{initializers_come_from}
 use Rattle.ang_code_laws.proofs.Whole.{initializer_runs_ask}
 use Rattle.ang_code_laws.proofs.Counting.{initializer_runs_count}
 use Rattle.ang_gen_body.specs.Behaves.{outcome_of}
-use Rattle.ang_source.specs.Meaning.{Codes, codes_in, passings_in, body_at, pass_at, run_code, initialized, initialized_all}
-use Rattle.ang_lower.specs.Same.{routine}
+use Rattle.ang_source.specs.Meaning.{Codes, codes_in, passings_in, body_at, pass_at, run_code, initialized, initialized_all, routine}
 use Rattle.ang_vm_stack.specs.declared.table.Table.{Table}
 use Rattle.ang_vm_stack.specs.Tables.{texts_of}
 use Rattle.ang_engine_modules.specs.Modules.{Module, module_at, trees_of, IsAskedIn}

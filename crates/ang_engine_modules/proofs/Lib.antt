@@ -1,4 +1,5 @@
 pub mod Inputs
+pub mod ClassTables
 pub mod Settings
 pub mod Behaving
 pub mod Outcomes

@@ -1,10 +1,13 @@
 -- The places of a table, as modules are added, built and cleared.
 use Rattle.std.proofs.Common.{◌≡◌, ◌+◌, ◌-◌, ◌<◌, ◌^◌, ℕ, zero, suc, List, [], ◌∷◌, ◌++◌, length, refl, sym, ap, subst, ◌∙◌, arith, Option, Some, None}
 use Rattle.std.specs.Prelude.{map as list_map, slice_get, slice_index_or, slice_set}
+use Rattle.std.specs.Option.{option_flatten}
 use Rattle.std.proofs.lemmas.List.{length-map, length-append}
 use Rattle.std.proofs.lemmas.Option.{slice_get_within}
 use Rattle.ang_code.specs.declared.instruction.RoutineCode.{RoutineCode}
+use Rattle.ang_meaning.specs.declared.routine.Routine.{Routine}
 use Rattle.ang_meaning.specs.declared.routine.Passing.{Passing}
+use Rattle.ang_typed.specs.declared.program.Heading.{Heading}
 use Rattle.ang_typed.specs.Typed as tree
 use Rattle.ang_typed.specs.View.{view_typed}
 use Rattle.ang_source.specs.Meaning.{nothing, initializers_from, passings_of, passings_in}
@@ -18,6 +21,7 @@ use Rattle.ang_engine_modules.specs.Modules.{Module, unbuilt, module_at, TakesSo
 use Rattle.ang_engine_modules.specs.Executed.{initializers_of}
 use Rattle.ang_engine_modules.specs.Loaded.{module_of, modules_of, uses_of, class_of, codes_of, IsCodeOf, IsTableOf, IsLoaded}
 use Rattle.ang_engine_modules.specs.Numbers.{routines_at}
+use Rattle.ang_engine_modules.specs.Trees.{headings_in, classes_from}
 use Rattle.ang_engine_modules.proofs.Numbers.{routines_counted}
 
 -- ---- the code of one place
@@ -25,9 +29,9 @@ use Rattle.ang_engine_modules.proofs.Numbers.{routines_counted}
 none_compiled : IsCompiled nothing []
 none_compiled = record { bodies = []; lowered = refl; code = tt }
 
-pub blank : (c : ModuleCode) → c.name.items ≡ [] → c.bodies.items ≡ [] → c.imports.items ≡ [] → c.entities.items ≡ [] → c.classes.items ≡ [] → c.slots.items ≡ []
-    → IsCodeOf (Some c) unbuilt
-blank c name bodies imports entities classes slots =
+pub blank : (m : ℕ) (c : ModuleCode) → c.name.items ≡ [] → c.bodies.items ≡ [] → c.imports.items ≡ [] → c.entities.items ≡ [] → c.classes.items ≡ [] → c.slots.items ≡ []
+    → IsCodeOf m (Some c) unbuilt
+blank m c name bodies imports entities classes slots =
     let none : length c.bodies.items ≡ 0 = ap length bodies in
     record {
       name = name;
@@ -36,36 +40,44 @@ blank c name bodies imports entities classes slots =
       compiled = subst (IsCompiled nothing) (sym bodies) none_compiled;
       few = omega (arith, none);
       imports = ap (list_map (λ y. y.params.items)) imports;
-      links = ap (list_map (λ y. y.bound)) imports;
+      links = λ i. ap (λ l. option_flatten (slice_get (list_map (λ y. y.bound) l) i)) imports;
       unbound = refl;
       classes = ap (list_map class_of) classes;
       slots = ap (list_map (λ y. y.items)) slots;
-      sound = record { functions = tt; globals = tt };
+      sound = record { functions = tt; globals = tt; classes = tt };
     }
 
-pub coded : (c : ModuleCode) (b : LoadedModule) (codes : List RoutineCode)
-    → c.name.items ≡ b.name → c.bodies.items ≡ codes → length c.bodies.items < 2 ^ 32 → c.imports.items ≡ [] → c.entities.items ≡ uses_of b.view
-    → c.classes.items ≡ [] → c.slots.items ≡ []
+-- imports that are bound to nothing, as where there are no links
+none_bound : (hs : List Heading) (i : ℕ) → option_flatten (slice_get (list_map {B = Option Routine} (λ h. None) hs) i) ≡ None
+none_bound [] i = refl
+none_bound (h ∷ hs) zero = refl
+none_bound (h ∷ hs) (suc i) = none_bound hs i
+
+pub coded : (m : ℕ) (c : ModuleCode) (b : LoadedModule) (codes : List RoutineCode)
+    → c.name.items ≡ b.name → c.bodies.items ≡ codes → length c.bodies.items < 2 ^ 32
+    → list_map (λ y. y.params.items) c.imports.items ≡ headings_in b.tree.imports → list_map (λ y. y.bound) c.imports.items ≡ list_map (λ h. None) b.tree.imports
+    → c.entities.items ≡ uses_of b.view
+    → list_map class_of c.classes.items ≡ classes_from m b.tree.classes 0 b.tree.classes → list_map (λ y. y.items) c.slots.items ≡ headings_in b.tree.methods
     → list_map (λ x. x.params.items) codes ≡ passings_in (view_typed b.tree) → IsCompiled (view_typed b.tree) codes → SoundProgram b.view (view_typed b.tree)
-    → b.links ≡ [] → IsCodeOf (Some c) (module_of (Some b))
-coded c b codes name bodies few imports entities classes slots params compiled sound unbound = record {
+    → b.links ≡ [] → IsCodeOf m (Some c) (module_of (Some b))
+coded m c b codes name bodies few imports bound entities classes slots params compiled sound unbound = record {
   name = name;
   entities = entities;
   passings = ap (list_map (λ x. x.params.items)) bodies ∙ params;
   compiled = subst (IsCompiled (view_typed b.tree)) (sym bodies) compiled;
   few = few;
-  imports = ap (list_map (λ y. y.params.items)) imports;
-  links = ap (list_map (λ y. y.bound)) imports ∙ sym unbound;
+  imports = imports;
+  links = λ i. ap (λ l. option_flatten (slice_get l i)) bound ∙ none_bound b.tree.imports i ∙ ap (λ l. option_flatten (slice_get l i)) (sym unbound);
   unbound = unbound;
-  classes = ap (list_map class_of) classes;
-  slots = ap (list_map (λ y. y.items)) slots;
+  classes = classes;
+  slots = slots;
   sound = sound;
 }
 
 -- ---- all places
 
 abbrev pub Places : List ModuleCode → List (Option LoadedModule) → Type 0
-Places cs bs = (m : ℕ) → IsCodeOf (slice_get cs m) (slice_index_or (modules_of bs) m unbuilt)
+Places cs bs = (m : ℕ) → IsCodeOf m (slice_get cs m) (slice_index_or (modules_of bs) m unbuilt)
 
 no_places : Places [] []
 no_places m = record {
@@ -75,30 +87,43 @@ no_places m = record {
   compiled = none_compiled;
   few = omega arith;
   imports = refl;
-  links = refl;
+  links = λ i. refl;
   unbound = refl;
   classes = refl;
   slots = refl;
-  sound = record { functions = tt; globals = tt };
+  sound = record { functions = tt; globals = tt; classes = tt };
 }
 
-places_pushed : (cs : List ModuleCode) (bs : List (Option LoadedModule)) → Places cs bs → length cs ≡ length bs → (c : ModuleCode) → IsCodeOf (Some c) unbuilt → Places (cs ++ c ∷ []) (bs ++ None ∷ [])
-places_pushed [] [] p e c is zero = is
-places_pushed [] [] p e c is (suc m) = p m
-places_pushed [] (y ∷ bs) p e c is m = absurd (omega (arith, e))
-places_pushed (x ∷ cs) [] p e c is m = absurd (omega (arith, e))
-places_pushed (x ∷ cs) (y ∷ bs) p e c is zero = p zero
-places_pushed (x ∷ cs) (y ∷ bs) p e c is (suc m) = places_pushed cs bs (λ k. p (suc k)) (omega (arith, e)) c is m
+-- so of whatever holds of the code in each place and its module
+module _ (c : ModuleCode) where
+  pushed_at : (P : ℕ → Option ModuleCode → Module → Type 0) (cs : List ModuleCode) (bs : List (Option LoadedModule))
+      → ((m : ℕ) → P m (slice_get cs m) (slice_index_or (modules_of bs) m unbuilt)) → length cs ≡ length bs → ((m : ℕ) → P m (Some c) unbuilt)
+      → (m : ℕ) → P m (slice_get (cs ++ c ∷ []) m) (slice_index_or (modules_of (bs ++ None ∷ [])) m unbuilt)
+  pushed_at P [] [] p e is zero = is zero
+  pushed_at P [] [] p e is (suc m) = p (suc m)
+  pushed_at P [] (y ∷ bs) p e is m = absurd (omega (arith, e))
+  pushed_at P (x ∷ cs) [] p e is m = absurd (omega (arith, e))
+  pushed_at P (x ∷ cs) (y ∷ bs) p e is zero = p zero
+  pushed_at P (x ∷ cs) (y ∷ bs) p e is (suc m) = pushed_at (λ k. P (suc k)) cs bs (λ k. p (suc k)) (omega (arith, e)) (λ k. is (suc k)) m
 
-places_put : (cs : List ModuleCode) (bs : List (Option LoadedModule)) (i : ℕ) → Places cs bs → length cs ≡ length bs → (c : ModuleCode) (b : Option LoadedModule) → IsCodeOf (Some c) (module_of b)
-    → Places (slice_set cs i c) (slice_set bs i b)
-places_put [] [] i p e c b is m = p m
-places_put [] (y ∷ bs) i p e c b is m = absurd (omega (arith, e))
-places_put (x ∷ cs) [] i p e c b is m = absurd (omega (arith, e))
-places_put (x ∷ cs) (y ∷ bs) zero p e c b is zero = is
-places_put (x ∷ cs) (y ∷ bs) zero p e c b is (suc m) = p (suc m)
-places_put (x ∷ cs) (y ∷ bs) (suc i) p e c b is zero = p zero
-places_put (x ∷ cs) (y ∷ bs) (suc i) p e c b is (suc m) = places_put cs bs i (λ k. p (suc k)) (omega (arith, e)) c b is m
+  put_at : (b : Option LoadedModule) (P : ℕ → Option ModuleCode → Module → Type 0) (cs : List ModuleCode) (bs : List (Option LoadedModule)) (i : ℕ)
+      → ((m : ℕ) → P m (slice_get cs m) (slice_index_or (modules_of bs) m unbuilt)) → length cs ≡ length bs → P i (Some c) (module_of b)
+      → (m : ℕ) → P m (slice_get (slice_set cs i c) m) (slice_index_or (modules_of (slice_set bs i b)) m unbuilt)
+  put_at b P [] [] i p e is m = p m
+  put_at b P [] (y ∷ bs) i p e is m = absurd (omega (arith, e))
+  put_at b P (x ∷ cs) [] i p e is m = absurd (omega (arith, e))
+  put_at b P (x ∷ cs) (y ∷ bs) zero p e is zero = is
+  put_at b P (x ∷ cs) (y ∷ bs) zero p e is (suc m) = p (suc m)
+  put_at b P (x ∷ cs) (y ∷ bs) (suc i) p e is zero = p zero
+  put_at b P (x ∷ cs) (y ∷ bs) (suc i) p e is (suc m) = put_at b (λ k. P (suc k)) cs bs i (λ k. p (suc k)) (omega (arith, e)) is m
+
+places_pushed : (cs : List ModuleCode) (bs : List (Option LoadedModule)) → Places cs bs → length cs ≡ length bs → (c : ModuleCode) → ((m : ℕ) → IsCodeOf m (Some c) unbuilt)
+    → Places (cs ++ c ∷ []) (bs ++ None ∷ [])
+places_pushed cs bs p e c is = pushed_at c IsCodeOf cs bs p e is
+
+places_put : (cs : List ModuleCode) (bs : List (Option LoadedModule)) (i : ℕ) → Places cs bs → length cs ≡ length bs → (c : ModuleCode) (b : Option LoadedModule)
+    → IsCodeOf i (Some c) (module_of b) → Places (slice_set cs i c) (slice_set bs i b)
+places_put cs bs i p e c b is = put_at c b IsCodeOf cs bs i p e is
 
 set_length : {A : Type 0} (xs : List A) (i : ℕ) (x : A) → length (slice_set xs i x) ≡ length xs
 set_length [] i x = refl
@@ -120,12 +145,12 @@ module _ (t t' : Table) (bs bs' : List (Option LoadedModule)) (is : IsLoaded t b
   pub loaded_same : t'.modules.items ≡ t.modules.items → bs' ≡ bs → IsLoaded t' bs'
   loaded_same same kept = subst (IsLoaded t') (sym kept) (loaded_by t' t.modules.items bs same is.holds.each is.same)
 
-  pub loaded_pushed : (c : ModuleCode) → t'.modules.items ≡ t.modules.items ++ c ∷ [] → bs' ≡ bs ++ None ∷ [] → IsCodeOf (Some c) unbuilt → IsLoaded t' bs'
+  pub loaded_pushed : (c : ModuleCode) → t'.modules.items ≡ t.modules.items ++ c ∷ [] → bs' ≡ bs ++ None ∷ [] → ((m : ℕ) → IsCodeOf m (Some c) unbuilt) → IsLoaded t' bs'
   loaded_pushed c pushed added is_code =
       let count : length (t.modules.items ++ c ∷ []) ≡ length (bs ++ None ∷ []) = length-append t.modules.items (c ∷ []) ∙ ap (λ n. n + 1) is.same ∙ sym (length-append bs (None ∷ [])) in
       subst (IsLoaded t') (sym added) (loaded_by t' (t.modules.items ++ c ∷ []) (bs ++ None ∷ []) pushed (places_pushed t.modules.items bs is.holds.each is.same c is_code) count)
 
-  pub loaded_put : (i : ℕ) (c : ModuleCode) (b : Option LoadedModule) → t'.modules.items ≡ slice_set t.modules.items i c → bs' ≡ slice_set bs i b → IsCodeOf (Some c) (module_of b) → IsLoaded t' bs'
+  pub loaded_put : (i : ℕ) (c : ModuleCode) (b : Option LoadedModule) → t'.modules.items ≡ slice_set t.modules.items i c → bs' ≡ slice_set bs i b → IsCodeOf i (Some c) (module_of b) → IsLoaded t' bs'
   loaded_put i c b put there is_code =
       let count : length (slice_set t.modules.items i c) ≡ length (slice_set bs i b) = set_length t.modules.items i c ∙ is.same ∙ sym (set_length bs i b) in
       subst (IsLoaded t') (sym there) (loaded_by t' (slice_set t.modules.items i c) (slice_set bs i b) put (places_put t.modules.items bs i is.holds.each is.same c b is_code) count)

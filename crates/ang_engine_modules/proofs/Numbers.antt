@@ -1,7 +1,6 @@
 -- The numbers of a module's initializers, one after the other.
 use Rattle.std.proofs.Common.{◌≡◌, ◌+◌, ◌-◌, ◌<◌, ◌≤◌, ℕ, suc, List, [], ◌∷◌, length, refl, sym, ap, ◌∙◌, arith}
-use Rattle.ang_lower.specs.Same.{routine}
-use Rattle.ang_source.specs.Meaning.{Code}
+use Rattle.ang_source.specs.Meaning.{Code, routine}
 use Rattle.ang_engine_modules.specs.Executed.{routines_from}
 use Rattle.ang_engine_modules.specs.Numbers.{routines_at}
 

@@ -12,8 +12,7 @@ use Rattle.ang_meaning.specs.Counting.{IsCounted}
 use Rattle.ang_meaning.specs.Setting.{Setting}
 use Rattle.ang_code.specs.Machine.{Config, call_begins, initializer_begins}
 use Rattle.ang_code.specs.Runs.{Stops}
-use Rattle.ang_source.specs.Meaning.{passings_in}
-use Rattle.ang_lower.specs.Same.{routine}
+use Rattle.ang_source.specs.Meaning.{passings_in, routine}
 use Rattle.ang_vm_stack.specs.declared.table.Table.{Table}
 use Rattle.ang_vm_stack.specs.Tables.{setting_of, texts_of}
 use Rattle.ang_vm.specs.Machines.{HasRun, HasInitialized}

@@ -7,7 +7,7 @@ use Rattle.ang_meaning.specs.declared.slot.Slot.{Slot}
 use Rattle.ang_meaning.specs.World.{World, with_inputs}
 use Rattle.ang_meaning.specs.Counting.{IsCounted}
 use Rattle.ang_code.specs.Machine.{call_begins}
-use Rattle.ang_lower.specs.Same.{routine}
+use Rattle.ang_source.specs.Meaning.{routine}
 use Rattle.ang_vm_stack.specs.declared.table.ModuleCode.{ModuleCode}
 use Rattle.ang_vm_stack.specs.declared.table.Table.{Table}
 use Rattle.ang_vm_stack.specs.Tables.{module_at as code_at, setting_of, texts_of}
@@ -52,6 +52,6 @@ module _ (t : Table) (xs now : List (Option LoadedModule)) (is : IsLoaded t xs) 
 -- a place more, or none where memory was refused
 pub loaded_added : {U E : Type 0} (t t' : Table) (xs xs' : List (Option LoadedModule)) → IsLoaded t xs → (r : Result U E) (c : ModuleCode)
     → OnOk r (t'.modules.items ≡ t.modules.items ++ c ∷ []) → OnErr r (t'.modules.items ≡ t.modules.items)
-    → OnOk r (xs' ≡ xs ++ None ∷ []) → OnErr r (xs' ≡ xs) → IsCodeOf (Some c) unbuilt → IsLoaded t' xs'
+    → OnOk r (xs' ≡ xs ++ None ∷ []) → OnErr r (xs' ≡ xs) → ((m : ℕ) → IsCodeOf m (Some c) unbuilt) → IsLoaded t' xs'
 loaded_added t t' xs xs' is (Ok u) c pushed kept added left code = loaded_pushed t t' xs xs' is c pushed added code
 loaded_added t t' xs xs' is (Err e) c pushed kept added left code = loaded_same t t' xs xs' is kept left

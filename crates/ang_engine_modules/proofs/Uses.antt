@@ -2,7 +2,7 @@
 use Rattle.std.proofs.Common.{◌≡◌, ◌≤◌, ℕ, zero, suc, List, [], ◌∷◌, take, length, refl, sym, ap, ◌∙◌, Option, Some}
 use Rattle.std.specs.Prelude.{map as list_map}
 use Rattle.std.proofs.lemmas.List.{take_all}
-use Rattle.ang_registry.specs.Registration.{RegistrationList}
+use Rattle.ang_view.specs.Registration.{RegistrationList}
 use Rattle.ang_meaning.specs.declared.host.HostUse.{HostUse}
 use Rattle.ang_typed.specs.declared.program.Global.{Global}
 use Rattle.ang_typed.specs.View.{view_global}

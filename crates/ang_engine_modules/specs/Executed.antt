@@ -7,11 +7,9 @@ use Rattle.ang_meaning.specs.declared.routine.Routine.{Routine}
 use Rattle.ang_meaning.specs.World.{World}
 use Rattle.ang_meaning.specs.Setting.{Setting}
 use Rattle.ang_meaning.specs.Results.{Reply}
-use Rattle.ang_source.specs.Meaning.{Code, default_in, codes_in, called_with, initialized_all, initializers_from, passings_in}
+use Rattle.ang_source.specs.Meaning.{Code, default_in, codes_in, called_with, initialized_all, initializers_from, passings_in, routine, heading_among, class_among, method_among}
 use Rattle.ang_lower.specs.Hosts.{use_in}
-use Rattle.ang_lower.specs.Same.{routine}
 use Rattle.ang_engine_modules.specs.Modules.{Module, module_at, trees_of}
-use Rattle.ang_engine_modules.specs.Trees.{imports_in, class_in, method_of, slots_in}
 
 -- ---- what stays the same while they run
 
@@ -22,11 +20,11 @@ setting_for ms nesting =
     record {
       name = λ m. (module_at ms m).name;
       host = λ m e. use_in (module_at ms m).view e;
-      imported = λ m i. slice_get (imports_in (module_at ms m).tree) i;
+      imported = λ m i. heading_among (module_at ms m).tree.imports i;
       linked = λ m i. option_flatten (slice_get (module_at ms m).links i);
-      class = λ m c. class_in (module_at ms m).tree c;
-      method = λ m c s. method_of (module_at ms m).tree c s;
-      slot = λ m s. slice_get (slots_in (module_at ms m).tree) s;
+      class = λ m c. class_among (module_at ms m).tree.classes c;
+      method = λ m c s. method_among m (module_at ms m).tree.classes c s;
+      slot = λ m s. heading_among (module_at ms m).tree.methods s;
       params = λ g. slice_get (passings_in (module_at ms g.home).tree) g.number;
       nesting = nesting;
     }

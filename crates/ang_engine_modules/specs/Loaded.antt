@@ -1,6 +1,7 @@
 -- Built modules as an engine keeps them for the machine: what they resolve to, and the table of their code.
-use Rattle.std.specs.Prelude.{◌≡◌, ◌<◌, ◌^◌, ℕ, List, [], length, slice_index_or, Option, Some, None, map as list_map}
-use Rattle.ang_registry.specs.Registration.{RegistrationList}
+use Rattle.std.specs.Prelude.{◌≡◌, ◌<◌, ◌^◌, ℕ, List, [], length, slice_get, slice_index_or, Option, Some, None, map as list_map}
+use Rattle.std.specs.Option.{option_flatten}
+use Rattle.ang_view.specs.Registration.{RegistrationList}
 use Rattle.ang_typed.specs.View.{view_typed}
 use Rattle.ang_meaning.specs.declared.host.HostUse.{HostUse}
 use Rattle.ang_code.specs.declared.instruction.RoutineCode.{RoutineCode}
@@ -14,7 +15,7 @@ use Rattle.ang_vm_stack.specs.declared.table.Table.{Table}
 use Rattle.ang_vm_stack.specs.Tables.{module_at as code_at, list_in}
 use Rattle.ang_engine_modules.specs.declared.modules.LoadedModule.{LoadedModule}
 use Rattle.ang_engine_modules.specs.Modules.{Module, unbuilt, module_at}
-use Rattle.ang_engine_modules.specs.Trees.{ScriptClass, imports_in, classes_in, slots_in}
+use Rattle.ang_engine_modules.specs.Trees.{ScriptClass, headings_in, classes_in}
 
 -- what stands in the place of a module
 abbrev pub loaded_at : List (Option LoadedModule) → ℕ → Option LoadedModule
@@ -40,24 +41,24 @@ class_of y = record { class = y.class; methods = y.methods.items }
 abbrev pub codes_of : Option ModuleCode → List RoutineCode
 codes_of c = list_in (λ y. y.bodies.items) c
 
--- A table's code is that of a module: its name, its view, what its tree declares, and what its tree is compiled to, so many bodies that a number has 32 bits;
--- the tree is sound over the view. No import is bound yet.
-pub record IsCodeOf (c : Option ModuleCode) (x : Module) : Type 0 where
+-- Code in the place m of a table is that of a module: its name, its view, what its tree declares, and what its tree is compiled to, so many bodies that a
+-- number has 32 bits; the tree is sound over the view. No import is bound yet.
+pub record IsCodeOf (m : ℕ) (c : Option ModuleCode) (x : Module) : Type 0 where
   pub name : list_in (λ y. y.name.items) c ≡ x.name
   pub entities : list_in (λ y. y.entities.items) c ≡ uses_of x.view
   pub passings : list_map (λ b. b.params.items) (codes_of c) ≡ passings_in x.tree
   pub compiled : IsCompiled x.tree (codes_of c)
   pub few : length (codes_of c) < 2 ^ 32
-  pub imports : list_map (λ y. y.params.items) (list_in (λ y. y.imports.items) c) ≡ imports_in x.tree
-  pub links : list_map (λ y. y.bound) (list_in (λ y. y.imports.items) c) ≡ x.links
+  pub imports : list_map (λ y. y.params.items) (list_in (λ y. y.imports.items) c) ≡ headings_in x.tree.imports
+  pub links : (i : ℕ) → option_flatten (slice_get (list_map (λ y. y.bound) (list_in (λ y. y.imports.items) c)) i) ≡ option_flatten (slice_get x.links i)
   pub unbound : x.links ≡ []
-  pub classes : list_map class_of (list_in (λ y. y.classes.items) c) ≡ classes_in x.tree
-  pub slots : list_map (λ y. y.items) (list_in (λ y. y.slots.items) c) ≡ slots_in x.tree
+  pub classes : list_map class_of (list_in (λ y. y.classes.items) c) ≡ classes_in m x.tree
+  pub slots : list_map (λ y. y.items) (list_in (λ y. y.slots.items) c) ≡ headings_in x.tree.methods
   pub sound : SoundProgram x.view x.tree
 
 -- the table is that of these modules, by number
 pub record IsTableOf (t : Table) (ms : List Module) : Type 0 where
-  pub each : (m : ℕ) → IsCodeOf (code_at t m) (module_at ms m)
+  pub each : (m : ℕ) → IsCodeOf m (code_at t m) (module_at ms m)
 
 -- the table has a place for each of these, which has its code
 pub record IsLoaded (t : Table) (xs : List (Option LoadedModule)) : Type 0 where

@@ -1,7 +1,7 @@
 -- The numbers of a module's initializers.
 use Rattle.std.specs.Prelude.{ℕ, zero, suc, List, [], ◌∷◌}
 use Rattle.ang_meaning.specs.declared.routine.Routine.{Routine}
-use Rattle.ang_lower.specs.Same.{routine}
+use Rattle.ang_source.specs.Meaning.{routine}
 
 -- so many routines of module m, from this number on
 abbrev pub routines_at : ℕ → ℕ → ℕ → List Routine

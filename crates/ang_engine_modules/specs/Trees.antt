@@ -1,32 +1,39 @@
--- What a module's tree declares beside its bodies: nothing yet, since no import and no class is built (docs/LANGUAGE.md).
-use Rattle.std.specs.Prelude.{ℕ, List, [], Option, option_map, slice_get}
-use Rattle.std.specs.Option.{option_flatten}
+-- What a module's tree declares beside its bodies, as the machine's table has it: its imports, the methods of its slots, and its classes.
+use Rattle.std.specs.Prelude.{ℕ, zero, suc, List, [], ◌∷◌, ◌++◌, length, map, Option, Some, None, option_and_then, slice_get}
+use Rattle.ang_typed.specs.declared.program.Class as families
+use Rattle.ang_typed.specs.declared.program.Heading.{Heading}
 use Rattle.ang_typed.specs.Typed as t
 use Rattle.ang_meaning.specs.declared.class.Class.{Class}
-use Rattle.ang_meaning.specs.declared.routine.Routine.{Routine}
 use Rattle.ang_meaning.specs.declared.routine.Passing.{Passing}
+use Rattle.ang_source.specs.Meaning.{passings_of, class_of, routine}
 use Rattle.ang_vm_stack.specs.declared.table.Method.{Method}
-use Rattle.ang_vm_stack.specs.Tables.{method_in}
 
--- a class, and the functions that stand in its slots
+-- how functions of these headings take their arguments, the last one first
+abbrev pub headings_in : List Heading → List (List Passing)
+headings_in hs = map (λ (h : Heading). passings_of h.parameters) hs
+
+-- the methods that a class of module m has itself, by slot
+abbrev pub own_methods : ℕ → List (ℕ × ℕ) → List Method
+own_methods m rows = map (λ (r : ℕ × ℕ). record { slot = r.0; function = routine m r.1 }) rows
+
+-- And behind them those of the classes above it, so that the nearest one of a slot is the first. The class and so many above it are asked.
+abbrev pub methods_by : ℕ → List families.Class → ℕ → Option families.Class → List Method
+methods_by m classes n None = []
+methods_by m classes zero (Some c) = own_methods m c.chosen
+methods_by m classes (suc n) (Some c) = own_methods m c.chosen ++ methods_by m classes n (option_and_then (slice_get classes) c.base)
+
+-- a class, and its methods
 pub record ScriptClass : Type 0 where
   pub class : Class
   pub methods : List Method
 
--- how its imports take their arguments
-abbrev pub imports_in : t.Program → List (List Passing)
-imports_in p = []
+abbrev pub script_class : ℕ → List families.Class → ℕ → families.Class → ScriptClass
+script_class m classes n c = record { class = class_of n c; methods = methods_by m classes (length classes) (Some c) }
 
-abbrev pub classes_in : t.Program → List ScriptClass
-classes_in p = []
+-- some of the classes of module m, counted from this number on
+abbrev pub classes_from : ℕ → List families.Class → ℕ → List families.Class → List ScriptClass
+classes_from m classes n [] = []
+classes_from m classes n (c ∷ cs) = script_class m classes n c ∷ classes_from m classes (suc n) cs
 
--- how the methods in its slots take their arguments
-abbrev pub slots_in : t.Program → List (List Passing)
-slots_in p = []
-
--- its class of a number, and the function in a slot of that class
-abbrev pub class_in : t.Program → ℕ → Option Class
-class_in p c = option_map (λ x. x.class) (slice_get (classes_in p) c)
-
-abbrev pub method_of : t.Program → ℕ → ℕ → Option Routine
-method_of p c s = option_flatten (option_map (λ x. method_in x.methods s) (slice_get (classes_in p) c))
+abbrev pub classes_in : ℕ → t.Program → List ScriptClass
+classes_in m p = classes_from m p.classes 0 p.classes

@@ -6,7 +6,7 @@ ghost use Rattle.ang_engine_modules.specs.Loaded.{uses_of};
 use ang_kinds::EntityNo;
 use ang_lower::host_use;
 use ang_meaning::HostUse;
-use ang_registry::{Entry, EntryKind, View};
+use ang_view::{Entry, EntryKind, View};
 use std::alloc::{AllocError, Global};
 
 /// How an entry is asked. A type is asked by nobody.

@@ -3,6 +3,7 @@
 //! built module").
 #![tactic(auto)]
 
+mod classes;
 mod entities;
 mod globals;
 mod modules;

@@ -22,8 +22,8 @@ use ang_host::{Driver, HostEvent};
 use ang_kinds::{Fault, List};
 use ang_meaning::{Routine, Slot};
 use ang_names::Names;
-use ang_registry::View;
 use ang_typed::Typed;
+use ang_view::View;
 use ang_vm::{Machine, run};
 use ang_vm_stack::table::{ModuleCode, Table};
 use std::alloc::{AllocError, Global};
@@ -140,8 +140,8 @@ impl Modules {
     /// it.
     ///
     /// # Errors
-    /// Want of memory. It is also answered where a number of a body, a function or a global has more than 32
-    /// bits, which no checked module has.
+    /// Want of memory. It is also answered where a number of a body, a function, a global or a class has more
+    /// than 32 bits, which no checked module has.
     pub fn load(&mut self, alloc: Global, home: u32, loaded: LoadedModule) -> Result<(), AllocError>
         requires sound { SoundProgram loaded.view (view_typed loaded.tree) }
         requires unbound { loaded.links ≡ [] }
@@ -149,7 +149,14 @@ impl Modules {
         ensures unchanged { OnErr result (self.new ≡ self.old) }
     {
         let codes = compile(alloc, &loaded.tree)?;
-        let code = code_of(alloc, loaded.name.as_slice(), &loaded.view, codes)?;
+        let code = code_of(
+            alloc,
+            home,
+            loaded.name.as_slice(),
+            &loaded.view,
+            &loaded.tree,
+            codes,
+        )?;
         put_code(&mut self.table.modules, home, code);
         put_loaded(&mut self.loaded, home, Some(loaded));
         Ok(())

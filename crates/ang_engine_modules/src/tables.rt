@@ -1,12 +1,17 @@
 //! The code of a module as the machine's table has it.
-ghost use Rattle.std.specs.Prelude.{◌≡◌, ◌<◌, ◌^◌, [], IfOk, length};
+ghost use Rattle.std.specs.Prelude.{◌≡◌, ◌<◌, ◌^◌, [], None, IfOk, length, map as list_map};
 ghost use Rattle.ang_engine_modules.specs.Loaded as spec;
+ghost use Rattle.ang_engine_modules.specs.Trees.{headings_in, classes_from};
 
+use crate::classes::classes_of;
 use crate::entities::uses_of;
 use ang_code::RoutineCode;
-use ang_registry::View;
+use ang_lower::passings;
+use ang_meaning::Passing;
+use ang_typed::{Heading, Typed};
+use ang_view::View;
 use ang_vm_fuse::body::Body;
-use ang_vm_stack::table::ModuleCode;
+use ang_vm_stack::table::{Import, ModuleCode};
 use std::alloc::{AllocError, Global};
 
 /// The code of bodies, each with its steps.
@@ -42,37 +47,77 @@ pub fn no_code(alloc: Global) -> ModuleCode
     }
 }
 
-/// A module's code: its bodies, and the entities of its view. It has no imports and no classes yet.
+/// How functions of these headings take their arguments, in order.
 ///
 /// # Errors
-/// Want of memory. It is also answered where a number of a body has more than 32 bits, as none of a checked
-/// module has.
+/// Want of memory.
+fn slots_of(alloc: Global, headings: &[Heading]) -> Result<Vec<Vec<Passing>>, AllocError>
+    ensures exact { IfOk result (λ slots. list_map (λ y. y.items) slots.items ≡ headings_in headings.now) }
+{
+    let mut slots = Vec::with_capacity(alloc, headings.len())?;
+    for heading in headings {
+        slots.push(passings(alloc, heading.parameters.as_slice())?)?;
+    }
+    Ok(slots)
+}
+
+/// Imports that are bound to nothing yet.
+///
+/// # Errors
+/// Want of memory.
+fn imports_of(alloc: Global, headings: &[Heading]) -> Result<Vec<Import>, AllocError>
+    ensures params { IfOk result (λ imports. list_map (λ y. y.params.items) imports.items ≡ headings_in headings.now) }
+    ensures bound { IfOk result (λ imports. list_map (λ y. y.bound) imports.items ≡ list_map (λ h. None) headings.now) }
+{
+    let mut imports = Vec::with_capacity(alloc, headings.len())?;
+    for heading in headings {
+        let params = passings(alloc, heading.parameters.as_slice())?;
+        imports.push(Import {
+            params,
+            bound: None,
+        })?;
+    }
+    Ok(imports)
+}
+
+/// A module's code in the place `home` of the table: its bodies, the entities of its view, and what
+/// its tree declares.
+///
+/// # Errors
+/// Want of memory. It is also answered where a number of a body or a class has more than 32 bits, as none of a
+/// checked module has.
 pub fn code_of(
     alloc: Global,
+    home: u32,
     name: &[u8],
     view: &View,
+    tree: &Typed,
     codes: Vec<RoutineCode>,
 ) -> Result<ModuleCode, AllocError>
     ensures name { IfOk result (λ m. m.name.items ≡ name.now) }
     ensures bodies { IfOk result (λ m. m.bodies.items ≡ codes.items) }
     ensures few { IfOk result (λ m. length m.bodies.items < 2 ^ 32) }
-    ensures imports { IfOk result (λ m. m.imports.items ≡ []) }
+    ensures imports { IfOk result (λ m. list_map (λ y. y.params.items) m.imports.items ≡ headings_in tree.now.imports) }
+    ensures bound { IfOk result (λ m. list_map (λ y. y.bound) m.imports.items ≡ list_map (λ h. None) tree.now.imports) }
     ensures entities { IfOk result (λ m. m.entities.items ≡ spec.uses_of view.now) }
-    ensures classes { IfOk result (λ m. m.classes.items ≡ []) }
-    ensures slots { IfOk result (λ m. m.slots.items ≡ []) }
+    ensures classes { IfOk result (λ m. list_map spec.class_of m.classes.items ≡ classes_from home tree.now.classes 0 tree.now.classes) }
+    ensures slots { IfOk result (λ m. list_map (λ y. y.items) m.slots.items ≡ headings_in tree.now.methods) }
 {
     if codes.len() > u32::MAX as usize {
         return Err(AllocError);
     }
     let name = Vec::from_slice(alloc, name)?;
     let entities = uses_of(alloc, view)?;
+    let imports = imports_of(alloc, tree.imports.as_slice())?;
+    let classes = classes_of(alloc, home, tree.classes.as_slice())?;
+    let slots = slots_of(alloc, tree.methods.as_slice())?;
     let bodies = bodies_of(alloc, codes)?;
     Ok(ModuleCode {
         name,
         bodies,
-        imports: Vec::new(alloc),
+        imports,
         entities,
-        classes: Vec::new(alloc),
-        slots: Vec::new(alloc),
+        classes,
+        slots,
     })
 }

@@ -4,7 +4,7 @@ use Rattle.std.specs.Prelude.{slice_get}
 use Rattle.std.specs.List.{AllZip}
 use Rattle.std.specs.declared.vec.Vec.{Vec}
 use Rattle.std.specs.declared.alloc.Global.{Global}
-use Rattle.ang_registry.specs.Registration.{RegistrationList}
+use Rattle.ang_view.specs.Registration.{RegistrationList}
 use Rattle.ang_typed.specs.Typed as tree
 use Rattle.ang_meaning.specs.declared.routine.Routine.{Routine}
 use Rattle.ang_meaning.specs.declared.routine.Passing.{Passing}
@@ -21,8 +21,11 @@ use Rattle.ang_gen_body.specs.Heights.{BelowBody}
 use Rattle.ang_gen_body.specs.Behaves.{outcome_of, IsCode}
 use Rattle.ang_gen_body.proofs.Bodies.{behaves}
 use Rattle.ang_source.specs.Meaning.{Codes, code_or, passings_in, called_with, initialized}
-use Rattle.ang_lower.specs.Same.{AreBodies, MeansSame}
-use Rattle.ang_lower.proofs.Modules.{params_are, means_program, keeps_sound, sound_together}
+use Rattle.ang_source.specs.Sound.{module_of}
+use Rattle.ang_lower.specs.Same.{AreBodies, AreLowered, MeansSame}
+use Rattle.ang_lower.proofs.Follows.{everywhere}
+use Rattle.ang_lower.proofs.Methods.{methods_fit}
+use Rattle.ang_lower.proofs.Modules.{params_are, lowers_program, keeps_sound, sound_together}
 use Rattle.ang_gen_body.specs.Programs.{IsBodyCode, items_in, statement_in, text_in, height_in, texts_of}
 use Rattle.ang_gen.specs.Compiled.{IsCompiled}
 use Rattle.ang_gen.specs.Behaves.{HasCodes, IsModule, sources_of, BehavesAsSource, NeverStuck}
@@ -79,7 +82,7 @@ module _ (z : Setting) (V : ℕ → RegistrationList) (program : ℕ → tree.Pr
   code_of g ps known =
       let x = ms g.home in
       found x.compiled.bodies x.codes g.number ps x.compiled.code
-      (ap (λ l. slice_get l g.number) (params_are (program g.home) x.compiled.bodies x.compiled.lowered) ∙ sym (x.functions.each g.number) ∙ known)
+      (ap (λ l. slice_get l g.number) (params_are (program g.home) x.compiled.bodies x.compiled.lowered) ∙ sym (x.program.bodies g.number) ∙ known)
 
   is_code : IsCode z bodies code
   is_code = record {
@@ -100,14 +103,17 @@ module _ (z : Setting) (V : ℕ → RegistrationList) (program : ℕ → tree.Pr
 
   are_sound : AreSound z bodies
   are_sound = sound_together z bodies
-      (λ m. (keeps_sound (program m) (ms m).compiled.bodies (ms m).compiled.lowered).sound (V m) z m bodies (ms m).sound (ms m).view (ms m).functions (are_bodies m))
+      (λ m. (keeps_sound (program m) (ms m).compiled.bodies (ms m).compiled.lowered).sound (V m) z m bodies (ms m).sound (ms m).view (ms m).program (are_bodies m))
       links
 
+  are_lowered : (m : ℕ) → AreLowered z m (module_of (V m) (program m)) bodies (sources_of program)
+  are_lowered m =
+      let x = ms m in
+      (lowers_program (program m) x.compiled.bodies x.compiled.lowered).lowered (V m) z m bodies (sources_of program) x.sound x.program (are_bodies m)
+      (record { each = λ k c there. ap code_or there })
+
   means : (g : Routine) → MeansSame z bodies (sources_of program) g
-  means g =
-      let x = ms g.home in
-      (means_program (program g.home) x.compiled.bodies x.compiled.lowered).means (V g.home) z g.home bodies (sources_of program) x.sound x.functions (are_bodies g.home)
-      (record { each = λ k c there. ap code_or there }) g.number
+  means g = everywhere z (λ m. module_of (V m) (program m)) bodies (sources_of program) are_lowered links g
 
   pub behaves_as_source : BehavesAsSource z (sources_of program) code
   behaves_as_source =
@@ -127,6 +133,14 @@ pub unbound_fit : (z : Setting) → ((m i : ℕ) → z.linked m i ≡ None) → 
 unbound_fit z none bare = record {
   same = λ m i g there. let e : None ≡ Some g = sym (none m i) ∙ there in absurd (cc);
   methods = λ m c s g there. let e : None ≡ Some g = sym (bare m c s) ∙ there in absurd (cc);
+}
+
+-- and in compiled modules, where methods fit their slots
+pub modules_fit : (z : Setting) (V : ℕ → RegistrationList) (program : ℕ → tree.Program) (code : Texts) → ((m : ℕ) → IsModule z m (V m) (program m) code)
+    → ((m i : ℕ) → z.linked m i ≡ None) → LinksFit z
+modules_fit z V program code ms none = record {
+  same = λ m i g there. let e : None ≡ Some g = sym (none m i) ∙ there in absurd (cc);
+  methods = λ m c s g there. methods_fit (V m) z m (program m) (ms m).sound (ms m).program c s g there;
 }
 
 -- ---- never stuck

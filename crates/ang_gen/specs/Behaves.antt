@@ -1,6 +1,6 @@
 -- Compiled modules do what their source means (docs/MEANING.md, "What a script means" and "Code").
 use Rattle.std.specs.Prelude.{◌≡◌, ◌≢◌, ℕ, List, [], length, Some, slice_get}
-use Rattle.ang_registry.specs.Registration.{RegistrationList}
+use Rattle.ang_view.specs.Registration.{RegistrationList}
 use Rattle.ang_typed.specs.Typed as t
 use Rattle.ang_meaning.specs.declared.slot.Slot.{Slot}
 use Rattle.ang_meaning.specs.declared.routine.Routine.{Routine}
@@ -10,10 +10,10 @@ use Rattle.ang_meaning.specs.Setting.{Setting}
 use Rattle.ang_code.specs.declared.instruction.RoutineCode.{RoutineCode}
 use Rattle.ang_code.specs.Machine.{Texts, Over, Stuck, steps, call_begins, initializer_begins}
 use Rattle.ang_gen_body.specs.Behaves.{outcome_of}
-use Rattle.ang_source.specs.Meaning.{Codes, codes_of, code_or, called_with, initialized}
+use Rattle.ang_source.specs.Meaning.{Codes, codes_of, code_or, routine, called_with, initialized}
 use Rattle.ang_source.specs.Sound.{SoundProgram}
 use Rattle.ang_lower.specs.Hosts.{HasView}
-use Rattle.ang_lower.specs.Same.{routine, HasProgram}
+use Rattle.ang_lower.specs.Same.{HasProgram}
 use Rattle.ang_gen.specs.Compiled.{IsCompiled}
 
 -- ---- what runs
@@ -23,11 +23,12 @@ pub record HasCodes (m : ℕ) (codes : List RoutineCode) (code : Texts) : Type 0
   pub text : (k : ℕ) (c : RoutineCode) → slice_get codes k ≡ Some c → code.text (routine m k) ≡ c.text.items
   pub height : (k : ℕ) (c : RoutineCode) → slice_get codes k ≡ Some c → code.height (routine m k) ≡ c.height
 
--- Module m of a run: its tree is sound over what it sees of the host, which the setting has, its functions are the setting's, and its texts are codes of it.
+-- Module m of a run: its tree is sound over what it sees of the host, which the setting has, its bodies, imports, methods and classes are the setting's, and
+-- its texts are codes of it.
 pub record IsModule (z : Setting) (m : ℕ) (V : RegistrationList) (p : t.Program) (code : Texts) : Type 0 where
   pub sound : SoundProgram V p
   pub view : HasView z m V
-  pub functions : HasProgram z m p
+  pub program : HasProgram z m p
   pub codes : List RoutineCode
   pub compiled : IsCompiled p codes
   pub texts : HasCodes m codes code

@@ -2,7 +2,7 @@
 ghost use Rattle.std.specs.Prelude.{◌≡◌, ℕ, List, None, Some, slice_get, slice_index_or};
 ghost use Rattle.std.specs.declared.alloc.Global.{Global};
 ghost use Rattle.std.specs.declared.vec.Vec.{Vec};
-ghost use Rattle.ang_registry.specs.Registration.{RegistrationList};
+ghost use Rattle.ang_view.specs.Registration.{RegistrationList};
 ghost use Rattle.ang_typed.specs.Typed.{Program};
 ghost use Rattle.ang_meaning.specs.Setting.{Setting};
 ghost use Rattle.ang_core.specs.Sound.{LinksFit};
@@ -33,11 +33,16 @@ pub fn texts_there()
         → HasCodes m codes.items (texts_of modules) }
 {}
 
-/// Where no import is bound and no class has a method, imports and methods lead where they may.
+/// Where no import is bound and no class has a method, imports and methods lead where they may. So they do in
+/// compiled modules, whose classes have methods that fit their slots.
 pub fn unbound_imports_fit()
     ensures fit { (z : Setting)
         → ((m i : ℕ) → z.linked m i ≡ None)
         → ((m c s : ℕ) → z.method m c s ≡ None)
+        → LinksFit z }
+    ensures of_modules { (z : Setting) (view : ℕ → RegistrationList) (program : ℕ → Program) (code : Texts)
+        → ((m : ℕ) → IsModule z m (view m) (program m) code)
+        → ((home import : ℕ) → z.linked home import ≡ None)
         → LinksFit z }
 {}
 

@@ -15,8 +15,8 @@ use crate::heap::Heap;
 use ang_host::{Driver, Drivers, HostEvent};
 use ang_meaning::Slot;
 
-/// What lies outside the stack of a run. Between commands a machine keeps it with `events` empty: a run
-/// puts the caller's list there, and takes it out again at its end.
+/// What lies outside the stack of a run. A run puts its caller's list in the place of `events`, and takes it
+/// out again at its end; between runs nothing is read of `events`, and nothing is said of what it holds.
 pub struct Store {
     /// The script objects.
     pub heap: Heap,

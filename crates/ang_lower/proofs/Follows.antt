@@ -9,17 +9,19 @@ use Rattle.ang_meaning.specs.declared.slot.Slot.{Slot}
 use Rattle.ang_meaning.specs.declared.routine.Routine.{Routine}
 use Rattle.ang_meaning.specs.declared.routine.Passing.{Passing}
 use Rattle.ang_meaning.specs.World.{World, or_else, give, give_all, memory_step}
-use Rattle.ang_meaning.specs.Setting.{Setting, target, has_objects, params_of}
-use Rattle.ang_meaning.specs.Results.{Went, Reply, Yields, Raises, Calls, ticked, with_value, finished, may_nest, entered, enter}
+use Rattle.ang_meaning.specs.Setting.{Setting, Found, Enters, Misses, target, has_objects, params_of}
+use Rattle.ang_meaning.specs.Results.{Went, Reply, Yields, Raises, Calls, ticked, with_value, finished, may_nest, entered, found_entered, enter}
 use Rattle.ang_core.specs.Meaning.{Bodies}
 use Rattle.ang_core.specs.Meaning as core
-use Rattle.ang_source.specs.Meaning.{Code, of_function, of_global, Codes, Callees, evaluate, run_code, passing_of, passings_of}
+use Rattle.ang_core.specs.Sound.{LinksFit}
+use Rattle.ang_source.specs.Meaning.{Code, of_function, of_global, Codes, Callees, callee_of, evaluate, run_code, passing_of, passings_of}
 use Rattle.ang_source.specs.Meaning as source
 use Rattle.ang_source.specs.Sound.{Module, declared_by}
 use Rattle.ang_lower.specs.Lowered as low
-use Rattle.ang_lower.specs.Same.{routine, SoundCode, AreLowered, MeansSame, AllMeanSame, TakeNothing}
+use Rattle.ang_lower.specs.Same.{SoundCode, AreLowered, MeansSame, AllMeanSame, TakeNothing}
 use Rattle.ang_lower.proofs.PlainMeaning as plain
 use Rattle.ang_lower.proofs.PlainMeaning.{run, plain_of, body_is}
+use Rattle.ang_lower.proofs.Callees.{takes}
 use Rattle.ang_lower.proofs.Values.{CalleesAgree, stored_same, value_same}
 use Rattle.ang_lower.proofs.Turns.{PassesAgree, block_same, statements_same, pass_same}
 
@@ -45,47 +47,53 @@ code_same z m M k k' callees p p' passes (of_global g e) n ls t w l h =
     ap (λ y. with_value y (λ v ls' t' w'. Went ls' t' (give v w')))
     (stored_same z m k k' n (variable.Global g) (low.lowered n e) (evaluate z m k' e ls t w) ls t w l (value_same z m M k k' callees e n ls t w l h.1)).same
 
-module _ (z : Setting) (m : ℕ) (M : Module) (bodies : Bodies) (codes : Codes) (are : AreLowered z m M bodies codes) where
-  record Follows (n : ℕ) : Type 0 where
-    bodies_go : (d k : ℕ) (ps : List Passing) (vs : List Slot) (t : ℕ) (w : World) → z.params (routine m k) ≡ Some ps → length ps ≡ length vs
-        → plain.body_at z (plain_of bodies) n d (routine m k) vs t w ≡ source.body_at z codes n d (routine m k) vs t w
-    passes_go : (d : ℕ) → PassesAgree M (plain.pass_at z (plain_of bodies) n d m) (source.pass_at z codes n d m)
+-- a call, where what it enters does the same
+found_same : (z : Setting) (b b' : Calls) (d : ℕ) (f : Found) (vs : List Slot) (t : ℕ) (w : World) → ((g : Routine) → f ≡ Enters g → (t' : ℕ) (w' : World) → b g vs t' w' ≡ b' g vs t' w')
+    → found_entered z b d f vs t w ≡ found_entered z b' d f vs t w
+found_same z b b' d (Enters g) vs t w h = entered_same z b b' d g vs t w (h g refl)
+found_same z b b' d (Misses x) vs t w h = refl
 
-  callees_at : (n d : ℕ) → Follows n → CalleesAgree M (enter z (plain.body_at z (plain_of bodies) n (suc d)) d m) (enter z (source.body_at z codes n (suc d)) d m)
-  unfolding target
-  callees_at n d under f ps vs t w at count =
-      entered_same z (plain.body_at z (plain_of bodies) n (suc d)) (source.body_at z codes n (suc d)) d (routine m f) vs t w
-      (λ t' w'. under.bodies_go (suc d) f (passings_of ps) vs t' w' (are.functions.each f ps at) (passings_count ps ∙ sym count))
+-- ---- all modules: an import leads from one to another
+
+module _ (z : Setting) (M : ℕ → Module) (bodies : Bodies) (codes : Codes) (are : (m : ℕ) → AreLowered z m (M m) bodies codes) (links : LinksFit z) where
+  record Follows (n : ℕ) : Type 0 where
+    bodies_go : (d : ℕ) (g : Routine) (ps : List Passing) (vs : List Slot) (t : ℕ) (w : World) → z.params g ≡ Some ps → length ps ≡ length vs
+        → plain.body_at z (plain_of bodies) n d g vs t w ≡ source.body_at z codes n d g vs t w
+    passes_go : (d m : ℕ) → PassesAgree (M m) (plain.pass_at z (plain_of bodies) n d m) (source.pass_at z codes n d m)
+
+  callees_at : (n d m : ℕ) → Follows n → CalleesAgree (M m) (enter z (plain.body_at z (plain_of bodies) n (suc d)) d m) (enter z (source.body_at z codes n (suc d)) d m)
+  callees_at n d m under f ps vs t w at count =
+      found_same z (plain.body_at z (plain_of bodies) n (suc d)) (source.body_at z codes n (suc d)) d (target z m (callee_of f) vs w) vs t w
+      (λ g e t' w'. under.bodies_go (suc d) g (passings_of ps) vs t' w' (takes z m (M m) (are m).callees links f ps at g vs w e) (passings_count ps ∙ sym count))
 
   follows : (n : ℕ) → Follows n
-  follows zero = record { bodies_go = λ d k ps vs t w known count. refl; passes_go = λ d n e ss steps ls t w l h. record { same = refl; keeps = tt } }
+  follows zero = record { bodies_go = λ d g ps vs t w known count. refl; passes_go = λ d m n e ss steps ls t w l h. record { same = refl; keeps = tt } }
   follows (suc n) =
       let under = follows n in
       record {
-        bodies_go = λ d k ps vs t w known count.
-            let g = routine m k in
+        bodies_go = λ d g ps vs t w known count.
+            let m = g.home in
             let calls = enter z (plain.body_at z (plain_of bodies) n (suc d)) d m in
             let passes = plain.pass_at z (plain_of bodies) n d m in
-            ap (λ s. finished (params_of z g) (run z m calls passes s vs t w)) (are.lowered k ps known).same
+            ap (λ s. finished (params_of z g) (run z m calls passes s vs t w)) ((are m).lowered g.number ps known).same
             ∙ ap (λ r. finished (params_of z g) r)
-            (code_same z m M calls (enter z (source.body_at z codes n (suc d)) d m) (callees_at n d under) passes (source.pass_at z codes n d m) (under.passes_go d)
-            (codes g) (length ps) vs t w (sym count) (are.sound k ps known));
-        passes_go = λ d i e ss steps ls t w l h.
-            pass_same z m M (enter z (plain.body_at z (plain_of bodies) n (suc d)) d m) (enter z (source.body_at z codes n (suc d)) d m) (callees_at n d under)
-            (plain.pass_at z (plain_of bodies) n d m) (source.pass_at z codes n d m) (under.passes_go d) i e ss steps ls t w l h;
+            (code_same z m (M m) calls (enter z (source.body_at z codes n (suc d)) d m) (callees_at n d m under) passes (source.pass_at z codes n d m) (under.passes_go d m)
+            (codes g) (length ps) vs t w (sym count) ((are m).sound g.number ps known));
+        passes_go = λ d m i e ss steps ls t w l h.
+            pass_same z m (M m) (enter z (plain.body_at z (plain_of bodies) n (suc d)) d m) (enter z (source.body_at z codes n (suc d)) d m) (callees_at n d m under)
+            (plain.pass_at z (plain_of bodies) n d m) (source.pass_at z codes n d m) (under.passes_go d m) i e ss steps ls t w l h;
       }
 
-  begun_same : (k : ℕ) (ps : List Passing) (vs : List Slot) (t : ℕ) (w : World) → z.params (routine m k) ≡ Some ps → length ps ≡ length vs
-      → core.begun z bodies (routine m k) vs t w ≡ source.begun z codes (routine m k) vs t w
-  begun_same k ps vs t w known count =
-      let at_body : (w' : World) → core.body_at z bodies (suc t) 0 (routine m k) vs t w' ≡ source.body_at z codes (suc t) 0 (routine m k) vs t w' =
-      λ w'. body_is z bodies (suc t) 0 (routine m k) vs t w' ∙ (follows (suc t)).bodies_go 0 k ps vs t w' known count in
+  begun_same : (g : Routine) (ps : List Passing) (vs : List Slot) (t : ℕ) (w : World) → z.params g ≡ Some ps → length ps ≡ length vs → core.begun z bodies g vs t w ≡ source.begun z codes g vs t w
+  begun_same g ps vs t w known count =
+      let at_body : (w' : World) → core.body_at z bodies (suc t) 0 g vs t w' ≡ source.body_at z codes (suc t) 0 g vs t w' =
+      λ w'. body_is z bodies (suc t) 0 g vs t w' ∙ (follows (suc t)).bodies_go 0 g ps vs t w' known count in
       λ j. or_else (memory_step w) (λ w'. Raises Memory (give_all vs w')) (λ w'. at_body w' j)
 
-  pub means_same : (k : ℕ) → MeansSame z bodies codes (routine m k)
-  means_same k = record {
-    calls = λ budget ps vs w known count. λ j. ticked budget (Raises Budget (give_all vs w)) (λ t. begun_same k ps vs t w known count j);
-    initializers = λ t w known. begun_same k [] [] t w known refl;
+  pub everywhere : (g : Routine) → MeansSame z bodies codes g
+  everywhere g = record {
+    calls = λ budget ps vs w known count. λ j. ticked budget (Raises Budget (give_all vs w)) (λ t. begun_same g ps vs t w known count j);
+    initializers = λ t w known. begun_same g [] [] t w known refl;
   }
 
 -- ---- initializers in turn
@@ -100,15 +108,12 @@ all_same z bodies codes (g ∷ gs) t w h =
     ap (λ r. core.then_initialized r (λ t' w'. core.initialized_all z bodies gs t' w')) (h.1.initializers t w h.0)
     ∙ after_one (source.initialized z codes t g w) _ _ (λ t' w'. all_same z bodies codes gs t' w' h.2)
 
--- ---- all modules
+-- ---- a build's initializers
 
-module _ (z : Setting) (M : ℕ → Module) (bodies : Bodies) (codes : Codes) (are : (m : ℕ) → AreLowered z m (M m) bodies codes) where
-  pub everywhere : (g : Routine) → MeansSame z bodies codes g
-  everywhere g = means_same z g.home (M g.home) bodies codes (are g.home) g.number
-
+module _ (z : Setting) (M : ℕ → Module) (bodies : Bodies) (codes : Codes) (are : (m : ℕ) → AreLowered z m (M m) bodies codes) (links : LinksFit z) where
   all_mean : (gs : List Routine) → TakeNothing z gs → AllMeanSame z bodies codes gs
   all_mean [] h = tt
-  all_mean (g ∷ gs) h = (h.0, everywhere g, all_mean gs h.1)
+  all_mean (g ∷ gs) h = (h.0, everywhere z M bodies codes are links g, all_mean gs h.1)
 
   pub builds_same : (gs : List Routine) (t : ℕ) (w : World) → TakeNothing z gs → core.initialized_all z bodies gs t w ≡ source.initialized_all z codes gs t w
   builds_same gs t w h = all_same z bodies codes gs t w (all_mean gs h)

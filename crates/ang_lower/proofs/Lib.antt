@@ -3,8 +3,11 @@ pub mod PlainMeaning
 pub mod Ends
 pub mod Values
 pub mod Turns
+pub mod Callees
 pub mod Follows
 pub mod PlainSound
 pub mod Sounds
 pub mod Views
+pub mod Headings
+pub mod Methods
 pub mod Modules

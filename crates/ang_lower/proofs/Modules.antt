@@ -2,23 +2,23 @@
 use Rattle.std.proofs.Common.{◌≡◌, ℕ, zero, suc, ◌+◌, ◌<◌, ◌≤◌, List, [], ◌∷◌, ◌++◌, length, refl, sym, ap, ◌∙◌, subst, arith, Option, Some, None, map}
 use Rattle.std.specs.Prelude.{false, slice_get}
 use Rattle.std.proofs.lemmas.Option.{get_or_from_slice_get}
-use Rattle.ang_registry.specs.Registration.{RegistrationList}
-use Rattle.ang_typed.specs.declared.program.Parameter.{Parameter}
+use Rattle.ang_view.specs.Registration.{RegistrationList}
 use Rattle.ang_typed.specs.Typed as tree
 use Rattle.ang_meaning.specs.declared.routine.Passing.{Passing}
 use Rattle.ang_meaning.specs.Setting.{Setting}
 use Rattle.ang_core.specs.declared.tree.Body.{Body}
 use Rattle.ang_core.specs.Meaning.{Bodies}
 use Rattle.ang_core.specs.Sound.{LinksFit, AreSound}
-use Rattle.ang_source.specs.Meaning.{Code, of_function, Codes, passings_of, codes_of, codes_in, code_or, passings_in, initializer_of, initializers_from, nothing}
+use Rattle.ang_source.specs.Meaning.{Code, of_function, Codes, passings_of, codes_of, codes_in, code_or, passings_in, initializer_of, initializers_from, nothing, routine}
 use Rattle.ang_source.specs.Sound.{Module, module_of, SoundOption, SoundStatements, SoundFunctions, SoundGlobals, SoundProgram}
 use Rattle.ang_lower.specs.Tree as c
 use Rattle.ang_lower.specs.Plain.{plain_stmt, plain_body}
 use Rattle.ang_lower.specs.Lowered.{lowered_code, lowered_function, lowered_initializer, lowered_globals, lowered_module}
 use Rattle.ang_lower.specs.Hosts.{HasView}
-use Rattle.ang_lower.specs.Same.{routine, SoundCode, AreLowered, AreSoundIn, HasProgram, AreBodies, AreCodes, MeansProgram, KeepsSound}
+use Rattle.ang_lower.specs.Same.{SoundCode, AreLowered, AreSoundIn, HasProgram, AreBodies, AreCodes, LowersProgram, KeepsSound}
 use Rattle.ang_lower.proofs.PlainSound.{IsSoundStmt, statement_is}
-use Rattle.ang_lower.proofs.Follows.{passings_count, means_same}
+use Rattle.ang_lower.proofs.Headings.{has_callees}
+use Rattle.ang_lower.proofs.Follows.{passings_count}
 use Rattle.ang_lower.proofs.Sounds.{code_sound}
 
 -- each body with its code and how its parameters take their arguments
@@ -85,22 +85,16 @@ plain_at [] k x e = absurd (cc)
 plain_at (b ∷ bs) zero x e = record { body = b; body_at = refl; same = let s : plain_body b ≡ x = cc in s }
 plain_at (b ∷ bs) (suc k) x e = let r = plain_at bs k x e in record { body = r.body; body_at = r.body_at; same = r.same }
 
-passings_at : (fs : List tree.Function) (rest : List (List Passing)) (f : ℕ) (ps : List Parameter) → slice_get (map (λ x. x.parameters) fs) f ≡ Some ps
-    → slice_get (map (λ x. passings_of x.parameters) fs ++ rest) f ≡ Some (passings_of ps)
-passings_at [] rest f ps e = absurd (cc)
-passings_at (x ∷ fs) rest zero ps e = let same : x.parameters ≡ ps = cc in ap (λ qs. Some (passings_of qs)) same
-passings_at (x ∷ fs) rest (suc f) ps e = passings_at fs rest f ps e
-
 -- ---- modules
 
 module _ (p : tree.Program) (bs : List Body) (exact : map plain_body bs ≡ lowered_module p) where
   module _ (V : RegistrationList) (z : Setting) (m : ℕ) (bodies : Bodies) (codes : Codes) (sound : SoundProgram V p) (has : HasProgram z m p) (are : AreBodies m bs bodies) (code : AreCodes m p codes) where
     at : (k : ℕ) (ps : List Passing) → z.params (routine m k) ≡ Some ps → FitAt (module_of V p) (codes_of p) (lowered_module p) k ps
-    at k ps known = fit_at (module_of V p) (passings_in p) (codes_of p) (lowered_module p) k ps (module_fits V p sound) (sym (has.each k) ∙ known)
+    at k ps known = fit_at (module_of V p) (passings_in p) (codes_of p) (lowered_module p) k ps (module_fits V p sound) (sym (has.bodies k) ∙ known)
 
     are_lowered : AreLowered z m (module_of V p) bodies codes
     are_lowered = record {
-      functions = record { each = λ f ps there. has.each f ∙ passings_at p.functions (map (λ x. []) (initializers_from 0 p.globals)) f ps there };
+      callees = has_callees V z m p has;
       lowered = λ k ps known.
           let f = at k ps known in
           let b = plain_at bs k f.body (ap (λ l. slice_get l k) exact ∙ f.body_at) in
@@ -110,15 +104,15 @@ module _ (p : tree.Program) (bs : List Body) (exact : map plain_body bs ≡ lowe
           subst (λ x. SoundCode (module_of V p) (length ps) x) (sym (code.each k f.code f.code_at)) f.sound;
     }
 
-  pub means_program : MeansProgram p bs
-  means_program = record { means = λ V z m bodies codes sound has are code k. means_same z m (module_of V p) bodies codes (are_lowered V z m bodies codes sound has are code) k }
+  pub lowers_program : LowersProgram p bs
+  lowers_program = record { lowered = λ V z m bodies codes sound has are code. are_lowered V z m bodies codes sound has are code }
 
 -- the bodies of a module that are lowered from sound code
 pub sound_in : (z : Setting) (m : ℕ) (M : Module) (bodies : Bodies) (codes : Codes) → AreLowered z m M bodies codes → HasView z m M.view → AreSoundIn z m bodies
 sound_in z m M bodies codes are view = record {
   each = λ k ps known.
       statement_is z m false (length ps) (bodies (routine m k))
-      (subst (λ s. IsSoundStmt z m false (length ps) s) (sym (are.lowered k ps known).same) (code_sound z m M are.functions view (codes (routine m k)) (length ps) (are.sound k ps known)));
+      (subst (λ s. IsSoundStmt z m false (length ps) s) (sym (are.lowered k ps known).same) (code_sound z m M are.callees view (codes (routine m k)) (length ps) (are.sound k ps known)));
 }
 
 -- the code of a program under whatever number

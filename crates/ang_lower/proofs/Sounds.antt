@@ -7,19 +7,23 @@ use Rattle.ang_kinds.specs.declared.types.Pass.{Pass}
 use Rattle.ang_kinds.specs.declared.types.Pass.TheVariants as pass
 use Rattle.ang_types.specs.declared.arg_type.ArgType.{ArgType}
 use Rattle.ang_types.specs.declared.arg_type.ArgType.TheVariants as type
-use Rattle.ang_registry.specs.declared.entry.EntryKind.{EntryKind}
-use Rattle.ang_registry.specs.declared.entry.EntryKind.TheVariants as kind
-use Rattle.ang_registry.specs.Registration.{is_type}
+use Rattle.ang_view.specs.declared.entry.EntryKind.{EntryKind}
+use Rattle.ang_view.specs.declared.entry.EntryKind.TheVariants as kind
+use Rattle.ang_view.specs.Registration.{is_type}
 use Rattle.ang_typed.specs.declared.expression.HostEntity.{HostEntity}
 use Rattle.ang_typed.specs.declared.expression.Variable.{Variable}
 use Rattle.ang_typed.specs.declared.expression.Variable.TheVariants as variable
+use Rattle.ang_typed.specs.declared.expression.Member.{Member}
+use Rattle.ang_typed.specs.declared.expression.Member.TheVariants as member
+use Rattle.ang_typed.specs.declared.expression.Callee as typed
+use Rattle.ang_typed.specs.declared.expression.Callee.TheVariants as callee
 use Rattle.ang_typed.specs.declared.program.Parameter.{Parameter}
 use Rattle.ang_typed.specs.Typed as tree
 use Rattle.ang_meaning.specs.declared.class.ValueKind.{ValueKind}
 use Rattle.ang_meaning.specs.declared.class.ValueKind.TheVariants.{Number, Handle}
 use Rattle.ang_meaning.specs.declared.operation.Change.{Change}
 use Rattle.ang_meaning.specs.declared.operation.Operation.{Operation}
-use Rattle.ang_meaning.specs.declared.operation.Operation.TheVariants.{Work, Compare, Convert, Negate, Complement, Not, GlobalGet, GlobalSet, GlobalChange, Ask, Read, Write, Alter}
+use Rattle.ang_meaning.specs.declared.operation.Operation.TheVariants.{Work, Compare, Convert, Negate, Complement, Not, Same, GlobalGet, GlobalSet, GlobalChange, Ask, Read, Write, Alter, Make, FieldGet, FieldSet, FieldChange, Cast}
 use Rattle.ang_meaning.specs.declared.routine.Callee.TheVariants.{Own}
 use Rattle.ang_meaning.specs.declared.routine.Passing.{Passing}
 use Rattle.ang_meaning.specs.declared.routine.Passing.TheVariants.{In, Out, Object}
@@ -28,12 +32,12 @@ use Rattle.ang_meaning.specs.Numbers.{is_signed, converted, negated, complemente
 use Rattle.ang_meaning.specs.Setting.{Setting, host_in, is_fit, is_called_by, is_property, may_call, may_access, may_write}
 use Rattle.ang_meaning.specs.Perform.{operands, member_count}
 use Rattle.ang_core.specs.Sound.{out_count, Fits, AreSpots}
-use Rattle.ang_source.specs.Meaning.{Code, of_function, of_global, referred, passing_by, passing_of, passings_of, kind_of, work_of, test_of, compound_of, step_of}
-use Rattle.ang_source.specs.Sound.{Module, IsEntity, IsHostFunction, IsWritable, IsVariable, IsStored, Sound, SoundArguments, SoundOption, SoundEach, SoundLocals, SoundStatement, SoundStatements, argument_count, declared, declared_by}
+use Rattle.ang_source.specs.Meaning.{Code, of_function, of_global, callee_of, referred, passing_by, passing_of, passings_of, kind_of, work_of, test_of, compound_of, step_of}
+use Rattle.ang_source.specs.Sound.{Module, GivesNoObject, IsEntity, IsHostCallee, IsWritable, argument_number, IsVariable, IsStored, IsMember, IsStoredMember, parameters_of, Sound, SoundArguments, SoundOption, SoundEach, SoundLocals, SoundStatement, SoundStatements, argument_count, declared, declared_by}
 use Rattle.ang_lower.specs.Tree as c
 use Rattle.ang_lower.specs.Lowered as low
 use Rattle.ang_lower.specs.Hosts.{host_type_of, is_member, role_in, is_constant, use_of, asked_as, HasView}
-use Rattle.ang_lower.specs.Same.{SoundCode, HasFunctions}
+use Rattle.ang_lower.specs.Same.{SoundCode, HasCallees}
 use Rattle.ang_lower.proofs.PlainSound.{operand_count, IsSound, AreSoundArgs, leaves, leaves_all, IsSoundStmt, AreSoundStmts}
 use Rattle.ang_lower.proofs.Values.{EachSound, each_argument, each_value, as_many}
 use Rattle.ang_lower.proofs.Follows.{passings_count}
@@ -95,6 +99,9 @@ spots_are M n (p ∷ ps) (tree.more (tree.out (variable.Local i) from to) args) 
     spots_are M n ps args (low.with_target n (tree.out (variable.Local i) from to) found) h.1 (omega arith, ok)
 spots_are M n (p ∷ ps) (tree.more (tree.out (variable.Global g) from to) args) found h ok = spots_are M n ps args (low.with_target n (tree.out (variable.Global g) from to) found) h.1 (tt, ok)
 spots_are M n (p ∷ ps) (tree.more (tree.out (variable.Property x) from to) args) found h ok = absurd h.0.1
+spots_are M n (p ∷ ps) (tree.more (tree.out (variable.Field i) from to) args) found h ok =
+    let lt : 0 < n = h.0.1 in
+    spots_are M n ps args (low.with_target n (tree.out (variable.Field i) from to) found) h.1 (omega arith, ok)
 
 -- ---- operations
 
@@ -102,45 +109,93 @@ lowered_count : (n : ℕ) (args : tree.Args) → operand_count (c.exprs (low.low
 lowered_count n tree.none = refl
 lowered_count n (tree.more a args) = ap suc (lowered_count n args)
 
-module _ (z : Setting) (m : ℕ) (M : Module) (functions : HasFunctions z m M) (view : HasView z m M.view) where
+module _ (z : Setting) (m : ℕ) (M : Module) (callees : HasCallees z m M) (view : HasView z m M.view) where
   -- the host's entity is what the view has
   found : (kind : EntryKind) (h : HostEntity) (e : IsEntity M.view kind h) → is_type kind ≡ false → z.host m h.entity.0 ≡ Some (use_of e.entry)
   found kind h e no_type =
       view.each h.entity.0 ∙ ap asked_as e.in_view ∙ ap (λ b. if b then None else Some (use_of e.entry)) (ap is_type e.same_kind ∙ no_type)
 
+  -- how many operands its receiver is
+  receiver_count : (k : EntryKind) (h : HostEntity) (e : IsEntity M.view k h) → is_type k ≡ false → member_count (host_in (z.host m h.entity.0)).member ≡ member_count (is_member k)
+  receiver_count k h e no_type = ap (λ o. member_count (host_in o).member) (found k h e no_type) ∙ ap (λ kd. member_count (is_member kd)) e.same_kind
+
+  -- a global property, and a property of an object, which is its operand
   may_read : (h : HostEntity) → IsEntity M.view kind.Global h → may_access (z.host m h.entity.0) ≡ true
   may_read h e = ap may_access (found kind.Global h e refl) ∙ ap (λ kd. is_property (role_in kd e.entry.f)) e.same_kind
 
-  no_member : (k : EntryKind) (h : HostEntity) (e : IsEntity M.view k h) → is_type k ≡ false → is_member k ≡ false → member_count (host_in (z.host m h.entity.0)).member ≡ 0
-  no_member k h e no_type away = ap (λ o. member_count (host_in o).member) (found k h e no_type) ∙ ap (λ kd. member_count (is_member kd)) e.same_kind ∙ ap member_count away
+  may_read_of : (h : HostEntity) → IsEntity M.view kind.Property h → may_access (z.host m h.entity.0) ≡ true
+  may_read_of h e = ap may_access (found kind.Property h e refl) ∙ ap (λ kd. is_property (role_in kd e.entry.f)) e.same_kind
 
   read_fits : (h : HostEntity) → IsEntity M.view kind.Global h → (0 ≡ operands z m (Read h.entity)) × (is_fit z m (Read h.entity) ≡ true)
   unfolding operands is_fit
-  read_fits h e = (sym (no_member kind.Global h e refl refl), may_read h e)
+  read_fits h e = (sym (receiver_count kind.Global h e refl), may_read h e)
 
-  may_store : (h : HostEntity) → IsWritable M.view h → may_write (z.host m h.entity.0) ≡ true
+  read_of_fits : (h : HostEntity) → IsEntity M.view kind.Property h → (1 ≡ operands z m (Read h.entity)) × (is_fit z m (Read h.entity) ≡ true)
+  unfolding operands is_fit
+  read_of_fits h e = (sym (receiver_count kind.Property h e refl), may_read_of h e)
+
+  may_store : (h : HostEntity) → IsWritable M.view kind.Global h → may_write (z.host m h.entity.0) ≡ true
   may_store h w =
       let e = w.entity in
       let x = e.entry in
       ap may_write (found kind.Global h e refl)
       ∙ ap (λ kd. is_property (role_in kd x.f) && not (is_constant kd x.f x.signature.read_only)) e.same_kind ∙ ap not w.not_const
 
-  write_fits : (h : HostEntity) → IsWritable M.view h → (1 ≡ operands z m (Write h.entity)) × (is_fit z m (Write h.entity) ≡ true)
-  unfolding operands is_fit
-  write_fits h w = let alone = no_member kind.Global h w.entity refl refl in (omega (arith, alone), may_store h w)
-
-  alter_fits : (h : HostEntity) (by : Change) → IsWritable M.view h → (1 ≡ operands z m (Alter h.entity by)) × (is_fit z m (Alter h.entity by) ≡ true)
-  unfolding operands is_fit
-  alter_fits h by w = let alone = no_member kind.Global h w.entity refl refl in (omega (arith, alone), may_store h w)
-
-  ask_fits : (h : HostEntity) (count : ℕ) → IsHostFunction M.view h count → (count ≡ operands z m (Ask h.entity)) × (is_fit z m (Ask h.entity) ≡ true)
-  unfolding operands is_fit
-  ask_fits h count f =
-      let e = f.entity in
+  may_store_in : (h : HostEntity) → IsWritable M.view kind.Property h → may_write (z.host m h.entity.0) ≡ true
+  may_store_in h w =
+      let e = w.entity in
       let x = e.entry in
-      let alone = no_member kind.Function h e refl refl in
-      let many : length (host_in (z.host m h.entity.0)).params ≡ count = ap (λ o. length (host_in o).params) (found kind.Function h e refl) ∙ length-map x.signature.params (λ p. host_type_of p.ty) ∙ f.params in
-      (omega (arith, alone, many), ap may_call (found kind.Function h e refl) ∙ ap (λ kd. is_called_by (role_in kd x.f) (is_member kd) (host_type_of x.signature.result)) e.same_kind)
+      ap may_write (found kind.Property h e refl)
+      ∙ ap (λ kd. is_property (role_in kd x.f) && not (is_constant kd x.f x.signature.read_only)) e.same_kind ∙ ap not w.not_const
+
+  write_fits : (h : HostEntity) → IsWritable M.view kind.Global h → (1 ≡ operands z m (Write h.entity)) × (is_fit z m (Write h.entity) ≡ true)
+  unfolding operands is_fit
+  write_fits h w = let alone = receiver_count kind.Global h w.entity refl in (omega (arith, alone), may_store h w)
+
+  write_in_fits : (h : HostEntity) → IsWritable M.view kind.Property h → (2 ≡ operands z m (Write h.entity)) × (is_fit z m (Write h.entity) ≡ true)
+  unfolding operands is_fit
+  write_in_fits h w = let one = receiver_count kind.Property h w.entity refl in (omega (arith, one), may_store_in h w)
+
+  alter_fits : (h : HostEntity) (by : Change) → IsWritable M.view kind.Global h → (1 ≡ operands z m (Alter h.entity by)) × (is_fit z m (Alter h.entity by) ≡ true)
+  unfolding operands is_fit
+  alter_fits h by w = let alone = receiver_count kind.Global h w.entity refl in (omega (arith, alone), may_store h w)
+
+  alter_in_fits : (h : HostEntity) (by : Change) → IsWritable M.view kind.Property h → (2 ≡ operands z m (Alter h.entity by)) × (is_fit z m (Alter h.entity by) ≡ true)
+  unfolding operands is_fit
+  alter_in_fits h by w = let one = receiver_count kind.Property h w.entity refl in (omega (arith, one), may_store_in h w)
+
+  -- how many arguments it declares
+  param_count : (k : EntryKind) (h : HostEntity) (e : IsEntity M.view k h) → is_type k ≡ false → length (host_in (z.host m h.entity.0)).params ≡ length e.entry.signature.params
+  param_count k h e no_type =
+      let x = e.entry in
+      ap (λ o. length (host_in o).params) (found k h e no_type) ∙ length-map x.signature.params (λ p. host_type_of p.ty)
+
+  may_be_called : (k : EntryKind) (h : HostEntity) (e : IsEntity M.view k h) → is_type k ≡ false
+      → may_call (z.host m h.entity.0) ≡ is_called_by (role_in k e.entry.f) (is_member k) (host_type_of e.entry.signature.result)
+  may_be_called k h e no_type =
+      let x = e.entry in
+      ap may_call (found k h e no_type) ∙ ap (λ kd. is_called_by (role_in kd x.f) (is_member kd) (host_type_of x.signature.result)) e.same_kind
+
+  asked_fits : (k : EntryKind) (h : HostEntity) (count : ℕ) (e : IsEntity M.view k h) → argument_number k (length e.entry.signature.params) ≡ Some count
+      → (count ≡ operands z m (Ask h.entity)) × (is_fit z m (Ask h.entity) ≡ true)
+  unfolding operands is_fit
+  asked_fits kind.HostType h count e same = absurd (cc)
+  asked_fits kind.Factory h count e same = absurd (subst (λ kd. GivesNoObject kd e.entry.signature.result) e.same_kind e.no_object.result)
+  asked_fits kind.Method h count e same =
+      let one = receiver_count kind.Method h e refl in
+      let many = param_count kind.Method h e refl in
+      let is : suc (length e.entry.signature.params) ≡ count = cc in
+      (omega (arith, one, many, is), may_be_called kind.Method h e refl)
+  asked_fits kind.Property h count e same = absurd (cc)
+  asked_fits kind.Function h count e same =
+      let alone = receiver_count kind.Function h e refl in
+      let many = param_count kind.Function h e refl in
+      let is : length e.entry.signature.params ≡ count = cc in
+      (omega (arith, alone, many, is), may_be_called kind.Function h e refl)
+  asked_fits kind.Global h count e same = absurd (cc)
+
+  ask_fits : (h : HostEntity) (count : ℕ) → IsHostCallee M.view h count → (count ≡ operands z m (Ask h.entity)) × (is_fit z m (Ask h.entity) ≡ true)
+  ask_fits h count f = asked_fits f.kind h count f.entity f.params
 
   -- ---- expressions
 
@@ -167,35 +222,80 @@ module _ (z : Setting) (m : ℕ) (M : Module) (functions : HasFunctions z m M) (
   binary_sound : (n : ℕ) (o : Operation) (a b : c.Expr) → (2 ≡ operands z m o) × (is_fit z m o ≡ true) → IsSound z m n a → IsSound z m n b → IsSound z m n (low.binary o a b)
   binary_sound n o a b f h i = (f.0, f.1, (h, (i, tt)))
 
+  this_sound : (n : ℕ) → 0 < n → IsSound z m n (low.this_at n)
+  this_sound n lt = omega (arith, lt)
+
   read_sound : (n : ℕ) (x : Variable) → IsVariable M n x → IsSound z m n (low.read n x)
   unfolding operands is_fit
   read_sound n (variable.Local i) h = omega arith
   read_sound n (variable.Global g) h = nullary_sound n (GlobalGet g) (refl, refl)
   read_sound n (variable.Property p) h = nullary_sound n (Read p.entity) (read_fits p h)
+  read_sound n (variable.Field i) h = unary_sound n (FieldGet i) (low.this_at n) (refl, refl) (this_sound n h)
 
   stored_sound : (n : ℕ) (x : Variable) (e : c.Expr) → IsStored M n x → IsSound z m n e → IsSound z m n (low.stored n x e)
   unfolding operands is_fit
   stored_sound n (variable.Local i) e h s = (omega arith, s)
   stored_sound n (variable.Global g) e h s = unary_sound n (GlobalSet g) e (refl, refl) s
   stored_sound n (variable.Property p) e h s = unary_sound n (Write p.entity) e (write_fits p h) s
+  stored_sound n (variable.Field i) e h s = binary_sound n (FieldSet i) e (low.this_at n) (refl, refl) s (this_sound n h)
 
   changed_sound : (n : ℕ) (x : Variable) (by : Change) (e : c.Expr) → IsStored M n x → IsSound z m n e → IsSound z m n (low.changed n x by e)
   unfolding operands is_fit
   changed_sound n (variable.Local i) by e h s = (omega arith, s)
   changed_sound n (variable.Global g) by e h s = unary_sound n (GlobalChange g by) e (refl, refl) s
   changed_sound n (variable.Property p) by e h s = unary_sound n (Alter p.entity by) e (alter_fits p by h) s
+  changed_sound n (variable.Field i) by e h s = binary_sound n (FieldChange i by) e (low.this_at n) (refl, refl) s (this_sound n h)
 
-  call_fits : (n f : ℕ) (ps : List Parameter) (args : tree.Args) → slice_get M.parameters f ≡ Some ps → SoundArguments M n ps args
-      → Fits z m (Own f) (operand_count (c.exprs (low.lowered_args n args))) (length (low.targets_of n args))
-  call_fits n f ps args at h = record {
-    params = passings_of ps;
-    known = functions.each f ps at;
-    count = passings_count ps ∙ sym (as_many M n ps args h) ∙ sym (lowered_count n args);
+  -- members of objects
+
+  read_member_sound : (n : ℕ) (a : Member) (o : c.Expr) → IsMember M a → IsSound z m n o → IsSound z m n (low.unary (low.reading a) o)
+  unfolding operands is_fit
+  read_member_sound n (member.Field i) o h s = unary_sound n (FieldGet i) o (refl, refl) s
+  read_member_sound n (member.Property p) o h s = unary_sound n (Read p.entity) o (read_of_fits p h) s
+
+  member_stored_sound : (n : ℕ) (a : Member) (e o : c.Expr) → IsStoredMember M a → IsSound z m n e → IsSound z m n o → IsSound z m n (low.binary (low.writing a) e o)
+  unfolding operands is_fit
+  member_stored_sound n (member.Field i) e o h s u = binary_sound n (FieldSet i) e o (refl, refl) s u
+  member_stored_sound n (member.Property p) e o h s u = binary_sound n (Write p.entity) e o (write_in_fits p h) s u
+
+  member_changed_sound : (n : ℕ) (a : Member) (by : Change) (e o : c.Expr) → IsStoredMember M a → IsSound z m n e → IsSound z m n o → IsSound z m n (low.binary (low.altering a by) e o)
+  unfolding operands is_fit
+  member_changed_sound n (member.Field i) by e o h s u = binary_sound n (FieldChange i by) e o (refl, refl) s u
+  member_changed_sound n (member.Property p) by e o h s u = binary_sound n (Alter p.entity by) e o (alter_in_fits p by h) s u
+
+  -- ---- calls
+
+  -- as many arguments as there are parameters, and as many targets as `&out` parameters
+  values_count : (n : ℕ) (ps : List Parameter) (args : tree.Args) → SoundArguments M n ps args → length (passings_of ps) ≡ operand_count (c.exprs (low.lowered_args n args))
+  values_count n ps args h = passings_count ps ∙ sym (as_many M n ps args h) ∙ sym (lowered_count n args)
+
+  outs_count : (n : ℕ) (ps : List Parameter) (args : tree.Args) → SoundArguments M n ps args → out_count (passings_of ps) ≡ length (low.targets_of n args)
+  outs_count n ps args h =
+      let turned = out_turned (map (λ p. passing_of p) ps) in
+      let outs = outs_are M n ps args h in
+      let many = target_count n args [] in
+      omega (arith, turned, outs, many)
+
+  call_fits : (n : ℕ) (f : typed.Callee) (ps : List Parameter) (args : tree.Args) → parameters_of M f ≡ Some ps → SoundArguments M n ps args
+      → Fits z m (callee_of f) (operand_count (c.exprs (low.lowered_args n args))) (length (low.targets_of n args))
+  call_fits n (callee.Own f) ps args at h =
+      record { params = passings_of ps; known = callees.functions f ps at; count = values_count n ps args h; given = outs_count n ps args h }
+  call_fits n (callee.Import i) ps args at h = (passings_of ps, callees.imports i ps at, values_count n ps args h, outs_count n ps args h)
+  call_fits n (callee.Chosen s) ps args at h = (passings_of ps, callees.methods s ps at, values_count n ps args h, outs_count n ps args h)
+
+  -- a constructor's own object is its first argument
+  make_fits : (n f : ℕ) (own : Parameter) (ps : List Parameter) (args : tree.Args) → slice_get M.parameters f ≡ Some (own ∷ ps) → (own.pass ≢ pass.RefOut) → SoundArguments M n ps args
+      → Fits z m (Own f) (suc (operand_count (c.exprs (low.lowered_args n args)))) (length (low.targets_of n args))
+  make_fits n f own ps args at taken h = record {
+    params = passings_of (own ∷ ps);
+    known = callees.functions f (own ∷ ps) at;
+    count = passings_count (own ∷ ps) ∙ ap suc (sym (as_many M n ps args h) ∙ sym (lowered_count n args));
     given =
-        let turned = out_turned (map (λ p. passing_of p) ps) in
+        let turned = out_turned (map (λ p. passing_of p) (own ∷ ps)) in
+        let first = takes_none own.pass own.ty (map (λ p. passing_of p) ps) taken in
         let outs = outs_are M n ps args h in
         let many = target_count n args [] in
-        omega (arith, turned, outs, many);
+        omega (arith, turned, first, outs, many);
   }
 
   mutual
@@ -204,7 +304,9 @@ module _ (z : Setting) (m : ℕ) (M : Module) (functions : HasFunctions z m M) (
     pub lowered_sound : (e : tree.Expr) (n : ℕ) → Sound M n e → IsSound z m n (low.lowered n e)
     lowered_sound (tree.number ty x) n h = tt
     lowered_sound (tree.truth b) n h = tt
-    lowered_sound (tree.variable x ty) n h = read_sound n x h
+    lowered_sound (tree.read (tree.named x) ty) n h = read_sound n x h
+    lowered_sound (tree.read (tree.member_of o a) ty) n h = read_member_sound n a (low.lowered n o) h.0 (lowered_sound o n h.1)
+    lowered_sound tree.null n h = tt
     lowered_sound (tree.convert from to e) n h = folded_sound n (converted to) (Convert to) (low.lowered n e) (refl, refl) (lowered_sound e n h)
     lowered_sound (tree.negate ty e) n h = folded_sound n (negated ty) (Negate ty) (low.lowered n e) (refl, refl) (lowered_sound e n h)
     lowered_sound (tree.complement ty e) n h = folded_sound n (complemented ty) (Complement ty) (low.lowered n e) (refl, refl) (lowered_sound e n h)
@@ -214,9 +316,21 @@ module _ (z : Setting) (m : ℕ) (M : Module) (functions : HasFunctions z m M) (
     lowered_sound (tree.and a b) n h = (lowered_sound a n h.0, lowered_sound b n h.1, tt)
     lowered_sound (tree.or a b) n h = (lowered_sound a n h.0, tt, lowered_sound b n h.1)
     lowered_sound (tree.choose a b d) n h = (lowered_sound a n h.0, lowered_sound b n h.1, lowered_sound d n h.2)
-    lowered_sound (tree.assign x ty e) n h = stored_sound n x (low.lowered n e) h.0 (lowered_sound e n h.1)
-    lowered_sound (tree.compound x ty op at e) n h = changed_sound n x (compound_of ty op at) (low.lowered n e) h.0 (lowered_sound e n h.1)
-    lowered_sound (tree.step x ty kd) n h = changed_sound n x (step_of ty kd) (c.number 1) h tt
+    lowered_sound (tree.same a b) n h = binary_sound n Same (low.lowered n a) (low.lowered n b) (refl, refl) (lowered_sound a n h.0) (lowered_sound b n h.1)
+    lowered_sound (tree.cast family e) n h = unary_sound n (Cast family) (low.lowered n e) (refl, refl) (lowered_sound e n h.1)
+    lowered_sound (tree.make family None args) n h = nullary_sound n (Make family) (refl, callees.classes family h.0)
+    lowered_sound (tree.make family (Some f) args) n h = (
+      make_fits n f h.1.0 h.1.1 args h.1.2 h.1.3 h.1.4,
+      spots_are M n h.1.1 args [] h.1.4 tt,
+      (nullary_sound n (Make family) (refl, callees.classes family h.0), args_sound args n (each_argument M n h.1.1 args h.1.4)),
+    )
+    lowered_sound (tree.assign (tree.named x) ty e) n h = stored_sound n x (low.lowered n e) h.0 (lowered_sound e n h.1)
+    lowered_sound (tree.assign (tree.member_of o a) ty e) n h = member_stored_sound n a (low.lowered n e) (low.lowered n o) h.0 (lowered_sound e n h.2) (lowered_sound o n h.1)
+    lowered_sound (tree.compound (tree.named x) ty op at e) n h = changed_sound n x (compound_of ty op at) (low.lowered n e) h.0 (lowered_sound e n h.1)
+    lowered_sound (tree.compound (tree.member_of o a) ty op at e) n h =
+        member_changed_sound n a (compound_of ty op at) (low.lowered n e) (low.lowered n o) h.0 (lowered_sound e n h.2) (lowered_sound o n h.1)
+    lowered_sound (tree.step (tree.named x) ty kd) n h = changed_sound n x (step_of ty kd) (c.number 1) h tt
+    lowered_sound (tree.step (tree.member_of o a) ty kd) n h = member_changed_sound n a (step_of ty kd) (c.number 1) (low.lowered n o) h.0 tt (lowered_sound o n h.1)
     lowered_sound (tree.call f ty args) n h = (call_fits n f h.0 args h.1 h.2, spots_are M n h.0 args [] h.2 tt, args_sound args n (each_argument M n h.0 args h.2))
     lowered_sound (tree.host_call p ty args) n h =
         let f = ask_fits p (argument_count args) h.0 in

@@ -1,8 +1,8 @@
 -- What a module sees of the host is what its view has.
 use Rattle.std.proofs.Common.{◌≡◌, ℕ, Bool, true, false, Option, Some, None, refl, sym, ◌∙◌}
 use Rattle.std.specs.Prelude.{if◌then◌else◌}
-use Rattle.ang_registry.specs.declared.entry.Entry.{Entry}
-use Rattle.ang_registry.specs.Registration.{RegistrationList, entry_at, is_type}
+use Rattle.ang_view.specs.declared.entry.Entry.{Entry}
+use Rattle.ang_view.specs.Registration.{RegistrationList, entry_at, is_type}
 use Rattle.ang_meaning.specs.declared.host.HostUse.{HostUse}
 use Rattle.ang_meaning.specs.Setting.{Setting}
 use Rattle.ang_lower.specs.Hosts.{use_of, asked_as, HasView, IsOfView}

@@ -5,20 +5,22 @@ use Rattle.ang_kinds.specs.declared.primitive.Primitive.{Primitive}
 use Rattle.ang_types.specs.declared.arg_type.ArgType.{ArgType}
 use Rattle.ang_typed.specs.declared.expression.Variable.{Variable}
 use Rattle.ang_typed.specs.declared.expression.Variable.TheVariants as variable
+use Rattle.ang_typed.specs.declared.expression.Member.{Member}
+use Rattle.ang_typed.specs.declared.expression.Member.TheVariants as member
 use Rattle.ang_typed.specs.Typed as t
 use Rattle.ang_typed.specs.View.{Repeated}
 use Rattle.ang_meaning.specs.declared.class.ValueKind.{ValueKind}
 use Rattle.ang_meaning.specs.declared.class.ValueKind.TheVariants.{Number, Handle}
 use Rattle.ang_meaning.specs.declared.operation.Change.{Change}
 use Rattle.ang_meaning.specs.declared.operation.Operation.{Operation}
-use Rattle.ang_meaning.specs.declared.operation.Operation.TheVariants.{Work, Compare, Convert, Negate, Complement, Not, GlobalGet, GlobalSet, GlobalChange, Ask, Read, Write, Alter}
+use Rattle.ang_meaning.specs.declared.operation.Operation.TheVariants.{Work, Compare, Convert, Negate, Complement, Not, Same, GlobalGet, GlobalSet, GlobalChange, Ask, Read, Write, Alter, Make, FieldGet, FieldSet, FieldChange, Cast}
 use Rattle.ang_meaning.specs.declared.routine.Callee.TheVariants.{Own}
 use Rattle.ang_meaning.specs.declared.routine.Spot.{Spot}
 use Rattle.ang_meaning.specs.declared.routine.Spot.TheVariants as spot
 use Rattle.ang_meaning.specs.declared.routine.Target.{Target}
 use Rattle.ang_meaning.specs.Numbers.{truth, is_signed, converted, negated, complemented, denied}
 use Rattle.ang_core.specs.declared.tree.Statement.{Statement}
-use Rattle.ang_source.specs.Meaning.{Code, of_function, of_global, work_of, test_of, compound_of, step_of, brought_to, kind_of, passings_of}
+use Rattle.ang_source.specs.Meaning.{Code, of_function, of_global, work_of, test_of, compound_of, step_of, brought_to, kind_of, callee_of, passings_of}
 use Rattle.ang_source.specs.Sound.{declared, declared_by}
 use Rattle.ang_lower.specs.Tree as c
 use Rattle.ang_lower.specs.Plain.{plain_stmt}
@@ -65,26 +67,34 @@ denial e = folded denied Not e
 
 -- ---- variables
 
+-- `this`, which is local 0
+abbrev pub this_at : ℕ → c.Expr
+this_at n = c.local (n - suc 0)
+
 abbrev pub read : ℕ → Variable → c.Expr
 read n (variable.Local i) = c.local (n - suc i)
 read n (variable.Global g) = c.apply (GlobalGet g) c.none
 read n (variable.Property h) = c.apply (Read h.entity) c.none
+read n (variable.Field i) = unary (FieldGet i) (this_at n)
 
 abbrev pub stored : ℕ → Variable → c.Expr → c.Expr
 stored n (variable.Local i) e = c.assign (n - suc i) e
 stored n (variable.Global g) e = unary (GlobalSet g) e
 stored n (variable.Property h) e = unary (Write h.entity) e
+stored n (variable.Field i) e = binary (FieldSet i) e (this_at n)
 
 abbrev pub changed : ℕ → Variable → Change → c.Expr → c.Expr
 changed n (variable.Local i) by e = c.change (n - suc i) by e
 changed n (variable.Global g) by e = unary (GlobalChange g by) e
 changed n (variable.Property h) by e = unary (Alter h.entity by) e
+changed n (variable.Field i) by e = binary (FieldChange i by) e (this_at n)
 
 -- where a variable stands that an `&out` value moves into; no host property is one
 abbrev pub spot_of : ℕ → Variable → Spot
 spot_of n (variable.Local i) = spot.Local (n - suc i)
 spot_of n (variable.Global g) = spot.Global g
 spot_of n (variable.Property h) = spot.Local 0
+spot_of n (variable.Field i) = spot.Field (n - suc 0) i
 
 -- in front of the targets that there are
 abbrev pub with_target : ℕ → t.Arg → List Target → List Target
@@ -99,6 +109,23 @@ targets_behind n (t.more a args) found = targets_behind n args (with_target n a 
 abbrev pub targets_of : ℕ → t.Args → List Target
 targets_of n args = targets_behind n args []
 
+-- ---- members of objects
+
+-- what reads a member of its operand
+abbrev pub reading : Member → Operation
+reading (member.Field i) = FieldGet i
+reading (member.Property h) = Read h.entity
+
+-- what stores its first operand into a member of the second
+abbrev pub writing : Member → Operation
+writing (member.Field i) = FieldSet i
+writing (member.Property h) = Write h.entity
+
+-- what changes a member of its second operand by the first
+abbrev pub altering : Member → Change → Operation
+altering (member.Field i) by = FieldChange i by
+altering (member.Property h) by = Alter h.entity by
+
 -- ---- expressions
 
 -- what stands for a value of that kind that nobody wrote
@@ -110,11 +137,21 @@ initial_by Handle = c.null
 abbrev pub initial : ArgType → c.Expr
 initial ty = initial_by (kind_of ty)
 
+-- a new object of a class
+abbrev pub made : ℕ → c.Expr
+made family = c.apply (Make family) c.none
+
+-- It is the first argument of its constructor, where one runs.
+abbrev pub made_by : ℕ → Option ℕ → List c.Expr → List Target → c.Expr
+made_by family None values outs = made family
+made_by family (Some k) values outs = c.call (Own k) (c.exprs (made family ∷ values)) outs
+
 abbrev mutual
   pub lowered : ℕ → t.Expr → c.Expr
   lowered n (t.number ty x) = c.number x
   lowered n (t.truth b) = c.number (truth b)
-  lowered n (t.variable x ty) = read n x
+  lowered n (t.read x ty) = lowered_read n x
+  lowered n t.null = c.null
   lowered n (t.convert from to e) = conversion to (lowered n e)
   lowered n (t.negate ty e) = negation ty (lowered n e)
   lowered n (t.complement ty e) = complement ty (lowered n e)
@@ -124,11 +161,29 @@ abbrev mutual
   lowered n (t.and l r) = c.choose (lowered n l) (lowered n r) (c.number 0)
   lowered n (t.or l r) = c.choose (lowered n l) (c.number 1) (lowered n r)
   lowered n (t.choose a l r) = c.choose (lowered n a) (lowered n l) (lowered n r)
-  lowered n (t.assign x ty e) = stored n x (lowered n e)
-  lowered n (t.compound x ty op at e) = changed n x (compound_of ty op at) (lowered n e)
-  lowered n (t.step x ty kind) = changed n x (step_of ty kind) (c.number 1)
-  lowered n (t.call f ty args) = c.call (Own f) (c.exprs (lowered_args n args)) (targets_of n args)
+  lowered n (t.same l r) = binary Same (lowered n l) (lowered n r)
+  lowered n (t.cast family e) = unary (Cast family) (lowered n e)
+  lowered n (t.make family constructor args) = made_by family constructor (lowered_args n args) (targets_of n args)
+  lowered n (t.assign x ty e) = lowered_store n x (lowered n e)
+  lowered n (t.compound x ty op at e) = lowered_change n x (compound_of ty op at) (lowered n e)
+  lowered n (t.step x ty kind) = lowered_change n x (step_of ty kind) (c.number 1)
+  lowered n (t.call f ty args) = c.call (callee_of f) (c.exprs (lowered_args n args)) (targets_of n args)
   lowered n (t.host_call h ty args) = c.apply (Ask h.entity) (c.exprs (lowered_args n args))
+
+  -- what stands at a site
+  pub lowered_read : ℕ → t.Site → c.Expr
+  lowered_read n (t.named x) = read n x
+  lowered_read n (t.member_of o a) = unary (reading a) (lowered n o)
+
+  -- a value is stored there; a member's object comes behind it
+  pub lowered_store : ℕ → t.Site → c.Expr → c.Expr
+  lowered_store n (t.named x) v = stored n x v
+  lowered_store n (t.member_of o a) v = binary (writing a) v (lowered n o)
+
+  -- and is changed by an operand
+  pub lowered_change : ℕ → t.Site → Change → c.Expr → c.Expr
+  lowered_change n (t.named x) by v = changed n x by v
+  lowered_change n (t.member_of o a) by v = binary (altering a by) v (lowered n o)
 
   pub lowered_args : ℕ → t.Args → List c.Expr
   lowered_args n t.none = []

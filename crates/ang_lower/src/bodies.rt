@@ -4,7 +4,7 @@ ghost use Rattle.ang_typed.specs.View.{view_block, view_expr, view_function, vie
 ghost use Rattle.ang_source.specs.Meaning.{referred, passing_of, passings_of, passings_in, of_global};
 ghost use Rattle.ang_lower.specs.Plain.{plain_body, plain_stmt};
 ghost use Rattle.ang_lower.specs.Lowered as spec;
-ghost use Rattle.ang_lower.specs.Same.{MeansProgram, KeepsSound};
+ghost use Rattle.ang_lower.specs.Same.{LowersProgram, KeepsSound};
 
 use crate::expressions::lower_expression;
 use crate::statements::lower_block;
@@ -47,7 +47,10 @@ fn each_passing(alloc: Global, parameters: &[Parameter]) -> Result<Vec<Passing>,
 }
 
 /// How parameters take their arguments, the last one first.
-fn passings(alloc: Global, parameters: &[Parameter]) -> Result<Vec<Passing>, AllocError>
+///
+/// # Errors
+/// Want of memory.
+pub fn passings(alloc: Global, parameters: &[Parameter]) -> Result<Vec<Passing>, AllocError>
     ensures exact { IfOk result (λ v. v.items ≡ passings_of parameters.now) }
 {
     let mut found = each_passing(alloc, parameters)?;
@@ -138,16 +141,16 @@ fn bodies_of(alloc: Global, program: &Typed) -> Result<Vec<Body>, AllocError>
 /// The bodies of a module by number: the functions', and then the initializers', each in the order of
 /// declaration.
 ///
-/// Wherever they are the bodies of a module whose tree is sound, each of them means what its source means,
-/// and keeps what the generator wants of it.
+/// Wherever they are the bodies of a module whose tree is sound, they are lowered from what each of them means,
+/// which they then mean too ([`crate::laws::everywhere_same`]), and they keep what the generator wants of them.
 ///
 /// # Errors
 /// Want of memory. It is also answered where a local is not alive, a host property is passed for `&out`, or
-/// a number of a function or a global has more than 32 bits, which no checked module has.
+/// a number has more than 32 bits, which no checked module has.
 pub fn lower(alloc: Global, program: &Typed) -> Result<Vec<Body>, AllocError>
     ensures exact { IfOk result (λ bodies. list_map plain_body bodies.items ≡ spec.lowered_module (view_typed program.now)) }
     ensures params { IfOk result (λ bodies. list_map (λ b. b.params.items) bodies.items ≡ passings_in (view_typed program.now)) }
-    ensures means { IfOk result (λ bodies. MeansProgram (view_typed program.now) bodies.items) }
+    ensures lowered { IfOk result (λ bodies. LowersProgram (view_typed program.now) bodies.items) }
     ensures sound { IfOk result (λ bodies. KeepsSound (view_typed program.now) bodies.items) }
 {
     let bodies = bodies_of(alloc, program)?;

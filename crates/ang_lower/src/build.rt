@@ -34,6 +34,14 @@ pub fn with_operand(
     Ok(found)
 }
 
+/// One more operand at the end.
+pub fn add_operand(found: &mut Vec<Expression>, operand: Expression) -> Result<(), AllocError>
+    ensures exact { OnOk result (list_map plain_expr found.new.items ≡ list_map plain_expr found.old.items ++ (plain_expr operand ∷ [])) }
+{
+    found.push(operand)?;
+    Ok(())
+}
+
 /// An operation without operands.
 pub fn nullary(alloc: Global, operation: Operation) -> Expression
     ensures exact { plain_expr result ≡ tree.apply operation tree.none }

@@ -5,7 +5,7 @@ ghost use Rattle.ang_lower.specs.Hosts as spec;
 use ang_host::Role;
 use ang_kinds::{List, Param, TypeRef};
 use ang_meaning::{HostType, HostUse};
-use ang_registry::{Entry, EntryKind};
+use ang_view::{Entry, EntryKind};
 use std::alloc::{AllocError, Global};
 
 fn host_type(ty: &TypeRef) -> HostType

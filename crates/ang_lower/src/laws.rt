@@ -7,22 +7,13 @@ ghost use Rattle.ang_meaning.specs.Setting.{Setting};
 ghost use Rattle.ang_core.specs.Meaning.{Bodies};
 ghost use Rattle.ang_core.specs.Meaning as core;
 ghost use Rattle.ang_core.specs.Sound.{LinksFit, AreSound};
-ghost use Rattle.ang_source.specs.Meaning.{Codes, codes_in};
+ghost use Rattle.ang_source.specs.Meaning.{Codes, codes_in, routine};
 ghost use Rattle.ang_source.specs.Meaning as source;
-ghost use Rattle.ang_source.specs.Sound.{Module};
-ghost use Rattle.ang_registry.specs.Registration.{RegistrationList};
+ghost use Rattle.ang_source.specs.Sound.{Module, SoundProgram};
+ghost use Rattle.ang_view.specs.Registration.{RegistrationList};
 ghost use Rattle.ang_meaning.specs.declared.host.HostUse.{HostUse};
 ghost use Rattle.ang_lower.specs.Hosts.{HasView, IsOfView};
-ghost use Rattle.ang_lower.specs.Same.{routine, AreLowered, AreSoundIn, AreCodes, MeansSame, AllMeanSame, TakeNothing};
-
-/// Where the bodies of a module are lowered from sound code, each of them ends as its source says: for
-/// every budget, arguments and world, called by a command or run as an initializer.
-#[tactic(auto, using(crate::proofs::Follows::means_same))]
-pub fn means_same()
-    ensures same { (z : Setting) (m : ℕ) (M : Module) (bodies : Bodies) (codes : Codes)
-        → AreLowered z m M bodies codes
-        → (k : ℕ) → MeansSame z bodies codes (routine m k) }
-{}
+ghost use Rattle.ang_lower.specs.Same.{AreLowered, AreSoundIn, AreCodes, HasProgram, MeansSame, AllMeanSame, TakeNothing};
 
 /// A build's initializers in turn end as their sources say, if each of them does.
 #[tactic(auto, using(crate::proofs::Follows::all_same))]
@@ -32,16 +23,27 @@ pub fn initializers_same()
         → core.initialized_all z bodies gs t w ≡ source.initialized_all z codes gs t w }
 {}
 
-/// Where the bodies of all modules are lowered from sound code, every body ends as its source says, and so do
-/// initializers in turn.
+/// Where the bodies of all modules are lowered from sound code, and imports and methods lead where they may, every
+/// body ends as its source says: for every budget, arguments and world, called by a command or run as an
+/// initializer. So do initializers in turn.
 pub fn everywhere_same()
     ensures each { (z : Setting) (M : ℕ → Module) (bodies : Bodies) (codes : Codes)
         → ((m : ℕ) → AreLowered z m (M m) bodies codes)
+        → LinksFit z
         → (g : Routine) → MeansSame z bodies codes g }
     ensures initializers { (z : Setting) (M : ℕ → Module) (bodies : Bodies) (codes : Codes)
         → ((m : ℕ) → AreLowered z m (M m) bodies codes)
+        → LinksFit z
         → (gs : List Routine) (t : ℕ) (w : World) → TakeNothing z gs
         → core.initialized_all z bodies gs t w ≡ source.initialized_all z codes gs t w }
+{}
+
+/// A method that a class of a sound tree has in a slot takes what the methods of the slot take.
+pub fn methods_fit()
+    ensures fit { (V : RegistrationList) (z : Setting) (m : ℕ) (p : Program)
+        → SoundProgram V p
+        → HasProgram z m p
+        → (n s : ℕ) (g : Routine) → z.method m n s ≡ Some g → z.params g ≡ z.slot m s }
 {}
 
 /// Where the bodies of a module are lowered from sound code, and the module sees what its view has, each body
@@ -53,8 +55,8 @@ pub fn sound_in_module()
         → AreSoundIn z m bodies }
 {}
 
-/// Where the bodies of each module keep what the generator wants of them, and imports lead where they may,
-/// all bodies do.
+/// Where the bodies of each module keep what the generator wants of them, and imports and methods lead where
+/// they may, all bodies do.
 pub fn sound_together()
     ensures sound { (z : Setting) (bodies : Bodies)
         → ((m : ℕ) → AreSoundIn z m bodies)

@@ -15,5 +15,5 @@ mod operators;
 mod statements;
 mod variables;
 
-pub use bodies::lower;
+pub use bodies::{lower, passings};
 pub use hosts::host_use;

@@ -1,14 +1,14 @@
-//! Variables: where they stand, how they are read, stored and changed.
+//! Variables and members of objects: where they stand, how they are read, stored and changed.
 ghost use Rattle.std.specs.Prelude.{◌≡◌, ◌+◌, ◌-◌, suc, reverse, IfOk, OnOk};
 ghost use Rattle.ang_typed.specs.View.{view_arg, view_args};
 ghost use Rattle.ang_lower.specs.Plain.{plain_expr};
 ghost use Rattle.ang_lower.specs.Lowered as spec;
 
-use crate::build::{nullary, unary};
+use crate::build::{Pair, binary, nullary, unary};
 use crate::operators::brought_to;
 use ang_core::Expression;
 use ang_meaning::{Change, Operation, Spot, Target};
-use ang_typed::{Argument, Variable};
+use ang_typed::{Argument, Member, Variable};
 use std::alloc::{AllocError, Global};
 
 /// The place of a local among `alive` ones, counted from the innermost one. Where it is not alive, which no
@@ -34,6 +34,67 @@ pub fn small(number: usize) -> Result<u32, AllocError>
     }
 }
 
+/// `this`, which is local 0.
+fn this(alive: usize) -> Result<Expression, AllocError>
+    ensures exact { IfOk result (λ x. plain_expr x ≡ spec.this_at alive) }
+{
+    let place = place(alive, 0)?;
+    Ok(Expression::Local(place))
+}
+
+/// An operation on a value and `this`.
+fn with_this(
+    alloc: Global,
+    alive: usize,
+    operation: Operation,
+    value: Expression,
+) -> Result<Expression, AllocError>
+    ensures exact { IfOk result (λ x. plain_expr x ≡ spec.binary operation (plain_expr value) (spec.this_at alive)) }
+{
+    let left = value;
+    let right = this(alive)?;
+    binary(alloc, operation, Pair { left, right })
+}
+
+/// What reads a member of its operand.
+pub fn reading(member: &Member) -> Result<Operation, AllocError>
+    ensures exact { IfOk result (λ o. o ≡ spec.reading member.now) }
+{
+    match member {
+        Member::Field(i) => {
+            let number = small(*i)?;
+            Ok(Operation::FieldGet(number))
+        }
+        Member::Property(host) => Ok(Operation::Read(host.entity)),
+    }
+}
+
+/// What stores its first operand into a member of the second.
+pub fn writing(member: &Member) -> Result<Operation, AllocError>
+    ensures exact { IfOk result (λ o. o ≡ spec.writing member.now) }
+{
+    match member {
+        Member::Field(i) => {
+            let number = small(*i)?;
+            Ok(Operation::FieldSet(number))
+        }
+        Member::Property(host) => Ok(Operation::Write(host.entity)),
+    }
+}
+
+/// What changes a member of its second operand by the first.
+pub fn altering(member: &Member, by: Change) -> Result<Operation, AllocError>
+    ensures exact { IfOk result (λ o. o ≡ spec.altering member.now by) }
+{
+    match member {
+        Member::Field(i) => {
+            let number = small(*i)?;
+            Ok(Operation::FieldChange(number, by))
+        }
+        Member::Property(host) => Ok(Operation::Alter(host.entity, by)),
+    }
+}
+
 /// A variable's value, where so many locals are alive.
 pub fn read(alloc: Global, alive: usize, variable: &Variable) -> Result<Expression, AllocError>
     ensures exact { IfOk result (λ x. plain_expr x ≡ spec.read alive variable.now) }
@@ -48,6 +109,11 @@ pub fn read(alloc: Global, alive: usize, variable: &Variable) -> Result<Expressi
             Ok(nullary(alloc, Operation::GlobalGet(number)))
         }
         Variable::Property(host) => Ok(nullary(alloc, Operation::Read(host.entity))),
+        Variable::Field(i) => {
+            let number = small(*i)?;
+            let object = this(alive)?;
+            unary(alloc, Operation::FieldGet(number), object)
+        }
     }
 }
 
@@ -71,6 +137,10 @@ pub fn store(
             unary(alloc, Operation::GlobalSet(number), value)
         }
         Variable::Property(host) => unary(alloc, Operation::Write(host.entity), value),
+        Variable::Field(i) => {
+            let number = small(*i)?;
+            with_this(alloc, alive, Operation::FieldSet(number), value)
+        }
     }
 }
 
@@ -95,6 +165,10 @@ pub fn change(
             unary(alloc, Operation::GlobalChange(number, by), value)
         }
         Variable::Property(host) => unary(alloc, Operation::Alter(host.entity, by), value),
+        Variable::Field(i) => {
+            let number = small(*i)?;
+            with_this(alloc, alive, Operation::FieldChange(number, by), value)
+        }
     }
 }
 
@@ -113,6 +187,11 @@ fn spot(alive: usize, variable: &Variable) -> Result<Spot, AllocError>
             Ok(Spot::Global(number))
         }
         Variable::Property(_) => Err(AllocError),
+        Variable::Field(i) => {
+            let object = place(alive, 0)?;
+            let field = small(*i)?;
+            Ok(Spot::Field { object, field })
+        }
     }
 }
 

@@ -1,6 +1,4 @@
-pub mod Declarations
-pub mod Taken
+pub mod Heirs
 pub mod Meant
 pub mod Phases
 pub mod Resolved
-pub mod Lookup

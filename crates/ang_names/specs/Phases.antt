@@ -1,46 +1,72 @@
 -- The phases of a build over the declarations (docs/LANGUAGE.md, "Names of a build"; they are this profile's own): each is a
 -- property of the list of all declarations, and the first that refuses one decides.
-use Rattle.std.specs.Prelude.{◌≡◌, ◌≢◌, List, [], ◌∷◌, ◌++◌, Option, option_to_list}
+use Rattle.std.specs.Prelude.{◌≡◌, ◌≢◌, ℕ, length, List, [], ◌∷◌, map, Option, Some, None, slice_get}
 use Rattle.ang_kinds.specs.declared.error.Error.{Error}
 use Rattle.ang_kinds.specs.declared.error.Unbuilt.{Unbuilt}
 use Rattle.ang_kinds.specs.declared.error.Unbuilt.TheVariants.{Errors, Memory}
-use Rattle.ang_registry.specs.Registration.{RegistrationList}
-use Rattle.ang_names.specs.declared.listed.Declared.{Declared}
+use Rattle.ang_view.specs.Registration.{RegistrationList}
+use Rattle.ang_types.specs.declared.asks.Refused.{Refused}
+use Rattle.ang_names_known.specs.declared.names.Family.{Family}
+use Rattle.ang_names_known.specs.Items.{list_or}
+use Rattle.ang_names_listed.specs.declared.listed.Declared.{Declared}
+use Rattle.ang_names_listed.specs.declared.listed.Part.{Part}
+use Rattle.ang_names_listed.specs.declared.listed.Part.TheVariants as part
 use Rattle.ang_names.specs.declared.phase.Phase.{Phase}
 use Rattle.ang_names.specs.declared.phase.Phase.TheVariants as phase
-use Rattle.ang_names_written.specs.Sources.{Source}
-use Rattle.ang_names.specs.Declarations.{declarations_of}
+use Rattle.ang_names_listed.specs.Declarations.{declarations_of, families_of}
+use Rattle.ang_names_listed.specs.Taken.{name_refusal, plain_refusal, each_refused}
+use Rattle.ang_names.specs.Heirs.{ancestor_refusal, heir_refusal, cycle_refusal}
+use Rattle.ang_names.specs.Meant.{space_of_declared, type_refusal}
+use Rattle.ang_names.specs.Resolved.{families_in}
 use Rattle.ang_names_written.specs.NotYet.{not_yet}
-use Rattle.ang_names.specs.Taken.{name_refusal}
-use Rattle.ang_names.specs.Meant.{type_refusal}
+use Rattle.ang_names_written.specs.Sources.{Source}
 
--- why a phase refuses a declaration, behind those before it
-abbrev pub refusal : RegistrationList → Phase → List Declared → Declared → Option Error
-refusal V phase.Names before d = name_refusal V before d
-refusal V phase.Types before d = type_refusal V d
+-- ---- of one family, by its number
 
--- each declaration's refusal, in their order, behind those before them
-abbrev pub refusals : RegistrationList → Phase → List Declared → List Declared → List Error
-refusals V p before [] = []
-refusals V p before (d ∷ ds) = option_to_list (refusal V p before d) ++ refusals V p (before ++ d ∷ []) ds
+abbrev pub with_number : (ℕ → Family → Option Refused) → ℕ → Option Family → Option Refused
+with_number p c None = None
+with_number p c (Some f) = p c f
 
-abbrev pub errors_or : List Error → List Error → List Error
-errors_or [] later = later
-errors_or (e ∷ es) later = e ∷ es
+-- what a phase says of a class or an interface; of any other declaration it says nothing
+abbrev pub of_family : (ℕ → Family → Option Refused) → List Family → List Declared → Part → Option Refused
+of_family p fs before (part.Family s) = let c = length (families_of before) in with_number p c (slice_get fs c)
+of_family p fs before (part.Function y ps) = None
+of_family p fs before (part.Import y ps) = None
+of_family p fs before (part.Global y) = None
 
--- the errors of the first phase that has some
-abbrev pub first_errors : RegistrationList → List Phase → List Declared → List Error
-first_errors V [] ds = []
-first_errors V (p ∷ ps) ds = errors_or (refusals V p [] ds) (first_errors V ps ds)
+-- Among all declarations, over a view:
+module _ (V : RegistrationList) (all : List Declared) where
+  abbrev pub families : List Family
+  families = families_in (space_of_declared V all) all
+
+  -- why a phase refuses a declaration, after those before it
+  abbrev pub refusal : Phase → List Declared → Declared → Option Refused
+  refusal phase.Names before d = name_refusal V before d
+  refusal phase.Types before d = type_refusal (space_of_declared V all) all d
+  refusal phase.Ancestors before d = of_family (ancestor_refusal (families_of all)) families before d.part
+  refusal phase.Heirs before d = of_family (heir_refusal families) families before d.part
+  refusal phase.Cycles before d = of_family (cycle_refusal (space_of_declared V all) (families_of all)) families before d.part
+
+  -- each declaration's refusal, in their order
+  abbrev pub refusals : Phase → List Refused
+  refusals p = each_refused (refusal p) all
+
+  -- the refusals of the first phase that has some
+  abbrev pub first_refusals : List Phase → List Refused
+  first_refusals [] = []
+  first_refusals (p ∷ ps) = list_or (refusals p) (first_refusals ps)
 
 -- the phases, in order
 abbrev pub all_phases : List Phase
-all_phases = phase.Names ∷ phase.Types ∷ []
+all_phases = phase.Names ∷ phase.Types ∷ phase.Ancestors ∷ phase.Heirs ∷ phase.Cycles ∷ []
 
--- The errors of the declarations of these sections over what the module sees, those beyond what is built first: none where
--- each phase accepts each of them.
-unfoldable pub errors_of : RegistrationList → List Source → List Error
-errors_of V ss = errors_or (not_yet V ss) (first_errors V all_phases (declarations_of ss))
+-- What is refused of the declarations of these sections over what the module sees, those beyond what is built first: none where each
+-- phase accepts each of them.
+unfoldable pub refusals_of : RegistrationList → List Source → List Refused
+refusals_of V ss = list_or (map plain_refusal (not_yet V ss)) (first_refusals V (declarations_of ss) all_phases)
+
+abbrev pub errors_in : List Refused → List Error
+errors_in rs = map (λ (r : Refused). r.error) rs
 
 -- what is refused: these errors, of which there is one at least, or memory was short
 abbrev pub IsRefused : Unbuilt → List Error → Type 0

@@ -1,3 +1,2 @@
-pub mod Lists
-pub mod SoFar
 pub mod FirstTokens
+pub mod Lists

@@ -1,5 +1,4 @@
-pub mod Sources
-pub mod Types
-pub mod HostNames
-pub mod Spellings
 pub mod NotYet
+pub mod Sources
+pub mod Spellings
+pub mod Types

@@ -33,8 +33,3 @@ error_at kind text t = record { kind = kind; place = t.place; name = text_of tex
 -- an error without a name
 abbrev pub fault_at : ErrorKind → Place → Error
 fault_at kind place = record { kind = kind; place = place; name = [] }
-
--- the first of two errors that is there
-abbrev pub first_of : Option Error → Option Error → Option Error
-first_of (Some e) rest = Some e
-first_of None rest = rest

@@ -11,7 +11,7 @@ use Rattle.ang_kinds.specs.declared.types.TypeRef.{TypeRef}
 use Rattle.ang_kinds.specs.declared.types.TypeRef.TheVariants as ref
 use Rattle.ang_lex.specs.declared.token.TokenKind.{TokenKind}
 use Rattle.ang_lex.specs.declared.token.TokenKind.TheVariants as k
-use Rattle.ang_registry.specs.Overloads.{primitive_number, pass_number}
+use Rattle.ang_view.specs.Numbers.{primitive_number, pass_number}
 use Rattle.ang_tree.specs.declared.declaration.Parameter.{Parameter}
 use Rattle.ang_tree.specs.declared.type_name.TypeName.{TypeName}
 use Rattle.ang_tree.specs.declared.type_name.Handle.{Handle}
@@ -21,7 +21,7 @@ use Rattle.ang_names_written.specs.declared.spelling.Sign.{Sign}
 use Rattle.ang_names_written.specs.declared.spelling.Sign.TheVariants as sign
 use Rattle.ang_names_written.specs.declared.spelling.Spelling.{Spelling}
 use Rattle.ang_names_written.specs.Sources.{text_of}
-use Rattle.ang_names_written.specs.Types.{pass_of, is_const_handle}
+use Rattle.ang_names_written.specs.Types.{pass_of}
 
 -- ---- a script's
 
@@ -36,7 +36,7 @@ sign_by false = sign.Handle
 
 abbrev pub sign_of : Option Handle → Sign
 sign_of None = sign.Absent
-sign_of (Some h) = sign_by (is_const_handle h)
+sign_of (Some h) = sign_by (is_some h.constant)
 
 -- how a parameter is spelled
 unfoldable pub spelling_of : List ℕ → Parameter → Spelling
@@ -96,8 +96,8 @@ same_spelling a b =
     same_base a.base b.base && sign_number a.sign == sign_number b.sign && beq a.is_const b.is_const && pass_number a.pass == pass_number b.pass
 
 -- Two lists of parameters by which functions of one name can't overload: they are as long, and each parameter is the same.
-abbrev pub same_parameters : List ℕ → List Parameter → List ℕ → List Parameter → Bool
-same_parameters text ps other qs = pointwise (λ p q. same_spelling (spelling_of text p) (spelling_of other q)) ps qs
+abbrev pub same_spellings : List ℕ → List Parameter → List ℕ → List Parameter → Bool
+same_spellings text ps other qs = pointwise (λ p q. same_spelling (spelling_of text p) (spelling_of other q)) ps qs
 
 abbrev pub same_as_host : List ℕ → List Parameter → List Param → Bool
 same_as_host text ps qs = pointwise (λ p q. same_spelling (spelling_of text p) (host_spelling_of q)) ps qs

@@ -1,59 +1,135 @@
--- What written types mean (docs/LANGUAGE.md, "Names of a build"; the AngelScript manual, "Data types", "Object handles" and "Parameter
--- references"). Object types go by number: a seen host type by its entry's.
-use Rattle.std.specs.Prelude.{ℕ, Bool, is_some, List, Option, Some, None, Result, Ok, Err}
+-- What written types mean, and where they can stand (docs/LANGUAGE.md, "Names of a build"; the AngelScript manual, "Data types", "Object
+-- handles" and "Parameter references"; what can stand where is this profile's own). Object types go by number.
+use Rattle.std.specs.Prelude.{ℕ, Bool, true, false, if◌then◌else◌, is_some, List, Option, Some, None, Result, Ok, Err}
 use Rattle.ang_kinds.specs.declared.error.ErrorKind.{ErrorKind}
-use Rattle.ang_kinds.specs.declared.error.ErrorKind.TheVariants.{UnknownType, BadType}
+use Rattle.ang_kinds.specs.declared.error.ErrorKind.TheVariants.{UnknownType, BadType, ByValue, BadImport}
 use Rattle.ang_kinds.specs.declared.types.Pass.{Pass}
 use Rattle.ang_kinds.specs.declared.types.Pass.TheVariants as pass
 use Rattle.ang_lex.specs.declared.token.Token.{Token}
 use Rattle.ang_lex.specs.declared.token.TokenKind.{TokenKind}
 use Rattle.ang_lex.specs.declared.token.TokenKind.TheVariants as k
-use Rattle.ang_registry.specs.Registration.{RegistrationList}
-use Rattle.ang_registry.specs.Types.{type_named}
 use Rattle.ang_tree.specs.declared.type_name.TypeName.{TypeName}
 use Rattle.ang_tree.specs.declared.type_name.Handle.{Handle}
 use Rattle.ang_tree.specs.declared.declaration.Reference.{Reference}
 use Rattle.ang_tree.specs.declared.declaration.Parameter.{Parameter}
 use Rattle.ang_types.specs.declared.arg_type.ArgType.{ArgType}
 use Rattle.ang_types.specs.declared.arg_type.ArgType.TheVariants as type
+use Rattle.ang_names_known.specs.declared.names.Written.{Written}
+use Rattle.ang_names_written.specs.declared.role.Role.{Role}
+use Rattle.ang_names_written.specs.declared.role.Role.TheVariants as role
+use Rattle.ang_names_known.specs.declared.space.Named.{Named}
+use Rattle.ang_names_known.specs.declared.space.Named.TheVariants as named
+use Rattle.ang_names_known.specs.Spaces.{Space, type_of_name, is_family_type}
 use Rattle.ang_names_written.specs.Sources.{text_of}
 
 -- a type, or why what is written is none
-abbrev pub Meaning : Type 0
-Meaning = Result ArgType ErrorKind
+abbrev pub TypeOrError : Type 0
+TypeOrError = Result ArgType ErrorKind
+
+-- ---- what is written
 
 -- a primitive type and `void` have no handles
-abbrev pub without_handle : ArgType → Option Handle → Meaning
+abbrev pub without_handle : ArgType → Option Handle → TypeOrError
 without_handle t None = Ok t
 without_handle t (Some h) = Err BadType
 
--- `T` and `T@`, const or not, by the number of T
-abbrev pub object_type : Option ℕ → Bool → Option Handle → Meaning
-object_type None constant handle = Err UnknownType
-object_type (Some n) constant None = Ok (type.Object n constant)
-object_type (Some n) constant (Some h) = Ok (type.Handle n constant)
+-- `T` and `T@`, const or not, by what T means
+abbrev pub object_type : Named → Bool → Option Handle → TypeOrError
+object_type named.Unknown constant handle = Err UnknownType
+object_type (named.Object n) constant None = Ok (type.Object n constant)
+object_type (named.Object n) constant (Some h) = Ok (type.Handle n constant)
 
-abbrev pub type_by : RegistrationList → List ℕ → TypeName → TokenKind → Meaning
-type_by V text y (k.Primitive p) = without_handle (type.Plain p) y.handle
-type_by V text y k.Void = without_handle type.Void y.handle
-type_by V text y _ = object_type (type_named V (text_of text y.name)) (is_some y.constant) y.handle
+abbrev pub written_type : Space → List ℕ → TypeName → TokenKind → TypeOrError
+written_type E text y (k.Primitive p) = without_handle (type.Plain p) y.handle
+written_type E text y k.Void = without_handle type.Void y.handle
+written_type E text y _ = object_type (type_of_name E (text_of text y.name)) (is_some y.constant) y.handle
 
--- The type that is written, where `void` is one: a result's. An unknown name is no type, and neither is a handle to a
--- primitive type or to `void`.
-unfoldable pub type_of : RegistrationList → List ℕ → TypeName → Meaning
-type_of V text y = type_by V text y y.name.kind
+-- ---- where it can stand
 
-abbrev pub no_void : Meaning → Meaning
-no_void (Ok type.Void) = Err BadType
-no_void (Ok type.Null) = Ok type.Null
-no_void (Ok (type.Plain p)) = Ok (type.Plain p)
-no_void (Ok (type.Object n c)) = Ok (type.Object n c)
-no_void (Ok (type.Handle n c)) = Ok (type.Handle n c)
-no_void (Err e) = Err e
+-- any type but `void`
+abbrev pub no_void : ArgType → TypeOrError
+no_void type.Void = Err BadType
+no_void type.Null = Ok type.Null
+no_void (type.Plain p) = Ok (type.Plain p)
+no_void (type.Object n c) = Ok (type.Object n c)
+no_void (type.Handle n c) = Ok (type.Handle n c)
 
--- The type of a variable, a global or a parameter by value, which is not `void`.
-unfoldable pub value_type_of : RegistrationList → List ℕ → TypeName → Meaning
-value_type_of V text y = no_void (type_of V text y)
+-- no object by value
+abbrev pub no_object : ArgType → TypeOrError
+no_object type.Void = Ok type.Void
+no_object type.Null = Ok type.Null
+no_object (type.Plain p) = Ok (type.Plain p)
+no_object (type.Object n c) = Err ByValue
+no_object (type.Handle n c) = Ok (type.Handle n c)
+
+-- what `&in` takes: no object but a `const` one
+abbrev pub taken_in : ArgType → TypeOrError
+taken_in type.Void = Ok type.Void
+taken_in type.Null = Ok type.Null
+taken_in (type.Plain p) = Ok (type.Plain p)
+taken_in (type.Object n c) = if c then Ok (type.Object n c) else Err ByValue
+taken_in (type.Handle n c) = Ok (type.Handle n c)
+
+-- what `&inout` takes: objects alone
+abbrev pub changed : ArgType → TypeOrError
+changed type.Void = Err BadType
+changed type.Null = Err BadType
+changed (type.Plain p) = Err BadType
+changed (type.Object n c) = Ok (type.Object n c)
+changed (type.Handle n c) = Err BadType
+
+abbrev pub passed : Pass → ArgType → TypeOrError
+passed pass.Value t = no_object t
+passed pass.RefIn t = taken_in t
+passed pass.RefOut t = no_object t
+passed pass.RefInOut t = changed t
+
+-- what passes between modules: a handle to a host type, and a primitive by value
+abbrev pub crossing : Bool → ArgType → TypeOrError
+crossing by_value type.Void = Ok type.Void
+crossing by_value type.Null = Err BadImport
+crossing by_value (type.Plain p) = if by_value then Ok (type.Plain p) else Err BadImport
+crossing by_value (type.Object n c) = Err BadImport
+crossing by_value (type.Handle n c) = if is_family_type n then Err BadImport else Ok (type.Handle n c)
+
+abbrev pub is_by_value : Pass → Bool
+is_by_value pass.Value = true
+is_by_value pass.RefIn = false
+is_by_value pass.RefOut = false
+is_by_value pass.RefInOut = false
+
+-- a cast gives a handle, whether `@` is written or not
+abbrev pub cast_to : ArgType → TypeOrError
+cast_to type.Void = Err BadType
+cast_to type.Null = Err BadType
+cast_to (type.Plain p) = Err BadType
+cast_to (type.Object n c) = Ok (type.Handle n c)
+cast_to (type.Handle n c) = Ok (type.Handle n c)
+
+infixl 10 ◌and_then◌
+abbrev pub ◌and_then◌ : TypeOrError → (ArgType → TypeOrError) → TypeOrError
+(Ok t) and_then f = f t
+(Err e) and_then f = Err e
+
+abbrev pub admitted : Role → ArgType → TypeOrError
+admitted role.Result t = no_object t
+admitted role.Variable t = no_void t
+admitted role.Field t = no_void t and_then no_object
+admitted (role.Parameter p) t = no_void t and_then passed p
+admitted role.ImportResult t = no_object t and_then crossing true
+admitted (role.ImportParameter p) t = no_void t and_then passed p and_then crossing (is_by_value p)
+admitted role.Cast t = cast_to t
+
+-- The type that is written where it has this role. `UnknownType` where the name is that of no type, `BadType` of a handle to a
+-- primitive type or to `void`, of `void` that is no result, and of `&inout` of what is no object; `ByValue` of an object where none
+-- can be by value, and `BadImport` of what does not pass between modules.
+unfoldable pub type_in : Space → Role → List ℕ → TypeName → TypeOrError
+type_in E r text y = written_type E text y y.name.kind and_then admitted r
+
+-- a name that means no type; an entry of the host could help there
+abbrev pub is_unknown_type : ErrorKind → Bool
+is_unknown_type UnknownType = true
+is_unknown_type _ = false
 
 -- ---- parameters
 
@@ -71,34 +147,23 @@ abbrev pub pass_of : Option Reference → Pass
 pass_of None = pass.Value
 pass_of (Some r) = pass_in r.direction
 
--- what `&inout` takes: objects alone
-abbrev pub changed : ArgType → Meaning
-changed type.Void = Err BadType
-changed type.Null = Err BadType
-changed (type.Plain p) = Err BadType
-changed (type.Object n c) = Ok (type.Object n c)
-changed (type.Handle n c) = Err BadType
+abbrev pub own_role : Parameter → Role
+own_role p = role.Parameter (pass_of p.reference)
 
-abbrev pub passed : Pass → Meaning → Meaning
-passed p (Err e) = Err e
-passed pass.Value (Ok t) = Ok t
-passed pass.RefIn (Ok t) = Ok t
-passed pass.RefOut (Ok t) = Ok t
-passed pass.RefInOut (Ok t) = changed t
+abbrev pub imported_role : Parameter → Role
+imported_role p = role.ImportParameter (pass_of p.reference)
 
--- The type of a parameter, with its passing.
-unfoldable pub parameter_type_of : RegistrationList → List ℕ → Parameter → Meaning
-parameter_type_of V text p = passed (pass_of p.reference) (value_type_of V text p.declared_type)
+-- ---- a type with its `const`
 
--- ---- what can't be written to
+abbrev pub is_const_handle : Option Handle → Bool
+is_const_handle None = false
+is_const_handle (Some h) = is_some h.constant
 
-abbrev pub is_const_handle : Handle → Bool
-is_const_handle h = is_some h.constant
+-- the type that is meant; `Void` where there is none, which is not met where no phase refuses
+abbrev pub settled : TypeOrError → ArgType
+settled (Ok t) = t
+settled (Err e) = type.Void
 
-abbrev pub is_read_only_by : Option Handle → Bool → Bool
-is_read_only_by None constant = constant
-is_read_only_by (Some h) constant = is_const_handle h
-
--- A variable of this written type can't be assigned: `const int`, `const T`, `T@ const`.
-abbrev pub is_read_only : TypeName → Bool
-is_read_only y = is_read_only_by y.handle (is_some y.constant)
+-- a type as it is written, with what it means
+abbrev pub written_in : Space → Role → List ℕ → TypeName → Written
+written_in E r text y = record { ty = settled (type_in E r text y); constant = is_some y.constant; const_handle = is_const_handle y.handle }

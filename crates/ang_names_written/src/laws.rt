@@ -1,7 +1,7 @@
 //! Laws of the definitions, each the contract of a function that does nothing.
 ghost use Rattle.std.specs.Prelude.{◌≡◌, All, List, ℕ};
 ghost use Rattle.ang_lex.specs.declared.token.Token.{Token};
-ghost use Rattle.ang_registry.specs.Registration.{RegistrationList};
+ghost use Rattle.ang_view.specs.Registration.{RegistrationList};
 ghost use Rattle.ang_tree.specs.Declarations.{Decl, spelled_decl};
 ghost use Rattle.ang_names_written.specs.NotYet.{BeginsWith, beyond, declaration_errors, first_token};
 

@@ -3,21 +3,21 @@
 //! function that takes an object is none of these: no argument that is built is one, so no call means it.
 ghost use Rattle.std.specs.Prelude.{◌≡◌, ◌++◌, IfOk, OnOk, Some, map as list_map};
 ghost use Rattle.std.specs.List.{list_any};
-ghost use Rattle.ang_registry.specs.Registration.{entry_at};
+ghost use Rattle.ang_view.specs.Registration.{entry_at};
 ghost use Rattle.ang_tree.specs.Declarations.{globals};
 ghost use Rattle.ang_tree.specs.View.{view_expr, view_items, view_args, view_option, view_init, view_var, view_vars, view_start, view_stmt, view_stmts, view_body, view_params, view_decl};
 ghost use Rattle.ang_names_written.specs.NotYet as spec;
 ghost use Rattle.ang_names_written.specs.Sources.{source_of};
 
 use crate::sources::{fault_at, text_at};
-use crate::types::type_number;
 use ang_kinds::{EntityNo, Error, ErrorKind, TypeRef};
 use ang_lex::{Token, TokenKind};
-use ang_registry::{Entry, EntryKind, View};
+use ang_names_known::type_number;
 use ang_tree::{
     Argument, Arguments, Block, Declaration, Expression, ForStart, Function, Initializer,
     Parameter, Script, Statement, TypeName, Variable, Variables,
 };
+use ang_view::{Entry, EntryKind, View};
 use std::alloc::{AllocError, Global};
 
 /// The first token of a type: its `const`, or else its name.

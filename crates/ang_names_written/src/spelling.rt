@@ -2,11 +2,11 @@
 ghost use Rattle.std.specs.Prelude.{◌≡◌};
 ghost use Rattle.ang_names_written.specs.Spellings as spec;
 
-use crate::borrowed::Text;
 use crate::sources::text_at;
 use crate::types::pass_of;
 use ang_kinds::{Param, Pass, Prim, Shape, TypeRef};
 use ang_lex::TokenKind;
+use ang_names_known::Text;
 use ang_tree::{Handle, Parameter, TypeName};
 
 /// What a type is named by.
@@ -179,7 +179,7 @@ pub fn have_same_types(
     other_text: &[u8],
     others: &[Parameter],
 ) -> bool
-    ensures exact { result ≡ spec.same_parameters text.now params.now other_text.now others.now }
+    ensures exact { result ≡ spec.same_spellings text.now params.now other_text.now others.now }
 {
     params.len() == others.len()
         && params.iter().zip(others).all(|(one, other)| is_same_parameter(

@@ -1,22 +1,17 @@
-//! What written types mean.
+//! What written types mean, and where they can stand.
 ghost use Rattle.std.specs.Prelude.{◌≡◌};
-ghost use Rattle.ang_registry.specs.Types.{type_named};
 ghost use Rattle.ang_names_written.specs.Types as spec;
 
+use crate::role::Role;
 use crate::sources::text_at;
-use ang_kinds::{EntityNo, ErrorKind, Pass};
+use ang_kinds::{ErrorKind, Pass};
 use ang_lex::{Token, TokenKind};
-use ang_registry::View;
-use ang_tree::{Handle, Parameter, Reference, TypeName};
+use ang_names_known::{Named, Space, Written};
+use ang_tree::{Handle, Reference, TypeName};
 use ang_types::ArgType;
 
-/// The number of the type of this name that the module sees.
-pub fn type_number(view: &View, name: &[u8]) -> Option<u32>
-    ensures exact { result ≡ type_named view.now name.now }
-{
-    let EntityNo(number) = view.find_type(name)?;
-    Some(number)
-}
+/// The number of the first family as a type.
+const FIRST_FAMILY: u32 = 1024;
 
 /// A primitive type and `void` have no handles.
 fn without_handle(ty: ArgType, handle: &Option<Handle>) -> Result<ArgType, ErrorKind>
@@ -28,29 +23,20 @@ fn without_handle(ty: ArgType, handle: &Option<Handle>) -> Result<ArgType, Error
     }
 }
 
-fn object_type(
-    number: Option<u32>,
-    read_only: bool,
-    handle: &Option<Handle>,
-) -> Result<ArgType, ErrorKind>
-    ensures exact { result ≡ spec.object_type number read_only handle.now }
+fn object_type(named: Named, read_only: bool, handle: &Option<Handle>) -> Result<ArgType, ErrorKind>
+    ensures exact { result ≡ spec.object_type named read_only handle.now }
 {
-    let Some(number) = number else {
-        return Err(ErrorKind::UnknownType);
-    };
-    match handle {
-        None => Ok(ArgType::Object { number, read_only }),
-        Some(_) => Ok(ArgType::Handle { number, read_only }),
+    match named {
+        Named::Unknown => Err(ErrorKind::UnknownType),
+        Named::Object(number) => match handle {
+            None => Ok(ArgType::Object { number, read_only }),
+            Some(_) => Ok(ArgType::Handle { number, read_only }),
+        },
     }
 }
 
-/// The type that is written, where `void` is one: a result's.
-///
-/// `UnknownType` where the name is that of no type which the module sees, and `BadType` at a handle to a
-/// primitive type or to `void`. It takes no memory.
-#[tactic(auto, unfolding(crate::specs::Types::type_of))]
-pub fn type_of(view: &View, text: &[u8], declared: &TypeName) -> Result<ArgType, ErrorKind>
-    ensures exact { result ≡ spec.type_of view.now text.now declared.now }
+fn written_type(space: &Space<'_>, text: &[u8], declared: &TypeName) -> Result<ArgType, ErrorKind>
+    ensures exact { result ≡ spec.written_type space.now text.now declared.now declared.now.name.kind }
 {
     match declared.name.kind {
         TokenKind::Primitive(primitive) => {
@@ -58,29 +44,148 @@ pub fn type_of(view: &View, text: &[u8], declared: &TypeName) -> Result<ArgType,
         }
         TokenKind::Void => without_handle(ArgType::Void, &declared.handle),
         _ => {
-            let number = type_number(view, text_at(text, &declared.name));
-            object_type(number, declared.constant.is_some(), &declared.handle)
+            let named = space.named(text_at(text, &declared.name));
+            object_type(named, declared.constant.is_some(), &declared.handle)
         }
     }
 }
 
-fn no_void(meaning: Result<ArgType, ErrorKind>) -> Result<ArgType, ErrorKind>
-    ensures exact { result ≡ spec.no_void meaning }
+fn no_void(ty: ArgType) -> Result<ArgType, ErrorKind>
+    ensures exact { result ≡ spec.no_void ty }
 {
-    match meaning {
-        Ok(ArgType::Void) => Err(ErrorKind::BadType),
-        Ok(ty) => Ok(ty),
-        Err(kind) => Err(kind),
+    match ty {
+        ArgType::Void => Err(ErrorKind::BadType),
+        ty => Ok(ty),
     }
 }
 
-/// The type of a variable, a global or a parameter by value: as `type_of`, but that `void` is `BadType`.
-/// It takes no memory.
-#[tactic(auto, unfolding(crate::specs::Types::value_type_of))]
-pub fn value_type_of(view: &View, text: &[u8], declared: &TypeName) -> Result<ArgType, ErrorKind>
-    ensures exact { result ≡ spec.value_type_of view.now text.now declared.now }
+fn no_object(ty: ArgType) -> Result<ArgType, ErrorKind>
+    ensures exact { result ≡ spec.no_object ty }
 {
-    no_void(type_of(view, text, declared))
+    match ty {
+        ArgType::Object { .. } => Err(ErrorKind::ByValue),
+        ty => Ok(ty),
+    }
+}
+
+/// `&in` takes no object but a `const` one.
+fn taken_in(ty: ArgType) -> Result<ArgType, ErrorKind>
+    ensures exact { result ≡ spec.taken_in ty }
+{
+    match ty {
+        ArgType::Object { read_only, .. } => {
+            if read_only {
+                Ok(ty)
+            } else {
+                Err(ErrorKind::ByValue)
+            }
+        }
+        ty => Ok(ty),
+    }
+}
+
+/// `&inout` takes objects alone.
+fn changed(ty: ArgType) -> Result<ArgType, ErrorKind>
+    ensures exact { result ≡ spec.changed ty }
+{
+    match ty {
+        ArgType::Object { .. } => Ok(ty),
+        ArgType::Void | ArgType::Null | ArgType::Plain(_) | ArgType::Handle { .. } => {
+            Err(ErrorKind::BadType)
+        }
+    }
+}
+
+fn passed(pass: Pass, ty: ArgType) -> Result<ArgType, ErrorKind>
+    ensures exact { result ≡ spec.passed pass ty }
+{
+    match pass {
+        Pass::Value | Pass::RefOut => no_object(ty),
+        Pass::RefIn => taken_in(ty),
+        Pass::RefInOut => changed(ty),
+    }
+}
+
+/// What passes between modules: a handle to a host type, and a primitive by value.
+fn crossing(by_value: bool, ty: ArgType) -> Result<ArgType, ErrorKind>
+    ensures exact { result ≡ spec.crossing by_value ty }
+{
+    match ty {
+        ArgType::Void => Ok(ty),
+        ArgType::Plain(_) => {
+            if by_value {
+                Ok(ty)
+            } else {
+                Err(ErrorKind::BadImport)
+            }
+        }
+        ArgType::Handle { number, .. } => {
+            if number < FIRST_FAMILY {
+                Ok(ty)
+            } else {
+                Err(ErrorKind::BadImport)
+            }
+        }
+        ArgType::Null | ArgType::Object { .. } => Err(ErrorKind::BadImport),
+    }
+}
+
+fn is_by_value(pass: Pass) -> bool
+    ensures exact { result ≡ spec.is_by_value pass }
+{
+    match pass {
+        Pass::Value => true,
+        Pass::RefIn | Pass::RefOut | Pass::RefInOut => false,
+    }
+}
+
+/// A cast gives a handle, whether `@` is written or not.
+fn cast_to(ty: ArgType) -> Result<ArgType, ErrorKind>
+    ensures exact { result ≡ spec.cast_to ty }
+{
+    match ty {
+        ArgType::Object { number, read_only } | ArgType::Handle { number, read_only } => {
+            Ok(ArgType::Handle { number, read_only })
+        }
+        ArgType::Void | ArgType::Null | ArgType::Plain(_) => Err(ErrorKind::BadType),
+    }
+}
+
+fn parameter_type(pass: Pass, ty: ArgType) -> Result<ArgType, ErrorKind>
+    ensures exact { result ≡ spec.admitted (Role.Parameter pass) ty }
+{
+    passed(pass, no_void(ty)?)
+}
+
+fn admitted(role: Role, ty: ArgType) -> Result<ArgType, ErrorKind>
+    ensures exact { result ≡ spec.admitted role ty }
+{
+    match role {
+        Role::Result => no_object(ty),
+        Role::Variable => no_void(ty),
+        Role::Field => no_object(no_void(ty)?),
+        Role::Parameter(pass) => parameter_type(pass, ty),
+        Role::ImportResult => crossing(true, no_object(ty)?),
+        Role::ImportParameter(pass) => crossing(is_by_value(pass), parameter_type(pass, ty)?),
+        Role::Cast => cast_to(ty),
+    }
+}
+
+/// The type that is written where it has this role.
+///
+/// `UnknownType` where the name is that of no type; `BadType` of a handle to a primitive type or to `void`, of `void`
+/// that is no result, and of `&inout` of what is no object; `ByValue` of an object where none can be by value; `BadImport` of
+/// what does not pass between modules. It takes no memory.
+#[tactic(auto, unfolding(crate::specs::Types::type_in))]
+pub fn type_in(
+    space: &Space<'_>,
+    role: Role,
+    text: &[u8],
+    declared: &TypeName,
+) -> Result<ArgType, ErrorKind>
+    ensures exact { result ≡ spec.type_in space.now role text.now declared.now }
+{
+    admitted(role, written_type(space, text, declared)?)
 }
 
 fn pass_in(direction: &Option<Token>) -> Pass
@@ -107,50 +212,33 @@ pub fn pass_of(reference: &Option<Reference>) -> Pass
     }
 }
 
-/// `&inout` takes objects alone.
-fn changed(ty: ArgType) -> Result<ArgType, ErrorKind>
-    ensures exact { result ≡ spec.changed ty }
+/// Whether `const` stands behind `@`.
+pub fn is_const_handle(handle: &Option<Handle>) -> bool
+    ensures exact { result ≡ spec.is_const_handle handle.now }
 {
-    match ty {
-        ArgType::Object { .. } => Ok(ty),
-        ArgType::Void | ArgType::Null | ArgType::Plain(_) | ArgType::Handle { .. } => {
-            Err(ErrorKind::BadType)
-        }
-    }
-}
-
-fn passed(pass: Pass, meaning: Result<ArgType, ErrorKind>) -> Result<ArgType, ErrorKind>
-    ensures exact { result ≡ spec.passed pass meaning }
-{
-    let ty = meaning?;
-    match pass {
-        Pass::Value | Pass::RefIn | Pass::RefOut => Ok(ty),
-        Pass::RefInOut => changed(ty),
-    }
-}
-
-/// The type of a parameter, with its passing: as `value_type_of`, but that `&inout` of a primitive type or
-/// of a handle is `BadType`. It takes no memory.
-#[tactic(auto, unfolding(crate::specs::Types::parameter_type_of))]
-pub fn parameter_type_of(
-    view: &View,
-    text: &[u8],
-    parameter: &Parameter,
-) -> Result<ArgType, ErrorKind>
-    ensures exact { result ≡ spec.parameter_type_of view.now text.now parameter.now }
-{
-    passed(
-        pass_of(&parameter.reference),
-        value_type_of(view, text, &parameter.declared_type),
-    )
-}
-
-/// Whether a variable of this written type can't be assigned: `const int`, `const T`, `T@ const`.
-pub fn is_read_only(declared: &TypeName) -> bool
-    ensures exact { result ≡ spec.is_read_only declared.now }
-{
-    match declared.handle {
-        None => declared.constant.is_some(),
+    match handle {
+        None => false,
         Some(handle) => handle.constant.is_some(),
+    }
+}
+
+fn settled(meaning: Result<ArgType, ErrorKind>) -> ArgType
+    ensures exact { result ≡ spec.settled meaning }
+{
+    match meaning {
+        Ok(ty) => ty,
+        Err(_) => ArgType::Void,
+    }
+}
+
+/// A type as it is written, with what it means: `void` where it is no type, which phases have refused by then.
+/// It takes no memory.
+pub fn written_in(space: &Space<'_>, role: Role, text: &[u8], declared: &TypeName) -> Written
+    ensures exact { result ≡ spec.written_in space.now role text.now declared.now }
+{
+    Written {
+        ty: settled(type_in(space, role, text, declared)),
+        constant: declared.constant.is_some(),
+        const_handle: is_const_handle(&declared.handle),
     }
 }

@@ -2,8 +2,9 @@
 use Rattle.std.proofs.Common.{◌≡◌, ℕ, zero, suc, ◌<◌, [], ◌∷◌, map, length, Some, refl, ap, ◌∙◌, arith, get_or}
 use Rattle.ang_host.specs.declared.event.Role.{Role}
 use Rattle.ang_host.specs.Events.{role_at}
-use Rattle.ang_registry.specs.declared.entry.Entry.{Entry}
-use Rattle.ang_registry.specs.Registration.{RegistrationList, entry_at}
+use Rattle.ang_view.specs.declared.entry.Entry.{Entry}
+use Rattle.ang_view.specs.Registration.{RegistrationList, entry_at}
+use Rattle.ang_view.proofs.Entries.{entry_at-lt}
 use Rattle.ang_registry.specs.Roles.{role_of, roles_of}
 
 at_map : (list : RegistrationList) (n : ℕ) (d : Role) → n < length list → get_or (map role_of list) n d ≡ role_of (entry_at list n)
@@ -15,12 +16,6 @@ at_map (x ∷ xs) (suc n) d l = at_map xs n d (omega arith)
 pub role_at-roles_of : (list : RegistrationList) (n : ℕ) → n < length list → role_at (roles_of list) n ≡ role_of (entry_at list n)
 unfolding roles_of
 role_at-roles_of list n l = at_map list n _ l
-
--- an entry is found within the list
-pub entry_at-lt : (list : RegistrationList) (n : ℕ) (x : Entry) → entry_at list n ≡ Some x → n < length list
-entry_at-lt [] n x e = cc
-entry_at-lt (y ∷ ys) zero x e = omega arith
-entry_at-lt (y ∷ ys) (suc n) x e = let l = entry_at-lt ys n x e in omega arith
 
 -- the role of an entry that is there
 pub role_at-entry : (list : RegistrationList) (n : ℕ) (x : Entry) → entry_at list n ≡ Some x → role_at (roles_of list) n ≡ role_of (Some x)

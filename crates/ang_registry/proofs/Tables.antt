@@ -3,11 +3,12 @@ use Rattle.std.proofs.Common.{◌≡◌, ℕ, true, false, ◌==◌, List, [], �
 use Rattle.ang_kinds.specs.declared.mask.EntityNo.{EntityNo}
 use Rattle.ang_kinds.specs.declared.mask.Mask.{Mask}
 use Rattle.ang_kinds.specs.declared.types.Signature.{Signature}
-use Rattle.ang_registry.specs.declared.entry.EntryKind.{EntryKind}
+use Rattle.ang_view.specs.declared.entry.EntryKind.{EntryKind}
 use Rattle.ang_registry.specs.declared.error.RegError.{RegError}
 use Rattle.ang_registry.specs.declared.error.RegError.TheVariants.{Limit, EmptyMask, BadDeclaration, UnknownType}
-use Rattle.ang_registry.specs.Registration.{Registrations, RegistrationList}
-use Rattle.ang_registry.specs.Types.{type_named, driver_at}
+use Rattle.ang_view.specs.Registration.{RegistrationList}
+use Rattle.ang_registry.specs.Registrations.{Registrations}
+use Rattle.ang_view.specs.Types.{type_named, driver_at}
 use Rattle.ang_registry.specs.Refusals.{first_row, is_over_limit, gives_own, refusal_of_own, refusal_of_member, refusal_of_entry}
 use Rattle.ang_registry.proofs.FirstRow.{first_row-two}
 

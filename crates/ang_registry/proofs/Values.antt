@@ -20,12 +20,12 @@ use Rattle.ang_decl.specs.Parsed as text
 use Rattle.ang_decl.specs.Parsed.{judged, judged_tokens}
 use Rattle.ang_decl.specs.Read.{a_function, a_property}
 use Rattle.ang_decl.specs.Signatures.{is_function_left_out, is_factory_left_out, is_property_left_out, type_by, param_of, function_signature, property_signature}
-use Rattle.ang_registry.specs.declared.entry.Entry.{Entry}
-use Rattle.ang_registry.specs.declared.entry.EntryKind.{EntryKind}
-use Rattle.ang_registry.specs.declared.entry.EntryKind.TheVariants as entry
+use Rattle.ang_view.specs.declared.entry.Entry.{Entry}
+use Rattle.ang_view.specs.declared.entry.EntryKind.{EntryKind}
+use Rattle.ang_view.specs.declared.entry.EntryKind.TheVariants as entry
 use Rattle.ang_registry.specs.Declarations.{signature_in, declared_function, declared_method, declared_factory, declared_property, declared_type, type_signature}
-use Rattle.ang_registry.specs.Registration.{RegistrationList, is_seen, seen_entry, seen}
-use Rattle.ang_registry.specs.Values.{AreValues, IsPrimitive, IsProperty, IsOfKind, SignatureTakesValues, DeclaresValues, EntryTakesValues, TakesValues}
+use Rattle.ang_view.specs.Registration.{RegistrationList, is_seen, seen_entry, seen}
+use Rattle.ang_view.specs.Values.{AreValues, IsPrimitive, IsProperty, IsOfKind, SignatureTakesValues, DeclaresValues, EntryTakesValues, TakesValues}
 
 -- a view has no more declarations than the list
 seen_values : (list : RegistrationList) (m : ℕ) (x : Option Entry) → EntryTakesValues x → EntryTakesValues (seen_entry list m x)

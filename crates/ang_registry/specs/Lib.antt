@@ -1,7 +1,6 @@
-pub mod Registration
+pub mod Registrations
 pub mod Roles
 pub mod Declarations
 pub mod Overloads
 pub mod Types
 pub mod Refusals
-pub mod Values

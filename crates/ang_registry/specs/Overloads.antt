@@ -1,43 +1,21 @@
 -- What can stand beside what under one name (docs/EMBEDDING.md, "Names").
-use Rattle.std.specs.Prelude.{ℕ, Bool, true, false, ◌==◌, ◌&&◌, List, Option, Some, None}
+use Rattle.std.specs.Prelude.{Bool, true, false, ◌==◌, ◌&&◌, List, Option, Some, None}
 use Rattle.std.specs.Cmp.Lexicographic.{pointwise}
 use Rattle.std.specs.List.{list_any}
 use Rattle.std.specs.Str.{bytes_eq}
 use Rattle.std.proofs.Math.Bool.{beq}
 use Rattle.ang_kinds.specs.declared.mask.EntityNo.{EntityNo}
-use Rattle.ang_kinds.specs.declared.primitive.Primitive.{Primitive}
-use Rattle.ang_kinds.specs.declared.primitive.Primitive.TheVariants.{I8, I16, I32, I64, U8, U16, U32, U64, Bool as Truth}
-use Rattle.ang_kinds.specs.declared.types.Pass.{Pass}
-use Rattle.ang_kinds.specs.declared.types.Pass.TheVariants.{Value, RefIn, RefOut, RefInOut}
 use Rattle.ang_kinds.specs.declared.types.Shape.{Shape}
 use Rattle.ang_kinds.specs.declared.types.Shape.TheVariants.{ByValue, Handle, AutoHandle}
 use Rattle.ang_kinds.specs.declared.types.Param.{Param}
 use Rattle.ang_kinds.specs.declared.types.Signature.{Signature}
 use Rattle.ang_kinds.specs.declared.types.TypeRef.{TypeRef}
 use Rattle.ang_kinds.specs.declared.types.TypeRef.TheVariants.{Void, Plain, Object}
-use Rattle.ang_registry.specs.declared.entry.Entry.{Entry}
-use Rattle.ang_registry.specs.declared.entry.EntryKind.{EntryKind}
-use Rattle.ang_registry.specs.declared.entry.EntryKind.TheVariants.{HostType, Factory, Method, Property, Function, Global}
-use Rattle.ang_registry.specs.Registration.{RegistrationList}
-
--- the primitive types by number, to compare them
-abbrev pub primitive_number : Primitive → ℕ
-primitive_number I8 = 0
-primitive_number I16 = 1
-primitive_number I32 = 2
-primitive_number I64 = 3
-primitive_number U8 = 4
-primitive_number U16 = 5
-primitive_number U32 = 6
-primitive_number U64 = 7
-primitive_number Truth = 8
-
--- the ways of passing by number
-abbrev pub pass_number : Pass → ℕ
-pass_number Value = 0
-pass_number RefIn = 1
-pass_number RefOut = 2
-pass_number RefInOut = 3
+use Rattle.ang_view.specs.declared.entry.Entry.{Entry}
+use Rattle.ang_view.specs.declared.entry.EntryKind.{EntryKind}
+use Rattle.ang_view.specs.declared.entry.EntryKind.TheVariants.{HostType, Factory, Method, Property, Function, Global}
+use Rattle.ang_view.specs.Numbers.{primitive_number, pass_number}
+use Rattle.ang_view.specs.Registration.{RegistrationList}
 
 -- a handle, which an auto handle is too
 abbrev pub is_handle : Shape → Bool

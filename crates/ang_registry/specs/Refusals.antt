@@ -2,14 +2,16 @@
 use Rattle.std.specs.Prelude.{ℕ, ◌==◌, Bool, false, not, ◌||◌, is_none, nat_le, nat_lt, if◌then◌else◌, List, [], ◌∷◌, ◌++◌, length, Option, Some, None}
 use Rattle.ang_kinds.specs.declared.mask.EntityNo.{EntityNo}
 use Rattle.ang_kinds.specs.declared.types.Signature.{Signature}
-use Rattle.ang_registry.specs.declared.entry.Entry.{Entry}
-use Rattle.ang_registry.specs.declared.entry.EntryKind.{EntryKind}
-use Rattle.ang_registry.specs.declared.entry.EntryKind.TheVariants.{HostType, Factory, Method, Property, Function, Global}
+use Rattle.ang_view.specs.declared.entry.Entry.{Entry}
+use Rattle.ang_view.specs.declared.entry.EntryKind.{EntryKind}
+use Rattle.ang_view.specs.declared.entry.EntryKind.TheVariants.{HostType, Factory, Method, Property, Function, Global}
 use Rattle.ang_registry.specs.declared.error.RegError.{RegError}
 use Rattle.ang_registry.specs.declared.error.RegError.TheVariants.{Limit, EmptyMask, BadDeclaration, UnknownType, WrongDriver, Duplicate}
-use Rattle.ang_registry.specs.Registration.{Registrations, RegistrationList, is_spelled_with}
+use Rattle.ang_view.specs.Registration.{RegistrationList, is_spelled_with}
+use Rattle.ang_registry.specs.Registrations.{Registrations}
 use Rattle.ang_registry.specs.Overloads.{is_factory, is_taken}
-use Rattle.ang_registry.specs.Types.{type_named, number_at, driver_at, names_unknown, is_wrong_driver}
+use Rattle.ang_registry.specs.Types.{names_unknown, is_wrong_driver}
+use Rattle.ang_view.specs.Types.{type_named, number_at, driver_at}
 
 -- the error of the first row that applies
 abbrev pub first_row : List (Bool × RegError) → Option RegError

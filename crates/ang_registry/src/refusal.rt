@@ -2,9 +2,9 @@
 ghost use Rattle.std.specs.Prelude.{◌≡◌, ◌<◌, ◌==◌, false, [], ◌∷◌, length, OnOk, IfErr, Some};
 ghost use Rattle.ang_registry.specs.Refusals as spec;
 
-use crate::view::spells;
 use crate::{Entry, EntryKind, RegError};
 use ang_kinds::{Mask, Signature};
+use ang_view::spells;
 
 /// The most entries of a registration list.
 pub const MOST_ENTRIES: usize = 1024;

@@ -1,21 +1,24 @@
 //! The registry.
 ghost use Rattle.std.specs.Prelude.{◌≡◌, ◌≢◌, ◌≤◌, ◌<◌, [], length, None, Some, IfOk, IfErr, OnOk, OnErr, option_map, IfSome};
 ghost use Rattle.std.specs.Option.{option_copied};
-ghost use Rattle.ang_registry.specs.Registration.{entry_at, seen, function_named, SeesFunction};
-ghost use Rattle.ang_registry.specs.Types.{type_named};
-ghost use Rattle.ang_registry.specs.Values.{SignatureTakesValues, DeclaresValues, EntryTakesValues, TakesValues};
+ghost use Rattle.ang_view.specs.Registration.{entry_at, seen, function_named, SeesFunction};
+ghost use Rattle.ang_view.specs.Hidden.{hidden};
+ghost use Rattle.ang_view.specs.Types.{type_named};
+ghost use Rattle.ang_view.specs.Values.{SignatureTakesValues, DeclaresValues, EntryTakesValues, TakesValues};
 ghost use Rattle.ang_registry.specs.Declarations as spec;
 ghost use Rattle.ang_registry.specs.Refusals.{refusal_of_type, with_type, refusal_of_factory, with_factory, refusal_of_method, with_method, refusal_of_property, with_property, refusal_of_function, with_function, refusal_of_global, with_global, refusal_of_blank, with_blank, refusal_of_own, with_own, refusal_of_member, with_member, refusal_of_entry, with_entry, with_last};
 
+use crate::RegError;
 use crate::declaration::{
     declared_factory, declared_function, declared_method, declared_property, declared_type,
 };
-use crate::lookup::{find_type, is_wrong_driver, names_unknown, number_of_type};
+use crate::lookup::{is_wrong_driver, names_unknown};
 use crate::overload::is_duplicate;
 use crate::refusal::{MOST_ENTRIES, check_room, gives_own};
-use crate::view::{View, function_index, view_of};
-use crate::{Entry, EntryKind, RegError};
 use ang_kinds::{EntityNo, Mask, Signature};
+use ang_view::{
+    Entry, EntryKind, View, find_type, function_index, hidden_of, number_of_type, view_of, whole_of,
+};
 use std::alloc::{AllocError, Global};
 use std::marker::Model;
 
@@ -30,8 +33,8 @@ pub struct Registry {
 
 impl Model for Registry {
     ghost use Rattle.std.specs.Prelude.{◌≤◌, length};
-    ghost use Rattle.ang_registry.specs.Registration.{Registrations};
-    ghost use Rattle.ang_registry.specs.Values.{TakesValues};
+    ghost use Rattle.ang_registry.specs.Registrations.{Registrations};
+    ghost use Rattle.ang_view.specs.Values.{TakesValues};
 
     ghost Value = { Registrations };
 
@@ -370,6 +373,28 @@ impl Registry {
         ensures values { IfOk result (λ view. TakesValues view) }
     {
         view_of(alloc, &self.entries, mask)
+    }
+
+    /// What a module of the mask does not see of the list: each entry that it sees is a blank there.
+    ///
+    /// # Errors
+    ///
+    /// Want of memory alone. The registry stays as it was.
+    pub fn hidden(&self, alloc: Global, mask: Mask) -> Result<View, AllocError>
+        ensures exact { IfOk result (λ view. view ≡ hidden self.now.entries mask.0) }
+    {
+        hidden_of(alloc, &self.entries, mask)
+    }
+
+    /// The whole list, whatever the masks.
+    ///
+    /// # Errors
+    ///
+    /// Want of memory alone. The registry stays as it was.
+    pub fn whole(&self, alloc: Global) -> Result<View, AllocError>
+        ensures exact { IfOk result (λ view. view ≡ self.now.entries) }
+    {
+        whole_of(alloc, &self.entries)
     }
 
     /// The number of entries, blanks included: at most 1,024.

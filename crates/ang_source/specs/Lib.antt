@@ -1,2 +1,2 @@
-pub mod Sound
 pub mod Meaning
+pub mod Sound

@@ -1,39 +1,45 @@
 -- What a script means: what an expression, a statement and a body of the resolved tree does, by cases on the tree (docs/MEANING.md, "What a script means";
 -- the AngelScript manual, "Expressions", "Statements" and "Functions"). What follows from the ends of a construct's parts is said by the combinators of
--- `Results`. A local is numbered from the outermost one.
-use Rattle.std.specs.Prelude.{ℕ, zero, suc, ◌-◌, Bool, true, false, List, [], ◌∷◌, length, reverse, map, ◌++◌, Option, Some, None, slice_get, slice_index_or}
+-- `Results`. A local is numbered from the outermost one, and `this` is local 0 of the bodies of methods and constructors.
+use Rattle.std.specs.Prelude.{ℕ, zero, suc, ◌-◌, ◌==◌, true, false, List, [], ◌∷◌, length, reverse, map, find, ◌++◌, Option, Some, None, option_map, option_and_then, slice_get, slice_index_or}
+use Rattle.std.specs.Option.{option_or}
 use Rattle.ang_kinds.specs.declared.primitive.Primitive.{Primitive}
 use Rattle.ang_kinds.specs.declared.primitive.Primitive.TheVariants.{I8, I16, I32, I64, U8, U16, U32, U64, Bool as Truth}
 use Rattle.ang_kinds.specs.declared.fault.Fault.TheVariants.{Null, Budget, Memory}
 use Rattle.ang_kinds.specs.declared.types.Pass.{Pass}
 use Rattle.ang_kinds.specs.declared.types.Pass.TheVariants as pass
-use Rattle.ang_kinds.specs.declared.mask.EntityNo.{EntityNo}
 use Rattle.ang_types.specs.declared.arg_type.ArgType.{ArgType}
 use Rattle.ang_types.specs.declared.arg_type.ArgType.TheVariants as type
 use Rattle.ang_typed.specs.declared.expression.Variable.{Variable}
 use Rattle.ang_typed.specs.declared.expression.Variable.TheVariants as variable
+use Rattle.ang_typed.specs.declared.expression.Member.{Member}
+use Rattle.ang_typed.specs.declared.expression.Member.TheVariants as member
+use Rattle.ang_typed.specs.declared.expression.Callee as typed
+use Rattle.ang_typed.specs.declared.expression.Callee.TheVariants as callee
 use Rattle.ang_typed.specs.declared.expression.Operator.{Operator}
 use Rattle.ang_typed.specs.declared.expression.Operator.TheVariants as operator
 use Rattle.ang_typed.specs.declared.expression.Comparison.{Comparison}
 use Rattle.ang_typed.specs.declared.expression.Comparison.TheVariants as comparison
 use Rattle.ang_typed.specs.declared.expression.StepKind.{StepKind}
 use Rattle.ang_typed.specs.declared.expression.StepKind.TheVariants as kind
+use Rattle.ang_typed.specs.declared.program.Class as families
+use Rattle.ang_typed.specs.declared.program.Heading.{Heading}
 use Rattle.ang_typed.specs.declared.program.Parameter.{Parameter}
 use Rattle.ang_typed.specs.Typed as t
-use Rattle.ang_meaning.specs.declared.slot.Slot.{Slot}
-use Rattle.ang_meaning.specs.declared.slot.Slot.TheVariants.{Bits}
+use Rattle.ang_meaning.specs.declared.class.Class.{Class}
 use Rattle.ang_meaning.specs.declared.class.ValueKind.{ValueKind}
-use Rattle.ang_meaning.specs.declared.class.ValueKind.TheVariants.{Number, Handle}
+use Rattle.ang_meaning.specs.declared.class.ValueKind.TheVariants as holds_a
+use Rattle.ang_meaning.specs.declared.slot.Slot.{Slot}
+use Rattle.ang_meaning.specs.declared.slot.Slot.TheVariants.{Bits, Script}
 use Rattle.ang_meaning.specs.declared.operation.Arithmetic.{Arithmetic}
 use Rattle.ang_meaning.specs.declared.operation.Arithmetic.TheVariants as work
 use Rattle.ang_meaning.specs.declared.operation.Comparison as compared
 use Rattle.ang_meaning.specs.declared.operation.Comparison.TheVariants as holds
 use Rattle.ang_meaning.specs.declared.operation.Change.{Change}
-use Rattle.ang_meaning.specs.declared.operation.Operation.{Operation}
-use Rattle.ang_meaning.specs.declared.operation.Operation.TheVariants.{Work, Compare, Convert, Negate, Complement, Not, GlobalGet, GlobalSet, GlobalChange, Ask, Read, Write, Alter}
+use Rattle.ang_meaning.specs.declared.operation.Operation.TheVariants.{Work, Compare, Convert, Negate, Complement, Not, Same, GlobalGet, GlobalSet, GlobalChange, Ask, Read, Write, Alter, Make, FieldGet, FieldSet, FieldChange, Cast}
 use Rattle.ang_meaning.specs.declared.routine.Routine.{Routine}
 use Rattle.ang_meaning.specs.declared.routine.Callee.{Callee}
-use Rattle.ang_meaning.specs.declared.routine.Callee.TheVariants.{Own}
+use Rattle.ang_meaning.specs.declared.routine.Callee.TheVariants.{Own, Import, Virtual}
 use Rattle.ang_meaning.specs.declared.routine.Passing.{Passing}
 use Rattle.ang_meaning.specs.declared.routine.Passing.TheVariants.{In, Out, Object}
 use Rattle.ang_meaning.specs.declared.routine.Spot.{Spot}
@@ -43,7 +49,7 @@ use Rattle.ang_meaning.specs.Numbers.{truth, is_signed}
 use Rattle.ang_meaning.specs.World.{World, or_else, give, give_all, memory_step}
 use Rattle.ang_meaning.specs.Setting.{Setting, default_of, params_of}
 use Rattle.ang_meaning.specs.Perform.{perform}
-use Rattle.ang_meaning.specs.Results.{Evaluated, Gave, Failed, Gathered, Ready, Ran, Went, Returned, Halted, Broken, Continued, Reply, Yields, Raises, Calls, local_at, on_test, ticked, loaded, applied, assigned, altered, chosen, then_rest, called, leave, with_value, then_run, caught, finished, enter}
+use Rattle.ang_meaning.specs.Results.{Evaluated, Gave, Gathered, Ready, Ran, Went, Returned, Halted, Broken, Continued, Reply, Yields, Raises, Calls, local_at, on_test, ticked, loaded, applied, assigned, altered, chosen, then_rest, called, leave, with_value, then_run, caught, finished, enter}
 
 -- ---- operators
 
@@ -98,19 +104,21 @@ brought_to (type.Plain p) = integer_of p
 brought_to (type.Object n c) = None
 brought_to (type.Handle n c) = None
 
--- ---- variables
+-- ---- values that nothing was stored for
 
--- what a variable of this type holds while nothing was stored in it: a number, or an object, a handle of any type or null
+-- what a variable, a field or a parameter of this type holds: an object or a handle, or a number or truth value
 abbrev pub kind_of : ArgType → ValueKind
-kind_of type.Void = Number
-kind_of type.Null = Handle
-kind_of (type.Plain p) = Number
-kind_of (type.Object n c) = Handle
-kind_of (type.Handle n c) = Handle
+kind_of type.Void = holds_a.Number
+kind_of type.Null = holds_a.Handle
+kind_of (type.Plain p) = holds_a.Number
+kind_of (type.Object n c) = holds_a.Handle
+kind_of (type.Handle n c) = holds_a.Handle
 
--- 0, false or null
+-- what it holds while nothing was stored in it: 0, false or null
 abbrev pub default_in : ArgType → Slot
 default_in ty = default_of (kind_of ty)
+
+-- ---- variables and members
 
 -- the place of local i among those that are alive, counted from the innermost one
 abbrev pub inner : List Slot → ℕ → ℕ
@@ -123,24 +131,46 @@ one e = then_rest [] e (λ v ls t w. Ready (v ∷ []) ls t w)
 abbrev pub two : Evaluated → (List Slot → ℕ → World → Evaluated) → Gathered
 two e go = then_rest [] e (λ v ls t w. then_rest (v ∷ []) (go ls t w) (λ u ls' t' w'. Ready (u ∷ v ∷ []) ls' t' w'))
 
+-- `this`, as an operand
+abbrev pub this_of : List Slot → ℕ → World → Evaluated
+this_of ls t w = loaded (local_at ls (inner ls 0)) ls t w
+
 -- In a module of a setting:
 module _ (z : Setting) (m : ℕ) where
   abbrev pub read_variable : Variable → List Slot → ℕ → World → Evaluated
   read_variable (variable.Local i) ls t w = loaded (local_at ls (inner ls i)) ls t w
   read_variable (variable.Global g) ls t w = applied (perform z m (GlobalGet g)) (Ready [] ls t w)
   read_variable (variable.Property h) ls t w = applied (perform z m (Read h.entity)) (Ready [] ls t w)
+  read_variable (variable.Field i) ls t w = applied (perform z m (FieldGet i)) (one (this_of ls t w))
+
+  -- A member of the object that was evaluated.
+  abbrev pub read_member : Member → Evaluated → Evaluated
+  read_member (member.Field i) o = applied (perform z m (FieldGet i)) (one o)
+  read_member (member.Property h) o = applied (perform z m (Read h.entity)) (one o)
 
   -- A value is stored, and is the expression's value.
   abbrev pub stored : Variable → List Slot → Evaluated → Evaluated
   stored (variable.Local i) ls e = assigned (inner ls i) e
   stored (variable.Global g) ls e = applied (perform z m (GlobalSet g)) (one e)
   stored (variable.Property h) ls e = applied (perform z m (Write h.entity)) (one e)
+  stored (variable.Field i) ls e = applied (perform z m (FieldSet i)) (two e this_of)
+
+  -- A value is stored into a member of an object, which comes behind it.
+  abbrev pub member_stored : Member → Evaluated → (List Slot → ℕ → World → Evaluated) → Evaluated
+  member_stored (member.Field i) e object = applied (perform z m (FieldSet i)) (two e object)
+  member_stored (member.Property h) e object = applied (perform z m (Write h.entity)) (two e object)
 
   -- A variable is changed by an operand.
   abbrev pub changed_by : Variable → List Slot → Change → Evaluated → Evaluated
   changed_by (variable.Local i) ls c e = altered (inner ls i) c e
   changed_by (variable.Global g) ls c e = applied (perform z m (GlobalChange g c)) (one e)
   changed_by (variable.Property h) ls c e = applied (perform z m (Alter h.entity c)) (one e)
+  changed_by (variable.Field i) ls c e = applied (perform z m (FieldChange i c)) (two e this_of)
+
+  -- A member of an object, which comes behind the operand, is changed by it.
+  abbrev pub member_changed : Member → Change → Evaluated → (List Slot → ℕ → World → Evaluated) → Evaluated
+  member_changed (member.Field i) c e object = applied (perform z m (FieldChange i c)) (two e object)
+  member_changed (member.Property h) c e object = applied (perform z m (Alter h.entity c)) (two e object)
 
 -- ---- the targets of a call
 
@@ -149,6 +179,7 @@ abbrev pub spot_of : List Slot → Variable → Spot
 spot_of ls (variable.Local i) = spot.Local (inner ls i)
 spot_of ls (variable.Global g) = spot.Global g
 spot_of ls (variable.Property h) = spot.Local 0
+spot_of ls (variable.Field i) = spot.Field (inner ls 0) i
 
 -- The variables that the `&out` values move into, behind those that there are; the last one is the first.
 abbrev pub targets_behind : List Slot → t.Args → List Target → List Target
@@ -162,16 +193,25 @@ targets_of ls args = targets_behind ls args []
 
 -- ---- expressions
 
+-- what the code of a module names by a callee of its tree
+abbrev pub callee_of : typed.Callee → Callee
+callee_of (callee.Own f) = Own f
+callee_of (callee.Import i) = Import i
+callee_of (callee.Chosen s) = Virtual s
+
 -- the calls that a body makes
 abbrev pub Callees : Type 0
 Callees = Callee → List Slot → ℕ → World → Reply
 
--- An expression in module m. Operands are evaluated from left to right; in an assignment the value comes first.
+-- An expression in module m. Operands are evaluated from left to right; in an assignment the value comes first. An object is made
+-- before the arguments of its constructor, which gives it back.
 abbrev mutual
   pub evaluate : Setting → ℕ → Callees → t.Expr → List Slot → ℕ → World → Evaluated
   evaluate z m c (t.number ty n) ls t w = Gave (Bits n) ls t w
   evaluate z m c (t.truth b) ls t w = Gave (Bits (truth b)) ls t w
-  evaluate z m c (t.variable x ty) ls t w = read_variable z m x ls t w
+  evaluate z m c (t.read (t.named x) ty) ls t w = read_variable z m x ls t w
+  evaluate z m c (t.read (t.member_of o a) ty) ls t w = read_member z m a (evaluate z m c o ls t w)
+  evaluate z m c t.null ls t w = Gave (Script None) ls t w
   evaluate z m c (t.convert from to e) ls t w = applied (perform z m (Convert to)) (one (evaluate z m c e ls t w))
   evaluate z m c (t.negate ty e) ls t w = applied (perform z m (Negate ty)) (one (evaluate z m c e ls t w))
   evaluate z m c (t.complement ty e) ls t w = applied (perform z m (Complement ty)) (one (evaluate z m c e ls t w))
@@ -183,10 +223,21 @@ abbrev mutual
   evaluate z m c (t.and l r) ls t w = chosen (evaluate z m c l ls t w) (evaluate z m c r) (λ ls' t' w'. Gave (Bits (truth false)) ls' t' w')
   evaluate z m c (t.or l r) ls t w = chosen (evaluate z m c l ls t w) (λ ls' t' w'. Gave (Bits (truth true)) ls' t' w') (evaluate z m c r)
   evaluate z m c (t.choose a l r) ls t w = chosen (evaluate z m c a ls t w) (evaluate z m c l) (evaluate z m c r)
-  evaluate z m c (t.assign x ty e) ls t w = stored z m x ls (evaluate z m c e ls t w)
-  evaluate z m c (t.compound x ty op at e) ls t w = changed_by z m x ls (compound_of ty op at) (evaluate z m c e ls t w)
-  evaluate z m c (t.step x ty kind) ls t w = changed_by z m x ls (step_of ty kind) (Gave (Bits 1) ls t w)
-  evaluate z m c (t.call f ty args) ls t w = called m (c (Own f)) (targets_of ls args) (evaluate_all z m c args [] ls t w)
+  evaluate z m c (t.same l r) ls t w = applied (perform z m Same) (two (evaluate z m c l ls t w) (evaluate z m c r))
+  evaluate z m c (t.cast n e) ls t w = applied (perform z m (Cast n)) (one (evaluate z m c e ls t w))
+  evaluate z m c (t.make n None args) ls t w = applied (perform z m (Make n)) (Ready [] ls t w)
+  evaluate z m c (t.make n (Some k) args) ls t w =
+      called m (c (Own k)) (targets_of ls args)
+      (then_rest [] (applied (perform z m (Make n)) (Ready [] ls t w)) (λ o ls' t' w'. evaluate_all z m c args (o ∷ []) ls' t' w'))
+  evaluate z m c (t.assign (t.named x) ty e) ls t w = stored z m x ls (evaluate z m c e ls t w)
+  evaluate z m c (t.assign (t.member_of o a) ty e) ls t w = member_stored z m a (evaluate z m c e ls t w) (evaluate z m c o)
+  evaluate z m c (t.compound (t.named x) ty op at e) ls t w = changed_by z m x ls (compound_of ty op at) (evaluate z m c e ls t w)
+  evaluate z m c (t.compound (t.member_of o a) ty op at e) ls t w =
+      member_changed z m a (compound_of ty op at) (evaluate z m c e ls t w) (evaluate z m c o)
+  evaluate z m c (t.step (t.named x) ty kind) ls t w = changed_by z m x ls (step_of ty kind) (Gave (Bits 1) ls t w)
+  evaluate z m c (t.step (t.member_of o a) ty kind) ls t w =
+      member_changed z m a (step_of ty kind) (Gave (Bits 1) ls t w) (evaluate z m c o)
+  evaluate z m c (t.call f ty args) ls t w = called m (c (callee_of f)) (targets_of ls args) (evaluate_all z m c args [] ls t w)
   evaluate z m c (t.host_call h ty args) ls t w = applied (perform z m (Ask h.entity)) (evaluate_all z m c args [] ls t w)
 
   -- the arguments of a call, behind those that there are; an `&out` parameter begins as 0, false or null
@@ -367,8 +418,53 @@ code_or None = of_function t.end
 code_or (Some c) = c
 
 abbrev pub nothing : t.Program
-nothing = record { functions = []; globals = [] }
+nothing = record { functions = []; globals = []; classes = []; methods = []; imports = [] }
 
 -- the bodies of modules, by their numbers
 abbrev pub codes_in : List t.Program → Codes
 codes_in ps g = code_or (slice_get (codes_of (slice_index_or ps g.home nothing)) g.number)
+
+-- ---- a module's classes, methods and imports
+
+-- a class as its objects have it: it stands under itself, too
+abbrev pub class_of : ℕ → families.Class → Class
+class_of n c = record { number = n; rank = c.rank; fields = map kind_of c.fields; under = n ∷ c.above }
+
+abbrev pub class_among : List families.Class → ℕ → Option Class
+class_among classes n = option_map (class_of n) (slice_get classes n)
+
+-- the class of a number, in the modules by their numbers
+unfoldable pub class_in : List t.Program → ℕ → ℕ → Option Class
+class_in ps m n = class_among (slice_index_or ps m nothing).classes n
+
+-- the body that a class has itself in a slot
+abbrev pub own_body : ℕ → List (ℕ × ℕ) → Option ℕ
+own_body s rows = option_map (λ (r : ℕ × ℕ). r.1) (find (λ (r : ℕ × ℕ). r.0 == s) rows)
+
+-- The body that class c has in a slot: its own, or else that of its base class. The class and so many above it are asked.
+abbrev pub body_by : List families.Class → ℕ → ℕ → Option families.Class → Option ℕ
+body_by classes s n None = None
+body_by classes s zero (Some c) = own_body s c.chosen
+body_by classes s (suc n) (Some c) = option_or (own_body s c.chosen) (body_by classes s n (option_and_then (slice_get classes) c.base))
+
+abbrev pub routine : ℕ → ℕ → Routine
+routine m k = record { home = m; number = k }
+
+abbrev pub method_among : ℕ → List families.Class → ℕ → ℕ → Option Routine
+method_among m classes n s = option_map (routine m) (body_by classes s (length classes) (slice_get classes n))
+
+-- The method that a class has in a slot (the manual, "Inheritance and polymorphism").
+unfoldable pub method_in : List t.Program → ℕ → ℕ → ℕ → Option Routine
+method_in ps m n s = method_among m (slice_index_or ps m nothing).classes n s
+
+-- how a function of that heading takes its arguments, the last one first
+abbrev pub heading_among : List Heading → ℕ → Option (List Passing)
+heading_among headings i = option_map (λ (h : Heading). passings_of h.parameters) (slice_get headings i)
+
+-- how the methods of a slot take their arguments, the last one first; the receiver is the last of the list
+unfoldable pub slot_in : List t.Program → ℕ → ℕ → Option (List Passing)
+slot_in ps m s = heading_among (slice_index_or ps m nothing).methods s
+
+-- how an import takes its arguments, the last one first
+unfoldable pub imported_in : List t.Program → ℕ → ℕ → Option (List Passing)
+imported_in ps m i = heading_among (slice_index_or ps m nothing).imports i

@@ -1,22 +1,30 @@
--- What a checker promises of a resolved tree (docs/MEANING.md, "What a script means"): each local is alive, each global and each function is there, each
--- call has an argument for each parameter, each asking is of an entity that the view has and by which no object passes, no property that is declared `const`
--- is written, and `break` and `continue` stand in a loop. It says nothing else of types: operations are total.
-use Rattle.std.specs.Prelude.{◌≡◌, ◌≢◌, ℕ, suc, ◌+◌, ◌<◌, Bool, true, false, IsTrue, List, [], ◌∷◌, length, map, Option, Some, None, slice_get}
+-- What a checker promises of a resolved tree (docs/MEANING.md, "What a script means"): each local is alive, each global, function, class, slot and import is
+-- there, each call has an argument for each parameter, each asking is of an entity that the view has and by which no object passes, no property that is
+-- declared `const` is written, and `break` and `continue` stand in a loop. It says nothing else of types: operations are total, a field of no object and a
+-- slot that a class has not fault.
+use Rattle.std.specs.List.{list_any}
+use Rattle.std.specs.Prelude.{◌≡◌, ◌≢◌, ℕ, suc, ◌+◌, ◌<◌, ◌==◌, Bool, true, false, IsTrue, List, [], ◌∷◌, length, map, Option, Some, None, IfSome, slice_get}
 use Rattle.ang_kinds.specs.declared.types.Param.{Param}
 use Rattle.ang_kinds.specs.declared.types.Pass.{Pass}
 use Rattle.ang_kinds.specs.declared.types.Pass.TheVariants.{RefOut}
 use Rattle.ang_kinds.specs.declared.types.TypeRef.{TypeRef}
 use Rattle.ang_kinds.specs.declared.types.TypeRef.TheVariants as ref
-use Rattle.ang_registry.specs.declared.entry.Entry.{Entry}
-use Rattle.ang_registry.specs.declared.entry.EntryKind.{EntryKind}
-use Rattle.ang_registry.specs.declared.entry.EntryKind.TheVariants.{HostType, Factory, Method, Property, Function, Global}
-use Rattle.ang_registry.specs.Registration.{RegistrationList, entry_at}
-use Rattle.ang_registry.specs.Values.{IsPrimitive}
+use Rattle.ang_view.specs.declared.entry.Entry.{Entry}
+use Rattle.ang_view.specs.declared.entry.EntryKind.{EntryKind}
+use Rattle.ang_view.specs.declared.entry.EntryKind.TheVariants.{HostType, Factory, Method, Property, Function, Global}
+use Rattle.ang_view.specs.Registration.{RegistrationList, entry_at}
+use Rattle.ang_view.specs.Values.{IsPrimitive}
 use Rattle.ang_typed.specs.declared.expression.HostEntity.{HostEntity}
+use Rattle.ang_typed.specs.declared.expression.Callee.{Callee}
+use Rattle.ang_typed.specs.declared.expression.Callee.TheVariants as callee
+use Rattle.ang_typed.specs.declared.expression.Member.{Member}
+use Rattle.ang_typed.specs.declared.expression.Member.TheVariants as member
 use Rattle.ang_typed.specs.declared.expression.Variable.{Variable}
 use Rattle.ang_typed.specs.declared.expression.Variable.TheVariants as variable
+use Rattle.ang_typed.specs.declared.program.Class.{Class}
 use Rattle.ang_typed.specs.declared.program.Parameter.{Parameter}
 use Rattle.ang_typed.specs.Typed as t
+use Rattle.ang_source.specs.Meaning.{passings_of}
 
 -- ---- the host's entities
 
@@ -53,26 +61,47 @@ pub record IsEntity (V : RegistrationList) (kind : EntryKind) (h : HostEntity) :
   pub number : h.f ≡ entry.f
   pub no_object : PassesNoObject entry
 
--- a global property of the host that may be written: one that is not declared `const` (the AngelScript manual, "Registering global properties")
-pub record IsWritable (V : RegistrationList) (h : HostEntity) : Type 0 where
-  pub entity : IsEntity V Global h
+-- a property of the host that may be written: one that is not declared `const` (the AngelScript manual, "Registering global properties" and
+-- "Registering object properties")
+pub record IsWritable (V : RegistrationList) (kind : EntryKind) (h : HostEntity) : Type 0 where
+  pub entity : IsEntity V kind h
   pub not_const : entity.entry.signature.read_only ≡ false
 
--- a function of the host with so many parameters
-pub record IsHostFunction (V : RegistrationList) (h : HostEntity) (count : ℕ) : Type 0 where
-  pub entity : IsEntity V Function h
-  pub params : length entity.entry.signature.params ≡ count
+-- how many arguments a call of an entity of this kind has, by how many parameters it declares: a receiver is one more
+abbrev pub argument_number : EntryKind → ℕ → Option ℕ
+argument_number HostType n = None
+argument_number Factory n = Some n
+argument_number Method n = Some (suc n)
+argument_number Property n = None
+argument_number Function n = Some n
+argument_number Global n = None
+
+-- a function, a factory or a method of the host that is called with so many arguments
+pub record IsHostCallee (V : RegistrationList) (h : HostEntity) (count : ℕ) : Type 0 where
+  pub kind : EntryKind
+  pub entity : IsEntity V kind h
+  pub params : argument_number kind (length entity.entry.signature.params) ≡ Some count
 
 -- ---- what a module has
 
--- the parameters of its functions, how many globals it has, and its view of the host
+-- its view of the host, the parameters of its functions, of the methods by slot and of its imports, how many globals and classes it has
 pub record Module : Type 0 where
   pub view : RegistrationList
   pub parameters : List (List Parameter)
+  pub methods : List (List Parameter)
+  pub imports : List (List Parameter)
   pub globals : ℕ
+  pub classes : ℕ
 
 abbrev pub module_of : RegistrationList → t.Program → Module
-module_of V p = record { view = V; parameters = map (λ f. f.parameters) p.functions; globals = length p.globals }
+module_of V p = record {
+  view = V;
+  parameters = map (λ f. f.parameters) p.functions;
+  methods = map (λ h. h.parameters) p.methods;
+  imports = map (λ h. h.parameters) p.imports;
+  globals = length p.globals;
+  classes = length p.classes;
+}
 
 -- how many arguments stand in a list
 abbrev pub argument_count : t.Args → ℕ
@@ -105,24 +134,44 @@ module _ (M : Module) where
   IsVariable n (variable.Local i) = i < n
   IsVariable n (variable.Global g) = g < M.globals
   IsVariable n (variable.Property h) = IsEntity M.view Global h
+  IsVariable n (variable.Field i) = 0 < n
 
   -- a variable that is stored into
   abbrev pub IsStored : ℕ → Variable → Type 0
   IsStored n (variable.Local i) = i < n
   IsStored n (variable.Global g) = g < M.globals
-  IsStored n (variable.Property h) = IsWritable M.view h
+  IsStored n (variable.Property h) = IsWritable M.view Global h
+  IsStored n (variable.Field i) = 0 < n
 
   -- a variable that an `&out` value moves into, which is no host property
   abbrev pub IsTarget : ℕ → Variable → Type 0
   IsTarget n (variable.Local i) = i < n
   IsTarget n (variable.Global g) = g < M.globals
   IsTarget n (variable.Property h) = ⊥
+  IsTarget n (variable.Field i) = 0 < n
+
+  -- a member that is read, and one that is stored into; the fields of an object are its class's
+  abbrev pub IsMember : Member → Type 0
+  IsMember (member.Field i) = Unit {0}
+  IsMember (member.Property h) = IsEntity M.view Property h
+
+  abbrev pub IsStoredMember : Member → Type 0
+  IsStoredMember (member.Field i) = Unit {0}
+  IsStoredMember (member.Property h) = IsWritable M.view Property h
+
+  -- the parameters of what is called, the receiver's first
+  abbrev pub parameters_of : Callee → Option (List Parameter)
+  parameters_of (callee.Own f) = slice_get M.parameters f
+  parameters_of (callee.Import i) = slice_get M.imports i
+  parameters_of (callee.Chosen s) = slice_get M.methods s
 
   abbrev mutual
     pub Sound : ℕ → t.Expr → Type 0
     Sound n (t.number ty value) = Unit {0}
     Sound n (t.truth b) = Unit {0}
-    Sound n (t.variable x ty) = IsVariable n x
+    Sound n (t.read (t.named x) ty) = IsVariable n x
+    Sound n (t.read (t.member_of o a) ty) = IsMember a × Sound n o
+    Sound n t.null = Unit {0}
     Sound n (t.convert from to e) = Sound n e
     Sound n (t.negate ty e) = Sound n e
     Sound n (t.complement ty e) = Sound n e
@@ -132,11 +181,19 @@ module _ (M : Module) where
     Sound n (t.and l r) = Sound n l × Sound n r
     Sound n (t.or l r) = Sound n l × Sound n r
     Sound n (t.choose c l r) = Sound n c × Sound n l × Sound n r
-    Sound n (t.assign x ty e) = IsStored n x × Sound n e
-    Sound n (t.compound x ty op operating e) = IsStored n x × Sound n e
-    Sound n (t.step x ty kind) = IsStored n x
-    Sound n (t.call f result args) = (ps : List Parameter) × (slice_get M.parameters f ≡ Some ps) × SoundArguments n ps args
-    Sound n (t.host_call h result args) = IsHostFunction M.view h (argument_count args) × SoundValues n args
+    Sound n (t.same l r) = Sound n l × Sound n r
+    Sound n (t.cast c e) = (c < M.classes) × Sound n e
+    Sound n (t.make c None args) = (c < M.classes) × (args ≡ t.none)
+    Sound n (t.make c (Some k) args) =
+        (c < M.classes) × ((own : Parameter) × (ps : List Parameter) × (slice_get M.parameters k ≡ Some (own ∷ ps)) × (own.pass ≢ RefOut) × SoundArguments n ps args)
+    Sound n (t.assign (t.named x) ty e) = IsStored n x × Sound n e
+    Sound n (t.assign (t.member_of o a) ty e) = IsStoredMember a × Sound n o × Sound n e
+    Sound n (t.compound (t.named x) ty op operating e) = IsStored n x × Sound n e
+    Sound n (t.compound (t.member_of o a) ty op operating e) = IsStoredMember a × Sound n o × Sound n e
+    Sound n (t.step (t.named x) ty kind) = IsStored n x
+    Sound n (t.step (t.member_of o a) ty kind) = IsStoredMember a × Sound n o
+    Sound n (t.call f result args) = (ps : List Parameter) × (parameters_of f ≡ Some ps) × SoundArguments n ps args
+    Sound n (t.host_call h result args) = IsHostCallee M.view h (argument_count args) × SoundValues n args
 
     -- an argument for each parameter, a variable for each `&out`
     pub SoundArguments : ℕ → List Parameter → t.Args → Type 0
@@ -206,7 +263,30 @@ module _ (M : Module) where
   SoundGlobals [] = Unit {0}
   SoundGlobals (g ∷ gs) = SoundOption 0 g.initializer × SoundGlobals gs
 
+  -- the body in a slot of a class takes what the methods of the slot take
+  pub record IsChosen (slot body : ℕ) : Type 0 where
+    pub heading : List Parameter
+    pub slot_is : slice_get M.methods slot ≡ Some heading
+    pub parameters : List Parameter
+    pub body_is : slice_get M.parameters body ≡ Some parameters
+    pub alike : passings_of parameters ≡ passings_of heading
+
+  abbrev pub AreChosen : List (ℕ × ℕ) → Type 0
+  AreChosen [] = Unit {0}
+  AreChosen (r ∷ rs) = IsChosen r.0 r.1 × AreChosen rs
+
+  -- all bodies that a class has are so, and its base class and the families above it are there
+  pub record SoundClass (c : Class) : Type 0 where
+    pub chosen : AreChosen c.chosen
+    pub base : IfSome c.base (λ b. b < M.classes)
+    pub above : (n : ℕ) → list_any (λ k. k == n) c.above ≡ true → n < M.classes
+
+  abbrev pub SoundClasses : List Class → Type 0
+  SoundClasses [] = Unit {0}
+  SoundClasses (c ∷ cs) = SoundClass c × SoundClasses cs
+
 -- the resolved tree of a module, over its view of the host
 pub record SoundProgram (V : RegistrationList) (p : t.Program) : Type 0 where
   pub functions : SoundFunctions (module_of V p) p.functions
   pub globals : SoundGlobals (module_of V p) p.globals
+  pub classes : SoundClasses (module_of V p) p.classes

@@ -4,9 +4,13 @@ use Rattle.ang_kinds.specs.declared.primitive.Primitive.{Primitive}
 use Rattle.ang_types.specs.declared.arg_type.ArgType.{ArgType}
 use Rattle.ang_typed.specs.declared.expression.HostEntity.{HostEntity}
 use Rattle.ang_typed.specs.declared.expression.Variable.{Variable}
+use Rattle.ang_typed.specs.declared.expression.Member.{Member}
+use Rattle.ang_typed.specs.declared.expression.Callee.{Callee}
 use Rattle.ang_typed.specs.declared.expression.Operator.{Operator}
 use Rattle.ang_typed.specs.declared.expression.Comparison.{Comparison}
 use Rattle.ang_typed.specs.declared.expression.StepKind.{StepKind}
+use Rattle.ang_typed.specs.declared.program.Class.{Class}
+use Rattle.ang_typed.specs.declared.program.Heading.{Heading}
 use Rattle.ang_typed.specs.declared.program.Parameter.{Parameter}
 
 -- ---- expressions
@@ -15,7 +19,8 @@ mutual
   pub data Expr : Type 0 where
     number : Primitive → ℕ → Expr
     truth : Bool → Expr
-    variable : Variable → ArgType → Expr
+    read : Site → ArgType → Expr
+    null : Expr
     convert : Primitive → Primitive → Expr → Expr
     negate : Primitive → Expr → Expr
     complement : Primitive → Expr → Expr
@@ -25,11 +30,19 @@ mutual
     and : Expr → Expr → Expr
     or : Expr → Expr → Expr
     choose : Expr → Expr → Expr → Expr
-    assign : Variable → ArgType → Expr → Expr
-    compound : Variable → Primitive → Operator → Primitive → Expr → Expr
-    step : Variable → Primitive → StepKind → Expr
-    call : ℕ → ArgType → Args → Expr
+    same : Expr → Expr → Expr
+    cast : ℕ → Expr → Expr
+    make : ℕ → Option ℕ → Args → Expr
+    assign : Site → ArgType → Expr → Expr
+    compound : Site → Primitive → Operator → Primitive → Expr → Expr
+    step : Site → Primitive → StepKind → Expr
+    call : Callee → ArgType → Args → Expr
     host_call : HostEntity → ArgType → Args → Expr
+
+  -- what can be read and written: a variable by its bare name, or a member of an object
+  pub data Site : Type 0 where
+    named : Variable → Site
+    member_of : Expr → Member → Site
 
   -- the arguments of a call
   pub data Args : Type 0 where
@@ -83,7 +96,11 @@ pub record Global : Type 0 where
   pub ty : ArgType
   pub initializer : Option Expr
 
--- functions and globals, each in the order of their declarations
+-- Functions, with the bodies of families behind them, globals, families, the headings of methods, and those of imports, each in the
+-- order of their declarations.
 pub record Program : Type 0 where
   pub functions : List Function
   pub globals : List Global
+  pub classes : List Class
+  pub methods : List Heading
+  pub imports : List Heading

@@ -4,8 +4,9 @@ use Rattle.std.specs.declared.boxed.Box.{Box}
 use Rattle.std.specs.declared.alloc.Global.{Global}
 use Rattle.ang_typed.specs.declared.expression.Expression.{Expression}
 use Rattle.ang_typed.specs.declared.expression.Argument.{Argument}
-use Rattle.ang_typed.specs.declared.expression.Argument.TheOpen.{Expression-F, Argument-F}
-use Rattle.ang_typed.specs.declared.expression.Argument.TheFolds.{fold-Expression, fold-Argument}
+use Rattle.ang_typed.specs.declared.expression.Site.{Site}
+use Rattle.ang_typed.specs.declared.expression.Argument.TheOpen.{Expression-F, Argument-F, Site-F}
+use Rattle.ang_typed.specs.declared.expression.Argument.TheFolds.{fold-Expression, fold-Argument, fold-Site}
 use Rattle.ang_typed.specs.declared.statement.Statement.{Statement}
 use Rattle.ang_typed.specs.declared.statement.Block.{Block}
 use Rattle.ang_typed.specs.declared.statement.Choice.{Choice}
@@ -21,10 +22,11 @@ use Rattle.ang_typed.specs.Typed as t
 
 -- ---- expressions
 
-abbrev pub expression_step : Expression-F t.Arg t.Expr → t.Expr
+abbrev pub expression_step : Expression-F t.Arg t.Expr t.Site → t.Expr
 expression_step (Expression-F.Number ty value) = t.number ty value
 expression_step (Expression-F.Truth b) = t.truth b
-expression_step (Expression-F.Variable x ty) = t.variable x ty
+expression_step (Expression-F.Read x ty) = t.read x ty
+expression_step Expression-F.Null = t.null
 expression_step (Expression-F.Convert from to e) = t.convert from to e.value
 expression_step (Expression-F.Negate ty e) = t.negate ty e.value
 expression_step (Expression-F.Complement ty e) = t.complement ty e.value
@@ -34,21 +36,31 @@ expression_step (Expression-F.Compare op ty l r) = t.compare op ty l.value r.val
 expression_step (Expression-F.And l r) = t.and l.value r.value
 expression_step (Expression-F.Or l r) = t.or l.value r.value
 expression_step (Expression-F.Choose c l r) = t.choose c.value l.value r.value
+expression_step (Expression-F.Same l r) = t.same l.value r.value
+expression_step (Expression-F.Cast n e) = t.cast n e.value
+expression_step (Expression-F.Make n f es) = t.make n f (t.args es.items)
 expression_step (Expression-F.Assign x ty e) = t.assign x ty e.value
 expression_step (Expression-F.Compound x ty op operating e) = t.compound x ty op operating e.value
 expression_step (Expression-F.Step x ty kind) = t.step x ty kind
 expression_step (Expression-F.Call f ty es) = t.call f ty (t.args es.items)
 expression_step (Expression-F.HostCall h ty es) = t.host_call h ty (t.args es.items)
 
-abbrev pub argument_step : Argument-F t.Arg t.Expr → t.Arg
+abbrev pub argument_step : Argument-F t.Arg t.Expr t.Site → t.Arg
 argument_step (Argument-F.Value ty e) = t.by_value ty e
 argument_step (Argument-F.Out x from to) = t.out x from to
 
+abbrev pub site_step : Site-F t.Arg t.Expr t.Site → t.Site
+site_step (Site-F.Named x) = t.named x
+site_step (Site-F.Of e m) = t.member_of e.value m
+
 abbrev pub view_expr : Expression → t.Expr
-view_expr = fold-Expression t.Arg t.Expr argument_step expression_step
+view_expr = fold-Expression t.Arg t.Expr t.Site argument_step expression_step site_step
 
 abbrev pub view_arg : Argument → t.Arg
-view_arg = fold-Argument t.Arg t.Expr argument_step expression_step
+view_arg = fold-Argument t.Arg t.Expr t.Site argument_step expression_step site_step
+
+abbrev pub view_site : Site → t.Site
+view_site = fold-Site t.Arg t.Expr t.Site argument_step expression_step site_step
 
 abbrev pub view_args : List Argument → t.Args
 view_args es = t.args (map view_arg es)
@@ -119,4 +131,10 @@ abbrev pub view_global : globals.Global → t.Global
 view_global g = record { ty = g.ty; initializer = view_option g.initializer }
 
 abbrev pub view_typed : modules.Typed → t.Program
-view_typed m = record { functions = map view_function m.functions; globals = map view_global m.globals }
+view_typed m = record {
+  functions = map view_function m.functions;
+  globals = map view_global m.globals;
+  classes = m.classes;
+  methods = m.methods;
+  imports = m.imports;
+}

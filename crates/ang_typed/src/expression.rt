@@ -14,7 +14,7 @@ pub struct HostEntity {
     pub f: u32,
 }
 
-/// What a bare name can be read from and written to.
+/// What a bare name stands for, where it can be read and written.
 #[derive(Clone, Copy, PartialEq, Eq, Debug)]
 pub enum Variable {
     /// A parameter or local of the function, by its number.
@@ -23,6 +23,46 @@ pub enum Variable {
     Global(usize),
     /// A global property of the host: reading and writing each ask the driver.
     Property(HostEntity),
+    /// A field of `this`, by its number among the fields of its class, those of the base class first. It stands in
+    /// bodies of methods and constructors alone, where `this` is local 0.
+    Field(usize),
+}
+
+/// What of an object can be read and written.
+#[derive(Clone, Copy, PartialEq, Eq, Debug)]
+pub enum Member {
+    /// A field of a script's class, by its number, those of the base class first.
+    Field(usize),
+    /// An object property of the host: reading and writing each ask the driver.
+    Property(HostEntity),
+}
+
+/// Which function of the scripts is called.
+#[derive(Clone, Copy, PartialEq, Eq, Debug)]
+pub enum Callee {
+    /// A body of the module, by its number in `Typed::functions`: a function, a constructor, or a method that is
+    /// named by its class.
+    Own(usize),
+    /// An imported function, by its number.
+    Import(usize),
+    /// The method of this slot that the class of the receiver has. The receiver is the first argument.
+    Chosen(usize),
+}
+
+/// What can be read and written.
+#[cycle(expression)]
+#[derive(Drop)]
+pub enum Site {
+    /// A variable by its bare name.
+    Named(Variable),
+    /// A member of an object, which is evaluated once. Where the site is written it is evaluated behind the value;
+    /// null is the fault `Null`.
+    Of {
+        /// The object, or a handle to it.
+        object: Box<Expression>,
+        /// Which member of it.
+        member: Member,
+    },
 }
 
 /// An operator on two integers of one type, with a result of that type.
@@ -99,13 +139,15 @@ pub enum Expression {
     },
     /// `true` or `false`
     Truth(bool),
-    /// The value of a variable of type `ty`.
-    Variable {
-        /// Which variable is read.
-        variable: Variable,
-        /// The variable's type.
+    /// The value of what stands at a site of type `ty`.
+    Read {
+        /// Where it stands.
+        site: Site,
+        /// The site's type.
         ty: ArgType,
     },
+    /// `null`, of every handle type.
+    Null,
     /// An integer of one type made an integer of another: the low bits stay.
     Convert {
         /// The operand's type, an integer type.
@@ -180,51 +222,80 @@ pub enum Expression {
         /// The value where the condition is false.
         otherwise: Box<Expression>,
     },
-    /// `variable = value`, both of type `ty`. The value of the whole is what was stored.
+    /// `left is right`: whether both are one object, or both null. `!is` is `Not` of it.
+    Same {
+        /// The first object or handle.
+        left: Box<Expression>,
+        /// The second one.
+        right: Box<Expression>,
+    },
+    /// `cast<T>(operand)` between types of scripts: the handle, or null where its object is not of the family and not
+    /// under it. A cast of a host type to itself changes nothing, and is its operand.
+    Cast {
+        /// The number of the family that is asked for.
+        family: usize,
+        /// The handle.
+        operand: Box<Expression>,
+    },
+    /// A new object of a script's class. Its fields are 0, false and null; then the constructor runs on it, where one
+    /// does, with the arguments, which are evaluated behind the making. Without a constructor there are none.
+    Make {
+        /// The number of the class among the families.
+        family: usize,
+        /// The constructor's number in `Typed::functions`: the one that was chosen, or the nearest written one without
+        /// parameters where the class has none.
+        constructor: Option<usize>,
+        /// The arguments, in the order of the parameters behind `this`.
+        arguments: Vec<Argument>,
+    },
+    /// `site = value`, or `@site = value` of handles, both of type `ty`. The value comes first, then the site. The value
+    /// of the whole is what was stored.
     Assign {
-        /// Which variable is written.
-        variable: Variable,
-        /// The type of the variable and of the value.
+        /// What is written.
+        site: Site,
+        /// The type of the site and of the value.
         ty: ArgType,
         /// What is stored.
         value: Box<Expression>,
     },
-    /// `variable operator= value`. The value is evaluated, of type `operating`; then the variable, of type
-    /// `ty`, is read and converted to `operating`; the operator works there, variable on the left; its result
+    /// `site operator= value`. The value is evaluated, of type `operating`; then the site, of type `ty`, is found
+    /// once, read and converted to `operating`; the operator works there, what was read on the left; its result
     /// is converted back to `ty` and stored, and is the value of the whole.
     Compound {
-        /// Which variable is read and then written.
-        variable: Variable,
-        /// The variable's type, an integer type.
+        /// What is read and then written.
+        site: Site,
+        /// The site's type, an integer type.
         ty: Prim,
-        /// What is done with the variable's value and `value`.
+        /// What is done with what stands there and `value`.
         operator: Operator,
         /// The integer type in which the operator works.
         operating: Prim,
         /// The operand on the right, of type `operating`.
         value: Box<Expression>,
     },
-    /// `++` or `--` of a variable of the integer type `ty`, in that type, where it wraps.
+    /// `++` or `--` of what stands at a site of the integer type `ty`, in that type, where it wraps.
     Step {
-        /// Which variable is changed by one.
-        variable: Variable,
-        /// The variable's type, an integer type.
+        /// What is changed by one.
+        site: Site,
+        /// The site's type, an integer type.
         ty: Prim,
         /// Whether it is one more or one less, and which value is given.
         step: StepKind,
     },
-    /// A call of a function of the module. There is an argument for each parameter.
+    /// A call of a function of the scripts. There is an argument for each parameter; the receiver of a method, and
+    /// the object of a constructor that `super` calls, are the first one.
     Call {
-        /// The function's number, from 0 in the order of declaration.
-        function: usize,
+        /// What is called.
+        callee: Callee,
         /// The type of what the function returns.
         result: ArgType,
         /// The arguments, in the order of the parameters.
         arguments: Vec<Argument>,
     },
-    /// A call of a host function. Its arguments are values, of the types of its parameters.
+    /// A call of a function, a factory or a method of the host. Its arguments are values, of the types of its
+    /// parameters; a method's receiver is the first one.
     HostCall {
-        /// Which host function is called, and how its driver is asked.
+        /// What is called, and how its driver is asked.
         host: HostEntity,
         /// The type of what the host function returns.
         result: ArgType,

@@ -6,14 +6,18 @@
 //! evaluation (docs/LANGUAGE.md), not its spelling.
 //!
 //! Numbers, in all of the tree: a *local* is numbered by how many parameters and locals of its function
-//! are alive at its declaration, so parameters come first, from 0; *functions* and *globals* are numbered
-//! from 0 in the order of their declarations, each kind for itself.
+//! are alive at its declaration, so parameters come first, from 0; *functions*, *globals*, *families* (classes and
+//! interfaces) and *imports* are numbered from 0 in the order of their declarations, each kind for itself, and the bodies
+//! of families behind the functions. In types a family is 1,024 and its number, and a host type its entry's number.
 #![tactic(auto)]
 
 mod expression;
 mod program;
 mod statement;
 
-pub use expression::{Argument, Comparison, Expression, HostEntity, Operator, StepKind, Variable};
-pub use program::{Function, Global, Parameter, Typed};
+pub use expression::{
+    Argument, Callee, Comparison, Expression, HostEntity, Member, Operator, Site, StepKind,
+    Variable,
+};
+pub use program::{Class, Function, Global, Heading, Parameter, Typed};
 pub use statement::{Block, Choice, For, Local, Loop, Statement};

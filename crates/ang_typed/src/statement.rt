@@ -17,7 +17,8 @@ pub enum Statement {
     Break,
     /// Goes on with the innermost loop: with the steps of a `for`, else with its condition.
     Continue,
-    /// Ends the function. The value is of the function's result type; `void` functions have none.
+    /// Ends the function. The value is of the function's result type; `void` functions have none. A constructor returns
+    /// its object.
     Return(Option<Box<Expression>>),
     /// One of two blocks, by a condition.
     If(Box<Choice>),
@@ -80,6 +81,7 @@ pub struct Block {
 pub struct Local {
     /// The type of the values that it holds.
     pub ty: ArgType,
-    /// What it begins with, a value of that type. Without one it begins as 0 or `false`.
+    /// What it begins with, a value of that type. Without one it begins as 0, `false` or null. An object has one, which
+    /// makes it.
     pub initializer: Option<Box<Expression>>,
 }

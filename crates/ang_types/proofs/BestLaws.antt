@@ -7,7 +7,7 @@ use Rattle.ang_types.specs.declared.arg_type.ArgType.{ArgType}
 use Rattle.ang_types.specs.declared.candidate.Candidate.{Candidate}
 use Rattle.ang_types.specs.declared.candidate.Pick.{Pick}
 use Rattle.ang_types.specs.declared.candidate.Pick.TheVariants.{One, NoViable, Ambiguous}
-use Rattle.ang_types.specs.Ranks.{Lines}
+use Rattle.ang_types.specs.Ranks.{Ancestors}
 use Rattle.ang_types.specs.Overloads.{Params, params_at, rank_at, IsViable, IsLess, HasLess, IsBetter, IsViableAt, IsBest}
 use Rattle.ang_types.specs.Best.{all_below, any_below, one_below, is_less, is_viable, has_less, is_better, is_viable_at, yields, is_best, pick_of, best_of}
 
@@ -19,7 +19,7 @@ is_less-Decides (Some q) (Some r) = Decides-ltb q r
 is_some-Decides : (o : Option ℕ) → Decides (is_some o) (IsSome o)
 is_some-Decides o = (λ e. e, λ e. e)
 
-is_viable-Decides : (l : Lines) (ps : Params) (args : List ArgType) → Decides (is_viable l ps args) (IsViable l ps args)
+is_viable-Decides : (l : Ancestors) (ps : Params) (args : List ArgType) → Decides (is_viable l ps args) (IsViable l ps args)
 is_viable-Decides l ps args =
     Decides-like _
     (λ h. record { equal_number = h.0; ranked = h.1 })
@@ -28,20 +28,20 @@ is_viable-Decides l ps args =
     (Decides-below_and (λ k. is_some (rank_at l ps args k)) (λ k. IsSome (rank_at l ps args k)) (all_below (λ k. is_some (rank_at l ps args k)))
     (λ k. is_some-Decides (rank_at l ps args k)) refl (λ _. refl) (length args)))
 
-has_less-Decides : (l : Lines) (ps qs : Params) (args : List ArgType) → Decides (has_less l ps qs args) (HasLess l ps qs args)
+has_less-Decides : (l : Ancestors) (ps qs : Params) (args : List ArgType) → Decides (has_less l ps qs args) (HasLess l ps qs args)
 has_less-Decides l ps qs args =
     let p = λ (k : ℕ). is_less (rank_at l ps args k) (rank_at l qs args k) in
     let P = λ (k : ℕ). IsLess (rank_at l ps args k) (rank_at l qs args k) in
     Decides-below_or p P (any_below p) (λ k. is_less-Decides (rank_at l ps args k) (rank_at l qs args k)) refl (λ _. refl) (length args)
 
-is_better-Decides : (l : Lines) (ps qs : Params) (args : List ArgType) → Decides (is_better l ps qs args) (IsBetter l ps qs args)
+is_better-Decides : (l : Ancestors) (ps qs : Params) (args : List ArgType) → Decides (is_better l ps qs args) (IsBetter l ps qs args)
 is_better-Decides l ps qs args =
     Decides-like _
     (λ h. record { none_greater = h.0; one_less = h.1 })
     (λ b. (b.none_greater, b.one_less))
     (Decides-and _ _ (Decides-not _ (has_less-Decides l qs ps args)) (has_less-Decides l ps qs args))
 
-pub is_viable_at-Decides : (l : Lines) (cs : List Candidate) (args : List ArgType) (i : ℕ) → Decides (is_viable_at l cs args i) (IsViableAt l cs args i)
+pub is_viable_at-Decides : (l : Ancestors) (cs : List Candidate) (args : List ArgType) (i : ℕ) → Decides (is_viable_at l cs args i) (IsViableAt l cs args i)
 is_viable_at-Decides l cs args i =
     Decides-like _
     (λ h. record { there = h.0; viable = h.1 })
@@ -49,10 +49,10 @@ is_viable_at-Decides l cs args i =
     (Decides-and _ _ (Decides-ltb i (length cs)) (is_viable-Decides l (params_at cs i) args))
 
 -- what one other candidate must be, for i to be the best
-abbrev Yields : Lines → List Candidate → List ArgType → ℕ → ℕ → Type 0
+abbrev Yields : Ancestors → List Candidate → List ArgType → ℕ → ℕ → Type 0
 Yields l cs args i j = (j ≡ i) ⊎ ((¬ IsViableAt l cs args j) ⊎ IsBetter l (params_at cs i) (params_at cs j) args)
 
-yields-Decides : (l : Lines) (cs : List Candidate) (args : List ArgType) (i j : ℕ) → Decides (yields l cs args i j) (Yields l cs args i j)
+yields-Decides : (l : Ancestors) (cs : List Candidate) (args : List ArgType) (i j : ℕ) → Decides (yields l cs args i j) (Yields l cs args i j)
 yields-Decides l cs args i j =
     Decides-or _ _ (Decides-eqb j i)
     (Decides-or _ _ (Decides-not _ (is_viable_at-Decides l cs args j)) (is_better-Decides l (params_at cs i) (params_at cs j) args))
@@ -66,7 +66,7 @@ choice_from true y A B C dx dy h = inl (dx.0 refl)
 choice_from false true A B C dx dy h = inr (inr (h (not_from_Decides false dx refl) (dy.0 refl)))
 choice_from false false A B C dx dy h = inr (inl (not_from_Decides false dy refl))
 
-pub is_best-Decides : (l : Lines) (cs : List Candidate) (args : List ArgType) (i : ℕ) → Decides (is_best l cs args i) (IsBest l cs args i)
+pub is_best-Decides : (l : Ancestors) (cs : List Candidate) (args : List ArgType) (i : ℕ) → Decides (is_best l cs args i) (IsBest l cs args i)
 is_best-Decides l cs args i =
     Decides-like _
     (λ h. record {
@@ -99,7 +99,7 @@ one_below-None p (suc n) e k lt =
     let s = step_none (p n) n (one_below p n) e in
     below_more (λ k. p k ≡ false) n (one_below-None p n s.1) s.0 k (omega arith)
 
-best_apart : (l : Lines) (cs : List Candidate) (args : List ArgType) (i j : ℕ) → i ≢ j → IsBest l cs args i → ¬ IsBest l cs args j
+best_apart : (l : Ancestors) (cs : List Candidate) (args : List ArgType) (i j : ℕ) → i ≢ j → IsBest l cs args i → ¬ IsBest l cs args j
 best_apart l cs args i j ne a b =
     (a.better j (λ e. ne (sym e)) b.viable).none_greater (b.better i ne a.viable).one_less
 
@@ -107,28 +107,28 @@ same_unless : (t : Bool) (i j : ℕ) → Decides t (i ≡ j) → ¬ (i ≢ j) �
 same_unless true i j d h = d.0 refl
 same_unless false i j d h = absurd (h (not_from_Decides false d refl))
 
-pub one_best-unique : (l : Lines) (cs : List Candidate) (args : List ArgType) (i j : ℕ) → IsBest l cs args i → IsBest l cs args j → i ≡ j
+pub one_best-unique : (l : Ancestors) (cs : List Candidate) (args : List ArgType) (i j : ℕ) → IsBest l cs args i → IsBest l cs args j → i ≡ j
 one_best-unique l cs args i j a b = same_unless (i == j) i j (Decides-eqb i j) (λ ne. best_apart l cs args i j ne a b)
 
-best_from_search : (l : Lines) (cs : List Candidate) (args : List ArgType) (i : ℕ) → one_below (is_best l cs args) (length cs) ≡ Some i → IsBest l cs args i
+best_from_search : (l : Ancestors) (cs : List Candidate) (args : List ArgType) (i : ℕ) → one_below (is_best l cs args) (length cs) ≡ Some i → IsBest l cs args i
 best_from_search l cs args i e = (is_best-Decides l cs args i).0 (one_below-Some (is_best l cs args) (length cs) i e)
 
-none_from_search : (l : Lines) (cs : List Candidate) (args : List ArgType) → one_below (is_best l cs args) (length cs) ≡ None → (i : ℕ) → ¬ IsBest l cs args i
+none_from_search : (l : Ancestors) (cs : List Candidate) (args : List ArgType) → one_below (is_best l cs args) (length cs) ≡ None → (i : ℕ) → ¬ IsBest l cs args i
 none_from_search l cs args e i b =
     not_from_Decides _ (is_best-Decides l cs args i) (one_below-None (is_best l cs args) (length cs) e i b.viable.there) b
 
-any_viable-Decides : (l : Lines) (cs : List Candidate) (args : List ArgType) → Decides (any_below (is_viable_at l cs args) (length cs)) ((i : ℕ) × (i < length cs) × IsViableAt l cs args i)
+any_viable-Decides : (l : Ancestors) (cs : List Candidate) (args : List ArgType) → Decides (any_below (is_viable_at l cs args) (length cs)) ((i : ℕ) × (i < length cs) × IsViableAt l cs args i)
 any_viable-Decides l cs args =
     Decides-below_or (is_viable_at l cs args) (IsViableAt l cs args) (any_below (is_viable_at l cs args)) (is_viable_at-Decides l cs args) refl (λ _. refl) (length cs)
 
 -- a pick says what the relations say: which candidate is the best, that none is viable, or that some are and none is the best
-pub record Says (l : Lines) (cs : List Candidate) (args : List ArgType) (p : Pick) : Type 0 where
+pub record Says (l : Ancestors) (cs : List Candidate) (args : List ArgType) (p : Pick) : Type 0 where
   pub one : (i : ℕ) → (p ≡ One i) ↔ IsBest l cs args i
   pub no_viable : (p ≡ NoViable) ↔ ((i : ℕ) → ¬ IsViableAt l cs args i)
   pub ambiguous : (p ≡ Ambiguous) ↔ (((i : ℕ) × IsViableAt l cs args i) × ((i : ℕ) → ¬ IsBest l cs args i))
 
 -- by what the two searches gave
-says_by : (l : Lines) (cs : List Candidate) (args : List ArgType) (o : Option ℕ) (b : Bool)
+says_by : (l : Ancestors) (cs : List Candidate) (args : List ArgType) (o : Option ℕ) (b : Bool)
     → ((i : ℕ) → o ≡ Some i → IsBest l cs args i) → (o ≡ None → (i : ℕ) → ¬ IsBest l cs args i)
     → Decides b ((i : ℕ) × (i < length cs) × IsViableAt l cs args i) → Says l cs args (pick_of o b)
 says_by l cs args (Some n) b found none d =
@@ -152,13 +152,13 @@ says_by l cs args None false found none d =
       ambiguous = (λ e. cc, λ h. absurd (not_from_Decides false d refl (h.0.0, h.0.1.there, h.0.1)));
     }
 
-pub best_of-says : (l : Lines) (cs : List Candidate) (args : List ArgType) → Says l cs args (best_of l cs args)
+pub best_of-says : (l : Ancestors) (cs : List Candidate) (args : List ArgType) → Says l cs args (best_of l cs args)
 unfolding best_of
 best_of-says l cs args =
     says_by l cs args _ _ (best_from_search l cs args) (none_from_search l cs args) (any_viable-Decides l cs args)
 
 -- and what says it is that pick
-pub best_of-same : (l : Lines) (cs : List Candidate) (args : List ArgType) (p : Pick) → Says l cs args p → p ≡ best_of l cs args
+pub best_of-same : (l : Ancestors) (cs : List Candidate) (args : List ArgType) (p : Pick) → Says l cs args p → p ≡ best_of l cs args
 best_of-same l cs args (One i) s = sym (((best_of-says l cs args).one i).1 ((s.one i).0 refl))
 best_of-same l cs args NoViable s = sym ((best_of-says l cs args).no_viable.1 (s.no_viable.0 refl))
 best_of-same l cs args Ambiguous s = sym ((best_of-says l cs args).ambiguous.1 (s.ambiguous.0 refl))

@@ -1,1 +1,3 @@
 pub mod BestLaws
+pub mod RivalLaws
+pub mod PlaceLaws

@@ -2,3 +2,4 @@ pub mod Integers
 pub mod Ranks
 pub mod Overloads
 pub mod Best
+pub mod Rivals

@@ -9,20 +9,20 @@ use Rattle.ang_types.specs.declared.arg_type.ArgType.TheVariants.{Void, Null, Pl
 use Rattle.ang_types.specs.Integers.{primitive_rank}
 
 -- For each object type, by its number, the numbers of the types above it: its base classes and its interfaces.
-abbrev pub Lines : Type 0
-Lines = List (List ℕ)
+abbrev pub Ancestors : Type 0
+Ancestors = List (List ℕ)
 
 -- the types above one type
-abbrev pub types_above : Lines → ℕ → List ℕ
-types_above lines n = slice_index_or lines n []
+abbrev pub types_above : Ancestors → ℕ → List ℕ
+types_above ancestors n = slice_index_or ancestors n []
 
-abbrev pub is_above : Lines → ℕ → ℕ → Bool
-is_above lines n m = list_any (λ k. k == m) (types_above lines n)
+abbrev pub is_above : Ancestors → ℕ → ℕ → Bool
+is_above ancestors n m = list_any (λ k. k == m) (types_above ancestors n)
 
 -- From one object type to another: 0 to the same, 4 from a derived class to a base or an interface, and to no other.
-abbrev pub class_rank : Lines → ℕ → ℕ → Option ℕ
-class_rank lines from to =
-    if from == to then Some 0 else (if is_above lines from to then Some 4 else None)
+abbrev pub class_rank : Ancestors → ℕ → ℕ → Option ℕ
+class_rank ancestors from to =
+    if from == to then Some 0 else (if is_above ancestors from to then Some 4 else None)
 
 -- `const` may be added, which is 1, and is never lost.
 abbrev pub const_rank : Bool → Bool → Option ℕ
@@ -40,21 +40,21 @@ greatest form (Some constness) (Some class) = Some (max form (max constness clas
 -- The rank of the implicit conversion from one type to another, or none: 0 the same type; 1 an object to a handle,
 -- a handle to an object, `const` added, null to a handle; 2 and 3 between integers; 4 a derived class to a base
 -- or an interface. Of several that apply the greatest counts. There is no other implicit conversion.
-abbrev pub rank_of : Lines → ArgType → ArgType → Option ℕ
-rank_of lines Void Void = Some 0
-rank_of lines Null Null = Some 0
-rank_of lines Null (Handle m s) = Some 1
-rank_of lines (Plain p) (Plain q) = primitive_rank p q
-rank_of lines (Object n r) (Object m s) = greatest 0 (const_rank r s) (class_rank lines n m)
-rank_of lines (Object n r) (Handle m s) = greatest 1 (const_rank r s) (class_rank lines n m)
-rank_of lines (Handle n r) (Object m s) = greatest 1 (const_rank r s) (class_rank lines n m)
-rank_of lines (Handle n r) (Handle m s) = greatest 0 (const_rank r s) (class_rank lines n m)
-rank_of lines from to = None
+abbrev pub rank_of : Ancestors → ArgType → ArgType → Option ℕ
+rank_of ancestors Void Void = Some 0
+rank_of ancestors Null Null = Some 0
+rank_of ancestors Null (Handle m s) = Some 1
+rank_of ancestors (Plain p) (Plain q) = primitive_rank p q
+rank_of ancestors (Object n r) (Object m s) = greatest 0 (const_rank r s) (class_rank ancestors n m)
+rank_of ancestors (Object n r) (Handle m s) = greatest 1 (const_rank r s) (class_rank ancestors n m)
+rank_of ancestors (Handle n r) (Object m s) = greatest 1 (const_rank r s) (class_rank ancestors n m)
+rank_of ancestors (Handle n r) (Handle m s) = greatest 0 (const_rank r s) (class_rank ancestors n m)
+rank_of ancestors from to = None
 
 -- The rank of an argument for a parameter of this type and passing. What goes in converts from the argument to the
 -- parameter; what comes out by `&out` converts from the parameter to the variable.
-abbrev pub argument_rank : Lines → ArgType → Pass → ArgType → Option ℕ
-argument_rank lines param Value argument = rank_of lines argument param
-argument_rank lines param RefIn argument = rank_of lines argument param
-argument_rank lines param RefOut argument = rank_of lines param argument
-argument_rank lines param RefInOut argument = rank_of lines argument param
+abbrev pub argument_rank : Ancestors → ArgType → Pass → ArgType → Option ℕ
+argument_rank ancestors param Value argument = rank_of ancestors argument param
+argument_rank ancestors param RefIn argument = rank_of ancestors argument param
+argument_rank ancestors param RefOut argument = rank_of ancestors param argument
+argument_rank ancestors param RefInOut argument = rank_of ancestors argument param

@@ -2,20 +2,25 @@
 //!
 //! `common` is the type in which two integers meet in an operation, `rank` says whether one type
 //! converts to another by itself and what that costs, and `resolve` picks the best of the candidates
-//! of a name. None of them takes memory.
+//! of a name. None of them takes memory. `Rivals` keeps of the candidates of a use what tells whether one more would
+//! be the best, and `Asks` is what a use asks of its name.
 #![tactic(auto)]
 
 mod arg_type;
+mod asks;
 mod candidate;
 mod integers;
 pub mod laws;
 mod lineage;
 mod overloads;
 mod ranks;
+mod rivals;
 
 pub use arg_type::ArgType;
+pub use asks::{Asks, Refused};
 pub use candidate::{Candidate, Pick};
 pub use integers::common;
 pub use lineage::Lineage;
 pub use overloads::resolve;
 pub use ranks::rank;
+pub use rivals::Rivals;

@@ -86,14 +86,14 @@ fn beats_others(lineage: &Lineage, candidates: &[Candidate], args: &[ArgType], i
     true
 }
 
-fn params_of(candidates: &[Candidate], i: usize) -> &[(ArgType, Pass)]
+pub(crate) fn params_of(candidates: &[Candidate], i: usize) -> &[(ArgType, Pass)]
     requires there { i < length candidates.now }
     ensures exact { result.now ≡ params_at candidates.now i }
 {
     candidates[i].params.as_slice()
 }
 
-fn is_viable(lineage: &Lineage, params: &[(ArgType, Pass)], args: &[ArgType]) -> bool
+pub(crate) fn is_viable(lineage: &Lineage, params: &[(ArgType, Pass)], args: &[ArgType]) -> bool
     ensures exact { IsTrue result ↔ IsViable lineage.now params.now args.now }
 {
     if params.len() != args.len() {
@@ -136,7 +136,7 @@ fn has_less(
     false
 }
 
-fn is_less(rank: Option<u8>, other: Option<u8>) -> bool
+pub(crate) fn is_less(rank: Option<u8>, other: Option<u8>) -> bool
     ensures exact { IsTrue result ↔ IsLess rank other }
 {
     match (rank, other) {
@@ -146,7 +146,7 @@ fn is_less(rank: Option<u8>, other: Option<u8>) -> bool
 }
 
 /// The rank of the argument at a place for the parameter there.
-fn rank_of_place(
+pub(crate) fn rank_of_place(
     lineage: &Lineage,
     params: &[(ArgType, Pass)],
     args: &[ArgType],

@@ -22,7 +22,7 @@ use ang_vm_fuse::body::Body;
 use ang_vm_stack::place::{Ending, Place, Standing};
 use ang_vm_stack::stack::{peek, push};
 use ang_vm_stack::table::Table;
-use ang_vm_steps::many::give_top;
+use ang_vm_steps::many::{give_top, nothing_lives};
 
 /// A parameter's value at its body's end: that of an `&out` parameter stays, and any other is given up.
 #[inline(always)]
@@ -48,6 +48,9 @@ pub fn give_others(params: &[Passing], stack: &[Slot], store: &mut Store, top: u
     ensures given { (is : List Input) → others_given params.now (values stack.now top) (with_inputs is (world_of (λ v. (⟦<dyn Driver as Driver>⟧ v).meaning) store.old)) ≡ with_inputs is (world_of (λ v. (⟦<dyn Driver as Driver>⟧ v).meaning) store.new) }
     ensures moves { (roles : List Role) → StoreMoves (λ v. (⟦<dyn Driver as Driver>⟧ v).meaning) roles store.old store.new }
 {
+    if nothing_lives(store) {
+        return;
+    }
     for (i, passing) in params.iter().enumerate() {
         let value = peek(stack, top - i, 0);
         give_unless_out(*passing, value, store);

@@ -1,4 +1,3 @@
-pub mod Signed
 pub mod Handed
 pub mod Holding
 pub mod Replying

@@ -21,11 +21,11 @@ ghost use Rattle.ang_vm_ask.specs.Replies.{with_result, made_as, objects_made};
 
 use crate::replies::take_answer;
 use crate::rooms::{call_room, room_for, room_for_ends, write_room};
-use crate::values::value_from;
 use ang_heap::Store;
 use ang_host::{Driver, Made, call_listed, make_listed, read_listed, write_listed};
 use ang_kinds::{EntityNo, Fault, List};
 use ang_meaning::{HostType, HostUse, Slot};
+use ang_vm_numbers::value_from;
 use std::alloc::Global;
 
 /// Calls the function or method of that number of its driver. The event is listed, whatever the answer.

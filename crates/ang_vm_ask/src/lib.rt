@@ -9,8 +9,6 @@ mod handing;
 mod operation;
 mod replies;
 mod rooms;
-mod values;
 
 pub use fitting::{given_count, operands};
 pub use operation::ask;
-pub use values::{slot_from, value_from};

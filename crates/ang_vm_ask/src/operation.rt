@@ -12,7 +12,7 @@ ghost use Rattle.ang_meaning.specs.declared.host.HostType.TheVariants.{Nothing};
 ghost use Rattle.ang_meaning.specs.Counting.{CanGive, IsCounted};
 ghost use Rattle.ang_meaning.specs.Hosts.{value_of, asked};
 ghost use Rattle.ang_meaning.specs.Numbers.{Changed};
-ghost use Rattle.ang_meaning.specs.Perform.{Receiver, in_place_of, altered_to, change_of, operands as operand_count};
+ghost use Rattle.ang_meaning.specs.Perform.{Receiver, in_place_of, altered_to, operands as operand_count};
 ghost use Rattle.ang_meaning.specs.Setting.{Setting, is_fit};
 ghost use Rattle.ang_meaning.specs.Told.{Told};
 ghost use Rattle.ang_meaning.specs.World.{with_inputs};
@@ -33,25 +33,9 @@ use ang_heap::{Store, give};
 use ang_host::{Driver, Role};
 use ang_kinds::{EntityNo, Fault};
 use ang_meaning::{Change, HostUse, Operation, Slot};
-use ang_vm_numbers::{Altered, change};
+use ang_vm_numbers::{Altered, change_slot};
 use ang_vm_stack::table::{Table, entity_at, name_at};
 use std::alloc::Global;
-
-/// A variable's value changed by an operand: both have to be numbers.
-#[tactic(auto, unfolding(ang_meaning::specs::Perform::change_of))]
-fn change_slot(by: Change, old: Slot, operand: Slot) -> Result<Altered, Fault>
-    ensures exact { result ≡ altered_of (change_of by old operand) }
-{
-    match old {
-        Slot::Bits(x) => match operand {
-            Slot::Bits(y) => change(by, x, y),
-            Slot::Script(_) => Err(Fault::Null),
-            Slot::Host(_, _) => Err(Fault::Null),
-        },
-        Slot::Script(_) => Err(Fault::Null),
-        Slot::Host(_, _) => Err(Fault::Null),
-    }
-}
 
 /// Writes a property, and answers `given` where that went well.
 fn put(

@@ -14,11 +14,11 @@ ghost use Rattle.ang_heap.specs.Stores.{world_of, StoreMoves};
 ghost use Rattle.ang_vm_stack.specs.Arms.{done};
 ghost use Rattle.ang_vm_ask.specs.Replies.{with_result};
 
-use crate::values::slot_from;
 use ang_heap::{Store, hold};
 use ang_host::{Answer, Driver};
 use ang_kinds::Fault;
 use ang_meaning::{HostType, Slot};
+use ang_vm_numbers::slot_from;
 
 fn is_void(of: HostType) -> bool
     ensures exact { result ≡ is_void of }

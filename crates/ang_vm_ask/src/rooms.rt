@@ -2,10 +2,10 @@
 ghost use Rattle.std.specs.Prelude.{◌≡◌, ◌+◌, ◌≤◌, [], ◌∷◌, IfOk, OnOk, vec_len, vec_capacity};
 ghost use Rattle.ang_meaning.specs.Hosts.{value_of, values_of};
 
-use crate::values::value_from;
 use ang_host::HostEvent;
 use ang_kinds::{List, Value};
 use ang_meaning::{HostType, HostUse, Slot};
+use ang_vm_numbers::value_from;
 use std::alloc::{AllocError, Global};
 
 /// Room for so many events more, and a copy of the caller's name for one of them.

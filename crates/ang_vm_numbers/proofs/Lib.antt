@@ -1,3 +1,4 @@
 pub mod Congruence
 pub mod Parts
 pub mod Working
+pub mod Signed

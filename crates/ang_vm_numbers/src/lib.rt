@@ -1,4 +1,5 @@
-//! Numbers of the script's types, computed on the 64 bits in which they are kept.
+//! Numbers of the script's types, computed on the 64 bits in which they are kept, and values on their way
+//! between scripts and drivers.
 //!
 //! Each function gives exactly what the definitions of `ang_meaning` say (docs/LANGUAGE.md, "Values of operators";
 //! the AngelScript manual, "Expressions"). None takes memory.
@@ -10,8 +11,10 @@ mod conversions;
 mod division;
 mod operators;
 mod shifts;
+mod values;
 
-pub use changes::{Altered, change};
+pub use changes::{Altered, change, change_slot};
 pub use comparisons::{compare, deny};
 pub use conversions::{complement, convert, negate};
 pub use operators::work;
+pub use values::{slot_from, value_from};

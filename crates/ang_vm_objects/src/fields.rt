@@ -16,11 +16,11 @@ ghost use Rattle.ang_vm_stack.specs.Arms.{done};
 ghost use Rattle.ang_vm_objects.specs.Counts.{StandCounted};
 ghost use Rattle.ang_vm_objects.specs.Fields.{number_in, is_lower_rank, is_class_under};
 
-use crate::changes::change_slot;
 use ang_heap::{Heap, Store, give, hold};
 use ang_host::Driver;
 use ang_kinds::Fault;
 use ang_meaning::{Change, Class, Slot};
+use ang_vm_numbers::change_slot;
 use ang_vm_stack::table::{Table, class_at};
 
 /// The number of the script object that a value names, where it names one.

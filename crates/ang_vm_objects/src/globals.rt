@@ -10,11 +10,11 @@ ghost use Rattle.ang_heap.specs.Stores.{world_of, IsReady, StoreMoves};
 ghost use Rattle.ang_vm_stack.specs.Arms.{done};
 ghost use Rattle.ang_vm_objects.specs.Counts.{StandCounted};
 
-use crate::changes::change_slot;
 use ang_heap::{Store, give, hold};
 use ang_host::Driver;
 use ang_kinds::Fault;
 use ang_meaning::{Change, Slot};
+use ang_vm_numbers::change_slot;
 
 /// Puts a value into a global of a module, and answers its old one; the value itself where there is no such
 /// global. Nothing is held or given up.

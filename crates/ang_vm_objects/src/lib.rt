@@ -3,7 +3,6 @@
 //! "Operations"); `ang_vm_steps` has the operands on its stack.
 #![tactic(auto)]
 
-pub mod changes;
 pub mod fields;
 pub mod globals;
 pub mod handles;

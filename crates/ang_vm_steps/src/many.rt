@@ -22,7 +22,7 @@ use ang_vm_stack::stop::Stop;
 
 /// Whether no object lives, so that there is nothing to be given up.
 #[inline(always)]
-fn nothing_lives(store: &Store) -> bool
+pub fn nothing_lives(store: &Store) -> bool
     requires ready { IsReady (λ v. (⟦<dyn Driver as Driver>⟧ v).meaning) store.now }
     ensures nothing { IsTrue result → (value : Slot) (is : List Input)
         → give_in value (with_inputs is (world_of (λ v. (⟦<dyn Driver as Driver>⟧ v).meaning) store.now)) ≡ with_inputs is (world_of (λ v. (⟦<dyn Driver as Driver>⟧ v).meaning) store.now) }
@@ -30,7 +30,26 @@ fn nothing_lives(store: &Store) -> bool
     store.live == 0 && store.heap.is_empty()
 }
 
+/// Gives up so many values from the top one by one, the top one first. It stays apart, so that the loop over a body, which
+/// comes here only where objects live, stays small.
+#[inline(never)]
+fn give_each(stack: &[Slot], store: &mut Store, top: usize, count: usize)
+    requires in_use { count ≤ top }
+    requires within { top ≤ length stack.now }
+    requires ready { IsReady (λ v. (⟦<dyn Driver as Driver>⟧ v).meaning) store.old }
+    requires enough { CanGive (values stack.now top) (world_of (λ v. (⟦<dyn Driver as Driver>⟧ v).meaning) store.old) }
+    ensures given { (is : List Input) → give_some count (values stack.now top) (with_inputs is (world_of (λ v. (⟦<dyn Driver as Driver>⟧ v).meaning) store.old))
+        ≡ with_inputs is (world_of (λ v. (⟦<dyn Driver as Driver>⟧ v).meaning) store.new) }
+    ensures moves { (roles : List Role) → StoreMoves (λ v. (⟦<dyn Driver as Driver>⟧ v).meaning) roles store.old store.new }
+{
+    for given in 0..count {
+        let value = peek(stack, top - given, 0);
+        give(store, value);
+    }
+}
+
 /// Gives up so many values from the top, the top one first.
+#[inline(always)]
 pub fn give_top(stack: &[Slot], store: &mut Store, top: usize, count: usize)
     requires in_use { count ≤ top }
     requires within { top ≤ length stack.now }
@@ -43,10 +62,7 @@ pub fn give_top(stack: &[Slot], store: &mut Store, top: usize, count: usize)
     if nothing_lives(store) {
         return;
     }
-    for given in 0..count {
-        let value = peek(stack, top - given, 0);
-        give(store, value);
-    }
+    give_each(stack, store, top, count);
 }
 
 /// Gives up all values in use, the top one first, as a fault does.
@@ -61,7 +77,25 @@ pub fn give_all_in_use(stack: &[Slot], store: &mut Store, top: usize)
     give_top(stack, store, top, top);
 }
 
+/// Gives up so many values from the top one by one, the lowest of them first. It stays apart as `give_each` does.
+#[inline(never)]
+fn give_each_upwards(stack: &[Slot], store: &mut Store, top: usize, count: usize)
+    requires in_use { count ≤ top }
+    requires within { top ≤ length stack.now }
+    requires ready { IsReady (λ v. (⟦<dyn Driver as Driver>⟧ v).meaning) store.old }
+    requires enough { CanGive (values stack.now top) (world_of (λ v. (⟦<dyn Driver as Driver>⟧ v).meaning) store.old) }
+    ensures given { (is : List Input) → give_back (take_some count (values stack.now top)) (with_inputs is (world_of (λ v. (⟦<dyn Driver as Driver>⟧ v).meaning) store.old))
+        ≡ with_inputs is (world_of (λ v. (⟦<dyn Driver as Driver>⟧ v).meaning) store.new) }
+    ensures moves { (roles : List Role) → StoreMoves (λ v. (⟦<dyn Driver as Driver>⟧ v).meaning) roles store.old store.new }
+{
+    for given in 0..count {
+        let value = peek(stack, top - count + given + 1, 0);
+        give(store, value);
+    }
+}
+
 /// Gives up so many values from the top, the lowest of them first.
+#[inline(always)]
 fn give_lowest_first(stack: &[Slot], store: &mut Store, top: usize, count: usize)
     requires in_use { count ≤ top }
     requires within { top ≤ length stack.now }
@@ -74,10 +108,7 @@ fn give_lowest_first(stack: &[Slot], store: &mut Store, top: usize, count: usize
     if nothing_lives(store) {
         return;
     }
-    for given in 0..count {
-        let value = peek(stack, top - count + given + 1, 0);
-        give(store, value);
-    }
+    give_each_upwards(stack, store, top, count);
 }
 
 /// `Leave`: the top values are given up.

@@ -1,7 +1,7 @@
 -- What a profile registers (docs/EMBEDDING.md, "The program").
 use Rattle.std.specs.Prelude.{◌≡◌, ◌≢◌, IsOk, ℕ, ◌+◌, List, [], ◌∷◌, Option, Some, None, Result, Ok, Err, if◌then◌else◌}
 use Rattle.ang_registry.specs.declared.error.RegError.{RegError}
-use Rattle.ang_registry.specs.Registration.{Registrations}
+use Rattle.ang_registry.specs.Registrations.{Registrations}
 use Rattle.ang_kinds.specs.declared.mask.EntityNo.{EntityNo}
 use Rattle.ang_registry.specs.Declarations.{declared_type, declared_factory, declared_method, declared_property, declared_function}
 use Rattle.ang_registry.specs.Refusals.{refusal_of_type, with_type, refusal_of_factory, with_factory, refusal_of_method, with_method, refusal_of_property, with_property, refusal_of_function, with_function, refusal_of_global, with_global, refusal_of_blank, with_blank}

@@ -7,7 +7,8 @@ use Rattle.ang_host.specs.Laws.{Meaning}
 use Rattle.ang_host.specs.declared.event.HostEvent.{HostEvent}
 use Rattle.ang_registry.specs.declared.error.RegError.{RegError}
 use Rattle.ang_registry.specs.declared.error.RegError.TheVariants.{Limit, EmptyMask, BadDeclaration, UnknownType, WrongDriver, Duplicate, Memory as NoMemory}
-use Rattle.ang_registry.specs.Registration.{RegistrationList, Registrations}
+use Rattle.ang_registry.specs.Registrations.{Registrations}
+use Rattle.ang_view.specs.Registration.{RegistrationList}
 use Rattle.ang_engine.specs.World.{World, no_modules}
 use Rattle.asrun_session.specs.Deeds.{IsDone, IsCut}
 use Rattle.asrun_session.specs.Drivers.{EngineRefusal, IsRefused, engine_text, WasDiscarded, DidNothing}

@@ -15,6 +15,7 @@ use ang_lex::lex;
 use ang_names::declare;
 use ang_parse::parse;
 use ang_registry::{RegError, Registry, View};
+use ang_tree::Script;
 use std::alloc::{AllocError, Global};
 use std::env;
 use std::fs::File;
@@ -63,6 +64,21 @@ fn counts(alloc: Global, text: &[u8]) -> Option<(usize, usize)> {
     Some((tokens.len(), script.declarations.len()))
 }
 
+/// Declares what scripts declare. Nothing where a declaration is refused.
+fn declared(alloc: Global, view: &View, scripts: &[Script]) -> Option<()> {
+    let _ = declare(alloc, view, scripts).ok()?;
+    Some(())
+}
+
+/// Declares what scripts declare, and checks their bodies. Nothing where something is refused.
+fn checked(alloc: Global, view: &View, scripts: &[Script]) -> Option<()> {
+    let Ok(names) = declare(alloc, view, scripts) else {
+        return None;
+    };
+    let _ = check(alloc, view, &names, scripts).ok()?;
+    Some(())
+}
+
 /// Goes through a section up to a stage. Nothing where it is refused.
 fn turn(alloc: Global, view: &View, text: &[u8], stage: Stage) -> Option<()> {
     if stage == Stage::Built {
@@ -71,14 +87,11 @@ fn turn(alloc: Global, view: &View, text: &[u8], stage: Stage) -> Option<()> {
     }
     let tokens = lex(alloc, text, 0).ok()?;
     let scripts = [parse(alloc, text, tokens.as_slice()).ok()?];
-    if stage == Stage::Parsed {
-        return Some(());
+    match stage {
+        Stage::Parsed => Some(()),
+        Stage::Declared => declared(alloc, view, &scripts),
+        Stage::Checked | Stage::Built => checked(alloc, view, &scripts),
     }
-    let names = declare(alloc, view, &scripts).ok()?;
-    if stage == Stage::Checked {
-        let _ = check(alloc, view, &names, &scripts).ok()?;
-    }
-    Some(())
 }
 
 /// The bytes that `turns` over a text of `len` bytes went through each second, where they took `nanos`.

@@ -2,10 +2,10 @@
 use Rattle.std.specs.Prelude.{ℕ, ◌≡◌, ◌==◌, Bool, true, false, if◌then◌else◌, [], ◌∷◌, ◌++◌, Option, Some, None}
 use Rattle.std.proofs.lemmas.List.{map-append}
 use Rattle.ang_kinds.specs.declared.types.Signature.{Signature}
-use Rattle.ang_registry.specs.declared.entry.EntryKind.{EntryKind}
+use Rattle.ang_view.specs.declared.entry.EntryKind.{EntryKind}
 use Rattle.ang_registry.specs.declared.error.RegError.{RegError}
 use Rattle.ang_registry.specs.declared.error.RegError.TheVariants.{Limit, EmptyMask, BadDeclaration}
-use Rattle.ang_registry.specs.Registration.{Registrations}
+use Rattle.ang_registry.specs.Registrations.{Registrations}
 use Rattle.ang_registry.specs.Refusals.{is_over_limit, refusal_of_own, with_own}
 use Rattle.example_host.specs.Offered.{mask_of, masks_of}
 

@@ -1,7 +1,7 @@
 -- Under which mask each entry of a registration list stands.
 use Rattle.std.specs.Prelude.{ℕ, List, Option, map, option_map}
-use Rattle.ang_registry.specs.declared.entry.Entry.{Entry}
-use Rattle.ang_registry.specs.Registration.{RegistrationList}
+use Rattle.ang_view.specs.declared.entry.Entry.{Entry}
+use Rattle.ang_view.specs.Registration.{RegistrationList}
 
 abbrev pub mask_of : Option Entry → Option ℕ
 mask_of = option_map (λ e. e.mask.0)

@@ -3,7 +3,7 @@
 use ang_engine_call::{arguments, is_callable, result_value};
 use ang_kinds::{List, Pass, Place, Prim, Value};
 use ang_meaning::Slot;
-use ang_names::{Origin, ScriptFunction, ScriptParameter};
+use ang_names_known::{Origin, ScriptFunction, ScriptParameter, Written};
 use ang_types::ArgType;
 use std::alloc::{AllocError, Global};
 
@@ -17,11 +17,18 @@ const HANDLE: ArgType = ArgType::Handle {
     read_only: true,
 };
 
+fn without_const(ty: ArgType) -> Written {
+    Written {
+        ty,
+        constant: false,
+        const_handle: false,
+    }
+}
+
 fn parameter(alloc: Global, ty: ArgType, pass: Pass) -> ScriptParameter {
     ScriptParameter {
-        ty,
+        written: without_const(ty),
         pass,
-        read_only: false,
         name: List::from_vec(Vec::new(alloc)),
     }
 }
@@ -34,8 +41,7 @@ fn function(alloc: Global, gives: ArgType, params: Vec<ScriptParameter>) -> Scri
             line: 1,
             column: 1,
         },
-        result: gives,
-        const_result: false,
+        result: without_const(gives),
         params: List::from_vec(params),
         origin: Origin {
             script: 0,

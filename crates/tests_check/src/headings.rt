@@ -127,6 +127,9 @@ fn spaced(alloc: Global, length: usize) -> Result<Vec<u8>, AllocError> {
 }
 
 fn is_found(alloc: Global, view: &View, names: &Names, decl: &[u8], wanted: Option<usize>) -> bool {
+    if names.families.as_slice().len() > 256 {
+        return false;
+    }
     match find_function(alloc, view, names, decl) {
         Ok(found) => found == wanted,
         Err(_) => false,

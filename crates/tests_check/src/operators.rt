@@ -1,12 +1,12 @@
 //! Examples of the language's rules, on operands made by hand.
 
+use ang_check_operand::{Operand, Stop, Target, boxed, plain_operand, reading};
 use ang_check_operators::{
-    Branches, NamedVariable, Operand, Stop, assignment, binary, boxed, conditional, convert, group,
-    literal, plain_operand, postfix, prefix,
+    assignment, binary, conditional, convert, group, literal, postfix, prefix,
 };
 use ang_kinds::{ErrorKind, Place, Prim};
 use ang_lex::{Span, Token, TokenKind};
-use ang_typed::{Expression, Variable};
+use ang_typed::{Expression, Site, Variable};
 use ang_types::{ArgType, Lineage};
 use std::alloc::Global;
 
@@ -27,36 +27,26 @@ fn token(kind: TokenKind, column: u32) -> Token {
 }
 
 /// A value of this type.
-fn value(alloc: Global, ty: Prim, column: u32) -> Result<Operand, Stop> {
-    let tree = match ty {
-        Prim::Bool => boxed(alloc, Expression::Truth(true))?,
-        _ => boxed(alloc, Expression::Number { ty, value: 1 })?,
-    };
-    Ok(plain_operand(at(column), ArgType::Plain(ty), tree))
+fn value(alloc: Global, ty: ArgType, column: u32) -> Result<Operand, Stop> {
+    let tree = boxed(alloc, Expression::Null)?;
+    Ok(plain_operand(at(column), ty, tree))
 }
 
 /// A local variable of this type.
-fn variable(alloc: Global, ty: Prim, column: u32, read_only: bool) -> Result<Operand, Stop> {
-    let ty = ArgType::Plain(ty);
-    let variable = Variable::Local(0);
-    let tree = boxed(alloc, Expression::Variable { variable, ty })?;
-    Ok(Operand {
-        place: at(column),
-        ty,
-        tree,
-        named: Some(NamedVariable {
-            variable,
-            read_only,
-            name: token(TokenKind::Name, column),
-            bare: true,
-        }),
-    })
+fn variable(alloc: Global, ty: ArgType, column: u32, read_only: bool) -> Result<Operand, Stop> {
+    let target = Target {
+        read_only,
+        bare: true,
+        name: token(TokenKind::Name, column),
+    };
+    let site = Site::Named(Variable::Local(0));
+    Ok(reading(alloc, at(column), site, ty, target)?)
 }
 
-type Judged = Result<ArgType, Option<(ErrorKind, u32)>>;
+type Typing = Result<ArgType, Option<(ErrorKind, u32)>>;
 
 /// The type that was given, or what was refused and in which column.
-fn judged(typed: Result<Operand, Stop>) -> Judged {
+fn typing(typed: Result<Operand, Stop>) -> Typing {
     match typed {
         Ok(operand) => Ok(operand.ty),
         Err(Stop::Refused(refusal)) => Err(Some((refusal.kind, refusal.place.column))),
@@ -69,20 +59,25 @@ fn objects(alloc: Global) -> Lineage {
 }
 
 /// The operator between values of these types.
-fn between(alloc: Global, left: Prim, operator: TokenKind, right: Prim) -> Result<Operand, Stop> {
+fn between(
+    alloc: Global,
+    left: ArgType,
+    operator: TokenKind,
+    right: ArgType,
+) -> Result<Operand, Stop> {
     let left = value(alloc, left, 1)?;
     let right = value(alloc, right, 5)?;
     binary(alloc, &objects(alloc), left, operator, right)
 }
 
 /// The operator in front of a value of this type.
-fn in_front(alloc: Global, operator: TokenKind, ty: Prim) -> Result<Operand, Stop> {
+fn in_front(alloc: Global, operator: TokenKind, ty: ArgType) -> Result<Operand, Stop> {
     let operand = value(alloc, ty, 2)?;
     prefix(alloc, &objects(alloc), &token(operator, 1), operand)
 }
 
 /// `int8(e)` of a value of this type.
-fn narrowed(alloc: Global, ty: Prim) -> Result<Operand, Stop> {
+fn narrowed(alloc: Global, ty: ArgType) -> Result<Operand, Stop> {
     let operand = value(alloc, ty, 6)?;
     let word = token(TokenKind::Primitive(Prim::I8), 1);
     convert(alloc, &objects(alloc), &word, operand)
@@ -90,13 +85,13 @@ fn narrowed(alloc: Global, ty: Prim) -> Result<Operand, Stop> {
 
 /// `++` behind a variable in parentheses.
 fn group_counted_up(alloc: Global) -> Result<Operand, Stop> {
-    let inner = variable(alloc, Prim::I8, 2, false)?;
+    let inner = variable(alloc, I8, 2, false)?;
     postfix(alloc, group(at(1), inner), TokenKind::Increment)
 }
 
 /// `--` behind a variable that can't be written.
 fn constant_counted_down(alloc: Global) -> Result<Operand, Stop> {
-    let constant = variable(alloc, Prim::I8, 2, true)?;
+    let constant = variable(alloc, I8, 2, true)?;
     postfix(alloc, constant, TokenKind::Decrement)
 }
 
@@ -105,22 +100,52 @@ fn stored(
     alloc: Global,
     written: Result<Operand, Stop>,
     operator: TokenKind,
-    ty: Prim,
-    column: u32,
+    ty: ArgType,
 ) -> Result<Operand, Stop> {
     let written = written?;
-    let value = value(alloc, ty, column)?;
-    assignment(alloc, &objects(alloc), written, operator, value)
+    let value = value(alloc, ty, 6)?;
+    assignment(alloc, &objects(alloc), written, &token(operator, 4), value)
+}
+
+/// `@` in front of a variable.
+fn seat(alloc: Global, ty: ArgType, read_only: bool) -> Result<Operand, Stop> {
+    let inner = variable(alloc, ty, 2, read_only)?;
+    prefix(alloc, &objects(alloc), &token(TokenKind::At, 1), inner)
 }
 
 /// `?:` with values of these types.
-fn chosen(alloc: Global, then: Prim, otherwise: Prim) -> Result<Operand, Stop> {
-    let condition = value(alloc, Prim::Bool, 1)?;
+fn chosen(alloc: Global, then: ArgType, otherwise: ArgType) -> Result<Operand, Stop> {
+    let condition = value(alloc, BOOL, 1)?;
     let then = value(alloc, then, 5)?;
     let otherwise = value(alloc, otherwise, 9)?;
-    let branches = Branches { then, otherwise };
-    conditional(alloc, &objects(alloc), condition, branches)
+    conditional(alloc, &objects(alloc), condition, then, otherwise)
 }
+
+const BOOL: ArgType = ArgType::Plain(Prim::Bool);
+
+const I8: ArgType = ArgType::Plain(Prim::I8);
+
+const I32: ArgType = ArgType::Plain(Prim::I32);
+
+const CELL: ArgType = ArgType::Object {
+    number: 0,
+    read_only: false,
+};
+
+const HANDLE: ArgType = ArgType::Handle {
+    number: 0,
+    read_only: false,
+};
+
+const TO_CONST: ArgType = ArgType::Handle {
+    number: 0,
+    read_only: true,
+};
+
+const OTHER: ArgType = ArgType::Handle {
+    number: 1,
+    read_only: false,
+};
 
 /// Two operands, the operator between them, and the type that they have together.
 const TYPES: [(Prim, TokenKind, Prim, Prim); 12] = [
@@ -141,7 +166,8 @@ const TYPES: [(Prim, TokenKind, Prim, Prim); 12] = [
 #[test]
 fn two_integers_work_in_their_common_type(rt: HostRuntime) {
     for (left, operator, right, ty) in TYPES {
-        let found = judged(between(rt.alloc(), left, operator, right));
+        let (first, second) = (ArgType::Plain(left), ArgType::Plain(right));
+        let found = typing(between(rt.alloc(), first, operator, second));
         assert!(rt;
             found == Ok(ArgType::Plain(ty)),
             "{left:?} {operator:?} {right:?}"
@@ -193,7 +219,8 @@ const REFUSALS: [(Prim, TokenKind, Prim, ErrorKind, u32); 7] = [
 #[test]
 fn the_first_operand_that_cannot_stand_is_named(rt: HostRuntime) {
     for (left, operator, right, kind, column) in REFUSALS {
-        let found = judged(between(rt.alloc(), left, operator, right));
+        let (first, second) = (ArgType::Plain(left), ArgType::Plain(right));
+        let found = typing(between(rt.alloc(), first, operator, second));
         assert!(rt;
             found == Err(Some((kind, column))),
             "{left:?} {operator:?} {right:?}"
@@ -204,40 +231,122 @@ fn the_first_operand_that_cannot_stand_is_named(rt: HostRuntime) {
 #[test]
 fn one_operand_is_raised(rt: HostRuntime) {
     let alloc = rt.alloc();
-    let minus = judged(in_front(alloc, TokenKind::Minus, Prim::U8));
+    let minus = typing(in_front(alloc, TokenKind::Minus, ArgType::Plain(Prim::U8)));
     assert!(rt; minus == Ok(ArgType::Plain(Prim::U32)));
-    let tilde = judged(in_front(alloc, TokenKind::Tilde, Prim::I16));
+    let tilde = typing(in_front(alloc, TokenKind::Tilde, ArgType::Plain(Prim::I16)));
     assert!(rt; tilde == Ok(ArgType::Plain(Prim::I32)));
-    let not = judged(in_front(alloc, TokenKind::Not, Prim::I32));
+    let not = typing(in_front(alloc, TokenKind::Not, I32));
     assert!(rt; not == Err(Some((ErrorKind::NotBool, 2))));
-    let byte = judged(narrowed(alloc, Prim::U64));
+    let byte = typing(narrowed(alloc, ArgType::Plain(Prim::U64)));
     assert!(rt; byte == Ok(ArgType::Plain(Prim::I8)));
-    let truth = judged(narrowed(alloc, Prim::Bool));
+    let truth = typing(narrowed(alloc, BOOL));
     assert!(rt; truth == Err(Some((ErrorKind::BadConversion, 6))));
-    let number = judged(literal(alloc, &token(TokenKind::Number, 1), b"0xFF"));
+    let number = typing(literal(alloc, &token(TokenKind::Number, 1), b"0xFF"));
     assert!(rt; number == Ok(ArgType::Plain(Prim::U32)));
 }
 
 #[test]
 fn a_target_is_a_variable_that_can_be_written(rt: HostRuntime) {
     let alloc = rt.alloc();
-    assert!(rt; judged(group_counted_up(alloc)) == Ok(ArgType::Plain(Prim::I8)));
-    assert!(rt; judged(constant_counted_down(alloc)) == Err(Some((ErrorKind::Const, 2))));
-    let byte = variable(alloc, Prim::I8, 1, false);
-    let found = judged(stored(alloc, byte, TokenKind::PlusAssign, Prim::I64, 6));
-    assert!(rt; found == Ok(ArgType::Plain(Prim::I8)));
-    let int = variable(alloc, Prim::I32, 1, false);
-    let truth = judged(stored(alloc, int, TokenKind::ShiftLeftAssign, Prim::Bool, 7));
-    assert!(rt; truth == Err(Some((ErrorKind::BadConversion, 7))));
-    let one = value(alloc, Prim::I32, 1);
-    let number = judged(stored(alloc, one, TokenKind::Assign, Prim::Bool, 5));
+    assert!(rt; typing(group_counted_up(alloc)) == Ok(ArgType::Plain(Prim::I8)));
+    assert!(rt; typing(constant_counted_down(alloc)) == Err(Some((ErrorKind::Const, 2))));
+    let byte = variable(alloc, I8, 1, false);
+    let found = typing(stored(alloc, byte, TokenKind::PlusAssign, I32));
+    assert!(rt; found == Ok(I8));
+    let int = variable(alloc, I32, 1, false);
+    let truth = typing(stored(alloc, int, TokenKind::ShiftLeftAssign, BOOL));
+    assert!(rt; truth == Err(Some((ErrorKind::BadConversion, 6))));
+    let one = value(alloc, I32, 1);
+    let number = typing(stored(alloc, one, TokenKind::Assign, BOOL));
     assert!(rt; number == Err(Some((ErrorKind::BadConversion, 1))));
 }
 
+/// What stands in front of `is` and behind it, and what comes of it.
+const IDENTITIES: [(ArgType, ArgType, Typing); 4] = [
+    (ArgType::Null, HANDLE, Ok(BOOL)),
+    (CELL, OTHER, Ok(BOOL)),
+    (I32, ArgType::Null, Err(Some((ErrorKind::BadConversion, 1)))),
+    (
+        HANDLE,
+        ArgType::Void,
+        Err(Some((ErrorKind::BadConversion, 5))),
+    ),
+];
+
 #[test]
-fn a_choice_has_the_common_type(rt: HostRuntime) {
-    let integers = judged(chosen(rt.alloc(), Prim::I32, Prim::U32));
-    assert!(rt; integers == Ok(ArgType::Plain(Prim::U32)));
-    let mixed = judged(chosen(rt.alloc(), Prim::Bool, Prim::I32));
-    assert!(rt; mixed == Err(Some((ErrorKind::BadConversion, 9))));
+fn identity_is_of_objects_handles_and_null(rt: HostRuntime) {
+    for (left, right, outcome) in IDENTITIES {
+        let found = typing(between(rt.alloc(), left, TokenKind::Is, right));
+        assert!(rt; found == outcome, "{left:?} is {right:?}");
+        let found = typing(between(rt.alloc(), left, TokenKind::NotIs, right));
+        assert!(rt; found == outcome, "{left:?} !is {right:?}");
+    }
+}
+
+/// A variable's type, whether it is `const`, a value's type, and what comes of `@v = e`.
+const SEATS: [(ArgType, bool, ArgType, Typing); 7] = [
+    (HANDLE, false, HANDLE, Ok(HANDLE)),
+    (HANDLE, false, CELL, Ok(HANDLE)),
+    (HANDLE, false, ArgType::Null, Ok(HANDLE)),
+    (
+        HANDLE,
+        false,
+        TO_CONST,
+        Err(Some((ErrorKind::BadConversion, 6))),
+    ),
+    (HANDLE, true, HANDLE, Err(Some((ErrorKind::Const, 2)))),
+    (CELL, false, HANDLE, Err(Some((ErrorKind::Const, 2)))),
+    (I32, false, HANDLE, Err(Some((ErrorKind::BadConversion, 2)))),
+];
+
+#[test]
+fn a_handle_is_put_in_the_place_of_another(rt: HostRuntime) {
+    let alloc = rt.alloc();
+    for (ty, read_only, value, outcome) in SEATS {
+        let written = seat(alloc, ty, read_only);
+        let found = typing(stored(alloc, written, TokenKind::Assign, value));
+        assert!(rt; found == outcome, "@{ty:?} = {value:?}");
+    }
+}
+
+#[test]
+fn objects_are_not_assigned_by_value(rt: HostRuntime) {
+    let alloc = rt.alloc();
+    for ty in [CELL, HANDLE] {
+        let written = variable(alloc, ty, 1, false);
+        let found = typing(stored(alloc, written, TokenKind::Assign, ty));
+        assert!(rt; found == Err(Some((ErrorKind::NoAssign, 4))), "{ty:?}");
+    }
+}
+
+/// Two values and what comes of `c ? a : b`.
+const CHOICES: [(ArgType, ArgType, Typing); 8] = [
+    (
+        I32,
+        ArgType::Plain(Prim::U32),
+        Ok(ArgType::Plain(Prim::U32)),
+    ),
+    (BOOL, I32, Err(Some((ErrorKind::BadConversion, 9)))),
+    (CELL, CELL, Ok(CELL)),
+    (CELL, HANDLE, Ok(HANDLE)),
+    (TO_CONST, HANDLE, Ok(TO_CONST)),
+    (
+        ArgType::Null,
+        HANDLE,
+        Err(Some((ErrorKind::BadConversion, 5))),
+    ),
+    (
+        HANDLE,
+        ArgType::Null,
+        Err(Some((ErrorKind::BadConversion, 9))),
+    ),
+    (HANDLE, OTHER, Err(Some((ErrorKind::BadConversion, 9)))),
+];
+
+#[test]
+fn a_choice_has_the_type_of_both(rt: HostRuntime) {
+    for (chosen_type, other, outcome) in CHOICES {
+        let found = typing(chosen(rt.alloc(), chosen_type, other));
+        assert!(rt; found == outcome, "{chosen_type:?} : {other:?}");
+    }
 }

@@ -2,8 +2,9 @@
 //! a tree down has nothing to drop before its end.
 use ang_kinds::{List, Pass, Prim};
 use ang_typed::{
-    Argument, Block, Choice, Comparison, Expression, For, Function, Local, Loop, Operator,
-    Parameter, Statement, StepKind, Typed, Variable,
+    Argument, Block, Callee, Choice, Comparison, Expression, For, Function,
+    Global as GlobalVariable, Local, Loop, Member, Operator, Parameter, Site, Statement, StepKind,
+    Typed, Variable,
 };
 use ang_types::ArgType;
 use std::alloc::{AllocError, Global};
@@ -11,6 +12,8 @@ use std::alloc::{AllocError, Global};
 pub const INT: ArgType = ArgType::Plain(Prim::I32);
 
 pub type Tree = Result<Box<Expression>, AllocError>;
+
+pub type Place = Result<Site, AllocError>;
 
 pub type Arguments = Result<Vec<Argument>, AllocError>;
 
@@ -33,27 +36,65 @@ pub fn truth(alloc: Global, value: bool) -> Tree {
     leaf(alloc, Expression::Truth(value))
 }
 
+pub fn null(alloc: Global) -> Tree {
+    leaf(alloc, Expression::Null)
+}
+
+pub fn named(variable: Variable) -> Place {
+    Ok(Site::Named(variable))
+}
+
+/// A member of an object.
+pub fn member_of(object: Tree, member: Member) -> Place {
+    let object = object?;
+    Ok(Site::Of { object, member })
+}
+
+pub fn read_at(alloc: Global, site: Place) -> Tree {
+    let site = site?;
+    leaf(alloc, Expression::Read { site, ty: INT })
+}
+
 pub fn value_of(alloc: Global, variable: Variable) -> Tree {
-    leaf(alloc, Expression::Variable { variable, ty: INT })
+    read_at(alloc, named(variable))
 }
 
 pub fn local(alloc: Global, i: usize) -> Tree {
     value_of(alloc, Variable::Local(i))
 }
 
-pub fn step(alloc: Global, variable: Variable, step: StepKind) -> Tree {
+pub fn step_at(alloc: Global, site: Place, step: StepKind) -> Tree {
+    let site = site?;
     let ty = Prim::I32;
-    leaf(alloc, Expression::Step { variable, ty, step })
+    leaf(alloc, Expression::Step { site, ty, step })
+}
+
+pub fn step(alloc: Global, variable: Variable, step: StepKind) -> Tree {
+    step_at(alloc, named(variable), step)
+}
+
+pub fn assign_at(alloc: Global, site: Place, value: Tree) -> Tree {
+    let value = value?;
+    let site = site?;
+    let ty = INT;
+    leaf(alloc, Expression::Assign { site, ty, value })
 }
 
 pub fn assign(alloc: Global, variable: Variable, value: Tree) -> Tree {
+    assign_at(alloc, named(variable), value)
+}
+
+/// `operator=` in the type `int` at a site of that type.
+pub fn compound_at(alloc: Global, site: Place, operator: Operator, value: Tree) -> Tree {
     let value = value?;
-    let ty = INT;
+    let site = site?;
     leaf(
         alloc,
-        Expression::Assign {
-            variable,
-            ty,
+        Expression::Compound {
+            site,
+            ty: Prim::I32,
+            operator,
+            operating: Prim::I32,
             value,
         },
     )
@@ -136,6 +177,51 @@ pub fn choose(alloc: Global, condition: Tree, then: Tree, otherwise: Tree) -> Tr
             otherwise,
         },
     )
+}
+
+pub fn same(alloc: Global, left: Tree, right: Tree) -> Tree {
+    let (left, right) = both(left, right)?;
+    leaf(alloc, Expression::Same { left, right })
+}
+
+pub fn cast(alloc: Global, family: usize, operand: Tree) -> Tree {
+    let operand = operand?;
+    leaf(alloc, Expression::Cast { family, operand })
+}
+
+/// A call that gives an `int`.
+pub fn call(alloc: Global, callee: Callee, arguments: Arguments) -> Tree {
+    let arguments = arguments?;
+    let result = INT;
+    leaf(
+        alloc,
+        Expression::Call {
+            callee,
+            result,
+            arguments,
+        },
+    )
+}
+
+pub fn make(
+    alloc: Global,
+    family: usize,
+    constructor: Option<usize>,
+    arguments: Arguments,
+) -> Tree {
+    let arguments = arguments?;
+    leaf(
+        alloc,
+        Expression::Make {
+            family,
+            constructor,
+            arguments,
+        },
+    )
+}
+
+pub fn no_arguments(alloc: Global) -> Arguments {
+    Ok(Vec::new(alloc))
 }
 
 /// Arguments for two `&out` parameters of the type `int`: a variable of that type, and one of an other type.
@@ -291,9 +377,8 @@ pub fn for_loop(alloc: Global, start: Rows, condition: Tree, step: Tree, body: R
 
 // ---- modules
 
-/// A function with a parameter of the type `int` for each of these ways to pass one.
-pub fn function(alloc: Global, passes: &[Pass], statements: Rows) -> Result<Function, AllocError> {
-    let statements = statements?;
+/// A parameter of the type `int` for each of these ways to pass one.
+fn integers(alloc: Global, passes: &[Pass]) -> Result<Vec<Parameter>, AllocError> {
     let mut parameters = Vec::new(alloc);
     for pass in passes {
         parameters.push(Parameter {
@@ -301,18 +386,55 @@ pub fn function(alloc: Global, passes: &[Pass], statements: Rows) -> Result<Func
             pass: *pass,
         })?;
     }
+    Ok(parameters)
+}
+
+/// A function that gives an `int`.
+pub fn function_of(
+    parameters: Result<Vec<Parameter>, AllocError>,
+    statements: Rows,
+) -> Result<Function, AllocError> {
+    let statements = statements?;
+    let parameters = List::from_vec(parameters?);
+    let result = INT;
+    let body = Block { statements };
     Ok(Function {
-        parameters: List::from_vec(parameters),
-        result: INT,
-        body: Block { statements },
+        parameters,
+        result,
+        body,
     })
 }
 
-/// A module of one such function.
+/// A function with a parameter of the type `int` for each of these ways to pass one.
+pub fn function(alloc: Global, passes: &[Pass], statements: Rows) -> Result<Function, AllocError> {
+    function_of(integers(alloc, passes), statements)
+}
+
+/// A module without classes and imports.
+pub fn plain_module(
+    alloc: Global,
+    functions: Vec<Function>,
+    globals: Vec<GlobalVariable>,
+) -> Typed {
+    Typed {
+        functions: List::from_vec(functions),
+        globals: List::from_vec(globals),
+        classes: List::from_vec(Vec::new(alloc)),
+        methods: List::from_vec(Vec::new(alloc)),
+        imports: List::from_vec(Vec::new(alloc)),
+    }
+}
+
+/// A module of this function alone.
+pub fn module_with(
+    alloc: Global,
+    function: Result<Function, AllocError>,
+) -> Result<Typed, AllocError> {
+    let functions = vec![in alloc; function?]?;
+    Ok(plain_module(alloc, functions, Vec::new(alloc)))
+}
+
+/// A module of one function with a parameter of the type `int` for each of these ways to pass one.
 pub fn module_of(alloc: Global, passes: &[Pass], statements: Rows) -> Result<Typed, AllocError> {
-    let function = function(alloc, passes, statements)?;
-    Ok(Typed {
-        functions: List::from_vec(vec![in alloc; function]?),
-        globals: List::from_vec(Vec::new(alloc)),
-    })
+    module_with(alloc, function(alloc, passes, statements))
 }

@@ -11,6 +11,8 @@ mod modules;
 #[cfg(test)]
 mod numbers;
 #[cfg(test)]
+mod objects;
+#[cfg(test)]
 mod shown;
 #[cfg(test)]
 mod trees;

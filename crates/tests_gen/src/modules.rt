@@ -1,9 +1,11 @@
 //! A small module, with the code that docs/MEANING.md ("Code") gives for it.
-use crate::forms::{INT, compare, evaluate, function, local, number, only, step, while_loop};
+use crate::forms::{
+    INT, compare, evaluate, function, local, number, only, plain_module, step, while_loop,
+};
 use crate::trees::counting_rows;
 use ang_code::{Instruction, RoutineCode};
 use ang_gen::compile;
-use ang_kinds::{List, Pass, Prim};
+use ang_kinds::{Pass, Prim};
 use ang_meaning::{Arithmetic, Change, Comparison as Test, Operation, Passing};
 use ang_typed::{Comparison, Function, Global as GlobalVariable, StepKind, Typed, Variable};
 use std::alloc::{AllocError, Global};
@@ -55,10 +57,7 @@ fn globals(alloc: Global) -> Result<Vec<GlobalVariable>, AllocError> {
 fn module(alloc: Global) -> Result<Typed, AllocError> {
     let functions = functions(alloc)?;
     let globals = globals(alloc)?;
-    Ok(Typed {
-        functions: List::from_vec(functions),
-        globals: List::from_vec(globals),
-    })
+    Ok(plain_module(alloc, functions, globals))
 }
 
 /// The code of a module that is not used again.

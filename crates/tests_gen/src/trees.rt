@@ -1,17 +1,17 @@
 //! Small modules as resolved trees, and the core trees that docs/MEANING.md gives them.
 use crate::forms::{
-    INT, Row, Rows, Tree, and, assign, block, choice, choose, compare, complement, converted,
+    INT, Row, Rows, Tree, and, assign, block, call, choice, choose, compare, complement, converted,
     do_loop, evaluate, for_loop, function, give_back, go_on, leaf, leave, local, module_of, negate,
-    none, not, nothing, number, one_local, one_value, only, operate, or, step, then, truth,
-    two_locals, two_out, value_of, while_loop,
+    none, not, nothing, number, one_local, one_value, only, operate, or, plain_module, step, then,
+    truth, two_locals, two_out, value_of, while_loop,
 };
 use crate::shown::show_body;
 use ang_core::Body;
-use ang_kinds::{EntityNo, List, Pass, Prim};
+use ang_kinds::{EntityNo, Pass, Prim};
 use ang_lower::lower;
 use ang_typed::{
-    Comparison, Expression, Global as GlobalVariable, HostEntity, Operator, StepKind, Typed,
-    Variable,
+    Callee, Comparison, Expression, Global as GlobalVariable, HostEntity, Operator, Site, StepKind,
+    Typed, Variable,
 };
 use ang_types::ArgType;
 use std::alloc::{AllocError, Global};
@@ -39,7 +39,11 @@ fn first_unlike(
 }
 
 /// The place of the first body of a module that has another text than it has to.
-fn first_wrong(alloc: Global, module: Typed, texts: &[&str]) -> Result<Option<usize>, AllocError> {
+pub fn first_wrong(
+    alloc: Global,
+    module: Typed,
+    texts: &[&str],
+) -> Result<Option<usize>, AllocError> {
     let bodies = bodies_of(alloc, module)?;
     first_unlike(alloc, bodies.as_slice(), texts)
 }
@@ -106,15 +110,8 @@ fn loops_and_their_steps(rt: HostRuntime) -> Result<(), AllocError> {
 /// `f(a, g)` of a local a and a global g of the type `int8`, both for `&out` parameters of the type `int`
 fn called(alloc: Global) -> Tree {
     let small = ArgType::Plain(Prim::I8);
-    let arguments = two_out(alloc, Variable::Local(0), Variable::Global(4), small)?;
-    leaf(
-        alloc,
-        Expression::Call {
-            function: 0,
-            result: INT,
-            arguments,
-        },
-    )
+    let arguments = two_out(alloc, Variable::Local(0), Variable::Global(4), small);
+    call(alloc, Callee::Own(0), arguments)
 }
 
 /// `put(1)`, where `put` is entity 17
@@ -183,7 +180,7 @@ fn changed(alloc: Global, value: Tree) -> Tree {
     leaf(
         alloc,
         Expression::Compound {
-            variable: Variable::Global(2),
+            site: Site::Named(Variable::Global(2)),
             ty: Prim::U8,
             operator: Operator::BitXor,
             operating: Prim::I64,
@@ -265,11 +262,8 @@ fn globals(alloc: Global) -> Result<Vec<GlobalVariable>, AllocError> {
 /// These globals and one function without statements.
 fn initialized(alloc: Global) -> Result<Typed, AllocError> {
     let globals = globals(alloc)?;
-    let empty = function(alloc, &[], none(alloc))?;
-    Ok(Typed {
-        functions: List::from_vec(vec![in alloc; empty]?),
-        globals: List::from_vec(globals),
-    })
+    let functions = vec![in alloc; function(alloc, &[], none(alloc))?]?;
+    Ok(plain_module(alloc, functions, globals))
 }
 
 const INITIALIZED: [&str; 3] = [

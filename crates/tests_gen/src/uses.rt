@@ -3,7 +3,7 @@ use ang_host::Role;
 use ang_kinds::{EntityNo, List, Mask, Param, Pass, Prim, Shape, Signature, TypeRef};
 use ang_lower::host_use;
 use ang_meaning::{HostType, HostUse};
-use ang_registry::{Entry, EntryKind};
+use ang_view::{Entry, EntryKind};
 use std::alloc::{AllocError, Global};
 
 fn handle(alloc: Global) -> TypeRef {

@@ -1,7 +1,7 @@
 //! Values that pass between scripts and drivers.
 use ang_kinds::{Prim, Value};
 use ang_meaning::{HostType, Slot};
-use ang_vm_ask::{slot_from, value_from};
+use ang_vm_numbers::{slot_from, value_from};
 
 const VALUES: [(Prim, u64, Value); 9] = [
     (Prim::I8, 0x7F, Value::Int(0x7F)),

@@ -1,5 +1,5 @@
 use Rattle.std.proofs.Common.{refl, subst, ◌∙◌}
-use Rattle.ang_registry.specs.Registration.{seen}
+use Rattle.ang_view.specs.Registration.{seen}
 use Rattle.ang_engine_build.specs.Build.{build_of}
 use Rattle.ang_engine.specs.Outcomes.{IsCompiled}
 use Rattle.ang_engine.proofs.Rebuilding.{waiting-built}

@@ -1,14 +1,20 @@
-use Rattle.std.proofs.Common.{[], Some, Ok, Err}
+use Rattle.std.proofs.Common.{[], Some, Ok, Err, length, sym, subst}
 use Rattle.std.specs.Prelude.{slice_set}
+use Rattle.ang_host.specs.Boxes.{members}
 use Rattle.ang_meaning.specs.declared.slot.Slot.TheVariants.{Bits}
 use Rattle.ang_meaning.specs.World.{World}
 use Rattle.ang_heap.specs.Stores.{world_of}
 use Rattle.ang_vm.specs.Machines.{lent}
 use Rattle.ang_engine_modules.specs.Loaded.{modules_of}
+use Rattle.ang_engine_modules.specs.Modules.{AreDriversThere}
 use Rattle.ang_engine.specs.Engines.{program_in}
 use Rattle.ang_engine.proofs.Starting.{first_values, started-by, begun-world, run-begun, run-loaded}
 use Rattle.ang_engine.proofs.Asking.{run-join, run-ended}
 use Rattle.ang_engine.proofs.building.start.Goals as goal
+
+pub initialize-requires-clause-drivers : goal.initialize-requires-clause-drivers
+initialize-requires-clause-drivers g c =
+    subst (λ ls. AreDriversThere (modules_of ls) (length (members c.args.machine.now.store.drivers))) (sym c.in-Ok.ensures.loaded) c.requires.drivers
 
 pub initialize-requires-clause-counted : goal.initialize-requires-clause-counted
 initialize-requires-clause-counted g c =

@@ -1,6 +1,6 @@
 use Rattle.std.proofs.Common.{◌≡◌, ℕ, ◌<◌, Some}
-use Rattle.ang_registry.specs.declared.entry.Entry.{Entry}
-use Rattle.ang_registry.specs.Registration.{entry_at}
+use Rattle.ang_view.specs.declared.entry.Entry.{Entry}
+use Rattle.ang_view.specs.Registration.{entry_at}
 use Rattle.ang_engine.proofs.engine.have_drivers.Given as goal
 
 abbrev pub invariant-loop-number : goal.invariant-loop-number

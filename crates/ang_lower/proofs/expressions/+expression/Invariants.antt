@@ -4,6 +4,7 @@ use Rattle.ang_lower.specs.Plain.{plain_expr}
 use Rattle.ang_lower.specs.Lowered.{lowered_args}
 use Rattle.ang_lower.proofs.expressions.+expression.Given as goal
 
-abbrev pub invariant-lower_arguments-loop-argument : goal.invariant-lower_arguments-loop-argument
-invariant-lower_arguments-loop-argument l =
-    list_map plain_expr l.found.items ++ lowered_args l.alive (view_args (drop l.argument-index l.arguments)) ≡ lowered_args l.alive (view_args l.arguments)
+abbrev pub invariant-add_arguments-loop-argument : goal.invariant-add_arguments-loop-argument
+invariant-add_arguments-loop-argument l =
+    list_map plain_expr l.found.items ++ lowered_args l.alive (view_args (drop l.argument-index l.arguments))
+    ≡ list_map plain_expr l.initial.found.items ++ lowered_args l.alive (view_args l.arguments)

@@ -2,7 +2,7 @@ use Rattle.std.proofs.Common.{rules, tests, ◌∙◌}
 use Rattle.std.proofs.lemmas.Iterator.{YieldsList-from_slice, YieldsList-from_zip}
 use Rattle.std.proofs.lemmas.Iterator.Search.{all_from_yields_List}
 use Rattle.ang_kinds.specs.declared.types.Param.{Param}
-use Rattle.ang_registry.proofs.Lists.{list_all-zip}
+use Rattle.ang_view.proofs.Lists.{list_all-zip}
 use Rattle.ang_tree.specs.declared.declaration.Parameter.{Parameter}
 use Rattle.ang_names_written.specs.Spellings.{same_spelling, spelling_of, host_spelling_of}
 use Rattle.ang_names_written.proofs.spelling.have_same_types_as_host.Goals as goal

@@ -2,7 +2,7 @@ use Rattle.std.proofs.Common.{rules, tests, ◌∙◌}
 use Rattle.std.proofs.lemmas.Iterator.{YieldsList-from_slice, YieldsList-from_zip}
 use Rattle.std.proofs.lemmas.Iterator.Search.{all_from_yields_List}
 use Rattle.ang_registry.specs.Overloads.{same_parameter}
-use Rattle.ang_registry.proofs.Lists.{list_all-zip}
+use Rattle.ang_view.proofs.Lists.{list_all-zip}
 use Rattle.ang_registry.proofs.overload.have_same_types.Goals as goal
 
 pub returns-then-others-params : goal.returns-then-others-params

@@ -10,7 +10,7 @@ use Rattle.ang_engine.proofs.Worlds.{states_built}
 use Rattle.ang_engine.proofs.Entries.{drivers_there}
 use Rattle.ang_engine.proofs.Finding.{found-same, on_module-none}
 use Rattle.ang_engine.proofs.Calls.{call-run}
-use Rattle.ang_engine.proofs.Named.{program_there, takes_chosen, chosen_refused, calling-unbuilt, calling-unbudgeted, calling-built}
+use Rattle.ang_engine.proofs.Named.{few_families, program_there, takes_chosen, chosen_refused, calling-unbuilt, calling-unbudgeted, calling-built}
 use Rattle.ang_engine.proofs.Asking.{asked-nothing, asked-run}
 use Rattle.ang_engine.proofs.engine.Engine.call_named.Goals as goal
 
@@ -65,6 +65,13 @@ pub returns-then-not-may_run-clause-asked : goal.returns-then-not-may_run-clause
 returns-then-not-may_run-clause-asked g c =
     asked-nothing (λ v. (g.dyn-1.0.entry v).1.meaning) (registrations c.args.self.now) (world_in (λ v. (g.dyn-1.0.entry v).1.meaning) c.args.self.now) c.args.self.now.machine.store
     c.requires.sound.kept c.requires.sound.counted
+
+-- ---- a function is looked for
+
+pub choose-requires : goal.choose-requires
+choose-requires g c =
+    let m = c.args.self.now.modules in
+    record { few = few_families (registrations c.args.self.now) m.modules.items m.code c.in-Some.home c.in-Some-loaded.loaded.now c.requires.sound.modules.each c.in-Some-loaded.ensures.exact }
 
 -- ---- no function is called
 

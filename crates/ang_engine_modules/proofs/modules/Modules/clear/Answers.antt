@@ -7,4 +7,4 @@ invariant_of-self c =
     let x = c.self.inside in
     let e = c.no_code.ensures in
     loaded_put x.table _ x.loaded.items _ c.self.invariant c.args.home c.no_code.result None c.put_code.ensures.put c.put_loaded.ensures.put
-    (blank c.no_code.result e.name e.bodies e.imports e.entities e.classes e.slots)
+    (blank c.args.home c.no_code.result e.name e.bodies e.imports e.entities e.classes e.slots)

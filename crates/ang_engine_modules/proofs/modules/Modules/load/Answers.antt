@@ -7,5 +7,5 @@ invariant_of-self c =
     let x = c.self.inside in
     let e = c.in_ok-code.ensures in
     loaded_put x.table _ x.loaded.items _ c.self.invariant c.args.home c.in_ok-code.code (Some c.args.loaded) c.put_code.ensures.put c.put_loaded.ensures.put
-    (coded c.in_ok-code.code c.args.loaded c.in_ok-codes.codes.items (e.name ∙ c.as_slice.ensures.same) e.bodies e.few e.imports e.entities e.classes e.slots
+    (coded c.args.home c.in_ok-code.code c.args.loaded c.in_ok-codes.codes.items (e.name ∙ c.as_slice.ensures.same) e.bodies e.few e.imports e.bound e.entities e.classes e.slots
     c.in_ok-codes.ensures.params c.in_ok-codes.ensures.code c.requires.sound c.requires.unbound)

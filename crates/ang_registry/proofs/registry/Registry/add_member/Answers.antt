@@ -1,8 +1,8 @@
 use Rattle.std.proofs.Common.{◌≡◌, true, false, Some, None, rules, ap, sym, ◌∙◌}
 use Rattle.std.proofs.lemmas.Result.{err_from_is_err_and}
-use Rattle.ang_registry.specs.Registration.{Registrations}
+use Rattle.ang_registry.specs.Registrations.{Registrations}
 use Rattle.ang_registry.specs.Refusals.{gives_own, refusal_of_member, refusal_of_entry}
-use Rattle.ang_registry.specs.Types.{type_named, driver_at}
+use Rattle.ang_view.specs.Types.{type_named, driver_at}
 use Rattle.ang_registry.proofs.Tables.{AreHeld, HasRoom, refusal_of_member-early, refusal_of_member-undeclared, refusal_of_member-other, refusal_of_member-unknown, refusal_of_member-entry}
 use Rattle.ang_registry.proofs.registry.Registry.add_member.Goals as goal
 

@@ -1,6 +1,6 @@
 use Rattle.std.proofs.Common.{◌≡◌, None, rules, ap, ◌∙◌}
 use Rattle.std.proofs.lemmas.Result.{err_from_is_err_and}
-use Rattle.ang_registry.specs.Registration.{Registrations}
+use Rattle.ang_registry.specs.Registrations.{Registrations}
 use Rattle.ang_registry.specs.Refusals.{refusal_of_own, refusal_of_entry}
 use Rattle.ang_registry.proofs.Tables.{AreHeld, HasRoom, refusal_of_own-early, refusal_of_own-bad, refusal_of_own-entry}
 use Rattle.ang_registry.proofs.registry.Registry.add_own.Goals as goal

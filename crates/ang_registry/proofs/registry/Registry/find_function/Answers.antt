@@ -1,6 +1,7 @@
 use Rattle.std.proofs.Common.{◌≡◌, ap, sym, ◌∙◌}
-use Rattle.ang_registry.specs.Registration.{Registrations, RegistrationList, seen, function_named}
-use Rattle.ang_registry.proofs.Seen.{SeesFunction-from_function_named}
+use Rattle.ang_view.specs.Registration.{RegistrationList, seen, function_named}
+use Rattle.ang_registry.specs.Registrations.{Registrations}
+use Rattle.ang_view.proofs.Seen.{SeesFunction-from_function_named}
 use Rattle.ang_registry.proofs.registry.Registry.find_function.Goals as goal
 
 pub returns-clause-found : goal.returns-clause-found

@@ -1,5 +1,5 @@
 use Rattle.std.proofs.Common.{length, arith, length-append, ◌∷◌, [], ap}
-use Rattle.ang_registry.specs.Registration.{Registrations}
+use Rattle.ang_registry.specs.Registrations.{Registrations}
 use Rattle.ang_registry.proofs.Values.{last_takes}
 use Rattle.ang_registry.proofs.registry.Registry.push.Goals as goal
 

@@ -1,0 +1,4 @@
+pub mod Lists
+pub mod JudgedParts
+pub mod ClassMembers
+pub mod Classes

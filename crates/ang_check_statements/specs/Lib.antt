@@ -1,0 +1,3 @@
+pub mod Typing
+pub mod Halts
+pub mod View

@@ -1,0 +1,179 @@
+//! Arguments, each for its parameter.
+ghost use Rattle.std.specs.Prelude.{◌≡◌, map as list_map, IfOk};
+ghost use Rattle.ang_check_operand.specs.Operands.{site_in as site_in_tree};
+ghost use Rattle.ang_check_operand.specs.Refusals.{Gives};
+ghost use Rattle.ang_check_operand.specs.View.{view_operand, view_operands};
+ghost use Rattle.ang_check_typing.specs.Calls as spec;
+ghost use Rattle.ang_typed.specs.View.{view_arg, view_site, view_tree};
+
+use ang_check_operand::{Operand, Stop, fault, fit, site_in};
+use ang_kinds::{ErrorKind, List, Pass, Place};
+use ang_typed::{Argument, Expression, Site, Variable};
+use ang_types::{ArgType, Lineage};
+use std::alloc::{AllocError, Global};
+
+fn is_out_variable(variable: Variable) -> bool
+    ensures exact { result ≡ spec.is_out_variable variable }
+{
+    match variable {
+        Variable::Local(_) | Variable::Global(_) | Variable::Field(_) => true,
+        Variable::Property(_) => false,
+    }
+}
+
+fn out_variable(site: Site) -> Option<Variable>
+    ensures exact { result ≡ spec.out_variable (view_site site) }
+{
+    match site {
+        Site::Named(variable) => {
+            if is_out_variable(variable) {
+                Some(variable)
+            } else {
+                None
+            }
+        }
+        Site::Of { .. } => None,
+    }
+}
+
+fn variable_in(tree: Box<Expression>) -> Option<Variable>
+    ensures exact { result ≡ spec.variable_in (site_in_tree (view_tree tree)) }
+{
+    match site_in(tree) {
+        None => None,
+        Some(site) => out_variable(site),
+    }
+}
+
+fn is_out_type(ty: ArgType) -> bool
+    ensures exact { result ≡ spec.is_out_type ty }
+{
+    match ty {
+        ArgType::Plain(_) | ArgType::Handle { .. } => true,
+        ArgType::Void | ArgType::Null | ArgType::Object { .. } => false,
+    }
+}
+
+fn is_out(operand: &Operand) -> bool
+    ensures exact { result ≡ spec.is_out (view_operand operand.now) operand.now.target }
+{
+    match operand.target {
+        None => false,
+        Some(target) => target.bare && !target.read_only && is_out_type(operand.ty),
+    }
+}
+
+fn out_or(place: Place, variable: Option<Variable>) -> Result<Variable, Stop>
+    ensures exact { Gives (λ x. x) result (spec.out_or place variable) }
+{
+    match variable {
+        None => Err(fault(ErrorKind::BadOut, place)),
+        Some(variable) => Ok(variable),
+    }
+}
+
+/// The variable that an `&out` argument is.
+#[tactic(auto, unfolding(crate::specs::Calls::out_of))]
+fn out_of(operand: Operand) -> Result<Variable, Stop>
+    ensures exact { Gives (λ x. x) result (spec.out_of (view_operand operand)) }
+{
+    if is_out(&operand) {
+        out_or(operand.place, variable_in(operand.tree))
+    } else {
+        Err(fault(ErrorKind::BadOut, operand.place))
+    }
+}
+
+fn value_for(
+    alloc: Global,
+    lineage: &Lineage,
+    ty: ArgType,
+    operand: Operand,
+) -> Result<Argument, Stop>
+    ensures exact { Gives view_arg result (spec.value_for lineage.now ty (view_operand operand)) }
+{
+    let value = fit(alloc, lineage, ty, operand)?;
+    Ok(Argument::Value {
+        ty,
+        value: Box::into_inner(value),
+    })
+}
+
+fn out_for(ty: ArgType, operand: Operand) -> Result<Argument, Stop>
+    ensures exact { Gives view_arg result (spec.out_for ty (view_operand operand)) }
+{
+    let to = operand.ty;
+    let variable = out_of(operand)?;
+    Ok(Argument::Out {
+        variable,
+        from: ty,
+        to,
+    })
+}
+
+/// An argument for a parameter.
+///
+/// `BadOut` at the first token of an `&out` argument that is not the bare name of a variable which
+/// can be written; `BadConversion` at that of another one that does not convert to the parameter's
+/// type.
+#[tactic(auto, unfolding(crate::specs::Calls::argument))]
+fn argument(
+    alloc: Global,
+    lineage: &Lineage,
+    param: (ArgType, Pass),
+    operand: Operand,
+) -> Result<Argument, Stop>
+    ensures exact { Gives view_arg result (spec.argument lineage.now param (view_operand operand)) }
+{
+    match param.1 {
+        Pass::Value | Pass::RefIn | Pass::RefInOut => value_for(alloc, lineage, param.0, operand),
+        Pass::RefOut => out_for(param.0, operand),
+    }
+}
+
+fn arguments_in(
+    alloc: Global,
+    lineage: &Lineage,
+    params: &[(ArgType, Pass)],
+    operands: Vec<Operand>,
+) -> Result<Vec<Argument>, Stop>
+    ensures exact { Gives (λ v. list_map view_arg v.items) result
+        (spec.arguments_for lineage.now params.now (view_operands operands.items)) }
+{
+    let mut arguments = Vec::new(alloc);
+    let mut rest = operands.into_iter();
+    for param in params {
+        let Some(operand) = rest.next() else {
+            return Ok(arguments);
+        };
+        let value = argument(alloc, lineage, *param, operand)?;
+        arguments.push(value)?;
+    }
+    Ok(arguments)
+}
+
+/// Each argument for its parameter, from left to right.
+pub fn arguments_for(
+    alloc: Global,
+    lineage: &Lineage,
+    params: &[(ArgType, Pass)],
+    operands: Vec<Operand>,
+) -> Result<List<Argument>, Stop>
+    ensures exact { Gives (list_map view_arg) result
+        (spec.arguments_for lineage.now params.now (view_operands operands.items)) }
+{
+    Ok(List::from_vec(arguments_in(alloc, lineage, params, operands)?))
+}
+
+/// The types of some operands.
+///
+/// The only error is want of memory.
+pub fn types_of(alloc: Global, operands: &[Operand]) -> Result<Vec<ArgType>, AllocError>
+    ensures exact { IfOk result (λ v. v.items ≡ spec.types_of (view_operands operands.now)) }
+{
+    let mut types = Vec::new(alloc);
+    for operand in operands {
+        types.push(operand.ty)?;
+    }
+    Ok(types)
+}

@@ -1,0 +1,3 @@
+pub mod CallableKinds
+pub mod Callables
+pub mod Uses

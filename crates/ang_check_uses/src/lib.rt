@@ -1,0 +1,23 @@
+//! What a use of a name means, where no local and no member of a script's class has the name.
+//!
+//! A *use* is a name and what is asked of it (`ang_types::Asks`). `resolution_of` says what it means over a view and the
+//! declarations of the scripts, and nothing else does: denials ask it again over a larger view.
+#![tactic(auto)]
+
+mod callables;
+mod hosts;
+mod makers;
+mod picking;
+mod resolving;
+mod scope;
+mod scripts;
+mod uses;
+
+pub use callables::{Callables, Head};
+pub use hosts::{entity_of, host_methods};
+pub use makers::{family_of_type, makers_of};
+pub use picking::{best_method, best_of_those};
+pub use resolving::{resolution_of, why};
+pub use scope::Scope;
+pub use scripts::functions_of;
+pub use uses::{Callable, Called, Reach, Resolution};

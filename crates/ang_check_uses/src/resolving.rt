@@ -1,0 +1,190 @@
+//! What any use means.
+ghost use Rattle.std.specs.Prelude.{◌≡◌, IfOk};
+ghost use Rattle.ang_names_known.specs.declared.host.WantedProperty.TheVariants as property;
+ghost use Rattle.ang_names_known.specs.Host as host;
+ghost use Rattle.ang_names_known.specs.Spaces as spaces;
+ghost use Rattle.ang_check_uses.specs.Uses as spec;
+
+use crate::hosts::{entity_of, factories_of, host_methods};
+use crate::makers::makers_of;
+use crate::picking::{best_function, best_method, best_of_those};
+use crate::scope::Scope;
+use crate::scripts::functions_of;
+use crate::uses::Resolution;
+use ang_kinds::ErrorKind;
+use ang_names_known::{
+    HostProperty, Named, ScriptGlobal, Space, Text, WantedProperty, global_named, is_read_only,
+    property_where,
+};
+use ang_typed::Variable;
+use ang_types::{ArgType, Asks};
+use std::alloc::{AllocError, Global};
+
+/// Why a use means nothing; where it means what can't stand there no such name is known. It takes no memory.
+pub fn why(resolution: Resolution) -> ErrorKind
+    ensures exact { result ≡ spec.why resolution }
+{
+    match resolution {
+        Resolution::Refused(kind) => kind,
+        Resolution::Variable(..)
+        | Resolution::Property(_)
+        | Resolution::Call(_)
+        | Resolution::Type(_) => ErrorKind::UnknownName,
+    }
+}
+
+fn host_meant(found: Option<HostProperty>) -> Resolution
+    ensures exact { result ≡ spec.host_meant found }
+{
+    match found {
+        None => Resolution::Refused(ErrorKind::UnknownName),
+        Some(found) => {
+            let variable = Variable::Property(entity_of(found));
+            Resolution::Variable(variable, found.ty, found.read_only)
+        }
+    }
+}
+
+fn global_or_host(
+    globals: &[ScriptGlobal],
+    number: Option<usize>,
+    hosts: Option<HostProperty>,
+) -> Resolution
+    ensures exact { result ≡ spec.global_or_host globals.now number hosts }
+{
+    let Some(number) = number else {
+        return host_meant(hosts);
+    };
+    match globals.get(number) {
+        None => host_meant(hosts),
+        Some(global) => {
+            let read_only = is_read_only(global.written);
+            Resolution::Variable(Variable::Global(number), global.written.ty, read_only)
+        }
+    }
+}
+
+#[tactic(auto, unfolding(crate::specs::Uses::global_meant))]
+fn global_meant(scope: &Scope<'_>, name: &[u8]) -> Resolution
+    ensures exact { result ≡ spec.global_meant scope.now name.now }
+{
+    let globals = scope.names().globals.as_slice();
+    let hosts = property_where(scope.view(), &WantedProperty::Global(Text::new(name)));
+    global_or_host(globals, global_named(globals, name), hosts)
+}
+
+/// What the name means as a type.
+fn type_named(scope: &Scope<'_>, name: &[u8]) -> Named
+    ensures exact { result
+        ≡ spaces.type_of_name (spaces.space_of_names scope.now.view scope.now.names) name.now }
+{
+    let space = Space::of_names(scope.view(), scope.names());
+    space.named(name)
+}
+
+fn type_meant(named: Named) -> Resolution
+    ensures exact { result ≡ spec.type_meant named }
+{
+    match named {
+        Named::Unknown => Resolution::Refused(ErrorKind::UnknownType),
+        Named::Object(number) => Resolution::Type(number),
+    }
+}
+
+fn property_meant(found: Option<HostProperty>) -> Resolution
+    ensures exact { result ≡ spec.property_meant found }
+{
+    match found {
+        None => Resolution::Refused(ErrorKind::UnknownName),
+        Some(property) => Resolution::Property(property),
+    }
+}
+
+fn property_of(scope: &Scope<'_>, number: u32, name: &[u8]) -> Option<HostProperty>
+    ensures exact { result ≡ host.property_where (property.Member number name.now) scope.now.view }
+{
+    property_where(
+        scope.view(),
+        &WantedProperty::Member(number, Text::new(name)),
+    )
+}
+
+/// What a call of a bare name means: of a type's name what makes an object, else a function.
+#[tactic(auto, unfolding(crate::specs::Uses::called_name))]
+fn called_name(
+    alloc: Global,
+    scope: &Scope<'_>,
+    name: &[u8],
+    args: &[ArgType],
+) -> Result<Resolution, AllocError>
+    ensures exact { IfOk result (λ r. r ≡ spec.called_name scope.now name.now args.now) }
+{
+    match type_named(scope, name) {
+        Named::Object(number) => {
+            let makers = makers_of(alloc, scope, number)?;
+            Ok(best_of_those(scope.lineage(), ErrorKind::NoMatch, makers, args))
+        }
+        Named::Unknown => {
+            let functions = functions_of(alloc, scope, name)?;
+            Ok(best_function(scope.lineage(), functions, args))
+        }
+    }
+}
+
+/// The best factory of a host type for arguments of these types.
+fn made(
+    alloc: Global,
+    scope: &Scope<'_>,
+    unviable: ErrorKind,
+    number: u32,
+    args: &[ArgType],
+) -> Result<Resolution, AllocError>
+    ensures exact { IfOk result (λ r. r ≡ spec.best_of_those scope.now.ancestors unviable
+        (spec.factories_of scope.now.view number) args.now) }
+{
+    let factories = factories_of(alloc, scope.view(), number)?;
+    Ok(best_of_those(scope.lineage(), unviable, factories, args))
+}
+
+/// The best method of a host type on a receiver that is read only or not, for arguments of these types.
+fn method_meant(
+    alloc: Global,
+    scope: &Scope<'_>,
+    name: &[u8],
+    receiver: (u32, bool),
+    args: &[ArgType],
+) -> Result<Resolution, AllocError>
+    ensures exact { IfOk result (λ r. r ≡ spec.best_method scope.now.ancestors
+        (spec.host_methods scope.now.view receiver.0 name.now) receiver.0 receiver.1 args.now) }
+{
+    let (number, read_only) = receiver;
+    let methods = host_methods(alloc, scope, number, name)?;
+    best_method(alloc, scope.lineage(), methods, number, read_only, args)
+}
+
+/// What a use of this name means, where no local and no member of a script's class has it.
+///
+/// `Resolution::Refused` says why it means nothing. The only error is want of memory.
+pub fn resolution_of(
+    alloc: Global,
+    scope: &Scope<'_>,
+    name: &[u8],
+    asks: &Asks,
+) -> Result<Resolution, AllocError>
+    ensures exact { IfOk result (λ r. r ≡ spec.resolution_of scope.now name.now asks.now) }
+{
+    match asks {
+        Asks::Value => Ok(global_meant(scope, name)),
+        Asks::Type => Ok(type_meant(type_named(scope, name))),
+        Asks::Call(args) => called_name(alloc, scope, name, args.as_slice()),
+        Asks::Make(number, args) => {
+            made(alloc, scope, ErrorKind::NoMatch, *number, args.as_slice())
+        }
+        Asks::Default(number) => made(alloc, scope, ErrorKind::NoDefault, *number, &[]),
+        Asks::Property(number) => Ok(property_meant(property_of(scope, *number, name))),
+        Asks::Method(number, read_only, args) => {
+            let receiver = (*number, *read_only);
+            method_meant(alloc, scope, name, receiver, args.as_slice())
+        }
+    }
+}

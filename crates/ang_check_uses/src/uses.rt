@@ -1,0 +1,53 @@
+//! What a use of a name means.
+use ang_kinds::ErrorKind;
+use ang_names_known::{Access, HostProperty};
+use ang_typed::{Callee, HostEntity, Variable};
+use ang_types::{ArgType, Candidate};
+
+/// What a call runs.
+#[derive(Clone, Copy, PartialEq, Eq, Debug)]
+pub enum Called {
+    /// A function of the scripts.
+    Script(Callee),
+    /// A function, a factory or a method of the host.
+    Host(HostEntity),
+    /// A constructor of the script's class of this number, or none where the class and those above it have none.
+    Makes(usize, Option<usize>),
+}
+
+/// From where a member may be used.
+#[derive(Clone, Copy, PartialEq, Eq, Debug)]
+pub struct Reach {
+    /// The family that declares the member.
+    pub owner: usize,
+    /// Who may use it.
+    pub access: Access,
+}
+
+/// A function that a call can mean, with its types.
+#[derive(Drop)]
+pub struct Callable {
+    /// What runs.
+    pub called: Called,
+    /// The type of what the call gives.
+    pub result: ArgType,
+    /// Its parameters; a method's receiver is the first one.
+    pub candidate: Candidate,
+    /// From where it may be called, where it is a script's method.
+    pub reach: Option<Reach>,
+}
+
+/// What a use means.
+#[derive(Drop)]
+pub enum Resolution {
+    /// A variable, its type, and whether it can't be assigned.
+    Variable(Variable, ArgType, bool),
+    /// An object property of the host.
+    Property(HostProperty),
+    /// A call of a function.
+    Call(Callable),
+    /// The object type of this number.
+    Type(u32),
+    /// Nothing, and why.
+    Refused(ErrorKind),
+}

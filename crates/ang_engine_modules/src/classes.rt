@@ -1,0 +1,154 @@
+//! The classes of a module's tree as the machine's table has them.
+ghost use Rattle.std.specs.Prelude.{◌≡◌, ◌++◌, ◌∷◌, [], Some, None, MatchOption, IfOk, OnOk, length, option_and_then, slice_get, map as list_map};
+ghost use Rattle.ang_source.specs.Meaning.{kind_of, class_of as class_in};
+ghost use Rattle.ang_engine_modules.specs.Loaded as spec;
+ghost use Rattle.ang_engine_modules.specs.Trees.{own_methods, methods_by, script_class, classes_from};
+
+use ang_kinds::List;
+use ang_meaning as meaning;
+use ang_meaning::{Routine, ValueKind};
+use ang_typed::Class;
+use ang_types::ArgType;
+use ang_vm_stack::table::{ClassCode, Method};
+use std::alloc::{AllocError, Global};
+
+/// What a field of a type holds: a number or truth value, or an object or a handle.
+fn kind_of(ty: ArgType) -> ValueKind
+    ensures same { result ≡ kind_of ty }
+{
+    match ty {
+        ArgType::Void => ValueKind::Number,
+        ArgType::Null => ValueKind::Handle,
+        ArgType::Plain(_) => ValueKind::Number,
+        ArgType::Object { .. } => ValueKind::Handle,
+        ArgType::Handle { .. } => ValueKind::Handle,
+    }
+}
+
+fn kinds_of(alloc: Global, fields: &[ArgType]) -> Result<Vec<ValueKind>, AllocError>
+    ensures exact { IfOk result (λ kinds. kinds.items ≡ list_map kind_of fields.now) }
+{
+    fields.iter().map(|ty| kind_of(*ty)).collect(alloc)
+}
+
+/// A number in 32 bits. Where it has more, as no module's can, the answer is want of memory.
+fn small(number: usize) -> Result<u32, AllocError>
+    ensures exact { IfOk result (λ n. n ≡ number) }
+{
+    match u32::try_from(number) {
+        Ok(n) => Ok(n),
+        Err(_) => Err(AllocError),
+    }
+}
+
+/// One more number at the end.
+fn add_number(number: usize, found: &mut Vec<u32>) -> Result<(), AllocError>
+    ensures added { OnOk result (found.new.items ≡ found.old.items ++ number ∷ []) }
+{
+    let number = small(number)?;
+    found.push(number)?;
+    Ok(())
+}
+
+/// The numbers of a class and of those above it.
+fn numbers_of(alloc: Global, number: usize, above: &[usize]) -> Result<Vec<u32>, AllocError>
+    ensures exact { IfOk result (λ found. found.items ≡ number ∷ above.now) }
+{
+    let mut found = Vec::new(alloc);
+    add_number(number, &mut found)?;
+    for other in above {
+        add_number(*other, &mut found)?;
+    }
+    Ok(found)
+}
+
+/// The class of a number as its objects have it.
+fn class_in(alloc: Global, number: usize, class: &Class) -> Result<meaning::Class, AllocError>
+    ensures exact { IfOk result (λ c. c ≡ class_in number class.now) }
+{
+    let rank = small(class.rank)?;
+    let fields = kinds_of(alloc, class.fields.as_slice())?;
+    let under = numbers_of(alloc, number, class.above.as_slice())?;
+    Ok(meaning::Class {
+        number: small(number)?,
+        rank,
+        fields: List::from_vec(fields),
+        under: List::from_vec(under),
+    })
+}
+
+/// The methods that a class has itself, behind those that there are.
+fn add_methods(
+    home: u32,
+    rows: &[(usize, usize)],
+    found: &mut Vec<Method>,
+) -> Result<(), AllocError>
+    ensures added { OnOk result (found.new.items ≡ found.old.items ++ own_methods home rows.now) }
+{
+    for row in rows {
+        let slot = small(row.0)?;
+        let number = small(row.1)?;
+        let function = Routine { home, number };
+        found.push(Method { slot, function })?;
+    }
+    Ok(())
+}
+
+/// The base class of a class, where it has one that is there.
+fn base_of<'a>(classes: &'a [Class], class: &Class) -> Option<&'a Class>
+    ensures exact { MatchOption result (option_and_then (slice_get classes.now) class.now.base ≡ None)
+        (λ base. option_and_then (slice_get classes.now) class.now.base ≡ Some base.now) }
+{
+    classes.get(class.base?)
+}
+
+/// The methods of a class and of so many classes above it, behind those that there are.
+fn add_chain(
+    home: u32,
+    classes: &[Class],
+    left: usize,
+    class: &Class,
+    found: &mut Vec<Method>,
+) -> Result<(), AllocError>
+    ensures added { OnOk result (found.new.items ≡ found.old.items ++ methods_by home classes.now left (Some class.now)) }
+{
+    add_methods(home, class.chosen.as_slice(), found)?;
+    if left == 0 {
+        return Ok(());
+    }
+    match base_of(classes, class) {
+        Some(base) => add_chain(home, classes, left - 1, base, found),
+        None => Ok(()),
+    }
+}
+
+/// The code of a class: what its objects have, and its methods, the nearest one of a slot first.
+fn class_code(
+    alloc: Global,
+    home: u32,
+    classes: &[Class],
+    number: usize,
+    class: &Class,
+) -> Result<ClassCode, AllocError>
+    ensures exact { IfOk result (λ code. spec.class_of code ≡ script_class home classes.now number class.now) }
+{
+    let mut methods = Vec::new(alloc);
+    add_chain(home, classes, classes.len(), class, &mut methods)?;
+    let class = class_in(alloc, number, class)?;
+    Ok(ClassCode { class, methods })
+}
+
+/// The code of all classes of a module, by number.
+///
+/// # Errors
+/// Want of memory. It is also answered where a number has more than 32 bits, as none of a
+/// checked module has.
+pub fn classes_of(alloc: Global, home: u32, classes: &[Class]) -> Result<Vec<ClassCode>, AllocError>
+    ensures exact { IfOk result (λ codes. list_map spec.class_of codes.items ≡ classes_from home classes.now 0 classes.now) }
+{
+    let mut codes = Vec::with_capacity(alloc, classes.len())?;
+    for (number, class) in classes.iter().enumerate() {
+        codes.push(class_code(alloc, home, classes, number, class)?)?;
+    }
+    Ok(codes)
+}

@@ -1,0 +1,9 @@
+use Rattle.ang_names.proofs.NoFamilies.{found_as, second_phase}
+use Rattle.ang_names.proofs.phases.type_refusals.Goals as goal
+
+pub returns : goal.returns
+returns c = record {
+  exact =
+      found_as (λ found. found.items) _ _ c.type_refusals_in.result c.type_refusals_in.ensures.exact
+      (second_phase c.args.view.now c.args.all.now _ c.in_ok-space.ensures.exact);
+}

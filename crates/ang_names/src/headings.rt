@@ -1,0 +1,201 @@
+//! Types that are unknown or can't stand where they stand, and too many parameters.
+ghost use Rattle.std.specs.Prelude.{◌≡◌, Some, None, IfOk, nat_lt, length, if◌then◌else◌};
+ghost use Rattle.std.specs.Option.{option_or};
+ghost use Rattle.ang_types.specs.declared.asks.Asks.TheVariants as asking;
+ghost use Rattle.ang_names_written.specs.Types.{is_unknown_type as names_no_type};
+ghost use Rattle.ang_names.specs.Meant as spec;
+
+use ang_kinds::ErrorKind;
+use ang_lex::Token;
+use ang_names_known::Space;
+use ang_names_written::{Role, error_at, pass_of, type_in};
+use ang_tree::{Parameter, TypeName};
+use ang_types::{ArgType, Asks, Refused};
+use std::alloc::{AllocError, Global};
+
+/// The parameters of one function.
+const MOST_PARAMETERS: usize = 32;
+
+/// Where something holds, an error at this name, with which no entry of the host could help.
+pub fn refusal_if(
+    alloc: Global,
+    is_refused: bool,
+    kind: ErrorKind,
+    text: &[u8],
+    name: &Token,
+) -> Result<Option<Refused>, AllocError>
+    ensures exact { IfOk result (λ r. r ≡ spec.refusal_if is_refused kind text.now name.now) }
+{
+    if !is_refused {
+        return Ok(None);
+    }
+    let error = error_at(alloc, text, kind, name)?;
+    Ok(Some(Refused {
+        error,
+        asks: None,
+        is_there: false,
+    }))
+}
+
+fn is_unknown_type(kind: ErrorKind) -> bool
+    ensures exact { result ≡ names_no_type kind }
+{
+    matches!(kind, ErrorKind::UnknownType)
+}
+
+fn asked_type(kind: ErrorKind) -> Option<Asks>
+    ensures exact { result ≡ (if names_no_type kind then Some asking.Type else None) }
+{
+    if is_unknown_type(kind) {
+        Some(Asks::Type)
+    } else {
+        None
+    }
+}
+
+/// A type that is refused, at its name: an unknown name is a use of it.
+fn type_refused(
+    alloc: Global,
+    kind: ErrorKind,
+    text: &[u8],
+    name: &Token,
+) -> Result<Refused, AllocError>
+    ensures exact { IfOk result (λ r. r ≡ spec.type_refused kind text.now name.now) }
+{
+    let error = error_at(alloc, text, kind, name)?;
+    Ok(Refused {
+        error,
+        asks: asked_type(kind),
+        is_there: false,
+    })
+}
+
+/// Why the type of this name is refused.
+fn why_refused(
+    alloc: Global,
+    text: &[u8],
+    name: &Token,
+    meaning: Result<ArgType, ErrorKind>,
+) -> Result<Option<Refused>, AllocError>
+    ensures exact { IfOk result (λ r. r ≡ spec.why_refused text.now name.now meaning) }
+{
+    match meaning {
+        Ok(_) => Ok(None),
+        Err(kind) => Ok(Some(type_refused(alloc, kind, text, name)?)),
+    }
+}
+
+/// Why the type that is written where it has this role is refused.
+pub fn type_refusal_of(
+    alloc: Global,
+    space: &Space<'_>,
+    text: &[u8],
+    role: Role,
+    declared: &TypeName,
+) -> Result<Option<Refused>, AllocError>
+    ensures exact { IfOk result
+        (λ r. r ≡ spec.type_refusal_of space.now text.now role declared.now) }
+{
+    let meaning = type_in(space, role, text, declared);
+    why_refused(alloc, text, &declared.name, meaning)
+}
+
+/// The role of a parameter of an import, or of any other function.
+pub fn parameter_role(imported: bool, parameter: &Parameter) -> Role
+    ensures exact { result ≡ spec.parameter_role imported parameter.now }
+{
+    let pass = pass_of(&parameter.reference);
+    if imported {
+        Role::ImportParameter(pass)
+    } else {
+        Role::Parameter(pass)
+    }
+}
+
+/// The first refusal of a parameter, of an import's or of another function's.
+fn parameters_refusal(
+    alloc: Global,
+    space: &Space<'_>,
+    text: &[u8],
+    imported: bool,
+    params: &[Parameter],
+) -> Result<Option<Refused>, AllocError>
+    ensures exact { IfOk result
+        (λ r. r ≡ spec.parameters_refusal space.now text.now imported params.now) }
+{
+    for param in params {
+        let role = parameter_role(imported, param);
+        if let Some(refused) = type_refusal_of(alloc, space, text, role, &param.declared_type)? {
+            return Ok(Some(refused));
+        }
+    }
+    Ok(None)
+}
+
+fn parameter_limit(
+    alloc: Global,
+    text: &[u8],
+    name: &Token,
+    params: &[Parameter],
+) -> Result<Option<Refused>, AllocError>
+    ensures exact { IfOk result (λ r. r ≡ spec.parameter_limit text.now name.now params.now) }
+{
+    let is_refused = params.len() > MOST_PARAMETERS;
+    refusal_if(alloc, is_refused, ErrorKind::Limit, text, name)
+}
+
+/// What is refused of what stands after a function's name: too many parameters, at the name, or the first type.
+pub fn parameter_list_refusal(
+    alloc: Global,
+    space: &Space<'_>,
+    text: &[u8],
+    imported: bool,
+    name: &Token,
+    params: &[Parameter],
+) -> Result<Option<Refused>, AllocError>
+    ensures exact { IfOk result
+        (λ r. r ≡ spec.parameter_list_refusal space.now text.now imported name.now params.now) }
+{
+    if let Some(refused) = parameter_limit(alloc, text, name, params)? {
+        return Ok(Some(refused));
+    }
+    parameters_refusal(alloc, space, text, imported, params)
+}
+
+/// What is refused of the heading of a function or a method: the first type that can't stand there, or too many parameters.
+///
+/// The only error is want of memory.
+pub fn function_refusal(
+    alloc: Global,
+    space: &Space<'_>,
+    text: &[u8],
+    name: &Token,
+    declared: &TypeName,
+    params: &[Parameter],
+) -> Result<Option<Refused>, AllocError>
+    ensures exact { IfOk result (λ r. r
+        ≡ spec.function_refusal space.now text.now name.now declared.now params.now) }
+{
+    if let Some(refused) = type_refusal_of(alloc, space, text, Role::Result, declared)? {
+        return Ok(Some(refused));
+    }
+    parameter_list_refusal(alloc, space, text, false, name, params)
+}
+
+/// What is refused of the heading of an import.
+pub fn import_refusal(
+    alloc: Global,
+    space: &Space<'_>,
+    text: &[u8],
+    name: &Token,
+    declared: &TypeName,
+    params: &[Parameter],
+) -> Result<Option<Refused>, AllocError>
+    ensures exact { IfOk result (λ r. r
+        ≡ spec.import_refusal space.now text.now name.now declared.now params.now) }
+{
+    if let Some(refused) = type_refusal_of(alloc, space, text, Role::ImportResult, declared)? {
+        return Ok(Some(refused));
+    }
+    parameter_list_refusal(alloc, space, text, true, name, params)
+}

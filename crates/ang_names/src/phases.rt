@@ -1,0 +1,211 @@
+//! The phases of a build over the declarations.
+ghost use Rattle.std.specs.Prelude.{◌≡◌, ◌≤◌, ◌++◌, [], ◌∷◌, length, map as list_map, option_to_list, IfOk, OnOk};
+ghost use Rattle.ang_names_listed.specs.Declarations.{declarations_of, families_of};
+ghost use Rattle.ang_names_listed.specs.Taken as taken;
+ghost use Rattle.ang_names_written.specs.NotYet.{not_yet};
+ghost use Rattle.ang_names_written.specs.Sources.{source_of};
+ghost use Rattle.ang_names.specs.Meant as meant;
+ghost use Rattle.ang_names.specs.Phases as spec;
+ghost use Rattle.ang_names.specs.declared.phase.Phase.TheVariants as phase;
+
+use crate::families::{has_families, space_of};
+use crate::headings::{function_refusal, import_refusal, type_refusal_of};
+use crate::members::family_refusal;
+use ang_kinds::{Error, List};
+use ang_names_known::Space;
+use ang_names_listed::{Declared, Part, name_refusals};
+use ang_names_written::{Role, not_yet_errors};
+use ang_tree::Script;
+use ang_types::Refused;
+use ang_view::View;
+use std::alloc::{AllocError, Global};
+
+/// What is refused of the types, bases and members of one of the declarations.
+#[tactic(auto, unfolding(crate::specs::Meant::type_refusal))]
+fn type_refusal(
+    alloc: Global,
+    space: &Space<'_>,
+    all: &[Declared<'_>],
+    declared: &Declared<'_>,
+) -> Result<Option<Refused>, AllocError>
+    ensures exact { IfOk result
+        (λ r. r ≡ meant.type_refusal space.now all.now declared.now) }
+{
+    let text = declared.text.bytes();
+    let name = &declared.name;
+    match &declared.part {
+        Part::Family(shape) => family_refusal(alloc, space, all, declared, shape),
+        Part::Function(ty, params) => {
+            function_refusal(alloc, space, text, name, ty, params.items())
+        }
+        Part::Import(ty, params) => import_refusal(alloc, space, text, name, ty, params.items()),
+        Part::Global(ty) => type_refusal_of(alloc, space, text, Role::Variable, ty),
+    }
+}
+
+fn push_refused(found: &mut Vec<Refused>, refused: Option<Refused>) -> Result<(), AllocError>
+    ensures pushed { OnOk result (found.new.items ≡ found.old.items ++ option_to_list refused) }
+{
+    if let Some(refused) = refused {
+        found.push(refused)?;
+    }
+    Ok(())
+}
+
+fn type_refusals_in(
+    alloc: Global,
+    space: &Space<'_>,
+    all: &[Declared<'_>],
+) -> Result<Vec<Refused>, AllocError>
+    ensures exact { IfOk result (λ found. found.items
+        ≡ taken.each_refused (λ before d. meant.type_refusal space.now all.now d) all.now) }
+{
+    let mut found = Vec::new(alloc);
+    for declared in all {
+        let refused = type_refusal(alloc, space, all, declared)?;
+        push_refused(&mut found, refused)?;
+    }
+    Ok(found)
+}
+
+/// What the second phase refuses of the declarations.
+fn type_refusals<'a>(
+    alloc: Global,
+    view: &'a View,
+    all: &[Declared<'a>],
+) -> Result<Vec<Refused>, AllocError>
+    requires few { length (families_of all.now) ≤ 256 }
+    ensures exact { IfOk result
+        (λ found. found.items ≡ spec.refusals view.now all.now phase.Types) }
+{
+    let space = space_of(alloc, view, all)?;
+    type_refusals_in(alloc, &space, all)
+}
+
+/// What the phases after the first one refuse. Those over classes and interfaces together are not built yet: where there are
+/// some this answers want of memory, and where there are none they refuse nothing.
+fn later_refusals<'a>(
+    alloc: Global,
+    view: &'a View,
+    all: &[Declared<'a>],
+) -> Result<Vec<Refused>, AllocError>
+    requires few { length (families_of all.now) ≤ 256 }
+    ensures exact { IfOk result (λ found. found.items ≡ spec.first_refusals view.now all.now
+        (phase.Types ∷ phase.Ancestors ∷ phase.Heirs ∷ phase.Cycles ∷ [])) }
+{
+    let found = type_refusals(alloc, view, all)?;
+    if !found.is_empty() {
+        return Ok(found);
+    }
+    if has_families(all) {
+        return Err(AllocError);
+    }
+    Ok(found)
+}
+
+/// What the first phase that refuses some declarations refuses.
+fn first_refusals<'a>(
+    alloc: Global,
+    view: &'a View,
+    all: &[Declared<'a>],
+) -> Result<Vec<Refused>, AllocError>
+    ensures exact { IfOk result
+        (λ found. found.items ≡ spec.first_refusals view.now all.now spec.all_phases) }
+{
+    let found = names_refused(alloc, view, all)?;
+    if !found.is_empty() {
+        return Ok(found);
+    }
+    later_refusals(alloc, view, all)
+}
+
+/// What the first phase refuses.
+#[tactic(auto, unfolding(ang_names_listed::specs::Taken::name_refusals))]
+fn names_refused(
+    alloc: Global,
+    view: &View,
+    all: &[Declared<'_>],
+) -> Result<Vec<Refused>, AllocError>
+    ensures exact { IfOk result
+        (λ found. found.items ≡ taken.name_refusals view.now all.now) }
+    ensures by_phase { IfOk result
+        (λ found. found.items ≡ spec.refusals view.now all.now phase.Names) }
+{
+    name_refusals(alloc, view, all)
+}
+
+/// An error with which no entry of the host could help.
+fn plain_refusal(alloc: Global, error: &Error) -> Result<Refused, AllocError>
+    ensures exact { IfOk result (λ r. r ≡ taken.plain_refusal error.now) }
+{
+    let error = copied(alloc, error)?;
+    Ok(Refused {
+        error,
+        asks: None,
+        is_there: false,
+    })
+}
+
+fn plain_refusals(alloc: Global, errors: &[Error]) -> Result<Vec<Refused>, AllocError>
+    ensures exact { IfOk result (λ rs. rs.items ≡ list_map taken.plain_refusal errors.now) }
+{
+    let mut found = Vec::new(alloc);
+    for error in errors {
+        found.push(plain_refusal(alloc, error)?)?;
+    }
+    Ok(found)
+}
+
+/// What is beyond what is built.
+fn not_yet_refusals(
+    alloc: Global,
+    view: &View,
+    scripts: &[Script],
+) -> Result<Vec<Refused>, AllocError>
+    ensures exact { IfOk result (λ rs. rs.items
+        ≡ list_map taken.plain_refusal (not_yet view.now (list_map source_of scripts.now))) }
+{
+    let errors = not_yet_errors(alloc, view, scripts)?;
+    plain_refusals(alloc, errors.as_slice())
+}
+
+/// What is refused of the declarations of these scripts.
+#[tactic(auto, unfolding(crate::specs::Phases::refusals_of))]
+pub fn refusals_over<'a>(
+    alloc: Global,
+    view: &'a View,
+    scripts: &[Script],
+    all: &[Declared<'a>],
+) -> Result<Vec<Refused>, AllocError>
+    requires listed { all.now ≡ declarations_of (list_map source_of scripts.now) }
+    ensures exact { IfOk result (λ found. found.items
+        ≡ spec.refusals_of view.now (list_map source_of scripts.now)) }
+{
+    let found = not_yet_refusals(alloc, view, scripts)?;
+    if !found.is_empty() {
+        return Ok(found);
+    }
+    first_refusals(alloc, view, all)
+}
+
+fn copied(alloc: Global, error: &Error) -> Result<Error, AllocError>
+    ensures exact { IfOk result (λ e. e ≡ error.now) }
+{
+    let name = Vec::from_slice(alloc, error.name.as_slice())?;
+    Ok(Error {
+        kind: error.kind,
+        place: error.place,
+        name: List::from_vec(name),
+    })
+}
+
+/// The errors of what is refused, in order.
+pub fn errors_in(alloc: Global, refused: &[Refused]) -> Result<Vec<Error>, AllocError>
+    ensures exact { IfOk result (λ errors. errors.items ≡ spec.errors_in refused.now) }
+{
+    let mut errors = Vec::new(alloc);
+    for one in refused {
+        errors.push(copied(alloc, &one.error)?)?;
+    }
+    Ok(errors)
+}

@@ -1,0 +1,4 @@
+pub mod Closure
+pub mod Rings
+pub mod Rows
+pub mod Within

@@ -1,0 +1,321 @@
+//! What the scripts declare, by name, as far as it takes no memory.
+ghost use Rattle.std.specs.Prelude.{◌≡◌, false, bytes_eq, find, option_map, slice_get};
+ghost use Rattle.std.specs.List.{list_any};
+ghost use Rattle.std.specs.Option.{option_map_or};
+ghost use Rattle.ang_names_known.specs.Lookup as spec;
+
+use crate::names::{
+    Access, Constructor, Default, Family, Field, FoundField, Method, ScriptFunction, ScriptGlobal,
+    ScriptParameter, Written,
+};
+use ang_kinds::List;
+use ang_types::ArgType;
+
+/// Whether a variable of this written type can't be assigned: `const int`, `const T`, `T@ const`.
+pub fn is_read_only(written: Written) -> bool
+    ensures exact { result ≡ spec.is_read_only written }
+{
+    match written.ty {
+        ArgType::Handle { .. } => written.const_handle,
+        ArgType::Void | ArgType::Null | ArgType::Plain(_) | ArgType::Object { .. } => {
+            written.constant
+        }
+    }
+}
+
+/// The number of the global of this name. It takes no memory.
+#[tactic(auto, unfolding(crate::specs::Lookup::global_named))]
+pub fn global_named(globals: &[ScriptGlobal], name: &[u8]) -> Option<usize>
+    ensures exact { result ≡ spec.global_named globals.now name.now }
+{
+    globals
+        .iter()
+        .position(|global| global.name.as_slice() == name)
+}
+
+/// Whether some declaration has this name. It takes no memory.
+pub fn is_declared(declared: &[List<u8>], name: &[u8]) -> bool
+    ensures exact { result ≡ spec.is_declared declared.now name.now }
+{
+    declared.iter().any(|other| name == other.as_slice())
+}
+
+/// Whether two types are one, `const` included. Object types go by their numbers.
+pub fn same_type(one: ArgType, other: ArgType) -> bool
+    ensures exact { result ≡ spec.same_type one other }
+{
+    match (one, other) {
+        (ArgType::Void, ArgType::Void) | (ArgType::Null, ArgType::Null) => true,
+        (ArgType::Plain(one), ArgType::Plain(other)) => one == other,
+        (
+            ArgType::Object { number, read_only },
+            ArgType::Object {
+                number: other,
+                read_only: other_read_only,
+            },
+        )
+        | (
+            ArgType::Handle { number, read_only },
+            ArgType::Handle {
+                number: other,
+                read_only: other_read_only,
+            },
+        ) => number == other && read_only == other_read_only,
+        _ => false,
+    }
+}
+
+fn same_written(one: Written, other: Written) -> bool
+    ensures exact { result ≡ spec.same_written one other }
+{
+    same_type(one.ty, other.ty)
+        && one.constant == other.constant
+        && one.const_handle == other.const_handle
+}
+
+fn same_parameter(one: &ScriptParameter, other: &ScriptParameter) -> bool
+    ensures exact { result ≡ spec.same_parameter one.now other.now }
+{
+    same_written(one.written, other.written) && one.pass == other.pass
+}
+
+/// Whether two lists of parameters are the same as they are written; names don't count.
+pub fn same_parameters(params: &[ScriptParameter], others: &[ScriptParameter]) -> bool
+    ensures exact { result ≡ spec.same_parameters params.now others.now }
+{
+    params.len() == others.len()
+        && params
+            .iter()
+            .zip(others)
+            .all(|(one, other)| same_parameter(one, other))
+}
+
+/// Whether an import can be bound to a function: they have the same result and parameters, as they are written. It takes
+/// no memory.
+pub fn same_call(one: &ScriptFunction, other: &ScriptFunction) -> bool
+    ensures exact { result ≡ spec.same_call one.now other.now }
+{
+    same_written(one.result, other.result)
+        && same_parameters(one.params.as_slice(), other.params.as_slice())
+}
+
+/// Whether two headings are the same: names, results and parameters. It takes no memory.
+pub fn same_heading(one: &ScriptFunction, other: &ScriptFunction) -> bool
+    ensures exact { result ≡ spec.same_heading one.now other.now }
+{
+    one.name.as_slice() == other.name.as_slice() && same_call(one, other)
+}
+
+/// The number of the function with this heading. It takes no memory.
+#[tactic(auto, unfolding(crate::specs::Lookup::function_with))]
+pub fn function_with(functions: &[ScriptFunction], heading: &ScriptFunction) -> Option<usize>
+    ensures exact { result ≡ spec.function_with functions.now heading.now }
+{
+    functions
+        .iter()
+        .position(|function| same_heading(heading, function))
+}
+
+/// The families above a family, by number.
+fn above_of(families: &[Family], family: usize) -> &[usize]
+    ensures exact { result.now ≡ spec.above_in (slice_get families.now family) }
+{
+    match families.get(family) {
+        None => &[],
+        Some(family) => family.above.as_slice(),
+    }
+}
+
+/// Whether a family is another one, or stands under it. It takes no memory.
+pub fn is_under(families: &[Family], family: usize, other: usize) -> bool
+    ensures exact { result ≡ spec.is_under families.now family other }
+{
+    family == other || above_of(families, family).contains(&other)
+}
+
+/// Whether a member of the family `owner` may be used in a body of the class `within`, or in one of no class. It takes no
+/// memory.
+pub fn may_use(families: &[Family], within: Option<usize>, owner: usize, access: Access) -> bool
+    ensures exact { result ≡ spec.may_use families.now within owner access }
+{
+    match access {
+        Access::Public => true,
+        Access::Protected => match within {
+            None => false,
+            Some(class) => is_under(families, class, owner),
+        },
+        Access::Private => match within {
+            None => false,
+            Some(class) => class == owner,
+        },
+    }
+}
+
+/// The families of which a family has members, itself first, by number.
+#[tactic(auto, unfolding(crate::specs::Lookup::kin_of))]
+pub(crate) fn order_of(families: &[Family], family: usize) -> &[usize]
+    ensures exact { spec.families_at families.now result.now ≡ spec.kin_of families.now family }
+{
+    match families.get(family) {
+        None => &[],
+        Some(family) => family.order.as_slice(),
+    }
+}
+
+/// The field of this name among some, of the family of this number.
+fn field_among(fields: &[Field], owner: usize, name: &[u8]) -> Option<FoundField>
+    ensures exact { result
+        ≡ option_map (spec.field_of owner) (find (λ x. bytes_eq x.name name.now) fields.now) }
+{
+    for field in fields {
+        if field.name.as_slice() == name {
+            return Some(FoundField {
+                owner,
+                number: field.number,
+                written: field.written,
+                access: field.access,
+            });
+        }
+    }
+    None
+}
+
+/// The fields that a family declares itself.
+fn fields_of(families: &[Family], family: usize) -> &[Field]
+    ensures exact { result.now ≡ spec.fields_in (slice_get families.now family) }
+{
+    match families.get(family) {
+        None => &[],
+        Some(family) => family.fields.as_slice(),
+    }
+}
+
+/// The field of this name that objects of a family have. It takes no memory.
+#[tactic(auto, unfolding(crate::specs::Lookup::field_named), using(crate::proofs::Kin::first_field_with))]
+pub fn field_named(families: &[Family], family: usize, name: &[u8]) -> Option<FoundField>
+    ensures exact { result ≡ spec.field_named families.now family name.now }
+{
+    let order = order_of(families, family);
+    for number in order {
+        if let Some(found) = field_among(fields_of(families, *number), *number, name) {
+            return Some(found);
+        }
+    }
+    None
+}
+
+/// Whether some method has this name.
+fn is_among(methods: &[Method], name: &[u8]) -> bool
+    ensures exact { result ≡ list_any (λ x. bytes_eq x.function.name name.now) methods.now }
+{
+    methods
+        .iter()
+        .any(|method| method.function.name.as_slice() == name)
+}
+
+/// Whether a family declares a method of this name itself.
+fn has_own_method(families: &[Family], family: usize, name: &[u8]) -> bool
+    ensures exact { result ≡ option_map_or (λ f. spec.declares_method name.now (family, f))
+        (slice_get families.now family) false }
+{
+    match families.get(family) {
+        None => false,
+        Some(declaring) => is_among(declaring.methods.as_slice(), name),
+    }
+}
+
+/// Whether a family has a method of this name, own or inherited. It takes no memory.
+#[tactic(auto, unfolding(crate::specs::Lookup::has_method), using(crate::proofs::Kin::any_method_with))]
+pub fn has_method(families: &[Family], family: usize, name: &[u8]) -> bool
+    ensures exact { result ≡ spec.has_method families.now family name.now }
+{
+    let order = order_of(families, family);
+    for number in order {
+        if has_own_method(families, *number, name) {
+            return true;
+        }
+    }
+    false
+}
+
+/// Whether a family has a field or a method of this name, own or inherited. It takes no memory.
+pub fn has_member(families: &[Family], family: usize, name: &[u8]) -> bool
+    ensures exact { result ≡ spec.has_member families.now family name.now }
+{
+    field_named(families, family, name).is_some() || has_method(families, family, name)
+}
+
+#[tactic(auto, using(crate::proofs::Kin::empty_is))]
+fn takes_nothing(constructor: &Constructor) -> bool
+    ensures exact { result ≡ spec.takes_nothing constructor.now }
+{
+    constructor.function.params.as_slice().is_empty()
+}
+
+/// The body of the constructor without parameters among some.
+fn default_among(constructors: &[Constructor]) -> Option<usize>
+    ensures exact { result ≡ spec.default_among constructors.now }
+{
+    for constructor in constructors {
+        if takes_nothing(constructor) {
+            return Some(constructor.body);
+        }
+    }
+    None
+}
+
+/// The constructors that a family declares itself.
+fn constructors_of(families: &[Family], family: usize) -> &[Constructor]
+    ensures exact { result.now ≡ spec.constructors_in (slice_get families.now family) }
+{
+    match families.get(family) {
+        None => &[],
+        Some(family) => family.constructors.as_slice(),
+    }
+}
+
+/// The body of the constructor without parameters of the nearest class, from this one on upwards, that has constructors.
+#[tactic(auto, using(crate::proofs::Kin::default_with))]
+fn nearest_default(families: &[Family], family: usize) -> Option<usize>
+    ensures exact { result ≡ spec.nearest_default (spec.kin_of families.now family) }
+{
+    let order = order_of(families, family);
+    for number in order {
+        let constructors = constructors_of(families, *number);
+        if !constructors.is_empty() {
+            return default_among(constructors);
+        }
+    }
+    None
+}
+
+fn own_default(body: Option<usize>) -> Default
+    ensures exact { result ≡ spec.own_default body }
+{
+    match body {
+        None => Default::Missing,
+        Some(body) => Default::Written(body),
+    }
+}
+
+fn written_default(body: Option<usize>) -> Default
+    ensures exact { result ≡ spec.written_default body }
+{
+    match body {
+        None => Default::Unwritten,
+        Some(body) => Default::Written(body),
+    }
+}
+
+/// How an object of a class is made without arguments. It takes no memory.
+#[tactic(auto, unfolding(crate::specs::Lookup::default_of))]
+pub fn default_of(families: &[Family], family: usize) -> Default
+    ensures exact { result ≡ spec.default_of families.now family }
+{
+    let own = constructors_of(families, family);
+    if own.is_empty() {
+        written_default(nearest_default(families, family))
+    } else {
+        own_default(default_among(own))
+    }
+}

@@ -1,0 +1,141 @@
+//! The object types that a name can mean.
+ghost use Rattle.std.specs.Prelude.{◌≡◌, ◌≤◌, ◌<◌, length, bytes_eq, IfSome};
+ghost use Rattle.std.specs.List.{position};
+ghost use Rattle.ang_view.specs.Types.{type_named};
+ghost use Rattle.ang_names_known.specs.Spaces as spaces;
+
+use crate::borrowed::Text;
+use crate::names::{Family, Names};
+use ang_kinds::EntityNo;
+use ang_view::View;
+use std::marker::Model;
+
+/// The number of the first family as a type, above those of all entries.
+pub(crate) const FIRST_FAMILY: u32 = 1024;
+
+/// What a name means as a type.
+#[derive(Clone, Copy, PartialEq, Eq, Debug)]
+pub enum Named {
+    /// Nothing.
+    Unknown,
+    /// The object type of this number: a host type's entry, or 1,024 and the number of a family.
+    Object(u32),
+}
+
+/// The number of the host type of this name that the module sees. It takes no memory.
+pub fn type_number(view: &View, name: &[u8]) -> Option<u32>
+    ensures exact { result ≡ type_named view.now name.now }
+{
+    let EntityNo(number) = view.find_type(name)?;
+    Some(number)
+}
+
+/// The names of families, in the order of their numbers.
+#[derive(Drop)]
+enum FamilyNames<'a> {
+    /// Of families that are only listed so far.
+    Listed(Vec<Text<'a>>),
+    /// Of known ones.
+    Known(&'a [Family]),
+}
+
+/// The object types that names mean: what a module sees of the host, and the names of the scripts' families.
+#[derive(Drop)]
+pub struct Space<'a> {
+    view: &'a View,
+    families: FamilyNames<'a>,
+}
+
+impl<'a> Model for Space<'a> {
+    ghost use Rattle.std.specs.Prelude.{◌≤◌, length};
+    ghost use Rattle.ang_names_known.specs.Spaces as spaces;
+
+    ghost Value = { spaces.Space };
+
+    ghost view = { λ s. record { view = s.view.now; families = spaces.family_names s.families } };
+
+    ghost invariant = { λ s. length (spaces.family_names s.families) ≤ 256 };
+}
+
+impl<'a> Space<'a> {
+    /// The types of a view, and the families of these names, in the order of their numbers. It takes no memory.
+    pub fn new(view: &'a View, families: Vec<Text<'a>>) -> Space<'a>
+        requires few { length families.items ≤ 256 }
+        ensures view { result.view ≡ view.now }
+        ensures families { result.families ≡ families.entry.items }
+    {
+        Space {
+            view,
+            families: FamilyNames::Listed(families),
+        }
+    }
+
+    /// The types of a view and of names. It takes no memory.
+    #[tactic(auto, using(crate::proofs::Kin::number_of_names))]
+    pub fn of_names(view: &'a View, names: &'a Names) -> Space<'a>
+        requires few { length names.now.families ≤ 256 }
+        ensures exact { result ≡ spaces.space_of_names view.now names.now }
+    {
+        Space {
+            view,
+            families: FamilyNames::Known(names.families.as_slice()),
+        }
+    }
+
+    /// What the module sees of the host.
+    pub fn view(&self) -> &'a View
+        ensures same { result.now ≡ self.now.view }
+    {
+        self.view
+    }
+
+    /// The number of the script's family of this name.
+    #[tactic(auto, using(crate::proofs::Kin::number_of_names, crate::proofs::Kin::position_of_name))]
+    fn family_named(&self, name: &[u8]) -> Option<usize>
+        ensures exact { result ≡ position (bytes_eq name.now) self.now.families }
+        ensures few { IfSome result (λ c. c < 256) }
+    {
+        match &self.families {
+            FamilyNames::Listed(names) => listed_as(names, name),
+            FamilyNames::Known(families) => known_as(families, name),
+        }
+    }
+
+    /// What a name means as a type. A name that the scripts declare is theirs, whatever the module sees of the host.
+    /// It takes no memory.
+    #[tactic(auto, unfolding(crate::specs::Spaces::type_of_name))]
+    pub fn named(&self, name: &[u8]) -> Named
+        ensures exact { result ≡ spaces.type_of_name self.now name.now }
+    {
+        family_or_host(self.family_named(name), type_number(self.view, name))
+    }
+}
+
+fn listed_as(names: &[Text<'_>], name: &[u8]) -> Option<usize>
+    ensures exact { result ≡ position (bytes_eq name.now) names.now }
+    ensures within { IfSome result (λ c. c < length names.now) }
+{
+    names.iter().position(|family| name == family.bytes())
+}
+
+fn known_as(families: &[Family], name: &[u8]) -> Option<usize>
+    ensures exact { result ≡ position (λ f. bytes_eq name.now f.name) families.now }
+    ensures within { IfSome result (λ c. c < length families.now) }
+{
+    families
+        .iter()
+        .position(|family| name == family.name.as_slice())
+}
+
+fn family_or_host(family: Option<usize>, host: Option<u32>) -> Named
+    requires few { IfSome family (λ c. c < 256) }
+    ensures exact { result ≡ spaces.family_or_host family host }
+{
+    match family {
+        Some(family) => Named::Object(FIRST_FAMILY + family as u32),
+        None => match host {
+            Some(number) => Named::Object(number),
+            None => Named::Unknown,
+        },
+    }
+}

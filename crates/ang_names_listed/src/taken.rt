@@ -1,0 +1,252 @@
+//! Names that are taken, and too many of them.
+ghost use Rattle.std.specs.Prelude.{◌≡◌, ◌++◌, IfOk, OnOk, Some, count_by, length, option_to_list};
+ghost use Rattle.std.specs.List.{list_any};
+ghost use Rattle.ang_view.specs.Registration.{entry_at};
+ghost use Rattle.ang_names_written.specs.Sources as sources;
+ghost use Rattle.ang_names_listed.specs.Declarations.{families_of};
+ghost use Rattle.ang_names_listed.specs.Declarations as declarations;
+ghost use Rattle.ang_names_listed.specs.Taken as spec;
+
+use crate::listed::{Declared, Part};
+use ang_kinds::{EntityNo, ErrorKind, Param};
+use ang_names_written::{error_at, have_same_types, have_same_types_as_host, text_at};
+use ang_tree::Parameter;
+use ang_types::Refused;
+use ang_view::{Entry, EntryKind, View};
+use std::alloc::{AllocError, Global};
+
+/// The classes and interfaces of one module.
+const MOST_FAMILIES: usize = 256;
+
+/// The functions of one module.
+const MOST_FUNCTIONS: usize = 4096;
+
+/// The imports of one module.
+const MOST_IMPORTS: usize = 256;
+
+/// The globals of one module.
+const MOST_GLOBALS: usize = 4096;
+
+fn declared_name<'a>(declared: &Declared<'a>) -> &'a [u8]
+    ensures exact { result.now ≡ declarations.declared_name declared.now }
+{
+    text_at(declared.text.bytes(), &declared.name)
+}
+
+/// Whether a function with these parameters can't have the name of what is declared there.
+fn excludes_function(text: &[u8], params: &[Parameter], other_text: &[u8], other: &Part<'_>) -> bool
+    ensures exact { result ≡ spec.excludes_function text.now params.now other_text.now other.now }
+{
+    match other {
+        Part::Function(_, others) => have_same_types(text, params, other_text, others.items()),
+        Part::Import(_, others) => have_same_types(text, params, other_text, others.items()),
+        Part::Family(_) => true,
+        Part::Global(_) => true,
+    }
+}
+
+/// Whether one name can't be that of both.
+fn excludes(text: &[u8], part: &Part<'_>, other_text: &[u8], other: &Part<'_>) -> bool
+    ensures exact { result ≡ spec.excludes text.now part.now other_text.now other.now }
+{
+    match part {
+        Part::Function(_, params) => excludes_function(text, params.items(), other_text, other),
+        Part::Import(_, params) => excludes_function(text, params.items(), other_text, other),
+        Part::Family(_) => true,
+        Part::Global(_) => true,
+    }
+}
+
+fn clashes(declared: &Declared<'_>, earlier: &Declared<'_>) -> bool
+    ensures exact { result ≡ spec.clashes declared.now earlier.now }
+{
+    declared_name(declared) == declared_name(earlier)
+        && excludes(
+            declared.text.bytes(),
+            &declared.part,
+            earlier.text.bytes(),
+            &earlier.part,
+        )
+}
+
+fn excludes_host_function(text: &[u8], part: &Part<'_>, others: &[Param]) -> bool
+    ensures exact { result ≡ spec.excludes_host_function text.now part.now others.now }
+{
+    match part {
+        Part::Function(_, params) => have_same_types_as_host(text, params.items(), others),
+        Part::Import(_, params) => have_same_types_as_host(text, params.items(), others),
+        Part::Family(_) => true,
+        Part::Global(_) => true,
+    }
+}
+
+fn excludes_host(text: &[u8], part: &Part<'_>, kind: EntryKind, others: &[Param]) -> bool
+    ensures exact { result ≡ spec.excludes_host text.now part.now kind others.now }
+{
+    match kind {
+        EntryKind::HostType | EntryKind::Global => true,
+        EntryKind::Factory | EntryKind::Method | EntryKind::Property => false,
+        EntryKind::Function => excludes_host_function(text, part, others),
+    }
+}
+
+fn clashes_with_entry(declared: &Declared<'_>, entry: &Entry) -> bool
+    ensures exact { result ≡ spec.clashes_with_host declared.now (Some entry.now) }
+{
+    declared_name(declared) == entry.signature.name.as_slice()
+        && excludes_host(
+            declared.text.bytes(),
+            &declared.part,
+            entry.kind,
+            entry.signature.params.as_slice(),
+        )
+}
+
+fn clashes_at(view: &View, number: EntityNo, declared: &Declared<'_>) -> bool
+    ensures exact { result ≡ spec.clashes_with_host declared.now (entry_at view.now number.0) }
+{
+    match view.get(number) {
+        None => false,
+        Some(entry) => clashes_with_entry(declared, entry),
+    }
+}
+
+fn is_taken_by_host(view: &View, declared: &Declared<'_>) -> bool
+    ensures exact { result ≡ list_any (spec.clashes_with_host declared.now) view.now }
+{
+    for number in 0..view.len() {
+        if clashes_at(view, EntityNo(number as u32), declared) {
+            return true;
+        }
+    }
+    false
+}
+
+fn is_taken_before(before: &[Declared<'_>], declared: &Declared<'_>) -> bool
+    ensures exact { result ≡ list_any (spec.clashes declared.now) before.now }
+{
+    before.iter().any(|earlier| clashes(declared, earlier))
+}
+
+#[tactic(auto, unfolding(crate::specs::Taken::is_taken))]
+fn is_taken(view: &View, before: &[Declared<'_>], declared: &Declared<'_>) -> bool
+    ensures exact { result ≡ spec.is_taken view.now before.now declared.now }
+{
+    is_taken_before(before, declared) || is_taken_by_host(view, declared)
+}
+
+fn declares_family(part: &Part<'_>) -> bool
+    ensures exact { result ≡ spec.declares_family part.now }
+{
+    matches!(part, Part::Family(_))
+}
+
+fn declares_function(part: &Part<'_>) -> bool
+    ensures exact { result ≡ spec.declares_function part.now }
+{
+    matches!(part, Part::Function(_, _))
+}
+
+fn declares_import(part: &Part<'_>) -> bool
+    ensures exact { result ≡ spec.declares_import part.now }
+{
+    matches!(part, Part::Import(_, _))
+}
+
+fn declares_global(part: &Part<'_>) -> bool
+    ensures exact { result ≡ spec.declares_global part.now }
+{
+    matches!(part, Part::Global(_))
+}
+
+/// How many classes and interfaces there are.
+#[tactic(auto, using(crate::proofs::Counts::families_counted))]
+fn family_count(before: &[Declared<'_>]) -> usize
+    ensures exact { result ≡ length (families_of before.now) }
+{
+    before.iter().filter(|d| declares_family(&d.part)).count()
+}
+
+/// Whether as many of the kind stand before it as a module can have.
+fn is_first_above(before: &[Declared<'_>], part: &Part<'_>) -> bool
+    ensures exact { result ≡ spec.is_first_above before.now part.now }
+{
+    match part {
+        Part::Family(_) => family_count(before) == MOST_FAMILIES,
+        Part::Function(_, _) => {
+            before.iter().filter(|d| declares_function(&d.part)).count() == MOST_FUNCTIONS
+        }
+        Part::Import(_, _) => {
+            before.iter().filter(|d| declares_import(&d.part)).count() == MOST_IMPORTS
+        }
+        Part::Global(_) => {
+            before.iter().filter(|d| declares_global(&d.part)).count() == MOST_GLOBALS
+        }
+    }
+}
+
+/// An error at the name of a declaration, with which no entry of the host could help.
+fn refused_name(
+    alloc: Global,
+    declared: &Declared<'_>,
+    kind: ErrorKind,
+) -> Result<Refused, AllocError>
+    ensures exact { IfOk result (λ r. r
+        ≡ spec.plain_refusal (sources.error_at kind declared.now.text declared.now.name)) }
+{
+    let error = error_at(alloc, declared.text.bytes(), kind, &declared.name)?;
+    Ok(Refused {
+        error,
+        asks: None,
+        is_there: false,
+    })
+}
+
+#[tactic(auto, unfolding(crate::specs::Taken::name_refusal))]
+fn name_refusal(
+    alloc: Global,
+    view: &View,
+    before: &[Declared<'_>],
+    declared: &Declared<'_>,
+) -> Result<Option<Refused>, AllocError>
+    ensures exact { IfOk result (λ r. r ≡ spec.name_refusal view.now before.now declared.now) }
+{
+    let kind = if is_taken(view, before, declared) {
+        ErrorKind::Duplicate
+    } else if is_first_above(before, &declared.part) {
+        ErrorKind::Limit
+    } else {
+        return Ok(None);
+    };
+    let refused = refused_name(alloc, declared, kind)?;
+    Ok(Some(refused))
+}
+
+fn push_refused(found: &mut Vec<Refused>, refused: Option<Refused>) -> Result<(), AllocError>
+    ensures pushed { OnOk result (found.new.items ≡ found.old.items ++ option_to_list refused) }
+{
+    if let Some(refused) = refused {
+        found.push(refused)?;
+    }
+    Ok(())
+}
+
+/// What is refused of the names of declarations, in their order: `Duplicate` where the name is taken by an earlier one or by
+/// what the module sees of the host, else `Limit` at the first of its kind that is too many.
+///
+/// The only error is want of memory.
+#[tactic(auto, unfolding(crate::specs::Taken::name_refusals))]
+pub fn name_refusals(
+    alloc: Global,
+    view: &View,
+    all: &[Declared<'_>],
+) -> Result<Vec<Refused>, AllocError>
+    ensures exact { IfOk result (λ found. found.items ≡ spec.name_refusals view.now all.now) }
+{
+    let mut found = Vec::new(alloc);
+    for (i, declared) in all.iter().enumerate() {
+        let refused = name_refusal(alloc, view, &all[..i], declared)?;
+        push_refused(&mut found, refused)?;
+    }
+    Ok(found)
+}

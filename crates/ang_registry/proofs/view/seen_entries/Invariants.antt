@@ -1,7 +1,0 @@
-use Rattle.std.proofs.Common.{◌≡◌, map, take}
-use Rattle.ang_registry.specs.Registration.{seen_entry}
-use Rattle.ang_registry.proofs.view.seen_entries.Given as goal
-
-abbrev pub invariant-loop-entry : goal.invariant-loop-entry
-invariant-loop-entry l =
-    l.view.items ≡ map (seen_entry l.entries l.mask.0) (take l.entry-index l.entries)

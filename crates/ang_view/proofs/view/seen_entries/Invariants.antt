@@ -1,0 +1,7 @@
+use Rattle.std.proofs.Common.{◌≡◌, map, take}
+use Rattle.ang_view.specs.Registration.{seen_entry}
+use Rattle.ang_view.proofs.view.seen_entries.Given as goal
+
+abbrev pub invariant-loop-entry : goal.invariant-loop-entry
+invariant-loop-entry l =
+    l.view.items ≡ map (seen_entry l.entries l.mask.0) (take l.entry-index l.entries)

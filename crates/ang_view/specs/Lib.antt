@@ -1,0 +1,5 @@
+pub mod Registration
+pub mod Types
+pub mod Numbers
+pub mod Values
+pub mod Hidden

@@ -1,0 +1,29 @@
+-- The types of a registration list by name (docs/EMBEDDING.md, "Registration").
+use Rattle.std.specs.Prelude.{ℕ, Bool, false, ◌&&◌, List, Option, Some, None}
+use Rattle.std.specs.List.{position}
+use Rattle.std.specs.Str.{bytes_eq}
+use Rattle.ang_kinds.specs.declared.mask.EntityNo.{EntityNo}
+use Rattle.ang_view.specs.declared.entry.Entry.{Entry}
+use Rattle.ang_view.specs.Registration.{RegistrationList, entry_at, is_type}
+
+abbrev pub is_type_named : List ℕ → Option Entry → Bool
+is_type_named name None = false
+is_type_named name (Some t) = is_type t.kind && bytes_eq t.signature.name name
+
+-- the place of the type of this name
+unfoldable pub type_named : RegistrationList → List ℕ → Option ℕ
+type_named list name = position (is_type_named name) list
+
+-- the type's number
+abbrev pub number_at : Option ℕ → Option EntityNo
+number_at None = None
+number_at (Some n) = Some (record { 0 = n })
+
+abbrev pub driver_by : Option Entry → ℕ
+driver_by None = 0
+driver_by (Some t) = t.driver
+
+-- the type's driver
+abbrev pub driver_at : RegistrationList → Option ℕ → ℕ
+driver_at list None = 0
+driver_at list (Some n) = driver_by (entry_at list n)

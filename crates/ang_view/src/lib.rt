@@ -1,0 +1,16 @@
+//! Registration lists, entry by entry, and what a module of a mask sees of one.
+//!
+//! A list has an entry or a blank at each number. The view of a mask blanks what the mask does not see and keeps
+//! the numbers; `laws::types_are_seen` says that the types which a seen declaration names are seen. The calls that
+//! add entries are `ang_registry`'s.
+#![tactic(auto)]
+
+mod copy;
+mod entry;
+pub mod laws;
+mod lookup;
+mod view;
+
+pub use entry::{Entry, EntryKind};
+pub use lookup::{FoundType, find_type, number_of_type, type_index};
+pub use view::{View, function_index, hidden_of, mentions_type, spells, view_of, whole_of};

@@ -1,0 +1,253 @@
+//! What a module of a mask sees of a registration list.
+ghost use Rattle.std.specs.Prelude.{◌≡◌, ◌<◌, ◌≤◌, length, IfOk, IfSome, option_map};
+ghost use Rattle.std.specs.Option.{option_copied};
+ghost use Rattle.std.specs.List.{list_all, position};
+ghost use Rattle.ang_view.specs.Hidden.{hidden, hidden_entry};
+ghost use Rattle.ang_view.specs.Types.{type_named};
+ghost use Rattle.ang_view.specs.Registration.{entry_at, is_type, is_function, is_spelled_with, mentions, is_number, is_named_by, named, has_mask_for, is_seen, seen_entry, seen, is_function_named, function_named};
+
+use crate::copy::{copy_entries, copy_entry};
+use crate::lookup::number_of_type;
+use crate::{Entry, EntryKind};
+use ang_kinds::{EntityNo, Mask, Signature, TypeRef};
+use std::alloc::{AllocError, Global};
+use std::marker::Model;
+
+/// What a module of a mask sees of a registration list: the list, in which each entry that it does not
+/// see is a blank. Numbers are those of the list (docs/EMBEDDING.md, "Masks").
+#[derive(Drop)]
+pub struct View {
+    entries: Vec<Option<Entry>>,
+}
+
+impl Model for View {
+    ghost use Rattle.std.specs.Prelude.{◌≤◌, length};
+    ghost use Rattle.ang_view.specs.Registration.{RegistrationList};
+
+    ghost Value = { RegistrationList };
+
+    ghost view = { λ v. v.entries.items };
+
+    ghost invariant = { λ v. length v.entries.items ≤ 1024 };
+}
+
+impl View {
+    /// The number of entries, blanks included: at most 1,024.
+    pub fn len(&self) -> usize
+        ensures exact { result ≡ length self.now }
+        ensures most { result ≤ 1024 }
+    {
+        self.entries.len()
+    }
+
+    /// The entry of a number, or none where it is not seen, at a blank and past the end.
+    pub fn get(&self, number: EntityNo) -> Option<&Entry>
+        ensures exact { option_copied result ≡ entry_at self.now number.0 }
+    {
+        self.entries.get(number.0 as usize)?.as_ref()
+    }
+
+    /// The number of the type of this name, or none where it is not seen. What a seen entry names is seen,
+    /// and has the number here that it has in the whole list (`laws::types_are_seen`). It takes no memory.
+    pub fn find_type(&self, name: &[u8]) -> Option<EntityNo>
+        ensures exact { option_map (λ number. number.0) result ≡ type_named self.now name.now }
+    {
+        number_of_type(&self.entries, name)
+    }
+}
+
+/// The view of the mask.
+pub fn view_of(alloc: Global, entries: &[Option<Entry>], mask: Mask) -> Result<View, AllocError>
+    requires few { length entries.now ≤ 1024 }
+    ensures exact { IfOk result (λ view. view ≡ seen entries.now mask.0) }
+{
+    let view = seen_entries(alloc, entries, mask)?;
+    Ok(View { entries: view })
+}
+
+#[tactic(auto, unfolding(crate::specs::Registration::seen))]
+fn seen_entries(
+    alloc: Global,
+    entries: &[Option<Entry>],
+    mask: Mask,
+) -> Result<Vec<Option<Entry>>, AllocError>
+    ensures exact { IfOk result (λ view. view.items ≡ seen entries.now mask.0) }
+{
+    let mut view = Vec::new(alloc);
+    for entry in entries {
+        let sight = sight_of(alloc, entries, mask, entry)?;
+        view.push(sight)?;
+    }
+    Ok(view)
+}
+
+/// A copy of the entry where the mask sees it, else a blank.
+fn sight_of(
+    alloc: Global,
+    entries: &[Option<Entry>],
+    mask: Mask,
+    entry: &Option<Entry>,
+) -> Result<Option<Entry>, AllocError>
+    ensures exact { IfOk result (λ sight. sight ≡ seen_entry entries.now mask.0 entry.now) }
+{
+    let Some(entry) = entry else {
+        return Ok(None);
+    };
+    if !sees(entries, mask, entry) {
+        return Ok(None);
+    }
+    Ok(Some(copy_entry(alloc, entry)?))
+}
+
+/// What the mask does not see of the list: a view in which each entry that a module of the mask sees is a blank.
+/// Denials look there for what a refused use lacks.
+///
+/// The only error is want of memory.
+pub fn hidden_of(alloc: Global, entries: &[Option<Entry>], mask: Mask) -> Result<View, AllocError>
+    requires few { length entries.now ≤ 1024 }
+    ensures exact { IfOk result (λ view. view ≡ hidden entries.now mask.0) }
+{
+    let view = hidden_entries(alloc, entries, mask)?;
+    Ok(View { entries: view })
+}
+
+#[tactic(auto, unfolding(crate::specs::Hidden::hidden))]
+fn hidden_entries(
+    alloc: Global,
+    entries: &[Option<Entry>],
+    mask: Mask,
+) -> Result<Vec<Option<Entry>>, AllocError>
+    ensures exact { IfOk result (λ view. view.items ≡ hidden entries.now mask.0) }
+{
+    let mut view = Vec::new(alloc);
+    for entry in entries {
+        let rest = rest_of(alloc, entries, mask, entry)?;
+        view.push(rest)?;
+    }
+    Ok(view)
+}
+
+/// A copy of the entry where the mask does not see it, else a blank.
+fn rest_of(
+    alloc: Global,
+    entries: &[Option<Entry>],
+    mask: Mask,
+    entry: &Option<Entry>,
+) -> Result<Option<Entry>, AllocError>
+    ensures exact { IfOk result (λ rest. rest ≡ hidden_entry entries.now mask.0 entry.now) }
+{
+    let Some(entry) = entry else {
+        return Ok(None);
+    };
+    if sees(entries, mask, entry) {
+        return Ok(None);
+    }
+    Ok(Some(copy_entry(alloc, entry)?))
+}
+
+/// The whole list as a view, whatever the masks. Denials look up in it the types of what is hidden.
+///
+/// The only error is want of memory.
+pub fn whole_of(alloc: Global, entries: &[Option<Entry>]) -> Result<View, AllocError>
+    requires few { length entries.now ≤ 1024 }
+    ensures exact { IfOk result (λ view. view ≡ entries.now) }
+{
+    let view = copy_entries(alloc, entries)?;
+    Ok(View { entries: view })
+}
+
+/// The index of the first function of the name that the mask sees.
+pub fn function_index(entries: &[Option<Entry>], mask: Mask, name: &[u8]) -> Option<usize>
+    ensures exact { result ≡ function_named (seen entries.now mask.0) name.now }
+    ensures within { IfSome result (λ index. index < length entries.now) }
+{
+    entries
+        .iter()
+        .position(|entry| sees_function(entries, mask, name, entry))
+}
+
+fn sees_function(entries: &[Option<Entry>], mask: Mask, name: &[u8], entry: &Option<Entry>) -> bool
+    ensures exact { result ≡ is_function_named name.now (seen_entry entries.now mask.0 entry.now) }
+{
+    match entry {
+        None => false,
+        Some(entry) => {
+            matches!(entry.kind, EntryKind::Function)
+                && entry.signature.name.as_slice() == name
+                && sees(entries, mask, entry)
+        }
+    }
+}
+
+/// Whether a module of the mask sees the entry.
+fn sees(entries: &[Option<Entry>], mask: Mask, entry: &Entry) -> bool
+    ensures exact { result ≡ is_seen entries.now mask.0 entry.now }
+{
+    entry.mask.meets(mask) && sees_types(entries, mask, entry)
+}
+
+fn sees_types(entries: &[Option<Entry>], mask: Mask, entry: &Entry) -> bool
+    ensures exact { result
+        ≡ list_all (λ n. has_mask_for mask.0 (entry_at entries.now n)) (named entries.now entry.now) }
+{
+    for (number, other) in entries.iter().enumerate() {
+        if names(entry, number, other) && !meets(other, mask) {
+            return false;
+        }
+    }
+    true
+}
+
+fn meets(entry: &Option<Entry>, mask: Mask) -> bool
+    ensures exact { result ≡ has_mask_for mask.0 entry.now }
+{
+    match entry {
+        None => false,
+        Some(entry) => entry.mask.meets(mask),
+    }
+}
+
+fn names(entry: &Entry, number: usize, other: &Option<Entry>) -> bool
+    ensures exact { result ≡ is_named_by entry.now number other.now }
+{
+    match other {
+        None => false,
+        Some(other) => {
+            !matches!(entry.kind, EntryKind::HostType)
+                && matches!(other.kind, EntryKind::HostType)
+                && (belongs_to(entry.owner, number)
+                    || mentions_type(&entry.signature, other.signature.name.as_slice()))
+        }
+    }
+}
+
+fn belongs_to(owner: Option<EntityNo>, number: usize) -> bool
+    ensures exact { result ≡ is_number number owner }
+{
+    match owner {
+        None => false,
+        Some(EntityNo(own)) => own as usize == number,
+    }
+}
+
+/// Whether the signature names the type of this name.
+pub fn mentions_type(signature: &Signature, name: &[u8]) -> bool
+    ensures exact { result ≡ mentions signature.now name.now }
+{
+    spells(&signature.result, name)
+        || signature
+            .params
+            .as_slice()
+            .iter()
+            .any(|param| spells(&param.ty, name))
+}
+
+/// Whether the type is spelled with this name.
+pub fn spells(ty: &TypeRef, name: &[u8]) -> bool
+    ensures exact { result ≡ is_spelled_with name.now ty.now }
+{
+    match ty {
+        TypeRef::Void | TypeRef::Plain(_) => false,
+        TypeRef::Object { name: own, .. } => own.as_slice() == name,
+    }
+}
