@@ -598,7 +598,7 @@ record SoundOver (M : Module) (p : t.Program) : Type 0 where
   classes : SoundClasses M p.classes
 
 sound_over : (V : RegistrationList) (names : Names) (sources : List Source) → TakesValues V → names ≡ names_of V (declarations_of sources)
-    → not_yet V sources ≡ [] → body_refusals V names sources ≡ [] → SoundOver (module_in V names) (program_of V names sources)
+    → not_yet sources ≡ [] → body_refusals V names sources ≡ [] → SoundOver (module_in V names) (program_of V names sources)
 unfolding judgements body_refusals program_of
 sound_over V names sources values e built none =
     let plain : ArePlainNames names = subst ArePlainNames (sym e) (names_plain V sources built) in
@@ -610,7 +610,7 @@ sound_over V names sources values e built none =
     }
 
 pub program_is_sound : (V : RegistrationList) (names : Names) (sources : List Source) → TakesValues V → names ≡ names_of V (declarations_of sources)
-    → not_yet V sources ≡ [] → body_refusals V names sources ≡ [] → SoundProgram V (program_of V names sources)
+    → not_yet sources ≡ [] → body_refusals V names sources ≡ [] → SoundProgram V (program_of V names sources)
 program_is_sound V names sources values e built none =
     let p = program_of V names sources in
     let same = same_module V names sources (has_names V names sources e none) in

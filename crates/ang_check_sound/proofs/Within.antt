@@ -54,7 +54,7 @@ module _ (V : RegistrationList) where
       every_joined IsAccepted (map (λ d. (x.text, d)) x.declarations) (in_sections xs) (section_accepted x.text x.declarations both.0)
       (sections_accepted xs both.1)
 
-  all_accepted : (sources : List Source) → not_yet V sources ≡ [] → Every IsAccepted (in_sections sources)
+  all_accepted : (sources : List Source) → not_yet sources ≡ [] → Every IsAccepted (in_sections sources)
   unfolding not_yet
   all_accepted sources e = sections_accepted sources e
 
@@ -148,7 +148,7 @@ unfolding families_in
 none_given E ds e =
     ap (λ (fs : List Declaring). each_after (families_after E (families_of ds) (signatures_of E (families_of ds)) (length (functions_in E ds))) [] fs) e
 
-pub names_plain : (V : RegistrationList) (sources : List Source) → not_yet V sources ≡ [] → ArePlainNames (names_of V (declarations_of sources))
+pub names_plain : (V : RegistrationList) (sources : List Source) → not_yet sources ≡ [] → ArePlainNames (names_of V (declarations_of sources))
 unfolding names_of families_of
 names_plain V sources e =
     let ds = declarations_of sources in
@@ -201,6 +201,6 @@ module _ (V : RegistrationList) where
       every_joined IsWithin (declaration_parts before x) (each_after declaration_parts (before ++ x ∷ []) xs)
       (declaration_within before x.0 x.1 a.0) (all_within (before ++ x ∷ []) xs a.1)
 
-  pub parts_within : (sources : List Source) → not_yet V sources ≡ [] → Every IsWithin (parts_of sources)
+  pub parts_within : (sources : List Source) → not_yet sources ≡ [] → Every IsWithin (parts_of sources)
   unfolding parts_of
   parts_within sources e = all_within [] (in_sections sources) (all_accepted V sources e)

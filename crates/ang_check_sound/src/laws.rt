@@ -29,7 +29,7 @@ pub fn program_is_sound()
     ensures sound { (V : RegistrationList) (names : Names) (sources : List Source)
         → TakesValues V
         → names ≡ names_of V (declarations_of sources)
-        → not_yet V sources ≡ []
+        → not_yet sources ≡ []
         → body_refusals V names sources ≡ [] → SoundProgram V (program_of V names sources) }
 {}
 

@@ -39,10 +39,10 @@ none_is_plain : (es : List Error) → map plain_refusal es ≡ [] → es ≡ []
 none_is_plain [] h = refl
 none_is_plain (e ∷ es) h = cc
 
-none_beyond : (V : RegistrationList) (ss : List Source) → refusals_of V ss ≡ [] → not_yet V ss ≡ []
+none_beyond : (V : RegistrationList) (ss : List Source) → refusals_of V ss ≡ [] → not_yet ss ≡ []
 unfolding refusals_of
 none_beyond V ss h =
-    none_is_plain (not_yet V ss) (none_of_both (map plain_refusal (not_yet V ss)) (first_refusals V (declarations_of ss) all_phases) h).0
+    none_is_plain (not_yet ss) (none_of_both (map plain_refusal (not_yet ss)) (first_refusals V (declarations_of ss) all_phases) h).0
 
 none_refused : (rs : List Refused) → errors_in rs ≡ [] → rs ≡ []
 none_refused [] h = refl
