@@ -7,7 +7,7 @@ use Rattle.std.proofs.lemmas.List.Elements.{All-nil}
 use Rattle.ang_host.specs.declared.event.HostEvent.{HostEvent}
 use Rattle.ang_host.specs.declared.event.Role.{Role}
 use Rattle.ang_host.specs.Boxes.{members}
-use Rattle.ang_host.specs.Laws.{Meaning}
+use Rattle.ang_host.specs.Meanings.{Meanings}
 use Rattle.ang_host.specs.Events.{DriversFollow}
 use Rattle.ang_host.proofs.Events.{AllFollow-none}
 use Rattle.ang_view.specs.Registration.{RegistrationList}
@@ -32,7 +32,7 @@ use Rattle.ang_engine.specs.Applied.{Applied}
 use Rattle.ang_engine.proofs.Entries.{roles_agree, all_entitled, ends_entitled, agrees_none}
 use Rattle.ang_engine.proofs.GlobalsEnd.{globals_ends, ends_all, ended_counted}
 
-module _ {V : Type 0} {P : V → Type 0} (m : (v : V) → Meaning (P v)) where
+module _ {V : Type 0} {P : V → Type 0} (m : Meanings P) where
   -- ---- pieces of a command
 
   -- nothing was done

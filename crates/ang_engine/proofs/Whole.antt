@@ -7,7 +7,8 @@ use Rattle.ang_host.specs.declared.event.HostEvent.{HostEvent}
 use Rattle.ang_host.specs.declared.event.Role.{Role}
 use Rattle.ang_host.specs.State.{State}
 use Rattle.ang_host.specs.Boxes.{members}
-use Rattle.ang_host.specs.Laws.{Fits, Meaning}
+use Rattle.ang_host.specs.Laws.{Fits}
+use Rattle.ang_host.specs.Meanings.{Meanings, state_in}
 use Rattle.ang_host.specs.Events.{AllFollow}
 use Rattle.ang_view.specs.Registration.{RegistrationList}
 use Rattle.ang_registry.specs.Roles.{roles_of}
@@ -39,18 +40,18 @@ follow_count : {B V : Type 0} (st : B → State) (kind : B → V) (rule : V → 
 follow_count st kind rule roles xs es ys h = sym (length-map ys st) ∙ h.follow.same_length ∙ length-map xs st
 
 -- what an engine keeps, behind a command that has asked
-pub sound-asked : {V : Type 0} {P : V → Type 0} (m : (v : V) → Meaning (P v)) (e f : Engine V P) (v : World) (es : List HostEvent) → IsSound m e → registrations f ≡ registrations e
+pub sound-asked : {V : Type 0} {P : V → Type 0} (m : Meanings P) (e f : Engine V P) (v : World) (es : List HostEvent) → IsSound m e → registrations f ≡ registrations e
     → AreSoundModules (registrations e) f.modules → HasAsked m (registrations e) v es e.machine.store f.machine.store → IsSound m f
 sound-asked m e f v es sound same modules asked = record {
   modules = subst (λ R. AreSoundModules R f.modules) (sym same) modules;
   in_list = subst (λ R. HaveDrivers R (length (drivers_in f))) (sym same)
       (subst (λ n. HaveDrivers (registrations e) n)
-      (sym (follow_count (λ b. (m b.vtable).state b.value) (λ b. b.vtable) (λ x. (m x).fits) (roles_of (registrations e)) (drivers_in e) es (drivers_in f) asked.follow)) sound.in_list);
+      (sym (follow_count (λ b. state_in m b) (λ b. b.vtable) (λ x. (m x).meaning.fits) (roles_of (registrations e)) (drivers_in e) es (drivers_in f) asked.follow)) sound.in_list);
   kept = asked.kept;
   counted = asked.counted;
 }
 
-module _ {V : Type 0} {P : V → Type 0} (m : (v : V) → Meaning (P v)) (R : RegistrationList) where
+module _ {V : Type 0} {P : V → Type 0} (m : Meanings P) (R : RegistrationList) where
   -- one that asks nothing
   pub applied-done : {U : Type 0} (w v : World) (s t : Store V P) (c : Command) (reply : Reply) (r : Result U Refusal) (o : Outcome)
       → o ≡ outcome_of r → reply ≡ reply_of o [] [] → IsDone r (judged R w c) w v → IsKept m t → IsCounted [] (world_of m t) → members s.drivers ≡ members t.drivers

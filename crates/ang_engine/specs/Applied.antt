@@ -2,7 +2,7 @@
 use Rattle.std.specs.Prelude.{List, All}
 use Rattle.std.specs.declared.alloc.Global.{Global}
 use Rattle.std.specs.declared.dyn_box.DynBox.{DynBox}
-use Rattle.ang_host.specs.Laws.{Meaning}
+use Rattle.ang_host.specs.Meanings.{Meanings}
 use Rattle.ang_host.specs.Events.{DriversFollow}
 use Rattle.ang_view.specs.Registration.{RegistrationList}
 use Rattle.ang_registry.specs.Roles.{roles_of}
@@ -12,7 +12,7 @@ use Rattle.ang_engine.specs.World.{World}
 use Rattle.ang_engine.specs.Step.{Takes, IsEntitled}
 
 -- It takes the modules from w to v, its host calls are entitled, and the drivers follow them.
-pub record Applied {V : Type 0} {P : V → Type 0} (m : (v : V) → Meaning (P v)) (R : RegistrationList) (w : World) (xs : List (DynBox V Global P))
+pub record Applied {V : Type 0} {P : V → Type 0} (m : Meanings P) (R : RegistrationList) (w : World) (xs : List (DynBox V Global P))
     (c : Command) (reply : Reply) (v : World) (ys : List (DynBox V Global P)) : Type 0 where
   pub takes : Takes R w c reply v
   pub entitled : All (IsEntitled R v) reply.events

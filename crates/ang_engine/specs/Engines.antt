@@ -3,7 +3,7 @@ use Rattle.std.specs.Prelude.{List, [], ◌∷◌, Option, None, option_map}
 use Rattle.std.specs.declared.alloc.Global.{Global}
 use Rattle.std.specs.declared.dyn_box.DynBox.{DynBox}
 use Rattle.ang_host.specs.Boxes.{members}
-use Rattle.ang_host.specs.Laws.{Meaning}
+use Rattle.ang_host.specs.Meanings.{Meanings}
 use Rattle.ang_view.specs.Registration.{RegistrationList}
 use Rattle.ang_typed.specs.View.{view_typed}
 use Rattle.ang_heap.specs.Stores.{world_of}
@@ -39,7 +39,7 @@ abbrev pub registrations : {V : Type 0} {P : V → Type 0} → Engine V P → Re
 registrations e = e.registry.entries
 
 -- Its modules, and beside them what their runs leave: the counts of host objects are those of the drivers themselves.
-abbrev pub world_in : {V : Type 0} {P : V → Type 0} → ((v : V) → Meaning (P v)) → Engine V P → World
+abbrev pub world_in : {V : Type 0} {P : V → Type 0} → Meanings P → Engine V P → World
 world_in m e = left_to (states_in e.modules) (world_of m e.machine.store)
 
 -- its boxed drivers, in their order

@@ -182,13 +182,13 @@ fn start(
     requires sound { SoundProgram loaded.view (view_typed loaded.tree) }
     requires unbound { loaded.links ≡ [] }
     requires drivers { AreDriversThere (modules_of (slice_set code.old home (Some loaded))) (length (members machine.old.store.drivers)) }
-    requires ready { IsReady (λ v. (⟦<dyn Driver as Driver>⟧ v).meaning) (lent machine.old events.old) }
-    requires counted { IsCounted [] (world_of (λ v. (⟦<dyn Driver as Driver>⟧ v).meaning) (lent machine.old events.old)) }
+    requires ready { IsReady ⟦<dyn Driver as Driver>⟧ (lent machine.old events.old) }
+    requires counted { IsCounted [] (world_of ⟦<dyn Driver as Driver>⟧ (lent machine.old events.old)) }
     requires none { slice_index_or (values_in machine.old.store.globals) home [] ≡ [] }
     requires within { home < length code.old }
     ensures started { HasStarted (modules_of (slice_set code.old home (Some loaded))) home budget (program_in loaded)
-        (world_of (λ v. (⟦<dyn Driver as Driver>⟧ v).meaning) (lent machine.old events.old)) result (world_of (λ v. (⟦<dyn Driver as Driver>⟧ v).meaning) (lent machine.new events.new)) }
-    ensures asked { HasRunOn (λ v. (⟦<dyn Driver as Driver>⟧ v).meaning) (modules_of (slice_set code.old home (Some loaded))) (lent machine.old events.old) (lent machine.new events.new) }
+        (world_of ⟦<dyn Driver as Driver>⟧ (lent machine.old events.old)) result (world_of ⟦<dyn Driver as Driver>⟧ (lent machine.new events.new)) }
+    ensures asked { HasRunOn ⟦<dyn Driver as Driver>⟧ (modules_of (slice_set code.old home (Some loaded))) (lent machine.old events.old) (lent machine.new events.new) }
     ensures built { OnOk result (code.new ≡ slice_set code.old home (Some loaded)) }
     ensures cleared { OnErr result (code.new ≡ slice_set code.old home None) }
 {
@@ -222,13 +222,13 @@ fn build_module(
     requires within { home < length list.old.modules.items }
     requires modules { AreSoundModules registry.now.entries list.old }
     requires drivers { HaveDrivers registry.now.entries (length (members machine.old.store.drivers)) }
-    requires ready { IsReady (λ v. (⟦<dyn Driver as Driver>⟧ v).meaning) (lent machine.old events.old) }
-    requires counted { IsCounted [] (world_of (λ v. (⟦<dyn Driver as Driver>⟧ v).meaning) (lent machine.old events.old)) }
+    requires ready { IsReady ⟦<dyn Driver as Driver>⟧ (lent machine.old events.old) }
+    requires counted { IsCounted [] (world_of ⟦<dyn Driver as Driver>⟧ (lent machine.old events.old)) }
     requires first { events.old.items ≡ [] }
-    ensures done { Leads (build registry.now.entries (left_to (states_in list.old) (world_of (λ v. (⟦<dyn Driver as Driver>⟧ v).meaning) (lent machine.old events.old))) home
-        (module_at (left_to (states_in list.old) (world_of (λ v. (⟦<dyn Driver as Driver>⟧ v).meaning) (lent machine.old events.old))) home) budget)
-        (reply_to_build result events.new.items) (left_to (states_in list.new) (world_of (λ v. (⟦<dyn Driver as Driver>⟧ v).meaning) (lent machine.new events.new))) }
-    ensures asked { HasAsked (λ v. (⟦<dyn Driver as Driver>⟧ v).meaning) registry.now.entries (left_to (states_in list.new) (world_of (λ v. (⟦<dyn Driver as Driver>⟧ v).meaning) machine.new.store))
+    ensures done { Leads (build registry.now.entries (left_to (states_in list.old) (world_of ⟦<dyn Driver as Driver>⟧ (lent machine.old events.old))) home
+        (module_at (left_to (states_in list.old) (world_of ⟦<dyn Driver as Driver>⟧ (lent machine.old events.old))) home) budget)
+        (reply_to_build result events.new.items) (left_to (states_in list.new) (world_of ⟦<dyn Driver as Driver>⟧ (lent machine.new events.new))) }
+    ensures asked { HasAsked ⟦<dyn Driver as Driver>⟧ registry.now.entries (left_to (states_in list.new) (world_of ⟦<dyn Driver as Driver>⟧ machine.new.store))
         (reply_to_build result events.new.items).events machine.old.store machine.new.store }
     ensures sound { AreSoundModules registry.now.entries list.new }
 {
@@ -252,12 +252,12 @@ pub fn build(
 ) -> Result<(), BuildRefused>
     requires modules { AreSoundModules registry.now.entries list.old }
     requires drivers { HaveDrivers registry.now.entries (length (members machine.old.store.drivers)) }
-    requires ready { IsReady (λ v. (⟦<dyn Driver as Driver>⟧ v).meaning) (lent machine.old events.old) }
-    requires counted { IsCounted [] (world_of (λ v. (⟦<dyn Driver as Driver>⟧ v).meaning) (lent machine.old events.old)) }
+    requires ready { IsReady ⟦<dyn Driver as Driver>⟧ (lent machine.old events.old) }
+    requires counted { IsCounted [] (world_of ⟦<dyn Driver as Driver>⟧ (lent machine.old events.old)) }
     requires first { events.old.items ≡ [] }
-    ensures done { Leads (building registry.now.entries name.now budget (left_to (states_in list.old) (world_of (λ v. (⟦<dyn Driver as Driver>⟧ v).meaning) (lent machine.old events.old))))
-        (reply_to_build result events.new.items) (left_to (states_in list.new) (world_of (λ v. (⟦<dyn Driver as Driver>⟧ v).meaning) (lent machine.new events.new))) }
-    ensures asked { HasAsked (λ v. (⟦<dyn Driver as Driver>⟧ v).meaning) registry.now.entries (left_to (states_in list.new) (world_of (λ v. (⟦<dyn Driver as Driver>⟧ v).meaning) machine.new.store))
+    ensures done { Leads (building registry.now.entries name.now budget (left_to (states_in list.old) (world_of ⟦<dyn Driver as Driver>⟧ (lent machine.old events.old))))
+        (reply_to_build result events.new.items) (left_to (states_in list.new) (world_of ⟦<dyn Driver as Driver>⟧ (lent machine.new events.new))) }
+    ensures asked { HasAsked ⟦<dyn Driver as Driver>⟧ registry.now.entries (left_to (states_in list.new) (world_of ⟦<dyn Driver as Driver>⟧ machine.new.store))
         (reply_to_build result events.new.items).events machine.old.store machine.new.store }
     ensures sound { AreSoundModules registry.now.entries list.new }
 {

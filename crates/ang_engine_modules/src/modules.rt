@@ -214,15 +214,15 @@ impl Modules {
         events: &mut Vec<HostEvent>,
     ) -> Result<(), Fault>
         requires drivers { AreDriversThere (modules_of self.now) (length (members machine.old.store.drivers)) }
-        requires ready { IsReady (λ v. (⟦<dyn Driver as Driver>⟧ v).meaning) (lent machine.old events.old) }
-        requires counted { IsCounted [] (world_of (λ v. (⟦<dyn Driver as Driver>⟧ v).meaning) (lent machine.old events.old)) }
-        ensures means { Ends (initialization_of (modules_of self.now) budget home) (world_of (λ v. (⟦<dyn Driver as Driver>⟧ v).meaning) (lent machine.old events.old))
-            (completed result) (world_of (λ v. (⟦<dyn Driver as Driver>⟧ v).meaning) (lent machine.new events.new)) }
+        requires ready { IsReady ⟦<dyn Driver as Driver>⟧ (lent machine.old events.old) }
+        requires counted { IsCounted [] (world_of ⟦<dyn Driver as Driver>⟧ (lent machine.old events.old)) }
+        ensures means { Ends (initialization_of (modules_of self.now) budget home) (world_of ⟦<dyn Driver as Driver>⟧ (lent machine.old events.old))
+            (completed result) (world_of ⟦<dyn Driver as Driver>⟧ (lent machine.new events.new)) }
         ensures asked { AllByRecursion (IsAskedIn (modules_of self.now)) events.old.items → AllByRecursion (IsAskedIn (modules_of self.now)) events.new.items }
-        ensures counted { IsCounted [] (world_of (λ v. (⟦<dyn Driver as Driver>⟧ v).meaning) (lent machine.new events.new)) }
+        ensures counted { IsCounted [] (world_of ⟦<dyn Driver as Driver>⟧ (lent machine.new events.new)) }
         ensures moves { (roles : ListOf Role) → AgreesWith roles (modules_of self.now)
-            → StoreMoves (λ v. (⟦<dyn Driver as Driver>⟧ v).meaning) roles (lent machine.old events.old) (lent machine.new events.new) }
-        ensures ready { IsReady (λ v. (⟦<dyn Driver as Driver>⟧ v).meaning) (lent machine.new events.new) }
+            → StoreMoves ⟦<dyn Driver as Driver>⟧ roles (lent machine.old events.old) (lent machine.new events.new) }
+        ensures ready { IsReady ⟦<dyn Driver as Driver>⟧ (lent machine.new events.new) }
         ensures count { length (members machine.new.store.drivers) ≡ length (members machine.old.store.drivers) }
     {
         let first = self.function_count(home);
@@ -248,15 +248,15 @@ impl Modules {
     ) -> Result<Slot, Fault>
         requires drivers { AreDriversThere (modules_of self.now) (length (members machine.old.store.drivers)) }
         requires takes { TakesSoMany (modules_of self.now) home number (length args.now) }
-        requires ready { IsReady (λ v. (⟦<dyn Driver as Driver>⟧ v).meaning) (lent machine.old events.old) }
-        requires counted { IsCounted (reverse args.now) (world_of (λ v. (⟦<dyn Driver as Driver>⟧ v).meaning) (lent machine.old events.old)) }
-        ensures means { Ends (call_of (modules_of self.now) budget home number args.now) (world_of (λ v. (⟦<dyn Driver as Driver>⟧ v).meaning) (lent machine.old events.old))
-            result (world_of (λ v. (⟦<dyn Driver as Driver>⟧ v).meaning) (lent machine.new events.new)) }
+        requires ready { IsReady ⟦<dyn Driver as Driver>⟧ (lent machine.old events.old) }
+        requires counted { IsCounted (reverse args.now) (world_of ⟦<dyn Driver as Driver>⟧ (lent machine.old events.old)) }
+        ensures means { Ends (call_of (modules_of self.now) budget home number args.now) (world_of ⟦<dyn Driver as Driver>⟧ (lent machine.old events.old))
+            result (world_of ⟦<dyn Driver as Driver>⟧ (lent machine.new events.new)) }
         ensures asked { AllByRecursion (IsAskedIn (modules_of self.now)) events.old.items → AllByRecursion (IsAskedIn (modules_of self.now)) events.new.items }
-        ensures counted { IsCounted [] (world_of (λ v. (⟦<dyn Driver as Driver>⟧ v).meaning) (lent machine.new events.new)) }
+        ensures counted { IsCounted [] (world_of ⟦<dyn Driver as Driver>⟧ (lent machine.new events.new)) }
         ensures moves { (roles : ListOf Role) → AgreesWith roles (modules_of self.now)
-            → StoreMoves (λ v. (⟦<dyn Driver as Driver>⟧ v).meaning) roles (lent machine.old events.old) (lent machine.new events.new) }
-        ensures ready { IsReady (λ v. (⟦<dyn Driver as Driver>⟧ v).meaning) (lent machine.new events.new) }
+            → StoreMoves ⟦<dyn Driver as Driver>⟧ roles (lent machine.old events.old) (lent machine.new events.new) }
+        ensures ready { IsReady ⟦<dyn Driver as Driver>⟧ (lent machine.new events.new) }
         ensures count { length (members machine.new.store.drivers) ≡ length (members machine.old.store.drivers) }
     {
         let table = &self.table;

@@ -6,7 +6,8 @@ use Rattle.std.specs.declared.dyn_box.DynBox.{DynBox}
 use Rattle.ang_host.specs.declared.event.HostEvent.{HostEvent}
 use Rattle.ang_host.specs.declared.event.Role.{Role}
 use Rattle.ang_host.specs.State.{State}
-use Rattle.ang_host.specs.Laws.{Meaning, IsFull, IsSound}
+use Rattle.ang_host.specs.Laws.{IsFull, IsSound}
+use Rattle.ang_host.specs.Meanings.{Meanings}
 use Rattle.ang_host.specs.Members.{state_at, states_of}
 use Rattle.ang_host.specs.Events.{DriversFollow}
 use Rattle.ang_meaning.specs.declared.slot.Slot.{Slot}
@@ -15,7 +16,7 @@ use Rattle.ang_meaning.specs.World.{World, ScriptObjects, HostCounts, Input}
 use Rattle.ang_meaning.specs.Counting.{counts_by, count_of_object}
 
 -- by driver, the count of each live key
-abbrev pub counts_of : {V : Type 0} {P : V → Type 0} → ((v : V) → Meaning (P v)) → List (DynBox V Global P) → HostCounts
+abbrev pub counts_of : {V : Type 0} {P : V → Type 0} → Meanings P → List (DynBox V Global P) → HostCounts
 counts_of m bs = counts_by (states_of m bs)
 
 abbrev pub world_by : ScriptObjects → HostCounts → List (List Slot) → List HostEvent → List Input → World
@@ -26,7 +27,7 @@ abbrev pub live_in : List State → ℕ
 live_in [] = 0
 live_in (s ∷ ss) = map.len s.counts + live_in ss
 
-abbrev pub live_of : {V : Type 0} {P : V → Type 0} → ((v : V) → Meaning (P v)) → List (DynBox V Global P) → ℕ
+abbrev pub live_of : {V : Type 0} {P : V → Type 0} → Meanings P → List (DynBox V Global P) → ℕ
 live_of m bs = live_in (states_of m bs)
 
 -- the drivers' states are sound, and a list of events has room for the end of each live object
@@ -43,7 +44,7 @@ IsTallyFull (Host d None) os ss = ⊥
 IsTallyFull (Host d (Some k)) os ss = IsFull (state_at ss d)
 
 -- the drivers follow what was listed
-pub record PartsMove {V : Type 0} {P : V → Type 0} (m : (v : V) → Meaning (P v)) (roles : List Role) (xs : List (DynBox V Global P)) (es : List HostEvent) (ys : List (DynBox V Global P)) (fs : List HostEvent) : Type 0 where
+pub record PartsMove {V : Type 0} {P : V → Type 0} (m : Meanings P) (roles : List Role) (xs : List (DynBox V Global P)) (es : List HostEvent) (ys : List (DynBox V Global P)) (fs : List HostEvent) : Type 0 where
   pub more : List HostEvent
   pub events : fs ≡ es ++ more
   pub follow : DriversFollow m roles xs more ys

@@ -1,7 +1,7 @@
 -- The world of a store, and what a piece of a run leaves of it.
 use Rattle.std.specs.Prelude.{◌≡◌, ◌≤◌, ◌+◌, List, [], vec_len, vec_capacity}
 use Rattle.ang_host.specs.declared.event.Role.{Role}
-use Rattle.ang_host.specs.Laws.{Meaning}
+use Rattle.ang_host.specs.Meanings.{Meanings}
 use Rattle.ang_host.specs.Members.{states_of}
 use Rattle.ang_host.specs.Boxes.{members}
 use Rattle.ang_meaning.specs.World.{World}
@@ -11,21 +11,21 @@ use Rattle.ang_heap.specs.Parts.{counts_of, live_of, world_by, AreReady, PartsMo
 use Rattle.ang_heap.specs.Heaps.{objects_of}
 
 -- the world that a store is, told nothing yet
-abbrev pub world_of : {V : Type 0} {P : V → Type 0} → ((v : V) → Meaning (P v)) → Store V P → World
+abbrev pub world_of : {V : Type 0} {P : V → Type 0} → Meanings P → Store V P → World
 world_of m s = world_by (objects_of s.heap) (counts_of m (members s.drivers)) (values_in s.globals) s.events.items []
 
 -- what holds between commands too: the drivers are sound, `live` is how many host objects live, and `ends` is empty, with room for the end of each
-pub record IsKept {V : Type 0} {P : V → Type 0} (m : (v : V) → Meaning (P v)) (s : Store V P) : Type 0 where
+pub record IsKept {V : Type 0} {P : V → Type 0} (m : Meanings P) (s : Store V P) : Type 0 where
   pub drivers : AreReady (states_of m (members s.drivers)) (vec_len s.ends) (vec_capacity s.ends)
   pub alive : s.live ≡ live_of m (members s.drivers)
   pub none : s.ends.items ≡ []
 
 -- in a run `events` has room for the end of each live host object too
-pub record IsReady {V : Type 0} {P : V → Type 0} (m : (v : V) → Meaning (P v)) (s : Store V P) : Type 0 where
+pub record IsReady {V : Type 0} {P : V → Type 0} (m : Meanings P) (s : Store V P) : Type 0 where
   pub kept : IsKept m s
   pub room : vec_len s.events + s.live ≤ vec_capacity s.events
 
 -- a piece of a run: the drivers follow what it listed and keep their places, and all is ready again
-pub record StoreMoves {V : Type 0} {P : V → Type 0} (m : (v : V) → Meaning (P v)) (roles : List Role) (s t : Store V P) : Type 0 where
+pub record StoreMoves {V : Type 0} {P : V → Type 0} (m : Meanings P) (roles : List Role) (s t : Store V P) : Type 0 where
   pub parts : PartsMove m roles (members s.drivers) s.events.items (members t.drivers) t.events.items
   pub ready : IsReady m s → IsReady m t

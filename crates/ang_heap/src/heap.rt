@@ -48,17 +48,17 @@ impl Heap {
     /// # Errors
     /// The driver's tallies, or the script object's count, have run out, and then nothing changes.
     pub fn hold(&mut self, drivers: &mut Drivers, value: Slot) -> Result<(), Tally>
-        requires there { HasKey value (counts_of (λ v. (⟦<dyn Driver as Driver>⟧ v).meaning) (members drivers.old)) }
+        requires there { HasKey value (counts_of ⟦<dyn Driver as Driver>⟧ (members drivers.old)) }
         ensures holds { (gs : List (List Slot)) (es : List HostEvent)
-            → Told (λ is. hold_in value (world_by (objects_of self.old) (counts_of (λ v. (⟦<dyn Driver as Driver>⟧ v).meaning) (members drivers.old)) gs es is))
-            (λ is. if_told (is_ok result) (world_by (objects_of self.new) (counts_of (λ v. (⟦<dyn Driver as Driver>⟧ v).meaning) (members drivers.new)) gs es is)) }
-        ensures full { OnErr result (IsTallyFull value (objects_of self.old) (states_of (λ v. (⟦<dyn Driver as Driver>⟧ v).meaning) (members drivers.old))) }
+            → Told (λ is. hold_in value (world_by (objects_of self.old) (counts_of ⟦<dyn Driver as Driver>⟧ (members drivers.old)) gs es is))
+            (λ is. if_told (is_ok result) (world_by (objects_of self.new) (counts_of ⟦<dyn Driver as Driver>⟧ (members drivers.new)) gs es is)) }
+        ensures full { OnErr result (IsTallyFull value (objects_of self.old) (states_of ⟦<dyn Driver as Driver>⟧ (members drivers.old))) }
         ensures same_objects { OnErr result (objects_of self.new ≡ objects_of self.old) }
-        ensures same_drivers { OnErr result (states_of (λ v. (⟦<dyn Driver as Driver>⟧ v).meaning) (members drivers.new) ≡ states_of (λ v. (⟦<dyn Driver as Driver>⟧ v).meaning) (members drivers.old)) }
-        ensures live { live_of (λ v. (⟦<dyn Driver as Driver>⟧ v).meaning) (members drivers.new) ≡ live_of (λ v. (⟦<dyn Driver as Driver>⟧ v).meaning) (members drivers.old) }
-        ensures ready { (len capacity : ℕ) → AreReady (states_of (λ v. (⟦<dyn Driver as Driver>⟧ v).meaning) (members drivers.old)) len capacity
-            → AreReady (states_of (λ v. (⟦<dyn Driver as Driver>⟧ v).meaning) (members drivers.new)) len capacity }
-        ensures follow { (roles : List Role) → DriversFollow (λ v. (⟦<dyn Driver as Driver>⟧ v).meaning) roles (members drivers.old) [] (members drivers.new) }
+        ensures same_drivers { OnErr result (states_of ⟦<dyn Driver as Driver>⟧ (members drivers.new) ≡ states_of ⟦<dyn Driver as Driver>⟧ (members drivers.old)) }
+        ensures live { live_of ⟦<dyn Driver as Driver>⟧ (members drivers.new) ≡ live_of ⟦<dyn Driver as Driver>⟧ (members drivers.old) }
+        ensures ready { (len capacity : ℕ) → AreReady (states_of ⟦<dyn Driver as Driver>⟧ (members drivers.old)) len capacity
+            → AreReady (states_of ⟦<dyn Driver as Driver>⟧ (members drivers.new)) len capacity }
+        ensures follow { (roles : List Role) → DriversFollow ⟦<dyn Driver as Driver>⟧ roles (members drivers.old) [] (members drivers.new) }
     {
         if hold(&mut self.records, drivers, value) {
             return Ok(());
@@ -76,16 +76,16 @@ impl Heap {
     /// One place gives up its value, and each object that ends gives up its fields. It takes no memory and
     /// always succeeds: the end of each host object has its room in `events`.
     pub fn give_up(&mut self, drivers: &mut Drivers, events: &mut Vec<HostEvent>, value: Slot)
-        requires ready { AreReady (states_of (λ v. (⟦<dyn Driver as Driver>⟧ v).meaning) (members drivers.old)) (vec_len events.old) (vec_capacity events.old) }
-        requires enough { EnoughIn (value ∷ []) (objects_of self.old) (counts_of (λ v. (⟦<dyn Driver as Driver>⟧ v).meaning) (members drivers.old)) }
+        requires ready { AreReady (states_of ⟦<dyn Driver as Driver>⟧ (members drivers.old)) (vec_len events.old) (vec_capacity events.old) }
+        requires enough { EnoughIn (value ∷ []) (objects_of self.old) (counts_of ⟦<dyn Driver as Driver>⟧ (members drivers.old)) }
         ensures gives { (gs : List (List Slot)) (is : List Input)
-            → give_in value (world_by (objects_of self.old) (counts_of (λ v. (⟦<dyn Driver as Driver>⟧ v).meaning) (members drivers.old)) gs events.old.items is)
-            ≡ world_by (objects_of self.new) (counts_of (λ v. (⟦<dyn Driver as Driver>⟧ v).meaning) (members drivers.new)) gs events.new.items is }
-        ensures ready { AreReady (states_of (λ v. (⟦<dyn Driver as Driver>⟧ v).meaning) (members drivers.new)) (vec_len events.new) (vec_capacity events.new) }
-        ensures level { vec_len events.new + live_of (λ v. (⟦<dyn Driver as Driver>⟧ v).meaning) (members drivers.new) ≡ vec_len events.old + live_of (λ v. (⟦<dyn Driver as Driver>⟧ v).meaning) (members drivers.old) }
-        ensures fewer { live_of (λ v. (⟦<dyn Driver as Driver>⟧ v).meaning) (members drivers.new) ≤ live_of (λ v. (⟦<dyn Driver as Driver>⟧ v).meaning) (members drivers.old) }
+            → give_in value (world_by (objects_of self.old) (counts_of ⟦<dyn Driver as Driver>⟧ (members drivers.old)) gs events.old.items is)
+            ≡ world_by (objects_of self.new) (counts_of ⟦<dyn Driver as Driver>⟧ (members drivers.new)) gs events.new.items is }
+        ensures ready { AreReady (states_of ⟦<dyn Driver as Driver>⟧ (members drivers.new)) (vec_len events.new) (vec_capacity events.new) }
+        ensures level { vec_len events.new + live_of ⟦<dyn Driver as Driver>⟧ (members drivers.new) ≡ vec_len events.old + live_of ⟦<dyn Driver as Driver>⟧ (members drivers.old) }
+        ensures fewer { live_of ⟦<dyn Driver as Driver>⟧ (members drivers.new) ≤ live_of ⟦<dyn Driver as Driver>⟧ (members drivers.old) }
         ensures capacity { vec_capacity events.new ≡ vec_capacity events.old }
-        ensures moves { (roles : List Role) → PartsMove (λ v. (⟦<dyn Driver as Driver>⟧ v).meaning) roles (members drivers.old) events.old.items (members drivers.new) events.new.items }
+        ensures moves { (roles : List Role) → PartsMove ⟦<dyn Driver as Driver>⟧ roles (members drivers.old) events.old.items (members drivers.new) events.new.items }
     {
         give_up(&mut self.records, drivers, events, value);
     }
@@ -118,17 +118,17 @@ fn raise(records: &mut Slab<ScriptObject>, key: usize) -> bool
 
 /// One more place holds the value. False where a tally or a count has run out, and then nothing is done.
 fn hold(records: &mut Slab<ScriptObject>, drivers: &mut Drivers, value: Slot) -> bool
-    requires there { HasKey value (counts_of (λ v. (⟦<dyn Driver as Driver>⟧ v).meaning) (members drivers.old)) }
+    requires there { HasKey value (counts_of ⟦<dyn Driver as Driver>⟧ (members drivers.old)) }
     ensures holds { (gs : List (List Slot)) (es : List HostEvent)
-        → Told (λ is. hold_in value (world_by (objects_in records.old) (counts_of (λ v. (⟦<dyn Driver as Driver>⟧ v).meaning) (members drivers.old)) gs es is))
-        (λ is. if_told result (world_by (objects_in records.new) (counts_of (λ v. (⟦<dyn Driver as Driver>⟧ v).meaning) (members drivers.new)) gs es is)) }
-    ensures full { result ≡ false → IsTallyFull value (objects_in records.old) (states_of (λ v. (⟦<dyn Driver as Driver>⟧ v).meaning) (members drivers.old)) }
+        → Told (λ is. hold_in value (world_by (objects_in records.old) (counts_of ⟦<dyn Driver as Driver>⟧ (members drivers.old)) gs es is))
+        (λ is. if_told result (world_by (objects_in records.new) (counts_of ⟦<dyn Driver as Driver>⟧ (members drivers.new)) gs es is)) }
+    ensures full { result ≡ false → IsTallyFull value (objects_in records.old) (states_of ⟦<dyn Driver as Driver>⟧ (members drivers.old)) }
     ensures same_objects { result ≡ false → objects_in records.new ≡ objects_in records.old }
-    ensures same_drivers { result ≡ false → states_of (λ v. (⟦<dyn Driver as Driver>⟧ v).meaning) (members drivers.new) ≡ states_of (λ v. (⟦<dyn Driver as Driver>⟧ v).meaning) (members drivers.old) }
-    ensures live { live_of (λ v. (⟦<dyn Driver as Driver>⟧ v).meaning) (members drivers.new) ≡ live_of (λ v. (⟦<dyn Driver as Driver>⟧ v).meaning) (members drivers.old) }
-    ensures ready { (len capacity : ℕ) → AreReady (states_of (λ v. (⟦<dyn Driver as Driver>⟧ v).meaning) (members drivers.old)) len capacity
-        → AreReady (states_of (λ v. (⟦<dyn Driver as Driver>⟧ v).meaning) (members drivers.new)) len capacity }
-    ensures follow { (roles : List Role) → DriversFollow (λ v. (⟦<dyn Driver as Driver>⟧ v).meaning) roles (members drivers.old) [] (members drivers.new) }
+    ensures same_drivers { result ≡ false → states_of ⟦<dyn Driver as Driver>⟧ (members drivers.new) ≡ states_of ⟦<dyn Driver as Driver>⟧ (members drivers.old) }
+    ensures live { live_of ⟦<dyn Driver as Driver>⟧ (members drivers.new) ≡ live_of ⟦<dyn Driver as Driver>⟧ (members drivers.old) }
+    ensures ready { (len capacity : ℕ) → AreReady (states_of ⟦<dyn Driver as Driver>⟧ (members drivers.old)) len capacity
+        → AreReady (states_of ⟦<dyn Driver as Driver>⟧ (members drivers.new)) len capacity }
+    ensures follow { (roles : List Role) → DriversFollow ⟦<dyn Driver as Driver>⟧ roles (members drivers.old) [] (members drivers.new) }
 {
     match value {
         Slot::Bits(_) => true,
@@ -169,17 +169,17 @@ fn give_up(
     events: &mut Vec<HostEvent>,
     value: Slot,
 )
-    requires ready { AreReady (states_of (λ v. (⟦<dyn Driver as Driver>⟧ v).meaning) (members drivers.old)) (vec_len events.old) (vec_capacity events.old) }
-    requires enough { EnoughIn (value ∷ []) (objects_in records.old) (counts_of (λ v. (⟦<dyn Driver as Driver>⟧ v).meaning) (members drivers.old)) }
+    requires ready { AreReady (states_of ⟦<dyn Driver as Driver>⟧ (members drivers.old)) (vec_len events.old) (vec_capacity events.old) }
+    requires enough { EnoughIn (value ∷ []) (objects_in records.old) (counts_of ⟦<dyn Driver as Driver>⟧ (members drivers.old)) }
     ensures gives { (gs : List (List Slot)) (is : List Input)
-        → give_in value (world_by (objects_in records.old) (counts_of (λ v. (⟦<dyn Driver as Driver>⟧ v).meaning) (members drivers.old)) gs events.old.items is)
-        ≡ world_by (objects_in records.new) (counts_of (λ v. (⟦<dyn Driver as Driver>⟧ v).meaning) (members drivers.new)) gs events.new.items is }
-    ensures ready { AreReady (states_of (λ v. (⟦<dyn Driver as Driver>⟧ v).meaning) (members drivers.new)) (vec_len events.new) (vec_capacity events.new) }
-    ensures level { vec_len events.new + live_of (λ v. (⟦<dyn Driver as Driver>⟧ v).meaning) (members drivers.new) ≡ vec_len events.old + live_of (λ v. (⟦<dyn Driver as Driver>⟧ v).meaning) (members drivers.old) }
-    ensures fewer { live_of (λ v. (⟦<dyn Driver as Driver>⟧ v).meaning) (members drivers.new) ≤ live_of (λ v. (⟦<dyn Driver as Driver>⟧ v).meaning) (members drivers.old) }
+        → give_in value (world_by (objects_in records.old) (counts_of ⟦<dyn Driver as Driver>⟧ (members drivers.old)) gs events.old.items is)
+        ≡ world_by (objects_in records.new) (counts_of ⟦<dyn Driver as Driver>⟧ (members drivers.new)) gs events.new.items is }
+    ensures ready { AreReady (states_of ⟦<dyn Driver as Driver>⟧ (members drivers.new)) (vec_len events.new) (vec_capacity events.new) }
+    ensures level { vec_len events.new + live_of ⟦<dyn Driver as Driver>⟧ (members drivers.new) ≡ vec_len events.old + live_of ⟦<dyn Driver as Driver>⟧ (members drivers.old) }
+    ensures fewer { live_of ⟦<dyn Driver as Driver>⟧ (members drivers.new) ≤ live_of ⟦<dyn Driver as Driver>⟧ (members drivers.old) }
     ensures capacity { vec_capacity events.new ≡ vec_capacity events.old }
     ensures shorter { slab_len records.new ≤ slab_len records.old }
-    ensures moves { (roles : List Role) → PartsMove (λ v. (⟦<dyn Driver as Driver>⟧ v).meaning) roles (members drivers.old) events.old.items (members drivers.new) events.new.items }
+    ensures moves { (roles : List Role) → PartsMove ⟦<dyn Driver as Driver>⟧ roles (members drivers.old) events.old.items (members drivers.new) events.new.items }
 {
     match value {
         Slot::Bits(_) => {}

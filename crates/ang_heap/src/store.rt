@@ -37,12 +37,12 @@ pub struct Store {
 /// One more place holds the value. False where a tally is full, and then nothing is done.
 #[inline(always)]
 pub fn hold(store: &mut Store, value: Slot) -> bool
-    requires there { HasKey value (counts_of (λ v. (⟦<dyn Driver as Driver>⟧ v).meaning) (members store.old.drivers)) }
-    ensures told { Told (λ is. hold_in value (with_inputs is (world_of (λ v. (⟦<dyn Driver as Driver>⟧ v).meaning) store.old)))
-        (λ is. if_told result (with_inputs is (world_of (λ v. (⟦<dyn Driver as Driver>⟧ v).meaning) store.new))) }
-    ensures full { result ≡ false → IsTallyFull value (objects_of store.old.heap) (states_of (λ v. (⟦<dyn Driver as Driver>⟧ v).meaning) (members store.old.drivers)) }
-    ensures unchanged { result ≡ false → states_of (λ v. (⟦<dyn Driver as Driver>⟧ v).meaning) (members store.new.drivers) ≡ states_of (λ v. (⟦<dyn Driver as Driver>⟧ v).meaning) (members store.old.drivers) }
-    ensures moves { (roles : List Role) → StoreMoves (λ v. (⟦<dyn Driver as Driver>⟧ v).meaning) roles store.old store.new }
+    requires there { HasKey value (counts_of ⟦<dyn Driver as Driver>⟧ (members store.old.drivers)) }
+    ensures told { Told (λ is. hold_in value (with_inputs is (world_of ⟦<dyn Driver as Driver>⟧ store.old)))
+        (λ is. if_told result (with_inputs is (world_of ⟦<dyn Driver as Driver>⟧ store.new))) }
+    ensures full { result ≡ false → IsTallyFull value (objects_of store.old.heap) (states_of ⟦<dyn Driver as Driver>⟧ (members store.old.drivers)) }
+    ensures unchanged { result ≡ false → states_of ⟦<dyn Driver as Driver>⟧ (members store.new.drivers) ≡ states_of ⟦<dyn Driver as Driver>⟧ (members store.old.drivers) }
+    ensures moves { (roles : List Role) → StoreMoves ⟦<dyn Driver as Driver>⟧ roles store.old store.new }
 {
     match value {
         Slot::Bits(_) => true,
@@ -53,12 +53,12 @@ pub fn hold(store: &mut Store, value: Slot) -> bool
 
 #[inline(never)]
 fn hold_object(store: &mut Store, value: Slot) -> bool
-    requires there { HasKey value (counts_of (λ v. (⟦<dyn Driver as Driver>⟧ v).meaning) (members store.old.drivers)) }
-    ensures told { Told (λ is. hold_in value (with_inputs is (world_of (λ v. (⟦<dyn Driver as Driver>⟧ v).meaning) store.old)))
-        (λ is. if_told result (with_inputs is (world_of (λ v. (⟦<dyn Driver as Driver>⟧ v).meaning) store.new))) }
-    ensures full { result ≡ false → IsTallyFull value (objects_of store.old.heap) (states_of (λ v. (⟦<dyn Driver as Driver>⟧ v).meaning) (members store.old.drivers)) }
-    ensures unchanged { result ≡ false → states_of (λ v. (⟦<dyn Driver as Driver>⟧ v).meaning) (members store.new.drivers) ≡ states_of (λ v. (⟦<dyn Driver as Driver>⟧ v).meaning) (members store.old.drivers) }
-    ensures moves { (roles : List Role) → StoreMoves (λ v. (⟦<dyn Driver as Driver>⟧ v).meaning) roles store.old store.new }
+    requires there { HasKey value (counts_of ⟦<dyn Driver as Driver>⟧ (members store.old.drivers)) }
+    ensures told { Told (λ is. hold_in value (with_inputs is (world_of ⟦<dyn Driver as Driver>⟧ store.old)))
+        (λ is. if_told result (with_inputs is (world_of ⟦<dyn Driver as Driver>⟧ store.new))) }
+    ensures full { result ≡ false → IsTallyFull value (objects_of store.old.heap) (states_of ⟦<dyn Driver as Driver>⟧ (members store.old.drivers)) }
+    ensures unchanged { result ≡ false → states_of ⟦<dyn Driver as Driver>⟧ (members store.new.drivers) ≡ states_of ⟦<dyn Driver as Driver>⟧ (members store.old.drivers) }
+    ensures moves { (roles : List Role) → StoreMoves ⟦<dyn Driver as Driver>⟧ roles store.old store.new }
 {
     store.heap.hold(&mut store.drivers, value).is_ok()
 }
@@ -66,11 +66,11 @@ fn hold_object(store: &mut Store, value: Slot) -> bool
 /// One place gives up the value. It takes no memory and always succeeds.
 #[inline(always)]
 pub fn give(store: &mut Store, value: Slot)
-    requires ready { IsReady (λ v. (⟦<dyn Driver as Driver>⟧ v).meaning) store.old }
-    requires enough { CanGive (value ∷ []) (world_of (λ v. (⟦<dyn Driver as Driver>⟧ v).meaning) store.old) }
-    ensures given { (is : List Input) → give_in value (with_inputs is (world_of (λ v. (⟦<dyn Driver as Driver>⟧ v).meaning) store.old))
-        ≡ with_inputs is (world_of (λ v. (⟦<dyn Driver as Driver>⟧ v).meaning) store.new) }
-    ensures moves { (roles : List Role) → StoreMoves (λ v. (⟦<dyn Driver as Driver>⟧ v).meaning) roles store.old store.new }
+    requires ready { IsReady ⟦<dyn Driver as Driver>⟧ store.old }
+    requires enough { CanGive (value ∷ []) (world_of ⟦<dyn Driver as Driver>⟧ store.old) }
+    ensures given { (is : List Input) → give_in value (with_inputs is (world_of ⟦<dyn Driver as Driver>⟧ store.old))
+        ≡ with_inputs is (world_of ⟦<dyn Driver as Driver>⟧ store.new) }
+    ensures moves { (roles : List Role) → StoreMoves ⟦<dyn Driver as Driver>⟧ roles store.old store.new }
 {
     match value {
         Slot::Bits(_) => {}
@@ -81,11 +81,11 @@ pub fn give(store: &mut Store, value: Slot)
 
 #[inline(never)]
 fn give_object(store: &mut Store, value: Slot)
-    requires ready { IsReady (λ v. (⟦<dyn Driver as Driver>⟧ v).meaning) store.old }
-    requires enough { CanGive (value ∷ []) (world_of (λ v. (⟦<dyn Driver as Driver>⟧ v).meaning) store.old) }
-    ensures given { (is : List Input) → give_in value (with_inputs is (world_of (λ v. (⟦<dyn Driver as Driver>⟧ v).meaning) store.old))
-        ≡ with_inputs is (world_of (λ v. (⟦<dyn Driver as Driver>⟧ v).meaning) store.new) }
-    ensures moves { (roles : List Role) → StoreMoves (λ v. (⟦<dyn Driver as Driver>⟧ v).meaning) roles store.old store.new }
+    requires ready { IsReady ⟦<dyn Driver as Driver>⟧ store.old }
+    requires enough { CanGive (value ∷ []) (world_of ⟦<dyn Driver as Driver>⟧ store.old) }
+    ensures given { (is : List Input) → give_in value (with_inputs is (world_of ⟦<dyn Driver as Driver>⟧ store.old))
+        ≡ with_inputs is (world_of ⟦<dyn Driver as Driver>⟧ store.new) }
+    ensures moves { (roles : List Role) → StoreMoves ⟦<dyn Driver as Driver>⟧ roles store.old store.new }
 {
     let before = store.events.len();
     store

@@ -40,11 +40,7 @@ fn refuse_declaration(
 }
 
 /// The errors of one section.
-fn refuse_section(
-    alloc: Global,
-    script: &Script,
-    errors: &mut Vec<Error>,
-) -> Result<(), AllocError>
+fn refuse_section(alloc: Global, script: &Script, errors: &mut Vec<Error>) -> Result<(), AllocError>
     ensures added { OnOk result (errors.new.items
         ≡ errors.old.items ++ spec.section_errors (source_of script.now)) }
 {

@@ -204,9 +204,9 @@ pub fn enter<'t>(
     requires fits { Fits from stack.old.items frames.old.items }
     requires inside { from.place.at + 1 < 2 ^ 64 }
     ensures told { Told (λ is. found_enters (setting_of table.now nesting) (texts_of table.now)
-        (target (setting_of table.now nesting) from.body.home callee (values stack.old.items from.place.top) (with_inputs is (world_of (λ v. (⟦<dyn Driver as Driver>⟧ v).meaning) store.now)))
-        (values stack.old.items from.place.top) (reverse frames.old.items) (caller_at from) from.place.ticks (with_inputs is (world_of (λ v. (⟦<dyn Driver as Driver>⟧ v).meaning) store.now)))
-        (λ is. begun (standing_in result) from.place.top stack.new.items (reverse frames.new.items) (with_inputs is (world_of (λ v. (⟦<dyn Driver as Driver>⟧ v).meaning) store.now))) }
+        (target (setting_of table.now nesting) from.body.home callee (values stack.old.items from.place.top) (with_inputs is (world_of ⟦<dyn Driver as Driver>⟧ store.now)))
+        (values stack.old.items from.place.top) (reverse frames.old.items) (caller_at from) from.place.ticks (with_inputs is (world_of ⟦<dyn Driver as Driver>⟧ store.now)))
+        (λ is. begun (standing_in result) from.place.top stack.new.items (reverse frames.new.items) (with_inputs is (world_of ⟦<dyn Driver as Driver>⟧ store.now))) }
     ensures fits { IfOk result (λ r. Fits r.0 stack.new.items frames.new.items) }
     ensures code { IfOk result (λ r. MatchOption r.1 (body_of table.now r.0.body ≡ None) (λ code. body_of table.now r.0.body ≡ Some code.now)) }
     ensures same { values stack.new.items from.place.top ≡ values stack.old.items from.place.top }

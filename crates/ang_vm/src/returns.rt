@@ -27,10 +27,10 @@ use ang_vm_steps::many::{give_top, nothing_lives};
 /// A parameter's value at its body's end: that of an `&out` parameter stays, and any other is given up.
 #[inline(always)]
 fn give_unless_out(passing: Passing, value: Slot, store: &mut Store)
-    requires ready { IsReady (λ v. (⟦<dyn Driver as Driver>⟧ v).meaning) store.old }
-    requires held { CanGive (value ∷ []) (world_of (λ v. (⟦<dyn Driver as Driver>⟧ v).meaning) store.old) }
-    ensures given { (is : List Input) → given_by passing value (with_inputs is (world_of (λ v. (⟦<dyn Driver as Driver>⟧ v).meaning) store.old)) ≡ with_inputs is (world_of (λ v. (⟦<dyn Driver as Driver>⟧ v).meaning) store.new) }
-    ensures moves { (roles : List Role) → StoreMoves (λ v. (⟦<dyn Driver as Driver>⟧ v).meaning) roles store.old store.new }
+    requires ready { IsReady ⟦<dyn Driver as Driver>⟧ store.old }
+    requires held { CanGive (value ∷ []) (world_of ⟦<dyn Driver as Driver>⟧ store.old) }
+    ensures given { (is : List Input) → given_by passing value (with_inputs is (world_of ⟦<dyn Driver as Driver>⟧ store.old)) ≡ with_inputs is (world_of ⟦<dyn Driver as Driver>⟧ store.new) }
+    ensures moves { (roles : List Role) → StoreMoves ⟦<dyn Driver as Driver>⟧ roles store.old store.new }
 {
     match passing {
         Passing::In => give(store, value),
@@ -43,10 +43,10 @@ fn give_unless_out(passing: Passing, value: Slot, store: &mut Store)
 pub fn give_others(params: &[Passing], stack: &[Slot], store: &mut Store, top: usize)
     requires enough { length params.now ≤ top }
     requires within { top ≤ length stack.now }
-    requires ready { IsReady (λ v. (⟦<dyn Driver as Driver>⟧ v).meaning) store.old }
-    requires held { CanGive (values stack.now top) (world_of (λ v. (⟦<dyn Driver as Driver>⟧ v).meaning) store.old) }
-    ensures given { (is : List Input) → others_given params.now (values stack.now top) (with_inputs is (world_of (λ v. (⟦<dyn Driver as Driver>⟧ v).meaning) store.old)) ≡ with_inputs is (world_of (λ v. (⟦<dyn Driver as Driver>⟧ v).meaning) store.new) }
-    ensures moves { (roles : List Role) → StoreMoves (λ v. (⟦<dyn Driver as Driver>⟧ v).meaning) roles store.old store.new }
+    requires ready { IsReady ⟦<dyn Driver as Driver>⟧ store.old }
+    requires held { CanGive (values stack.now top) (world_of ⟦<dyn Driver as Driver>⟧ store.old) }
+    ensures given { (is : List Input) → others_given params.now (values stack.now top) (with_inputs is (world_of ⟦<dyn Driver as Driver>⟧ store.old)) ≡ with_inputs is (world_of ⟦<dyn Driver as Driver>⟧ store.new) }
+    ensures moves { (roles : List Role) → StoreMoves ⟦<dyn Driver as Driver>⟧ roles store.old store.new }
 {
     if nothing_lives(store) {
         return;
@@ -107,13 +107,13 @@ fn hand_back(
 ) -> Result<Standing, Ending>
     requires below { kept < length stack.old }
     requires callers { AllFit (length stack.old) (reverse frames.old.items) }
-    requires ready { IsReady (λ v. (⟦<dyn Driver as Driver>⟧ v).meaning) store.old }
-    requires held { CanGive (values stack.old kept) (world_of (λ v. (⟦<dyn Driver as Driver>⟧ v).meaning) store.old) }
+    requires ready { IsReady ⟦<dyn Driver as Driver>⟧ store.old }
+    requires held { CanGive (values stack.old kept) (world_of ⟦<dyn Driver as Driver>⟧ store.old) }
     ensures told { (outs rest : List Slot) → values stack.old kept ≡ outs ++ rest
-        → Told (λ is. back (reverse frames.old.items) value outs rest ticks (with_inputs is (world_of (λ v. (⟦<dyn Driver as Driver>⟧ v).meaning) store.old)))
-        (λ is. left result stack.new (reverse frames.new.items) (with_inputs is (world_of (λ v. (⟦<dyn Driver as Driver>⟧ v).meaning) store.new))) }
+        → Told (λ is. back (reverse frames.old.items) value outs rest ticks (with_inputs is (world_of ⟦<dyn Driver as Driver>⟧ store.old)))
+        (λ is. left result stack.new (reverse frames.new.items) (with_inputs is (world_of ⟦<dyn Driver as Driver>⟧ store.new))) }
     ensures fits { IfOk result (λ s. Fits s stack.new frames.new.items) }
-    ensures moves { (roles : List Role) → StoreMoves (λ v. (⟦<dyn Driver as Driver>⟧ v).meaning) roles store.old store.new }
+    ensures moves { (roles : List Role) → StoreMoves ⟦<dyn Driver as Driver>⟧ roles store.old store.new }
 {
     match frames.pop() {
         None => {
@@ -151,13 +151,13 @@ fn leave_params(
     requires enough { length params.now ≤ top }
     requires within { top ≤ length stack.old }
     requires known { by_value ≡ are_by_value params.now }
-    requires ready { IsReady (λ v. (⟦<dyn Driver as Driver>⟧ v).meaning) store.old }
-    requires held { CanGive (values stack.old top) (world_of (λ v. (⟦<dyn Driver as Driver>⟧ v).meaning) store.old) }
-    ensures given { (is : List Input) → others_given params.now (values stack.old top) (with_inputs is (world_of (λ v. (⟦<dyn Driver as Driver>⟧ v).meaning) store.old)) ≡ with_inputs is (world_of (λ v. (⟦<dyn Driver as Driver>⟧ v).meaning) store.new) }
-    ensures held { CanGive (values stack.new result) (world_of (λ v. (⟦<dyn Driver as Driver>⟧ v).meaning) store.new) }
+    requires ready { IsReady ⟦<dyn Driver as Driver>⟧ store.old }
+    requires held { CanGive (values stack.old top) (world_of ⟦<dyn Driver as Driver>⟧ store.old) }
+    ensures given { (is : List Input) → others_given params.now (values stack.old top) (with_inputs is (world_of ⟦<dyn Driver as Driver>⟧ store.old)) ≡ with_inputs is (world_of ⟦<dyn Driver as Driver>⟧ store.new) }
+    ensures held { CanGive (values stack.new result) (world_of ⟦<dyn Driver as Driver>⟧ store.new) }
     ensures kept { values stack.new result ≡ outs_of params.now (values stack.old top) ++ values stack.old (top - length params.now) }
     ensures fewer { result ≤ top }
-    ensures moves { (roles : List Role) → StoreMoves (λ v. (⟦<dyn Driver as Driver>⟧ v).meaning) roles store.old store.new }
+    ensures moves { (roles : List Role) → StoreMoves ⟦<dyn Driver as Driver>⟧ roles store.old store.new }
 {
     if by_value {
         give_top(stack, store, top, params.len());
@@ -181,13 +181,13 @@ pub fn leave_body(
 ) -> Result<Standing, Ending>
     requires there { body_of table.now from.body ≡ Some code.now }
     requires fits { Fits from stack.old frames.old.items }
-    requires ready { IsReady (λ v. (⟦<dyn Driver as Driver>⟧ v).meaning) store.old }
-    requires counted { IsCounted (values stack.old from.place.top) (world_of (λ v. (⟦<dyn Driver as Driver>⟧ v).meaning) store.old) }
+    requires ready { IsReady ⟦<dyn Driver as Driver>⟧ store.old }
+    requires counted { IsCounted (values stack.old from.place.top) (world_of ⟦<dyn Driver as Driver>⟧ store.old) }
     ensures told { (nesting : ℕ) → Told (λ is. act (setting_of table.now nesting) (texts_of table.now) (Some (Return count)) from.body from.place.at
-        from.room (values stack.old from.place.top) (reverse frames.old.items) from.place.ticks (with_inputs is (world_of (λ v. (⟦<dyn Driver as Driver>⟧ v).meaning) store.old)))
-        (λ is. left result stack.new (reverse frames.new.items) (with_inputs is (world_of (λ v. (⟦<dyn Driver as Driver>⟧ v).meaning) store.new))) }
+        from.room (values stack.old from.place.top) (reverse frames.old.items) from.place.ticks (with_inputs is (world_of ⟦<dyn Driver as Driver>⟧ store.old)))
+        (λ is. left result stack.new (reverse frames.new.items) (with_inputs is (world_of ⟦<dyn Driver as Driver>⟧ store.new))) }
     ensures fits { IfOk result (λ s. Fits s stack.new frames.new.items) }
-    ensures moves { (roles : List Role) → StoreMoves (λ v. (⟦<dyn Driver as Driver>⟧ v).meaning) roles store.old store.new }
+    ensures moves { (roles : List Role) → StoreMoves ⟦<dyn Driver as Driver>⟧ roles store.old store.new }
 {
     let top = from.place.top;
     if top == 0 {

@@ -28,13 +28,13 @@ fn start(
     entry: Routine,
     ticks: u64,
 ) -> Result<Standing, Ending>
-    requires ready { IsReady (λ v. (⟦<dyn Driver as Driver>⟧ v).meaning) store.old }
-    requires counted { IsCounted (reverse stack.old.items) (world_of (λ v. (⟦<dyn Driver as Driver>⟧ v).meaning) store.old) }
+    requires ready { IsReady ⟦<dyn Driver as Driver>⟧ store.old }
+    requires counted { IsCounted (reverse stack.old.items) (world_of ⟦<dyn Driver as Driver>⟧ store.old) }
     ensures starts { (nesting : ℕ) → Reaches (setting_of table.now nesting) (texts_of table.now)
-        (λ is. begins (texts_of table.now) entry (reverse stack.old.items) [] ticks (with_inputs is (world_of (λ v. (⟦<dyn Driver as Driver>⟧ v).meaning) store.old)))
-        (λ is. left result stack.new.items (reverse frames.new.items) (with_inputs is (world_of (λ v. (⟦<dyn Driver as Driver>⟧ v).meaning) store.new))) }
+        (λ is. begins (texts_of table.now) entry (reverse stack.old.items) [] ticks (with_inputs is (world_of ⟦<dyn Driver as Driver>⟧ store.old)))
+        (λ is. left result stack.new.items (reverse frames.new.items) (with_inputs is (world_of ⟦<dyn Driver as Driver>⟧ store.new))) }
     ensures fits { IfOk result (λ s. Fits s stack.new.items frames.new.items) }
-    ensures moves { (roles : List Role) → StoreMoves (λ v. (⟦<dyn Driver as Driver>⟧ v).meaning) roles store.old store.new }
+    ensures moves { (roles : List Role) → StoreMoves ⟦<dyn Driver as Driver>⟧ roles store.old store.new }
 {
     frames.clear();
     let top = stack.len();
@@ -57,13 +57,13 @@ pub fn start_call(
     entry: Routine,
     budget: u64,
 ) -> Result<Standing, Ending>
-    requires ready { IsReady (λ v. (⟦<dyn Driver as Driver>⟧ v).meaning) store.old }
-    requires counted { IsCounted (reverse stack.old.items) (world_of (λ v. (⟦<dyn Driver as Driver>⟧ v).meaning) store.old) }
+    requires ready { IsReady ⟦<dyn Driver as Driver>⟧ store.old }
+    requires counted { IsCounted (reverse stack.old.items) (world_of ⟦<dyn Driver as Driver>⟧ store.old) }
     ensures starts { (nesting : ℕ) → Reaches (setting_of table.now nesting) (texts_of table.now)
-        (λ is. call_begins (setting_of table.now nesting) (texts_of table.now) budget entry (reverse stack.old.items) (with_inputs is (world_of (λ v. (⟦<dyn Driver as Driver>⟧ v).meaning) store.old)))
-        (λ is. left result stack.new.items (reverse frames.new.items) (with_inputs is (world_of (λ v. (⟦<dyn Driver as Driver>⟧ v).meaning) store.new))) }
+        (λ is. call_begins (setting_of table.now nesting) (texts_of table.now) budget entry (reverse stack.old.items) (with_inputs is (world_of ⟦<dyn Driver as Driver>⟧ store.old)))
+        (λ is. left result stack.new.items (reverse frames.new.items) (with_inputs is (world_of ⟦<dyn Driver as Driver>⟧ store.new))) }
     ensures fits { IfOk result (λ s. Fits s stack.new.items frames.new.items) }
-    ensures moves { (roles : List Role) → StoreMoves (λ v. (⟦<dyn Driver as Driver>⟧ v).meaning) roles store.old store.new }
+    ensures moves { (roles : List Role) → StoreMoves ⟦<dyn Driver as Driver>⟧ roles store.old store.new }
 {
     if budget == 0 {
         let held = stack.len();
@@ -85,13 +85,13 @@ pub fn start_initializer(
     ticks: u64,
 ) -> Result<Standing, Ending>
     requires empty { stack.old.items ≡ [] }
-    requires ready { IsReady (λ v. (⟦<dyn Driver as Driver>⟧ v).meaning) store.old }
-    requires counted { IsCounted [] (world_of (λ v. (⟦<dyn Driver as Driver>⟧ v).meaning) store.old) }
+    requires ready { IsReady ⟦<dyn Driver as Driver>⟧ store.old }
+    requires counted { IsCounted [] (world_of ⟦<dyn Driver as Driver>⟧ store.old) }
     ensures starts { (nesting : ℕ) → Reaches (setting_of table.now nesting) (texts_of table.now)
-        (λ is. initializer_begins (setting_of table.now nesting) (texts_of table.now) ticks entry (with_inputs is (world_of (λ v. (⟦<dyn Driver as Driver>⟧ v).meaning) store.old)))
-        (λ is. left result stack.new.items (reverse frames.new.items) (with_inputs is (world_of (λ v. (⟦<dyn Driver as Driver>⟧ v).meaning) store.new))) }
+        (λ is. initializer_begins (setting_of table.now nesting) (texts_of table.now) ticks entry (with_inputs is (world_of ⟦<dyn Driver as Driver>⟧ store.old)))
+        (λ is. left result stack.new.items (reverse frames.new.items) (with_inputs is (world_of ⟦<dyn Driver as Driver>⟧ store.new))) }
     ensures fits { IfOk result (λ s. Fits s stack.new.items frames.new.items) }
-    ensures moves { (roles : List Role) → StoreMoves (λ v. (⟦<dyn Driver as Driver>⟧ v).meaning) roles store.old store.new }
+    ensures moves { (roles : List Role) → StoreMoves ⟦<dyn Driver as Driver>⟧ roles store.old store.new }
 {
     start(table, stack, frames, store, entry, ticks)
 }

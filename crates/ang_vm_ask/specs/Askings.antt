@@ -3,7 +3,7 @@ use Rattle.std.specs.Prelude.{ℕ, ◌≡◌, true, List, Some, Result, length, 
 use Rattle.ang_kinds.specs.declared.mask.EntityNo.{EntityNo}
 use Rattle.ang_kinds.specs.declared.fault.Fault.{Fault}
 use Rattle.ang_host.specs.declared.event.Role.{Role}
-use Rattle.ang_host.specs.Laws.{Meaning}
+use Rattle.ang_host.specs.Meanings.{Meanings}
 use Rattle.ang_host.specs.Boxes.{members}
 use Rattle.ang_host.specs.Events.{role_at}
 use Rattle.ang_meaning.specs.declared.host.HostUse.{HostUse}
@@ -30,7 +30,7 @@ pub record Performed (caller : List ℕ) (e : EntityNo) (u : HostUse) (o : Opera
       → Told (λ is. asks z m o (reverse ops) (with_inputs is w)) (λ is. done r (with_inputs is w'))
 
 -- An entity of this role was asked, or not: the drivers follow what was listed, there are as many of them as before, and all is ready again.
-pub record StoreAsked {V : Type 0} {P : V → Type 0} (m : (v : V) → Meaning (P v)) (e : EntityNo) (role : Role) (s t : Store V P) : Type 0 where
+pub record StoreAsked {V : Type 0} {P : V → Type 0} (m : Meanings P) (e : EntityNo) (role : Role) (s t : Store V P) : Type 0 where
   pub moves : (roles : List Role) → role_at roles e.0 ≡ role → StoreMoves m roles s t
   pub ready : IsReady m s → IsReady m t
   pub same : length (members t.drivers) ≡ length (members s.drivers)

@@ -41,15 +41,15 @@ pub(crate) fn call(
 ) -> Result<Slot, Fault>
     requires role { host.now.role ≡ CallingRole number }
     requires in_list { host.now.driver < length (members store.old.drivers) }
-    requires ready { IsReady (λ v. (⟦<dyn Driver as Driver>⟧ v).meaning) store.old }
-    requires object_live { IsLiveOption (state_at (states_of (λ v. (⟦<dyn Driver as Driver>⟧ v).meaning) (members store.old.drivers)) host.now.driver) object }
-    requires args_live { AreLive (state_at (states_of (λ v. (⟦<dyn Driver as Driver>⟧ v).meaning) (members store.old.drivers)) host.now.driver) (values_of host.now.driver host.now.params args.now) }
+    requires ready { IsReady ⟦<dyn Driver as Driver>⟧ store.old }
+    requires object_live { IsLiveOption (state_at (states_of ⟦<dyn Driver as Driver>⟧ (members store.old.drivers)) host.now.driver) object }
+    requires args_live { AreLive (state_at (states_of ⟦<dyn Driver as Driver>⟧ (members store.old.drivers)) host.now.driver) (values_of host.now.driver host.now.params args.now) }
     ensures told { (z : Setting) (m : ℕ) → Sees z m caller.now entity host.now
-        → Told (λ is. asked z m entity object (values_of host.now.driver host.now.params args.now) host.now.result (with_inputs is (world_of (λ v. (⟦<dyn Driver as Driver>⟧ v).meaning) store.old)))
-        (λ is. done result (with_inputs is (world_of (λ v. (⟦<dyn Driver as Driver>⟧ v).meaning) store.new))) }
-    ensures enough { (vs : List Slot) → CanGive vs (world_of (λ v. (⟦<dyn Driver as Driver>⟧ v).meaning) store.old)
-        → CanGive (with_result result vs) (world_of (λ v. (⟦<dyn Driver as Driver>⟧ v).meaning) store.new) }
-    ensures asked { StoreAsked (λ v. (⟦<dyn Driver as Driver>⟧ v).meaning) entity host.now.role store.old store.new }
+        → Told (λ is. asked z m entity object (values_of host.now.driver host.now.params args.now) host.now.result (with_inputs is (world_of ⟦<dyn Driver as Driver>⟧ store.old)))
+        (λ is. done result (with_inputs is (world_of ⟦<dyn Driver as Driver>⟧ store.new))) }
+    ensures enough { (vs : List Slot) → CanGive vs (world_of ⟦<dyn Driver as Driver>⟧ store.old)
+        → CanGive (with_result result vs) (world_of ⟦<dyn Driver as Driver>⟧ store.new) }
+    ensures asked { StoreAsked ⟦<dyn Driver as Driver>⟧ entity host.now.role store.old store.new }
 {
     let Some(more) = store.live.checked_add(1) else {
         return Err(Fault::Memory);
@@ -82,14 +82,14 @@ pub(crate) fn read(
 ) -> Result<Slot, Fault>
     requires role { host.now.role ≡ PropertyRole number }
     requires in_list { host.now.driver < length (members store.old.drivers) }
-    requires ready { IsReady (λ v. (⟦<dyn Driver as Driver>⟧ v).meaning) store.old }
-    requires object_live { IsLiveOption (state_at (states_of (λ v. (⟦<dyn Driver as Driver>⟧ v).meaning) (members store.old.drivers)) host.now.driver) object }
+    requires ready { IsReady ⟦<dyn Driver as Driver>⟧ store.old }
+    requires object_live { IsLiveOption (state_at (states_of ⟦<dyn Driver as Driver>⟧ (members store.old.drivers)) host.now.driver) object }
     ensures told { (z : Setting) (m : ℕ) → Sees z m caller.now entity host.now
-        → Told (λ is. asked z m entity object [] host.now.result (with_inputs is (world_of (λ v. (⟦<dyn Driver as Driver>⟧ v).meaning) store.old)))
-        (λ is. done result (with_inputs is (world_of (λ v. (⟦<dyn Driver as Driver>⟧ v).meaning) store.new))) }
-    ensures enough { (vs : List Slot) → CanGive vs (world_of (λ v. (⟦<dyn Driver as Driver>⟧ v).meaning) store.old)
-        → CanGive (with_result result vs) (world_of (λ v. (⟦<dyn Driver as Driver>⟧ v).meaning) store.new) }
-    ensures asked { StoreAsked (λ v. (⟦<dyn Driver as Driver>⟧ v).meaning) entity host.now.role store.old store.new }
+        → Told (λ is. asked z m entity object [] host.now.result (with_inputs is (world_of ⟦<dyn Driver as Driver>⟧ store.old)))
+        (λ is. done result (with_inputs is (world_of ⟦<dyn Driver as Driver>⟧ store.new))) }
+    ensures enough { (vs : List Slot) → CanGive vs (world_of ⟦<dyn Driver as Driver>⟧ store.old)
+        → CanGive (with_result result vs) (world_of ⟦<dyn Driver as Driver>⟧ store.new) }
+    ensures asked { StoreAsked ⟦<dyn Driver as Driver>⟧ entity host.now.role store.old store.new }
 {
     let Some(more) = store.live.checked_add(1) else {
         return Err(Fault::Memory);
@@ -124,15 +124,15 @@ pub(crate) fn write(
 ) -> Result<Slot, Fault>
     requires role { host.now.role ≡ PropertyRole number }
     requires in_list { host.now.driver < length (members store.old.drivers) }
-    requires ready { IsReady (λ v. (⟦<dyn Driver as Driver>⟧ v).meaning) store.old }
-    requires object_live { IsLiveOption (state_at (states_of (λ v. (⟦<dyn Driver as Driver>⟧ v).meaning) (members store.old.drivers)) host.now.driver) object }
-    requires value_live { IsLiveValue (state_at (states_of (λ v. (⟦<dyn Driver as Driver>⟧ v).meaning) (members store.old.drivers)) host.now.driver) (value_of host.now.driver host.now.result value) }
+    requires ready { IsReady ⟦<dyn Driver as Driver>⟧ store.old }
+    requires object_live { IsLiveOption (state_at (states_of ⟦<dyn Driver as Driver>⟧ (members store.old.drivers)) host.now.driver) object }
+    requires value_live { IsLiveValue (state_at (states_of ⟦<dyn Driver as Driver>⟧ (members store.old.drivers)) host.now.driver) (value_of host.now.driver host.now.result value) }
     ensures told { (z : Setting) (m : ℕ) → Sees z m caller.now entity host.now
-        → Told (λ is. asked z m entity object (value_of host.now.driver host.now.result value ∷ []) Nothing (with_inputs is (world_of (λ v. (⟦<dyn Driver as Driver>⟧ v).meaning) store.old)))
-        (λ is. done result (with_inputs is (world_of (λ v. (⟦<dyn Driver as Driver>⟧ v).meaning) store.new))) }
-    ensures enough { (vs : List Slot) → CanGive vs (world_of (λ v. (⟦<dyn Driver as Driver>⟧ v).meaning) store.old)
-        → CanGive (with_result result vs) (world_of (λ v. (⟦<dyn Driver as Driver>⟧ v).meaning) store.new) }
-    ensures asked { StoreAsked (λ v. (⟦<dyn Driver as Driver>⟧ v).meaning) entity host.now.role store.old store.new }
+        → Told (λ is. asked z m entity object (value_of host.now.driver host.now.result value ∷ []) Nothing (with_inputs is (world_of ⟦<dyn Driver as Driver>⟧ store.old)))
+        (λ is. done result (with_inputs is (world_of ⟦<dyn Driver as Driver>⟧ store.new))) }
+    ensures enough { (vs : List Slot) → CanGive vs (world_of ⟦<dyn Driver as Driver>⟧ store.old)
+        → CanGive (with_result result vs) (world_of ⟦<dyn Driver as Driver>⟧ store.new) }
+    ensures asked { StoreAsked ⟦<dyn Driver as Driver>⟧ entity host.now.role store.old store.new }
 {
     let Some(more) = store.live.checked_add(1) else {
         return Err(Fault::Memory);
@@ -197,14 +197,14 @@ pub(crate) fn make(
 ) -> Result<Slot, Fault>
     requires role { host.now.role ≡ MakingRole number }
     requires in_list { host.now.driver < length (members store.old.drivers) }
-    requires ready { IsReady (λ v. (⟦<dyn Driver as Driver>⟧ v).meaning) store.old }
-    requires args_live { AreLive (state_at (states_of (λ v. (⟦<dyn Driver as Driver>⟧ v).meaning) (members store.old.drivers)) host.now.driver) (values_of host.now.driver host.now.params args.now) }
+    requires ready { IsReady ⟦<dyn Driver as Driver>⟧ store.old }
+    requires args_live { AreLive (state_at (states_of ⟦<dyn Driver as Driver>⟧ (members store.old.drivers)) host.now.driver) (values_of host.now.driver host.now.params args.now) }
     ensures told { (z : Setting) (m : ℕ) → Sees z m caller.now entity host.now
-        → Told (λ is. asked z m entity None (values_of host.now.driver host.now.params args.now) host.now.result (with_inputs is (world_of (λ v. (⟦<dyn Driver as Driver>⟧ v).meaning) store.old)))
-        (λ is. done result (with_inputs is (world_of (λ v. (⟦<dyn Driver as Driver>⟧ v).meaning) store.new))) }
-    ensures enough { (vs : List Slot) → CanGive vs (world_of (λ v. (⟦<dyn Driver as Driver>⟧ v).meaning) store.old)
-        → CanGive (with_result result vs) (world_of (λ v. (⟦<dyn Driver as Driver>⟧ v).meaning) store.new) }
-    ensures asked { StoreAsked (λ v. (⟦<dyn Driver as Driver>⟧ v).meaning) entity host.now.role store.old store.new }
+        → Told (λ is. asked z m entity None (values_of host.now.driver host.now.params args.now) host.now.result (with_inputs is (world_of ⟦<dyn Driver as Driver>⟧ store.old)))
+        (λ is. done result (with_inputs is (world_of ⟦<dyn Driver as Driver>⟧ store.new))) }
+    ensures enough { (vs : List Slot) → CanGive vs (world_of ⟦<dyn Driver as Driver>⟧ store.old)
+        → CanGive (with_result result vs) (world_of ⟦<dyn Driver as Driver>⟧ store.new) }
+    ensures asked { StoreAsked ⟦<dyn Driver as Driver>⟧ entity host.now.role store.old store.new }
 {
     let Some(more) = store.live.checked_add(2) else {
         return Err(Fault::Memory);

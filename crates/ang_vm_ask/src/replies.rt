@@ -35,12 +35,12 @@ fn is_void(of: HostType) -> bool
 /// # Errors
 /// `BadAnswer` where there is none of the declared type, and `Tally` where a tally has run out.
 fn accept(store: &mut Store, value: Option<Slot>) -> Result<Slot, Fault>
-    requires there { IfSome value (λ v. HasKey v (counts_of (λ v. (⟦<dyn Driver as Driver>⟧ v).meaning) (members store.old.drivers))) }
-    ensures told { Told (λ is. accepted value (with_inputs is (world_of (λ v. (⟦<dyn Driver as Driver>⟧ v).meaning) store.old)))
-        (λ is. done result (with_inputs is (world_of (λ v. (⟦<dyn Driver as Driver>⟧ v).meaning) store.new))) }
-    ensures enough { (vs : List Slot) → CanGive vs (world_of (λ v. (⟦<dyn Driver as Driver>⟧ v).meaning) store.old)
-        → CanGive (with_result result vs) (world_of (λ v. (⟦<dyn Driver as Driver>⟧ v).meaning) store.new) }
-    ensures moves { (roles : List Role) → StoreMoves (λ v. (⟦<dyn Driver as Driver>⟧ v).meaning) roles store.old store.new }
+    requires there { IfSome value (λ v. HasKey v (counts_of ⟦<dyn Driver as Driver>⟧ (members store.old.drivers))) }
+    ensures told { Told (λ is. accepted value (with_inputs is (world_of ⟦<dyn Driver as Driver>⟧ store.old)))
+        (λ is. done result (with_inputs is (world_of ⟦<dyn Driver as Driver>⟧ store.new))) }
+    ensures enough { (vs : List Slot) → CanGive vs (world_of ⟦<dyn Driver as Driver>⟧ store.old)
+        → CanGive (with_result result vs) (world_of ⟦<dyn Driver as Driver>⟧ store.new) }
+    ensures moves { (roles : List Role) → StoreMoves ⟦<dyn Driver as Driver>⟧ roles store.old store.new }
 {
     let Some(value) = value else {
         return Err(Fault::BadAnswer);
@@ -63,13 +63,13 @@ pub(crate) fn take_answer(
     of: HostType,
     answer: Answer,
 ) -> Result<Slot, Fault>
-    requires live { IsLiveAnswer (state_at (states_of (λ v. (⟦<dyn Driver as Driver>⟧ v).meaning) (members store.old.drivers)) driver) answer }
-    requires sound { IsSound (state_at (states_of (λ v. (⟦<dyn Driver as Driver>⟧ v).meaning) (members store.old.drivers)) driver) }
-    ensures told { Told (λ is. replied_by driver of (Asking answer) (with_inputs is (world_of (λ v. (⟦<dyn Driver as Driver>⟧ v).meaning) store.old)))
-        (λ is. done result (with_inputs is (world_of (λ v. (⟦<dyn Driver as Driver>⟧ v).meaning) store.new))) }
-    ensures enough { (vs : List Slot) → CanGive vs (world_of (λ v. (⟦<dyn Driver as Driver>⟧ v).meaning) store.old)
-        → CanGive (with_result result vs) (world_of (λ v. (⟦<dyn Driver as Driver>⟧ v).meaning) store.new) }
-    ensures moves { (roles : List Role) → StoreMoves (λ v. (⟦<dyn Driver as Driver>⟧ v).meaning) roles store.old store.new }
+    requires live { IsLiveAnswer (state_at (states_of ⟦<dyn Driver as Driver>⟧ (members store.old.drivers)) driver) answer }
+    requires sound { IsSound (state_at (states_of ⟦<dyn Driver as Driver>⟧ (members store.old.drivers)) driver) }
+    ensures told { Told (λ is. replied_by driver of (Asking answer) (with_inputs is (world_of ⟦<dyn Driver as Driver>⟧ store.old)))
+        (λ is. done result (with_inputs is (world_of ⟦<dyn Driver as Driver>⟧ store.new))) }
+    ensures enough { (vs : List Slot) → CanGive vs (world_of ⟦<dyn Driver as Driver>⟧ store.old)
+        → CanGive (with_result result vs) (world_of ⟦<dyn Driver as Driver>⟧ store.new) }
+    ensures moves { (roles : List Role) → StoreMoves ⟦<dyn Driver as Driver>⟧ roles store.old store.new }
 {
     match answer {
         Answer::Void => {

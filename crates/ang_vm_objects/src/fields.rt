@@ -65,10 +65,10 @@ fn may_take(heap: &Heap, number: usize, value: Slot) -> bool
 /// A value and a field of an object change places, where the value names an object whose field may take it;
 /// else the value comes back. Nothing is held or given up.
 pub fn trade_member(store: &mut Store, object: Slot, index: u32, value: Slot) -> Slot
-    requires ready { IsReady (λ v. (⟦<dyn Driver as Driver>⟧ v).meaning) store.old }
-    ensures old { result ≡ member_or index object value (world_of (λ v. (⟦<dyn Driver as Driver>⟧ v).meaning) store.old) }
-    ensures put { (is : List Input) → member_put index object value (with_inputs is (world_of (λ v. (⟦<dyn Driver as Driver>⟧ v).meaning) store.old)) ≡ with_inputs is (world_of (λ v. (⟦<dyn Driver as Driver>⟧ v).meaning) store.new) }
-    ensures moves { (roles : List Role) → StoreMoves (λ v. (⟦<dyn Driver as Driver>⟧ v).meaning) roles store.old store.new }
+    requires ready { IsReady ⟦<dyn Driver as Driver>⟧ store.old }
+    ensures old { result ≡ member_or index object value (world_of ⟦<dyn Driver as Driver>⟧ store.old) }
+    ensures put { (is : List Input) → member_put index object value (with_inputs is (world_of ⟦<dyn Driver as Driver>⟧ store.old)) ≡ with_inputs is (world_of ⟦<dyn Driver as Driver>⟧ store.new) }
+    ensures moves { (roles : List Role) → StoreMoves ⟦<dyn Driver as Driver>⟧ roles store.old store.new }
 {
     let number = match number_of(object) {
         Some(number) => number,
@@ -85,10 +85,10 @@ pub fn trade_member(store: &mut Store, object: Slot, index: u32, value: Slot) ->
 /// # Errors
 /// `Memory` where there is none for it.
 pub fn make(store: &mut Store, class: &Class) -> Result<Slot, Fault>
-    requires ready { IsReady (λ v. (⟦<dyn Driver as Driver>⟧ v).meaning) store.old }
+    requires ready { IsReady ⟦<dyn Driver as Driver>⟧ store.old }
     ensures told { (z : Setting) (home number : ℕ) → class_of_number z home number ≡ class.now
-        → Told (λ is. perform z home (Make number) [] (with_inputs is (world_of (λ v. (⟦<dyn Driver as Driver>⟧ v).meaning) store.old))) (λ is. done result (with_inputs is (world_of (λ v. (⟦<dyn Driver as Driver>⟧ v).meaning) store.new))) }
-    ensures moves { (roles : List Role) → StoreMoves (λ v. (⟦<dyn Driver as Driver>⟧ v).meaning) roles store.old store.new }
+        → Told (λ is. perform z home (Make number) [] (with_inputs is (world_of ⟦<dyn Driver as Driver>⟧ store.old))) (λ is. done result (with_inputs is (world_of ⟦<dyn Driver as Driver>⟧ store.new))) }
+    ensures moves { (roles : List Role) → StoreMoves ⟦<dyn Driver as Driver>⟧ roles store.old store.new }
 {
     match store.heap.make(class) {
         Ok(number) => Ok(Slot::Script(Some(number))),
@@ -101,10 +101,10 @@ pub fn make(store: &mut Store, class: &Class) -> Result<Slot, Fault>
 /// # Errors
 /// `Null` where the value names no script object, `Tally` where a tally is full.
 pub fn get(store: &mut Store, object: Slot, index: u32) -> Result<Slot, Fault>
-    requires ready { IsReady (λ v. (⟦<dyn Driver as Driver>⟧ v).meaning) store.old }
-    requires counted { StandCounted (object ∷ []) (world_of (λ v. (⟦<dyn Driver as Driver>⟧ v).meaning) store.old) }
-    ensures told { (z : Setting) (home : ℕ) → Told (λ is. perform z home (FieldGet index) (object ∷ []) (with_inputs is (world_of (λ v. (⟦<dyn Driver as Driver>⟧ v).meaning) store.old))) (λ is. done result (with_inputs is (world_of (λ v. (⟦<dyn Driver as Driver>⟧ v).meaning) store.new))) }
-    ensures moves { (roles : List Role) → StoreMoves (λ v. (⟦<dyn Driver as Driver>⟧ v).meaning) roles store.old store.new }
+    requires ready { IsReady ⟦<dyn Driver as Driver>⟧ store.old }
+    requires counted { StandCounted (object ∷ []) (world_of ⟦<dyn Driver as Driver>⟧ store.old) }
+    ensures told { (z : Setting) (home : ℕ) → Told (λ is. perform z home (FieldGet index) (object ∷ []) (with_inputs is (world_of ⟦<dyn Driver as Driver>⟧ store.old))) (λ is. done result (with_inputs is (world_of ⟦<dyn Driver as Driver>⟧ store.new))) }
+    ensures moves { (roles : List Role) → StoreMoves ⟦<dyn Driver as Driver>⟧ roles store.old store.new }
 {
     let number = match number_of(object) {
         Some(number) => number,
@@ -124,10 +124,10 @@ pub fn get(store: &mut Store, object: Slot, index: u32) -> Result<Slot, Fault>
 /// # Errors
 /// `Null` where the object is none or its field can't take the value, `Tally` where a tally is full.
 pub fn set(store: &mut Store, object: Slot, index: u32, value: Slot) -> Result<Slot, Fault>
-    requires ready { IsReady (λ v. (⟦<dyn Driver as Driver>⟧ v).meaning) store.old }
-    requires counted { StandCounted (object ∷ value ∷ []) (world_of (λ v. (⟦<dyn Driver as Driver>⟧ v).meaning) store.old) }
-    ensures told { (z : Setting) (home : ℕ) → Told (λ is. perform z home (FieldSet index) (object ∷ value ∷ []) (with_inputs is (world_of (λ v. (⟦<dyn Driver as Driver>⟧ v).meaning) store.old))) (λ is. done result (with_inputs is (world_of (λ v. (⟦<dyn Driver as Driver>⟧ v).meaning) store.new))) }
-    ensures moves { (roles : List Role) → StoreMoves (λ v. (⟦<dyn Driver as Driver>⟧ v).meaning) roles store.old store.new }
+    requires ready { IsReady ⟦<dyn Driver as Driver>⟧ store.old }
+    requires counted { StandCounted (object ∷ value ∷ []) (world_of ⟦<dyn Driver as Driver>⟧ store.old) }
+    ensures told { (z : Setting) (home : ℕ) → Told (λ is. perform z home (FieldSet index) (object ∷ value ∷ []) (with_inputs is (world_of ⟦<dyn Driver as Driver>⟧ store.old))) (λ is. done result (with_inputs is (world_of ⟦<dyn Driver as Driver>⟧ store.new))) }
+    ensures moves { (roles : List Role) → StoreMoves ⟦<dyn Driver as Driver>⟧ roles store.old store.new }
 {
     let number = match number_of(object) {
         Some(number) => number,
@@ -156,10 +156,10 @@ pub fn alter(
     by: Change,
     operand: Slot,
 ) -> Result<Slot, Fault>
-    requires ready { IsReady (λ v. (⟦<dyn Driver as Driver>⟧ v).meaning) store.old }
-    requires counted { StandCounted (object ∷ operand ∷ []) (world_of (λ v. (⟦<dyn Driver as Driver>⟧ v).meaning) store.old) }
-    ensures told { (z : Setting) (home : ℕ) → Told (λ is. perform z home (FieldChange index by) (object ∷ operand ∷ []) (with_inputs is (world_of (λ v. (⟦<dyn Driver as Driver>⟧ v).meaning) store.old))) (λ is. done result (with_inputs is (world_of (λ v. (⟦<dyn Driver as Driver>⟧ v).meaning) store.new))) }
-    ensures moves { (roles : List Role) → StoreMoves (λ v. (⟦<dyn Driver as Driver>⟧ v).meaning) roles store.old store.new }
+    requires ready { IsReady ⟦<dyn Driver as Driver>⟧ store.old }
+    requires counted { StandCounted (object ∷ operand ∷ []) (world_of ⟦<dyn Driver as Driver>⟧ store.old) }
+    ensures told { (z : Setting) (home : ℕ) → Told (λ is. perform z home (FieldChange index by) (object ∷ operand ∷ []) (with_inputs is (world_of ⟦<dyn Driver as Driver>⟧ store.old))) (λ is. done result (with_inputs is (world_of ⟦<dyn Driver as Driver>⟧ store.new))) }
+    ensures moves { (roles : List Role) → StoreMoves ⟦<dyn Driver as Driver>⟧ roles store.old store.new }
 {
     let number = match number_of(object) {
         Some(number) => number,
@@ -209,10 +209,10 @@ pub fn cast_value(
     class: u32,
     value: Slot,
 ) -> Result<Slot, Fault>
-    requires ready { IsReady (λ v. (⟦<dyn Driver as Driver>⟧ v).meaning) store.old }
-    requires counted { StandCounted (value ∷ []) (world_of (λ v. (⟦<dyn Driver as Driver>⟧ v).meaning) store.old) }
-    ensures told { (nesting : ℕ) → Told (λ is. perform (setting_of table.now nesting) home (Cast class) (value ∷ []) (with_inputs is (world_of (λ v. (⟦<dyn Driver as Driver>⟧ v).meaning) store.old))) (λ is. done result (with_inputs is (world_of (λ v. (⟦<dyn Driver as Driver>⟧ v).meaning) store.new))) }
-    ensures moves { (roles : List Role) → StoreMoves (λ v. (⟦<dyn Driver as Driver>⟧ v).meaning) roles store.old store.new }
+    requires ready { IsReady ⟦<dyn Driver as Driver>⟧ store.old }
+    requires counted { StandCounted (value ∷ []) (world_of ⟦<dyn Driver as Driver>⟧ store.old) }
+    ensures told { (nesting : ℕ) → Told (λ is. perform (setting_of table.now nesting) home (Cast class) (value ∷ []) (with_inputs is (world_of ⟦<dyn Driver as Driver>⟧ store.old))) (λ is. done result (with_inputs is (world_of ⟦<dyn Driver as Driver>⟧ store.new))) }
+    ensures moves { (roles : List Role) → StoreMoves ⟦<dyn Driver as Driver>⟧ roles store.old store.new }
 {
     let handle = match value {
         Slot::Bits(_) => return Err(Fault::Null),

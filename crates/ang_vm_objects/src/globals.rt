@@ -19,10 +19,10 @@ use ang_vm_numbers::change_slot;
 /// Puts a value into a global of a module, and answers its old one; the value itself where there is no such
 /// global. Nothing is held or given up.
 pub fn trade_global(store: &mut Store, home: u32, number: u32, value: Slot) -> Slot
-    requires ready { IsReady (λ v. (⟦<dyn Driver as Driver>⟧ v).meaning) store.old }
-    ensures old { result ≡ global_or home number value (world_of (λ v. (⟦<dyn Driver as Driver>⟧ v).meaning) store.old) }
-    ensures put { (is : List Input) → global_put home number value (with_inputs is (world_of (λ v. (⟦<dyn Driver as Driver>⟧ v).meaning) store.old)) ≡ with_inputs is (world_of (λ v. (⟦<dyn Driver as Driver>⟧ v).meaning) store.new) }
-    ensures moves { (roles : List Role) → StoreMoves (λ v. (⟦<dyn Driver as Driver>⟧ v).meaning) roles store.old store.new }
+    requires ready { IsReady ⟦<dyn Driver as Driver>⟧ store.old }
+    ensures old { result ≡ global_or home number value (world_of ⟦<dyn Driver as Driver>⟧ store.old) }
+    ensures put { (is : List Input) → global_put home number value (with_inputs is (world_of ⟦<dyn Driver as Driver>⟧ store.old)) ≡ with_inputs is (world_of ⟦<dyn Driver as Driver>⟧ store.new) }
+    ensures moves { (roles : List Role) → StoreMoves ⟦<dyn Driver as Driver>⟧ roles store.old store.new }
 {
     let old = store.globals.get_or(home, number, value);
     store.globals.put(home, number, value);
@@ -34,9 +34,9 @@ pub fn trade_global(store: &mut Store, home: u32, number: u32, value: Slot) -> S
 /// # Errors
 /// `Tally` where a tally is full.
 pub fn get(store: &mut Store, home: u32, number: u32) -> Result<Slot, Fault>
-    requires counted { StandCounted [] (world_of (λ v. (⟦<dyn Driver as Driver>⟧ v).meaning) store.old) }
-    ensures told { (z : Setting) → Told (λ is. perform z home (GlobalGet number) [] (with_inputs is (world_of (λ v. (⟦<dyn Driver as Driver>⟧ v).meaning) store.old))) (λ is. done result (with_inputs is (world_of (λ v. (⟦<dyn Driver as Driver>⟧ v).meaning) store.new))) }
-    ensures moves { (roles : List Role) → StoreMoves (λ v. (⟦<dyn Driver as Driver>⟧ v).meaning) roles store.old store.new }
+    requires counted { StandCounted [] (world_of ⟦<dyn Driver as Driver>⟧ store.old) }
+    ensures told { (z : Setting) → Told (λ is. perform z home (GlobalGet number) [] (with_inputs is (world_of ⟦<dyn Driver as Driver>⟧ store.old))) (λ is. done result (with_inputs is (world_of ⟦<dyn Driver as Driver>⟧ store.new))) }
+    ensures moves { (roles : List Role) → StoreMoves ⟦<dyn Driver as Driver>⟧ roles store.old store.new }
 {
     let value = store.globals.get_or(home, number, Slot::Bits(0));
     if !hold(store, value) {
@@ -50,10 +50,10 @@ pub fn get(store: &mut Store, home: u32, number: u32) -> Result<Slot, Fault>
 /// # Errors
 /// `Tally` where a tally is full.
 pub fn set(store: &mut Store, home: u32, number: u32, value: Slot) -> Result<Slot, Fault>
-    requires ready { IsReady (λ v. (⟦<dyn Driver as Driver>⟧ v).meaning) store.old }
-    requires counted { StandCounted (value ∷ []) (world_of (λ v. (⟦<dyn Driver as Driver>⟧ v).meaning) store.old) }
-    ensures told { (z : Setting) → Told (λ is. perform z home (GlobalSet number) (value ∷ []) (with_inputs is (world_of (λ v. (⟦<dyn Driver as Driver>⟧ v).meaning) store.old))) (λ is. done result (with_inputs is (world_of (λ v. (⟦<dyn Driver as Driver>⟧ v).meaning) store.new))) }
-    ensures moves { (roles : List Role) → StoreMoves (λ v. (⟦<dyn Driver as Driver>⟧ v).meaning) roles store.old store.new }
+    requires ready { IsReady ⟦<dyn Driver as Driver>⟧ store.old }
+    requires counted { StandCounted (value ∷ []) (world_of ⟦<dyn Driver as Driver>⟧ store.old) }
+    ensures told { (z : Setting) → Told (λ is. perform z home (GlobalSet number) (value ∷ []) (with_inputs is (world_of ⟦<dyn Driver as Driver>⟧ store.old))) (λ is. done result (with_inputs is (world_of ⟦<dyn Driver as Driver>⟧ store.new))) }
+    ensures moves { (roles : List Role) → StoreMoves ⟦<dyn Driver as Driver>⟧ roles store.old store.new }
 {
     if !hold(store, value) {
         return Err(Fault::Tally);
@@ -74,9 +74,9 @@ pub fn alter(
     by: Change,
     operand: Slot,
 ) -> Result<Slot, Fault>
-    requires ready { IsReady (λ v. (⟦<dyn Driver as Driver>⟧ v).meaning) store.old }
-    ensures told { (z : Setting) → Told (λ is. perform z home (GlobalChange number by) (operand ∷ []) (with_inputs is (world_of (λ v. (⟦<dyn Driver as Driver>⟧ v).meaning) store.old))) (λ is. done result (with_inputs is (world_of (λ v. (⟦<dyn Driver as Driver>⟧ v).meaning) store.new))) }
-    ensures moves { (roles : List Role) → StoreMoves (λ v. (⟦<dyn Driver as Driver>⟧ v).meaning) roles store.old store.new }
+    requires ready { IsReady ⟦<dyn Driver as Driver>⟧ store.old }
+    ensures told { (z : Setting) → Told (λ is. perform z home (GlobalChange number by) (operand ∷ []) (with_inputs is (world_of ⟦<dyn Driver as Driver>⟧ store.old))) (λ is. done result (with_inputs is (world_of ⟦<dyn Driver as Driver>⟧ store.new))) }
+    ensures moves { (roles : List Role) → StoreMoves ⟦<dyn Driver as Driver>⟧ roles store.old store.new }
 {
     let old = store.globals.get_or(home, number, Slot::Bits(0));
     match change_slot(by, old, operand) {

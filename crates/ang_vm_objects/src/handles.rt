@@ -68,10 +68,10 @@ fn truth(value: bool) -> u64
 
 /// `is` on two values, which are given up, the second one first.
 pub fn compare_handles(store: &mut Store, first: Slot, second: Slot) -> Slot
-    requires ready { IsReady (λ v. (⟦<dyn Driver as Driver>⟧ v).meaning) store.old }
-    requires counted { StandCounted (second ∷ first ∷ []) (world_of (λ v. (⟦<dyn Driver as Driver>⟧ v).meaning) store.old) }
-    ensures told { (z : Setting) (home : ℕ) → Told (λ is. perform z home Same (second ∷ first ∷ []) (with_inputs is (world_of (λ v. (⟦<dyn Driver as Driver>⟧ v).meaning) store.old))) (λ is. Fine result (with_inputs is (world_of (λ v. (⟦<dyn Driver as Driver>⟧ v).meaning) store.new))) }
-    ensures moves { (roles : List Role) → StoreMoves (λ v. (⟦<dyn Driver as Driver>⟧ v).meaning) roles store.old store.new }
+    requires ready { IsReady ⟦<dyn Driver as Driver>⟧ store.old }
+    requires counted { StandCounted (second ∷ first ∷ []) (world_of ⟦<dyn Driver as Driver>⟧ store.old) }
+    ensures told { (z : Setting) (home : ℕ) → Told (λ is. perform z home Same (second ∷ first ∷ []) (with_inputs is (world_of ⟦<dyn Driver as Driver>⟧ store.old))) (λ is. Fine result (with_inputs is (world_of ⟦<dyn Driver as Driver>⟧ store.new))) }
+    ensures moves { (roles : List Role) → StoreMoves ⟦<dyn Driver as Driver>⟧ roles store.old store.new }
 {
     let same = truth(are_same(first, second));
     give(store, second);

@@ -44,14 +44,14 @@ fn perform_on_host(
     requires in_use { count ≤ top }
     requires within { top ≤ length stack.now }
     requires drivers { DriversThere table.now (length (members store.old.drivers)) }
-    requires ready { IsReady (λ v. (⟦<dyn Driver as Driver>⟧ v).meaning) store.old }
-    requires counted { IsCounted (values stack.now top) (world_of (λ v. (⟦<dyn Driver as Driver>⟧ v).meaning) store.old) }
+    requires ready { IsReady ⟦<dyn Driver as Driver>⟧ store.old }
+    requires counted { IsCounted (values stack.now top) (world_of ⟦<dyn Driver as Driver>⟧ store.old) }
     ensures told { (nesting : ℕ) → asks_host operation ≡ true → is_fit (setting_of table.now nesting) home operation ≡ true
         → count ≡ operand_count (setting_of table.now nesting) home operation
-        → Told (λ is. perform (setting_of table.now nesting) home operation (take_some count (values stack.now top)) (with_inputs is (world_of (λ v. (⟦<dyn Driver as Driver>⟧ v).meaning) store.old)))
-        (λ is. done result (with_inputs is (world_of (λ v. (⟦<dyn Driver as Driver>⟧ v).meaning) store.new))) }
-    ensures moves { (roles : List Role) → HaveRoles table.now roles → StoreMoves (λ v. (⟦<dyn Driver as Driver>⟧ v).meaning) roles store.old store.new }
-    ensures ready { IsReady (λ v. (⟦<dyn Driver as Driver>⟧ v).meaning) store.new }
+        → Told (λ is. perform (setting_of table.now nesting) home operation (take_some count (values stack.now top)) (with_inputs is (world_of ⟦<dyn Driver as Driver>⟧ store.old)))
+        (λ is. done result (with_inputs is (world_of ⟦<dyn Driver as Driver>⟧ store.new))) }
+    ensures moves { (roles : List Role) → HaveRoles table.now roles → StoreMoves ⟦<dyn Driver as Driver>⟧ roles store.old store.new }
+    ensures ready { IsReady ⟦<dyn Driver as Driver>⟧ store.new }
     ensures count { length (members store.new.drivers) ≡ length (members store.old.drivers) }
 {
     let alloc = *store.events.allocator();
@@ -76,15 +76,15 @@ pub(crate) fn ask_host(
 ) -> Result<usize, Stop>
     requires in_room { top ≤ room }
     requires within { room ≤ length stack.old }
-    requires ready { IsReady (λ v. (⟦<dyn Driver as Driver>⟧ v).meaning) store.old }
-    requires counted { IsCounted (values stack.old top) (world_of (λ v. (⟦<dyn Driver as Driver>⟧ v).meaning) store.old) }
+    requires ready { IsReady ⟦<dyn Driver as Driver>⟧ store.old }
+    requires counted { IsCounted (values stack.old top) (world_of ⟦<dyn Driver as Driver>⟧ store.old) }
     requires drivers { DriversThere table.now (length (members store.old.drivers)) }
     requires asks { asks_host operation ≡ true }
-    ensures acts { (nesting : ℕ) (code : Texts) → ActsIn body (setting_of table.now nesting) code (Do operation) room top stack.old (world_of (λ v. (⟦<dyn Driver as Driver>⟧ v).meaning) store.old)
-        result stack.new (world_of (λ v. (⟦<dyn Driver as Driver>⟧ v).meaning) store.new) }
+    ensures acts { (nesting : ℕ) (code : Texts) → ActsIn body (setting_of table.now nesting) code (Do operation) room top stack.old (world_of ⟦<dyn Driver as Driver>⟧ store.old)
+        result stack.new (world_of ⟦<dyn Driver as Driver>⟧ store.new) }
     ensures in_room { IfOk result (λ n. n ≤ room) }
-    ensures moves { (roles : List Role) → HaveRoles table.now roles → StoreMoves (λ v. (⟦<dyn Driver as Driver>⟧ v).meaning) roles store.old store.new }
-    ensures ready { IsReady (λ v. (⟦<dyn Driver as Driver>⟧ v).meaning) store.new }
+    ensures moves { (roles : List Role) → HaveRoles table.now roles → StoreMoves ⟦<dyn Driver as Driver>⟧ roles store.old store.new }
+    ensures ready { IsReady ⟦<dyn Driver as Driver>⟧ store.new }
     ensures count { length (members store.new.drivers) ≡ length (members store.old.drivers) }
 {
     match operands(table, body.home, operation) {

@@ -30,7 +30,7 @@ pub fn callee_of(
 ) -> Result<Routine, Fault>
     requires within { top ≤ length stack.now }
     ensures exact { (nesting : ℕ) (is : List Input)
-        → target (setting_of table.now nesting) home callee (values stack.now top) (with_inputs is (world_of (λ v. (⟦<dyn Driver as Driver>⟧ v).meaning) store.now)) ≡ found result }
+        → target (setting_of table.now nesting) home callee (values stack.now top) (with_inputs is (world_of ⟦<dyn Driver as Driver>⟧ store.now)) ≡ found result }
 {
     match callee {
         Callee::Own(number) => Ok(Routine { home, number }),
@@ -86,7 +86,7 @@ fn method_for(
     store: &Store,
 ) -> Result<Routine, Fault>
     ensures exact { (nesting : ℕ) (is : List Input)
-        → virtual_of (setting_of table.now nesting) home slot receiver (with_inputs is (world_of (λ v. (⟦<dyn Driver as Driver>⟧ v).meaning) store.now)) ≡ found result }
+        → virtual_of (setting_of table.now nesting) home slot receiver (with_inputs is (world_of ⟦<dyn Driver as Driver>⟧ store.now)) ≡ found result }
 {
     match receiver {
         Slot::Bits(_) => Err(Fault::Null),

@@ -36,13 +36,13 @@ pub fn do_operation(
     requires inside { here.at < size }
     requires in_room { here.top ≤ room }
     requires within { room ≤ length stack.old }
-    requires ready { IsReady (λ v. (⟦<dyn Driver as Driver>⟧ v).meaning) store.old }
-    requires counted { IsCounted (values stack.old here.top) (world_of (λ v. (⟦<dyn Driver as Driver>⟧ v).meaning) store.old) }
+    requires ready { IsReady ⟦<dyn Driver as Driver>⟧ store.old }
+    requires counted { IsCounted (values stack.old here.top) (world_of ⟦<dyn Driver as Driver>⟧ store.old) }
     requires drivers { DriversThere table.now (length (members store.old.drivers)) }
     ensures turned { IsNext table.now body here (Do operation.now) size
-        → Turned table.now body room here stack.old (world_of (λ v. (⟦<dyn Driver as Driver>⟧ v).meaning) store.old) result stack.new (world_of (λ v. (⟦<dyn Driver as Driver>⟧ v).meaning) store.new) }
-    ensures moves { (roles : List Role) → HaveRoles table.now roles → StoreMoves (λ v. (⟦<dyn Driver as Driver>⟧ v).meaning) roles store.old store.new }
-    ensures ready { IsReady (λ v. (⟦<dyn Driver as Driver>⟧ v).meaning) store.new }
+        → Turned table.now body room here stack.old (world_of ⟦<dyn Driver as Driver>⟧ store.old) result stack.new (world_of ⟦<dyn Driver as Driver>⟧ store.new) }
+    ensures moves { (roles : List Role) → HaveRoles table.now roles → StoreMoves ⟦<dyn Driver as Driver>⟧ roles store.old store.new }
+    ensures ready { IsReady ⟦<dyn Driver as Driver>⟧ store.new }
     ensures count { length (members store.new.drivers) ≡ length (members store.old.drivers) }
 {
     let top = here.top;

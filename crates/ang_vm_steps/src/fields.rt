@@ -32,12 +32,12 @@ pub(crate) fn make_object(
 ) -> Result<usize, Stop>
     requires in_room { top ≤ room }
     requires within { room ≤ length stack.old }
-    requires ready { IsReady (λ v. (⟦<dyn Driver as Driver>⟧ v).meaning) store.old }
-    requires counted { IsCounted (values stack.old top) (world_of (λ v. (⟦<dyn Driver as Driver>⟧ v).meaning) store.old) }
-    ensures acts { (nesting : ℕ) (code : Texts) → ActsIn body (setting_of table.now nesting) code (Do (Make class)) room top stack.old (world_of (λ v. (⟦<dyn Driver as Driver>⟧ v).meaning) store.old)
-        result stack.new (world_of (λ v. (⟦<dyn Driver as Driver>⟧ v).meaning) store.new) }
+    requires ready { IsReady ⟦<dyn Driver as Driver>⟧ store.old }
+    requires counted { IsCounted (values stack.old top) (world_of ⟦<dyn Driver as Driver>⟧ store.old) }
+    ensures acts { (nesting : ℕ) (code : Texts) → ActsIn body (setting_of table.now nesting) code (Do (Make class)) room top stack.old (world_of ⟦<dyn Driver as Driver>⟧ store.old)
+        result stack.new (world_of ⟦<dyn Driver as Driver>⟧ store.new) }
     ensures in_room { IfOk result (λ n. n ≤ room) }
-    ensures moves { (roles : List Role) → StoreMoves (λ v. (⟦<dyn Driver as Driver>⟧ v).meaning) roles store.old store.new }
+    ensures moves { (roles : List Role) → StoreMoves ⟦<dyn Driver as Driver>⟧ roles store.old store.new }
 {
     let found = match class_at(table, body.home, class) {
         Some(found) => found,
@@ -60,12 +60,12 @@ pub(crate) fn get_field(
 ) -> Result<usize, Stop>
     requires in_room { top ≤ room }
     requires within { room ≤ length stack.old }
-    requires ready { IsReady (λ v. (⟦<dyn Driver as Driver>⟧ v).meaning) store.old }
-    requires counted { IsCounted (values stack.old top) (world_of (λ v. (⟦<dyn Driver as Driver>⟧ v).meaning) store.old) }
-    ensures acts { (z : Setting) (code : Texts) → Acts z code (Do (FieldGet index)) room top stack.old (world_of (λ v. (⟦<dyn Driver as Driver>⟧ v).meaning) store.old)
-        result stack.new (world_of (λ v. (⟦<dyn Driver as Driver>⟧ v).meaning) store.new) }
+    requires ready { IsReady ⟦<dyn Driver as Driver>⟧ store.old }
+    requires counted { IsCounted (values stack.old top) (world_of ⟦<dyn Driver as Driver>⟧ store.old) }
+    ensures acts { (z : Setting) (code : Texts) → Acts z code (Do (FieldGet index)) room top stack.old (world_of ⟦<dyn Driver as Driver>⟧ store.old)
+        result stack.new (world_of ⟦<dyn Driver as Driver>⟧ store.new) }
     ensures in_room { IfOk result (λ n. n ≤ room) }
-    ensures moves { (roles : List Role) → StoreMoves (λ v. (⟦<dyn Driver as Driver>⟧ v).meaning) roles store.old store.new }
+    ensures moves { (roles : List Role) → StoreMoves ⟦<dyn Driver as Driver>⟧ roles store.old store.new }
 {
     if top == 0 {
         return Err(Stop::Lost);
@@ -85,12 +85,12 @@ pub(crate) fn set_field(
 ) -> Result<usize, Stop>
     requires in_room { top ≤ room }
     requires within { room ≤ length stack.old }
-    requires ready { IsReady (λ v. (⟦<dyn Driver as Driver>⟧ v).meaning) store.old }
-    requires counted { IsCounted (values stack.old top) (world_of (λ v. (⟦<dyn Driver as Driver>⟧ v).meaning) store.old) }
-    ensures acts { (z : Setting) (code : Texts) → Acts z code (Do (FieldSet index)) room top stack.old (world_of (λ v. (⟦<dyn Driver as Driver>⟧ v).meaning) store.old)
-        result stack.new (world_of (λ v. (⟦<dyn Driver as Driver>⟧ v).meaning) store.new) }
+    requires ready { IsReady ⟦<dyn Driver as Driver>⟧ store.old }
+    requires counted { IsCounted (values stack.old top) (world_of ⟦<dyn Driver as Driver>⟧ store.old) }
+    ensures acts { (z : Setting) (code : Texts) → Acts z code (Do (FieldSet index)) room top stack.old (world_of ⟦<dyn Driver as Driver>⟧ store.old)
+        result stack.new (world_of ⟦<dyn Driver as Driver>⟧ store.new) }
     ensures in_room { IfOk result (λ n. n ≤ room) }
-    ensures moves { (roles : List Role) → StoreMoves (λ v. (⟦<dyn Driver as Driver>⟧ v).meaning) roles store.old store.new }
+    ensures moves { (roles : List Role) → StoreMoves ⟦<dyn Driver as Driver>⟧ roles store.old store.new }
 {
     if top < 2 {
         return Err(Stop::Lost);
@@ -112,12 +112,12 @@ pub(crate) fn change_field(
 ) -> Result<usize, Stop>
     requires in_room { top ≤ room }
     requires within { room ≤ length stack.old }
-    requires ready { IsReady (λ v. (⟦<dyn Driver as Driver>⟧ v).meaning) store.old }
-    requires counted { IsCounted (values stack.old top) (world_of (λ v. (⟦<dyn Driver as Driver>⟧ v).meaning) store.old) }
-    ensures acts { (z : Setting) (code : Texts) → Acts z code (Do (FieldChange index by)) room top stack.old (world_of (λ v. (⟦<dyn Driver as Driver>⟧ v).meaning) store.old)
-        result stack.new (world_of (λ v. (⟦<dyn Driver as Driver>⟧ v).meaning) store.new) }
+    requires ready { IsReady ⟦<dyn Driver as Driver>⟧ store.old }
+    requires counted { IsCounted (values stack.old top) (world_of ⟦<dyn Driver as Driver>⟧ store.old) }
+    ensures acts { (z : Setting) (code : Texts) → Acts z code (Do (FieldChange index by)) room top stack.old (world_of ⟦<dyn Driver as Driver>⟧ store.old)
+        result stack.new (world_of ⟦<dyn Driver as Driver>⟧ store.new) }
     ensures in_room { IfOk result (λ n. n ≤ room) }
-    ensures moves { (roles : List Role) → StoreMoves (λ v. (⟦<dyn Driver as Driver>⟧ v).meaning) roles store.old store.new }
+    ensures moves { (roles : List Role) → StoreMoves ⟦<dyn Driver as Driver>⟧ roles store.old store.new }
 {
     if top < 2 {
         return Err(Stop::Lost);
@@ -140,12 +140,12 @@ pub(crate) fn cast(
 ) -> Result<usize, Stop>
     requires in_room { top ≤ room }
     requires within { room ≤ length stack.old }
-    requires ready { IsReady (λ v. (⟦<dyn Driver as Driver>⟧ v).meaning) store.old }
-    requires counted { IsCounted (values stack.old top) (world_of (λ v. (⟦<dyn Driver as Driver>⟧ v).meaning) store.old) }
-    ensures acts { (nesting : ℕ) (code : Texts) → ActsIn body (setting_of table.now nesting) code (Do (Cast class)) room top stack.old (world_of (λ v. (⟦<dyn Driver as Driver>⟧ v).meaning) store.old)
-        result stack.new (world_of (λ v. (⟦<dyn Driver as Driver>⟧ v).meaning) store.new) }
+    requires ready { IsReady ⟦<dyn Driver as Driver>⟧ store.old }
+    requires counted { IsCounted (values stack.old top) (world_of ⟦<dyn Driver as Driver>⟧ store.old) }
+    ensures acts { (nesting : ℕ) (code : Texts) → ActsIn body (setting_of table.now nesting) code (Do (Cast class)) room top stack.old (world_of ⟦<dyn Driver as Driver>⟧ store.old)
+        result stack.new (world_of ⟦<dyn Driver as Driver>⟧ store.new) }
     ensures in_room { IfOk result (λ n. n ≤ room) }
-    ensures moves { (roles : List Role) → StoreMoves (λ v. (⟦<dyn Driver as Driver>⟧ v).meaning) roles store.old store.new }
+    ensures moves { (roles : List Role) → StoreMoves ⟦<dyn Driver as Driver>⟧ roles store.old store.new }
 {
     if top == 0 {
         return Err(Stop::Lost);

@@ -27,12 +27,12 @@ pub(crate) fn do_same(
 ) -> Result<usize, Stop>
     requires in_room { top ≤ room }
     requires within { room ≤ length stack.old }
-    requires ready { IsReady (λ v. (⟦<dyn Driver as Driver>⟧ v).meaning) store.old }
-    requires counted { IsCounted (values stack.old top) (world_of (λ v. (⟦<dyn Driver as Driver>⟧ v).meaning) store.old) }
-    ensures acts { (z : Setting) (code : Texts) → Acts z code (Do Same) room top stack.old (world_of (λ v. (⟦<dyn Driver as Driver>⟧ v).meaning) store.old)
-        result stack.new (world_of (λ v. (⟦<dyn Driver as Driver>⟧ v).meaning) store.new) }
+    requires ready { IsReady ⟦<dyn Driver as Driver>⟧ store.old }
+    requires counted { IsCounted (values stack.old top) (world_of ⟦<dyn Driver as Driver>⟧ store.old) }
+    ensures acts { (z : Setting) (code : Texts) → Acts z code (Do Same) room top stack.old (world_of ⟦<dyn Driver as Driver>⟧ store.old)
+        result stack.new (world_of ⟦<dyn Driver as Driver>⟧ store.new) }
     ensures in_room { IfOk result (λ n. n ≤ room) }
-    ensures moves { (roles : List Role) → StoreMoves (λ v. (⟦<dyn Driver as Driver>⟧ v).meaning) roles store.old store.new }
+    ensures moves { (roles : List Role) → StoreMoves ⟦<dyn Driver as Driver>⟧ roles store.old store.new }
 {
     if top < 2 {
         return Err(Stop::Lost);

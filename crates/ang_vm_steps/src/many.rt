@@ -23,9 +23,9 @@ use ang_vm_stack::stop::Stop;
 /// Whether no object lives, so that there is nothing to be given up.
 #[inline(always)]
 pub fn nothing_lives(store: &Store) -> bool
-    requires ready { IsReady (λ v. (⟦<dyn Driver as Driver>⟧ v).meaning) store.now }
+    requires ready { IsReady ⟦<dyn Driver as Driver>⟧ store.now }
     ensures nothing { IsTrue result → (value : Slot) (is : List Input)
-        → give_in value (with_inputs is (world_of (λ v. (⟦<dyn Driver as Driver>⟧ v).meaning) store.now)) ≡ with_inputs is (world_of (λ v. (⟦<dyn Driver as Driver>⟧ v).meaning) store.now) }
+        → give_in value (with_inputs is (world_of ⟦<dyn Driver as Driver>⟧ store.now)) ≡ with_inputs is (world_of ⟦<dyn Driver as Driver>⟧ store.now) }
 {
     store.live == 0 && store.heap.is_empty()
 }
@@ -36,11 +36,11 @@ pub fn nothing_lives(store: &Store) -> bool
 fn give_each(stack: &[Slot], store: &mut Store, top: usize, count: usize)
     requires in_use { count ≤ top }
     requires within { top ≤ length stack.now }
-    requires ready { IsReady (λ v. (⟦<dyn Driver as Driver>⟧ v).meaning) store.old }
-    requires enough { CanGive (values stack.now top) (world_of (λ v. (⟦<dyn Driver as Driver>⟧ v).meaning) store.old) }
-    ensures given { (is : List Input) → give_some count (values stack.now top) (with_inputs is (world_of (λ v. (⟦<dyn Driver as Driver>⟧ v).meaning) store.old))
-        ≡ with_inputs is (world_of (λ v. (⟦<dyn Driver as Driver>⟧ v).meaning) store.new) }
-    ensures moves { (roles : List Role) → StoreMoves (λ v. (⟦<dyn Driver as Driver>⟧ v).meaning) roles store.old store.new }
+    requires ready { IsReady ⟦<dyn Driver as Driver>⟧ store.old }
+    requires enough { CanGive (values stack.now top) (world_of ⟦<dyn Driver as Driver>⟧ store.old) }
+    ensures given { (is : List Input) → give_some count (values stack.now top) (with_inputs is (world_of ⟦<dyn Driver as Driver>⟧ store.old))
+        ≡ with_inputs is (world_of ⟦<dyn Driver as Driver>⟧ store.new) }
+    ensures moves { (roles : List Role) → StoreMoves ⟦<dyn Driver as Driver>⟧ roles store.old store.new }
 {
     for given in 0..count {
         let value = peek(stack, top - given, 0);
@@ -53,11 +53,11 @@ fn give_each(stack: &[Slot], store: &mut Store, top: usize, count: usize)
 pub fn give_top(stack: &[Slot], store: &mut Store, top: usize, count: usize)
     requires in_use { count ≤ top }
     requires within { top ≤ length stack.now }
-    requires ready { IsReady (λ v. (⟦<dyn Driver as Driver>⟧ v).meaning) store.old }
-    requires enough { CanGive (values stack.now top) (world_of (λ v. (⟦<dyn Driver as Driver>⟧ v).meaning) store.old) }
-    ensures given { (is : List Input) → give_some count (values stack.now top) (with_inputs is (world_of (λ v. (⟦<dyn Driver as Driver>⟧ v).meaning) store.old))
-        ≡ with_inputs is (world_of (λ v. (⟦<dyn Driver as Driver>⟧ v).meaning) store.new) }
-    ensures moves { (roles : List Role) → StoreMoves (λ v. (⟦<dyn Driver as Driver>⟧ v).meaning) roles store.old store.new }
+    requires ready { IsReady ⟦<dyn Driver as Driver>⟧ store.old }
+    requires enough { CanGive (values stack.now top) (world_of ⟦<dyn Driver as Driver>⟧ store.old) }
+    ensures given { (is : List Input) → give_some count (values stack.now top) (with_inputs is (world_of ⟦<dyn Driver as Driver>⟧ store.old))
+        ≡ with_inputs is (world_of ⟦<dyn Driver as Driver>⟧ store.new) }
+    ensures moves { (roles : List Role) → StoreMoves ⟦<dyn Driver as Driver>⟧ roles store.old store.new }
 {
     if nothing_lives(store) {
         return;
@@ -68,11 +68,11 @@ pub fn give_top(stack: &[Slot], store: &mut Store, top: usize, count: usize)
 /// Gives up all values in use, the top one first, as a fault does.
 pub fn give_all_in_use(stack: &[Slot], store: &mut Store, top: usize)
     requires within { top ≤ length stack.now }
-    requires ready { IsReady (λ v. (⟦<dyn Driver as Driver>⟧ v).meaning) store.old }
-    requires enough { CanGive (values stack.now top) (world_of (λ v. (⟦<dyn Driver as Driver>⟧ v).meaning) store.old) }
-    ensures given { (is : List Input) → give_all (values stack.now top) (with_inputs is (world_of (λ v. (⟦<dyn Driver as Driver>⟧ v).meaning) store.old))
-        ≡ with_inputs is (world_of (λ v. (⟦<dyn Driver as Driver>⟧ v).meaning) store.new) }
-    ensures moves { (roles : List Role) → StoreMoves (λ v. (⟦<dyn Driver as Driver>⟧ v).meaning) roles store.old store.new }
+    requires ready { IsReady ⟦<dyn Driver as Driver>⟧ store.old }
+    requires enough { CanGive (values stack.now top) (world_of ⟦<dyn Driver as Driver>⟧ store.old) }
+    ensures given { (is : List Input) → give_all (values stack.now top) (with_inputs is (world_of ⟦<dyn Driver as Driver>⟧ store.old))
+        ≡ with_inputs is (world_of ⟦<dyn Driver as Driver>⟧ store.new) }
+    ensures moves { (roles : List Role) → StoreMoves ⟦<dyn Driver as Driver>⟧ roles store.old store.new }
 {
     give_top(stack, store, top, top);
 }
@@ -82,11 +82,11 @@ pub fn give_all_in_use(stack: &[Slot], store: &mut Store, top: usize)
 fn give_each_upwards(stack: &[Slot], store: &mut Store, top: usize, count: usize)
     requires in_use { count ≤ top }
     requires within { top ≤ length stack.now }
-    requires ready { IsReady (λ v. (⟦<dyn Driver as Driver>⟧ v).meaning) store.old }
-    requires enough { CanGive (values stack.now top) (world_of (λ v. (⟦<dyn Driver as Driver>⟧ v).meaning) store.old) }
-    ensures given { (is : List Input) → give_back (take_some count (values stack.now top)) (with_inputs is (world_of (λ v. (⟦<dyn Driver as Driver>⟧ v).meaning) store.old))
-        ≡ with_inputs is (world_of (λ v. (⟦<dyn Driver as Driver>⟧ v).meaning) store.new) }
-    ensures moves { (roles : List Role) → StoreMoves (λ v. (⟦<dyn Driver as Driver>⟧ v).meaning) roles store.old store.new }
+    requires ready { IsReady ⟦<dyn Driver as Driver>⟧ store.old }
+    requires enough { CanGive (values stack.now top) (world_of ⟦<dyn Driver as Driver>⟧ store.old) }
+    ensures given { (is : List Input) → give_back (take_some count (values stack.now top)) (with_inputs is (world_of ⟦<dyn Driver as Driver>⟧ store.old))
+        ≡ with_inputs is (world_of ⟦<dyn Driver as Driver>⟧ store.new) }
+    ensures moves { (roles : List Role) → StoreMoves ⟦<dyn Driver as Driver>⟧ roles store.old store.new }
 {
     for given in 0..count {
         let value = peek(stack, top - count + given + 1, 0);
@@ -99,11 +99,11 @@ fn give_each_upwards(stack: &[Slot], store: &mut Store, top: usize, count: usize
 fn give_lowest_first(stack: &[Slot], store: &mut Store, top: usize, count: usize)
     requires in_use { count ≤ top }
     requires within { top ≤ length stack.now }
-    requires ready { IsReady (λ v. (⟦<dyn Driver as Driver>⟧ v).meaning) store.old }
-    requires enough { CanGive (values stack.now top) (world_of (λ v. (⟦<dyn Driver as Driver>⟧ v).meaning) store.old) }
-    ensures given { (is : List Input) → give_back (take_some count (values stack.now top)) (with_inputs is (world_of (λ v. (⟦<dyn Driver as Driver>⟧ v).meaning) store.old))
-        ≡ with_inputs is (world_of (λ v. (⟦<dyn Driver as Driver>⟧ v).meaning) store.new) }
-    ensures moves { (roles : List Role) → StoreMoves (λ v. (⟦<dyn Driver as Driver>⟧ v).meaning) roles store.old store.new }
+    requires ready { IsReady ⟦<dyn Driver as Driver>⟧ store.old }
+    requires enough { CanGive (values stack.now top) (world_of ⟦<dyn Driver as Driver>⟧ store.old) }
+    ensures given { (is : List Input) → give_back (take_some count (values stack.now top)) (with_inputs is (world_of ⟦<dyn Driver as Driver>⟧ store.old))
+        ≡ with_inputs is (world_of ⟦<dyn Driver as Driver>⟧ store.new) }
+    ensures moves { (roles : List Role) → StoreMoves ⟦<dyn Driver as Driver>⟧ roles store.old store.new }
 {
     if nothing_lives(store) {
         return;
@@ -121,12 +121,12 @@ pub fn leave(
 ) -> Result<usize, Stop>
     requires in_room { top ≤ room }
     requires within { room ≤ length stack.now }
-    requires ready { IsReady (λ v. (⟦<dyn Driver as Driver>⟧ v).meaning) store.old }
-    requires counted { IsCounted (values stack.now top) (world_of (λ v. (⟦<dyn Driver as Driver>⟧ v).meaning) store.old) }
-    ensures acts { (z : Setting) (code : Texts) → Acts z code (Leave count) room top stack.now (world_of (λ v. (⟦<dyn Driver as Driver>⟧ v).meaning) store.old)
-        result stack.now (world_of (λ v. (⟦<dyn Driver as Driver>⟧ v).meaning) store.new) }
+    requires ready { IsReady ⟦<dyn Driver as Driver>⟧ store.old }
+    requires counted { IsCounted (values stack.now top) (world_of ⟦<dyn Driver as Driver>⟧ store.old) }
+    ensures acts { (z : Setting) (code : Texts) → Acts z code (Leave count) room top stack.now (world_of ⟦<dyn Driver as Driver>⟧ store.old)
+        result stack.now (world_of ⟦<dyn Driver as Driver>⟧ store.new) }
     ensures in_room { IfOk result (λ n. n ≤ room) }
-    ensures moves { (roles : List Role) → StoreMoves (λ v. (⟦<dyn Driver as Driver>⟧ v).meaning) roles store.old store.new }
+    ensures moves { (roles : List Role) → StoreMoves ⟦<dyn Driver as Driver>⟧ roles store.old store.new }
 {
     if count > top {
         return Err(Stop::Lost);
@@ -145,12 +145,12 @@ pub fn drop_under(
 ) -> Result<usize, Stop>
     requires in_room { top ≤ room }
     requires within { room ≤ length stack.old }
-    requires ready { IsReady (λ v. (⟦<dyn Driver as Driver>⟧ v).meaning) store.old }
-    requires counted { IsCounted (values stack.old top) (world_of (λ v. (⟦<dyn Driver as Driver>⟧ v).meaning) store.old) }
-    ensures acts { (z : Setting) (code : Texts) → Acts z code (DropUnder count) room top stack.old (world_of (λ v. (⟦<dyn Driver as Driver>⟧ v).meaning) store.old)
-        result stack.new (world_of (λ v. (⟦<dyn Driver as Driver>⟧ v).meaning) store.new) }
+    requires ready { IsReady ⟦<dyn Driver as Driver>⟧ store.old }
+    requires counted { IsCounted (values stack.old top) (world_of ⟦<dyn Driver as Driver>⟧ store.old) }
+    ensures acts { (z : Setting) (code : Texts) → Acts z code (DropUnder count) room top stack.old (world_of ⟦<dyn Driver as Driver>⟧ store.old)
+        result stack.new (world_of ⟦<dyn Driver as Driver>⟧ store.new) }
     ensures in_room { IfOk result (λ n. n ≤ room) }
-    ensures moves { (roles : List Role) → StoreMoves (λ v. (⟦<dyn Driver as Driver>⟧ v).meaning) roles store.old store.new }
+    ensures moves { (roles : List Role) → StoreMoves ⟦<dyn Driver as Driver>⟧ roles store.old store.new }
 {
     if top == 0 {
         return Err(Stop::Lost);

@@ -5,7 +5,7 @@ use Rattle.std.specs.Io.KnownBytes.{Appends}
 use Rattle.std.specs.declared.alloc.Global.{Global}
 use Rattle.std.specs.declared.dyn_box.DynBox.{DynBox}
 use Rattle.ang_host.specs.Events.{DriversFollow}
-use Rattle.ang_host.specs.Laws.{Meaning}
+use Rattle.ang_host.specs.Meanings.{Meanings}
 use Rattle.ang_host.specs.declared.event.HostEvent.{HostEvent}
 use Rattle.ang_view.specs.Registration.{RegistrationList}
 use Rattle.ang_registry.specs.Roles.{roles_of}
@@ -105,7 +105,7 @@ pub record IsCut (R : RegistrationList) (w : World) (session : Session) (old new
   pub printed : Appends old new (take count (text_in deeds ++ bad_line_text session.bad_line))
 
 -- one action was done, the drivers followed its events, and its text was printed
-pub record IsPrinted {V : Type 0} {P : V → Type 0} (m : (v : V) → Meaning (P v)) (R : RegistrationList) (w : World) (xs : List (DynBox V Global P))
+pub record IsPrinted {V : Type 0} {P : V → Type 0} (m : Meanings P) (R : RegistrationList) (w : World) (xs : List (DynBox V Global P))
     (a : Action) (old new : Option (List ℕ)) (ok : Bool) (after : World) (ys : List (DynBox V Global P)) : Type 0 where
   pub deed : Deed
   pub action : action_of deed ≡ a
@@ -115,7 +115,7 @@ pub record IsPrinted {V : Type 0} {P : V → Type 0} (m : (v : V) → Meaning (P
   pub ended : ok ≡ is_ok deed
 
 -- one action was done, the drivers followed its events, and a front of its text was printed
-pub record IsHalfPrinted {V : Type 0} {P : V → Type 0} (m : (v : V) → Meaning (P v)) (R : RegistrationList) (w : World) (xs : List (DynBox V Global P))
+pub record IsHalfPrinted {V : Type 0} {P : V → Type 0} (m : Meanings P) (R : RegistrationList) (w : World) (xs : List (DynBox V Global P))
     (a : Action) (old new : Option (List ℕ)) (after : World) (ys : List (DynBox V Global P)) : Type 0 where
   pub deed : Deed
   pub action : action_of deed ≡ a

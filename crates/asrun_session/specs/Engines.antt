@@ -1,6 +1,6 @@
 -- What is done with an engine that stands: from the engine e to the engine f, where m is the meaning of what is behind each vtable.
 use Rattle.std.specs.Prelude.{ℕ, Bool, List, Option}
-use Rattle.ang_host.specs.Laws.{Meaning}
+use Rattle.ang_host.specs.Meanings.{Meanings}
 use Rattle.ang_host.specs.declared.event.HostEvent.{HostEvent}
 use Rattle.ang_engine.specs.declared.engine.Engine.{Engine}
 use Rattle.ang_engine.specs.Engines.{registrations, world_in, drivers_in}
@@ -12,7 +12,7 @@ use Rattle.asrun_session.specs.Whole.{RunsSession, StopsSession}
 use Rattle.asrun_session.specs.declared.action.Action.{Action}
 use Rattle.asrun_session.specs.declared.ending.Status.{Status}
 
-module _ {V : Type 0} {P : V → Type 0} (m : (v : V) → Meaning (P v)) (e f : Engine V P) where
+module _ {V : Type 0} {P : V → Type 0} (m : Meanings P) (e f : Engine V P) where
   -- By some events, which its drivers follow, it comes to another world, as S says.
   abbrev pub Comes : (List HostEvent → World → Type 0) → Type 0
   Comes S = ByEvents m (registrations e) (drivers_in e) (λ es. S es (world_in m f)) (drivers_in f)

@@ -3,7 +3,7 @@ use Rattle.std.specs.Prelude.{◌≡◌, ℕ, ◌<◌, ◌≤◌, ◌⊎◌, nat
 use Rattle.std.specs.Io.KnownBytes.{Appends}
 use Rattle.std.specs.declared.alloc.Global.{Global}
 use Rattle.std.specs.declared.dyn_box.DynBox.{DynBox}
-use Rattle.ang_host.specs.Laws.{Meaning}
+use Rattle.ang_host.specs.Meanings.{Meanings}
 use Rattle.ang_host.specs.declared.event.HostEvent.{HostEvent}
 use Rattle.ang_registry.specs.declared.error.RegError.{RegError}
 use Rattle.ang_registry.specs.declared.error.RegError.TheVariants.{Limit, EmptyMask, BadDeclaration, UnknownType, WrongDriver, Duplicate, Memory as NoMemory}
@@ -80,7 +80,7 @@ module _ (R : RegistrationList) (session : List ℕ) (budget : ℕ) (old new : O
       ⊎ IsCut R no_modules (session_from 1 budget 0 (lines_of session)) old new es after
 
 -- A run with the drivers xs that come back as ys, and with a writer that has the bytes old and then new. Here m is the meaning of what is behind each vtable.
-module _ {V : Type 0} {P : V → Type 0} (m : (v : V) → Meaning (P v)) (xs ys : List (DynBox V Global P)) (old new : Option (List ℕ)) where
+module _ {V : Type 0} {P : V → Type 0} (m : Meanings P) (xs ys : List (DynBox V Global P)) (old new : Option (List ℕ)) where
   -- Nothing was printed, and the drivers are as they were.
   abbrev pub Untouched : Type 0
   Untouched = (new ≡ old) × (ys ≡ xs)
