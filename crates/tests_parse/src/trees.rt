@@ -284,22 +284,11 @@ const TYPE: Parts = Parts {
 /// `, D`
 const MORE_TYPE: Parts = Parts {
     comma: true,
-    constant: false,
-    handle: false,
-    reference: false,
-    direction: None,
-    name: false,
+    ..TYPE
 };
 
 /// `void x`
-const NAMED: Parts = Parts {
-    comma: false,
-    constant: false,
-    handle: false,
-    reference: false,
-    direction: None,
-    name: true,
-};
+const NAMED: Parts = Parts { name: true, ..TYPE };
 
 /// `const A@ const &in a`
 const IN: Parts = Parts {
@@ -323,22 +312,15 @@ const OUT: Parts = Parts {
 
 /// `, B &inout`
 const IN_OUT: Parts = Parts {
-    comma: true,
-    constant: false,
-    handle: false,
-    reference: true,
     direction: Some(TokenKind::InOut),
     name: false,
+    ..OUT
 };
 
 /// `, C& c`
 const NO_WORD: Parts = Parts {
-    comma: true,
-    constant: false,
-    handle: false,
-    reference: true,
     direction: None,
-    name: true,
+    ..OUT
 };
 
 const ALL_SORTS: &str =
@@ -349,7 +331,7 @@ const BLOCK: &str = "A@ f(B, int &out c) { return c; } class D {}";
 const BASES: &str = "class A : B, C {} class D {}";
 
 /// A script, and what it has to have.
-const SCRIPTS: [(&str, Fact); 18] = [
+const SCRIPTS: [(&str, Fact); 16] = [
     (
         ALL_SORTS,
         Fact::Declarations(&[
@@ -403,7 +385,6 @@ const SCRIPTS: [(&str, Fact); 18] = [
     ),
     // a block makes a function
     (BLOCK, Fact::Function(2, 1)),
-    (BLOCK, Fact::Declarations(&[Sort::Function, Sort::Class])),
     // the group is parameters as well, and a semicolon tells
     ("A x(B & C);", Fact::Starts(&[Start::Constructor])),
     (
@@ -412,7 +393,6 @@ const SCRIPTS: [(&str, Fact); 18] = [
     ),
     // bases are names behind a colon
     (BASES, Fact::Class(false, 2, &[])),
-    (BASES, Fact::Declarations(&[Sort::Class, Sort::Class])),
     // `final` stands in front of `class`
     ("final class A {}", Fact::Class(true, 0, &[])),
     // a parenthesis tells members apart
