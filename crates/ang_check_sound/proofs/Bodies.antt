@@ -14,9 +14,9 @@ use Rattle.ang_names_known.specs.declared.names.ScriptFunction.{ScriptFunction}
 use Rattle.ang_names_known.specs.declared.names.ScriptGlobal.{ScriptGlobal}
 use Rattle.ang_names_known.specs.declared.names.ScriptParameter.{ScriptParameter}
 use Rattle.ang_names_written.specs.NotYet.{is_initializer_beyond, is_body_beyond}
-use Rattle.ang_check_typing.specs.declared.scope.LocalVariable.{LocalVariable}
-use Rattle.ang_check_typing.specs.declared.scope.Within.{Within}
-use Rattle.ang_check_typing.specs.Scope.{BodyContext}
+use Rattle.ang_check_context.specs.declared.scope.LocalVariable.{LocalVariable}
+use Rattle.ang_check_context.specs.declared.scope.Within.{Within}
+use Rattle.ang_check_context.specs.Scope.{BodyContext}
 use Rattle.ang_check_statements.specs.Typing.{block_typing, stmts_typing, initializer_typing}
 use Rattle.ang_check_body.specs.Typing.{Base, parameter_local, typed_parameter, typed_parameters, this_local, is_void, ending, frame_of, function_typing, method_body_typing, base_typing, maker_frame, constructor_typing, global_typing}
 use Rattle.ang_source.specs.Sound.{SoundOption, SoundStatements, SoundFunction}

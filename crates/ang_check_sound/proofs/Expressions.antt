@@ -10,8 +10,8 @@ use Rattle.ang_names_written.specs.Sources.{text_of}
 use Rattle.ang_names_written.specs.NotYet.{is_object_word, is_identity, is_handle_sign, is_host_type, is_object_call, is_beyond, are_arguments_beyond, are_beyond}
 use Rattle.ang_check_operand.specs.Refusals.{Typing}
 use Rattle.ang_check_operand.specs.Operands.{Operand}
-use Rattle.ang_check_typing.specs.declared.scope.LocalVariable.{LocalVariable}
-use Rattle.ang_check_typing.specs.Scope.{BodyContext}
+use Rattle.ang_check_context.specs.declared.scope.LocalVariable.{LocalVariable}
+use Rattle.ang_check_context.specs.Scope.{BodyContext}
 use Rattle.ang_check_typing.specs.Typing.{word_by, typing_of, typing_of_args, typing_of_all}
 use Rattle.ang_tree.specs.Stmt.{Every}
 use Rattle.ang_source.specs.Sound.{Module, Sound}

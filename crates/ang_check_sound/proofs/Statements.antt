@@ -18,9 +18,9 @@ use Rattle.ang_names_known.specs.declared.names.Family.{Family}
 use Rattle.ang_types.specs.Ranks.{Ancestors}
 use Rattle.ang_check_operand.specs.Refusals.{Typing}
 use Rattle.ang_check_operand.specs.Operands.{Operand, fit}
-use Rattle.ang_check_typing.specs.declared.scope.LocalVariable.{LocalVariable}
-use Rattle.ang_check_typing.specs.Calls.{type_or_refusal}
-use Rattle.ang_check_typing.specs.Scope.{BodyContext, space_of}
+use Rattle.ang_check_context.specs.declared.scope.LocalVariable.{LocalVariable}
+use Rattle.ang_check_context.specs.Casts.{type_or_refusal}
+use Rattle.ang_check_context.specs.Scope.{BodyContext, space_of}
 use Rattle.ang_check_typing.specs.Typing.{typing_of, typing_of_args, typing_of_all}
 use Rattle.ang_check_statements.specs.declared.frame.Returns.{Returns}
 use Rattle.ang_check_statements.specs.declared.frame.Returns.TheVariants as returns

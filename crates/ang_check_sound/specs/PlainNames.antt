@@ -6,8 +6,8 @@ use Rattle.ang_types.specs.declared.arg_type.ArgType.{ArgType}
 use Rattle.ang_types.specs.declared.arg_type.ArgType.TheVariants as type
 use Rattle.ang_names_known.specs.declared.names.Names.{Names}
 use Rattle.ang_names_known.specs.declared.names.ScriptFunction.{ScriptFunction}
-use Rattle.ang_check_typing.specs.declared.scope.LocalVariable.{LocalVariable}
-use Rattle.ang_check_typing.specs.Scope.{BodyContext}
+use Rattle.ang_check_context.specs.declared.scope.LocalVariable.{LocalVariable}
+use Rattle.ang_check_context.specs.Scope.{BodyContext}
 
 -- a primitive type or `void`
 abbrev pub IsPlainType : ArgType → Type 0
