@@ -11,8 +11,8 @@ use Rattle.ang_typed.specs.declared.program.Parameter.{Parameter}
 use Rattle.ang_typed.specs.Typed as t
 use Rattle.ang_names_known.specs.declared.names.ScriptFunction.{ScriptFunction}
 use Rattle.ang_names_known.specs.declared.names.ScriptGlobal.{ScriptGlobal}
-use Rattle.ang_check_typing.specs.declared.scope.Within.{Within}
-use Rattle.ang_check_typing.specs.Scope.{BodyContext}
+use Rattle.ang_check_context.specs.declared.scope.Within.{Within}
+use Rattle.ang_check_context.specs.Scope.{BodyContext}
 use Rattle.ang_check_statements.specs.Typing.{block_typing, stmts_typing, initializer_typing}
 use Rattle.ang_check_body.specs.Typing.{Base, parameter_local, typed_parameter, typed_parameters, this_local, is_void, ending, frame_of, function_typing, method_body_typing, base_typing, maker_frame, constructor_typing, global_typing}
 use Rattle.ang_source.specs.Sound.{SoundOption, SoundStatements, SoundFunction}

@@ -3,7 +3,7 @@
 use Rattle.std.specs.Prelude.{◌≡◌, ℕ, ◌≤◌, ◌<◌, length, [], IfSome}
 use Rattle.ang_view.specs.Values.{TakesValues}
 use Rattle.ang_names_known.specs.Spaces.{first_family}
-use Rattle.ang_check_typing.specs.Scope.{BodyContext}
+use Rattle.ang_check_context.specs.Scope.{BodyContext}
 
 -- Its host's declarations take values, and no number of a host's type is one of a class or an interface, of which there is none.
 pub record IsBuiltContext (s : BodyContext) : Type 0 where

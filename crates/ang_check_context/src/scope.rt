@@ -1,6 +1,6 @@
 //! The parameters and locals that are alive, and their names.
 ghost use Rattle.std.specs.Prelude.{◌≡◌};
-ghost use Rattle.ang_check_typing.specs.Scope as spec;
+ghost use Rattle.ang_check_context.specs.Scope as spec;
 
 use ang_names_known::Text;
 use ang_types::ArgType;

@@ -1,24 +1,19 @@
-//! Bare names, and `this`.
-ghost use Rattle.std.specs.Prelude.{◌≡◌, ◌<◌, false, Some, IfOk, option_map};
+//! Bare names.
+ghost use Rattle.std.specs.Prelude.{◌≡◌, false, Some, IfOk, option_map};
 ghost use Rattle.ang_check_operand.specs.Refusals.{Gives};
 ghost use Rattle.ang_check_operand.specs.View.{view_operand};
-ghost use Rattle.ang_check_typing.specs.Calls as spec;
+ghost use Rattle.ang_check_context.specs.Names as spec;
 
 use crate::context::{BodyContext, access_error, is_there, may_reach, resolved};
 use crate::scope::{LocalVariable, Within, last_named};
-use ang_check_operand::{
-    Operand, Stop, Target, boxed, plain_operand, reading, refused, use_refused,
-};
+use ang_check_operand::{Operand, Stop, Target, reading, refused, use_refused};
 use ang_check_uses::Resolution;
-use ang_kinds::{ErrorKind, Place};
+use ang_kinds::ErrorKind;
 use ang_lex::Token;
 use ang_names_known::{FoundField, field_named, is_read_only};
-use ang_typed::{Expression, Site, Variable};
+use ang_typed::{Site, Variable};
 use ang_types::{ArgType, Asks};
 use std::alloc::{AllocError, Global};
-
-/// The number of the first family as a type.
-const FIRST_FAMILY: u32 = 1024;
 
 fn variable_at(
     alloc: Global,
@@ -115,8 +110,8 @@ fn local_named(
     token: &Token,
     name: &[u8],
 ) -> Result<Option<Operand>, AllocError>
-    ensures exact { IfOk result
-        (λ found. option_map view_operand found ≡ spec.local_named token.now name.now locals.now) }
+    ensures exact { IfOk result (λ found. option_map view_operand found
+        ≡ spec.local_named token.now name.now locals.now) }
 {
     let Some(number) = last_named(locals, name) else {
         return Ok(None);
@@ -131,7 +126,13 @@ fn local_named(
 
 /// A bare name that is not called: the innermost local or parameter, else a field of the class,
 /// else a global.
-#[tactic(auto, unfolding(crate::specs::Calls::name_typing))]
+///
+/// # Errors
+///
+/// At the name `Private` or `Protected` of a field that the body may not use, else what refuses a
+/// use of the name as a value: `UnknownName` where nothing has it. `Memory` where a growth was
+/// refused.
+#[tactic(auto, unfolding(crate::specs::Names::name_typing))]
 pub fn named(
     alloc: Global,
     context: &BodyContext<'_>,
@@ -147,37 +148,5 @@ pub fn named(
             let is_there = is_there(context, locals, name);
             field_or_global(alloc, context, token, is_there, field_within(context, name))
         }
-    }
-}
-
-fn own_type(within: Within) -> ArgType
-    requires few { within.family < 256 }
-    ensures exact { result ≡ spec.own_type within }
-{
-    ArgType::Object {
-        number: FIRST_FAMILY + within.family as u32,
-        read_only: within.read_only,
-    }
-}
-
-/// `this`, which is local 0.
-pub fn this_operand(alloc: Global, place: Place, within: Within) -> Result<Operand, AllocError>
-    requires few { within.family < 256 }
-    ensures exact { IfOk result (λ a. view_operand a ≡ spec.this_operand place within) }
-{
-    let ty = own_type(within);
-    let site = Site::Named(Variable::Local(0));
-    let tree = boxed(alloc, Expression::Read { site, ty })?;
-    Ok(plain_operand(place, ty, tree))
-}
-
-/// `this`, in a method or a constructor.
-#[tactic(auto, unfolding(crate::specs::Calls::this_typing))]
-pub fn this(alloc: Global, context: &BodyContext<'_>, token: &Token) -> Result<Operand, Stop>
-    ensures exact { Gives view_operand result (spec.this_typing context.now token.now) }
-{
-    match context.within() {
-        None => Err(refused(ErrorKind::UnknownName, token)),
-        Some(within) => Ok(this_operand(alloc, token.place, within)?),
     }
 }

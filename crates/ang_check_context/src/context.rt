@@ -2,8 +2,9 @@
 ghost use Rattle.std.specs.Prelude.{◌≡◌, ◌≤◌, ◌<◌, bytes_eq, length, IfOk, IfSome};
 ghost use Rattle.std.specs.List.{list_any};
 ghost use Rattle.ang_check_operand.specs.Refusals.{Gives};
-ghost use Rattle.ang_check_typing.specs.Calls as calls;
-ghost use Rattle.ang_check_typing.specs.Scope as scopes;
+ghost use Rattle.ang_check_context.specs.Access as accesses;
+ghost use Rattle.ang_check_context.specs.Casts as casts;
+ghost use Rattle.ang_check_context.specs.Scope as scopes;
 ghost use Rattle.ang_check_uses.specs.Uses as uses;
 ghost use Rattle.ang_names_known.specs.Lookup as lookup;
 ghost use Rattle.ang_names_written.specs.Sources as sources;
@@ -33,7 +34,7 @@ pub struct BodyContext<'a> {
 }
 
 impl<'a> Model for BodyContext<'a> {
-    ghost use Rattle.ang_check_typing.specs.Scope as spec;
+    ghost use Rattle.ang_check_context.specs.Scope as spec;
 
     ghost Value = { spec.BodyContext };
 
@@ -165,7 +166,7 @@ pub fn makers(
 
 /// Why a member with this access can't be used from everywhere.
 pub fn access_error(access: Access) -> ErrorKind
-    ensures exact { result ≡ calls.access_error access }
+    ensures exact { result ≡ accesses.access_error access }
 {
     match access {
         Access::Public | Access::Private => ErrorKind::Private,
@@ -229,7 +230,7 @@ pub fn type_or_refusal(
     written: Result<ArgType, ErrorKind>,
 ) -> Result<ArgType, Stop>
     ensures exact { Gives (λ ty. ty) result
-        (calls.type_or_refusal context.now locals.now name.now written) }
+        (casts.type_or_refusal context.now locals.now name.now written) }
 {
     match written {
         Ok(ty) => Ok(ty),

@@ -6,8 +6,8 @@ use Rattle.std.specs.Option.{option_or}
 use Rattle.ang_view.specs.Registration.{RegistrationList}
 use Rattle.ang_types.specs.Ranks.{Ancestors}
 use Rattle.ang_names_known.specs.declared.names.Names.{Names}
-use Rattle.ang_check_typing.specs.declared.scope.LocalVariable.{LocalVariable}
-use Rattle.ang_check_typing.specs.declared.scope.Within.{Within}
+use Rattle.ang_check_context.specs.declared.scope.LocalVariable.{LocalVariable}
+use Rattle.ang_check_context.specs.declared.scope.Within.{Within}
 use Rattle.ang_names_known.specs.Lookup.{has_member}
 use Rattle.ang_names_known.specs.Spaces.{Space, space_of_names}
 use Rattle.ang_check_uses.specs.Uses.{Scope}

@@ -1,21 +1,19 @@
-//! Members and methods of objects.
-ghost use Rattle.std.specs.Prelude.{◌≡◌, None, IfOk};
+//! Fields and properties of objects.
+ghost use Rattle.std.specs.Prelude.{◌≡◌, IfOk};
 ghost use Rattle.ang_check_operand.specs.Refusals.{Gives};
-ghost use Rattle.ang_check_operand.specs.View.{view_operand, view_operands};
-ghost use Rattle.ang_check_typing.specs.Calls as spec;
+ghost use Rattle.ang_check_operand.specs.View.{view_operand};
+ghost use Rattle.ang_check_context.specs.Members as spec;
 ghost use Rattle.ang_names_known.specs.Spaces as spaces;
 ghost use Rattle.ang_typed.specs.Typed as t;
 ghost use Rattle.ang_typed.specs.View.{view_tree};
 
-use crate::arguments::types_of;
-use crate::called::{CallSite, called_use, with_receiver};
 use crate::context::{BodyContext, access_error, may_reach, resolved};
-use crate::methods::{Receiver, own_method};
+use crate::receiver::Receiver;
 use ang_check_operand::{Operand, Stop, Target, object_of, reading, refused, use_refused};
 use ang_check_uses::{Resolution, entity_of, family_of_type};
-use ang_kinds::{ErrorKind, List};
+use ang_kinds::ErrorKind;
 use ang_lex::Token;
-use ang_names_known::{FoundField, field_named, is_read_only, methods_named};
+use ang_names_known::{FoundField, field_named, is_read_only};
 use ang_typed::{Member, Site};
 use ang_types::{ArgType, Asks};
 use std::alloc::{AllocError, Global};
@@ -29,8 +27,8 @@ fn member_at(
     ty: ArgType,
     read_only: bool,
 ) -> Result<Operand, AllocError>
-    ensures exact { IfOk result (λ a. view_operand a ≡ spec.member_at (view_operand object) name.now
-        (t.member_of (view_tree object.tree) member) ty read_only) }
+    ensures exact { IfOk result (λ a. view_operand a ≡ spec.member_at (view_operand object)
+        name.now (t.member_of (view_tree object.tree) member) ty read_only) }
 {
     let target = Target {
         read_only,
@@ -116,7 +114,13 @@ fn member_of_type(
 }
 
 /// A field or a property of an object.
-#[tactic(auto, unfolding(crate::specs::Calls::member_typing))]
+///
+/// # Errors
+///
+/// All at the name: `UnknownName` where the operand is no object, or its type has no such member;
+/// `Private` or `Protected` of a field that the body may not use. `Memory` where a growth was
+/// refused.
+#[tactic(auto, unfolding(crate::specs::Members::member_typing))]
 pub fn member_of(
     alloc: Global,
     context: &BodyContext<'_>,
@@ -132,74 +136,5 @@ pub fn member_of(
             let on = Receiver { number, read_only };
             member_of_type(alloc, context, object, name, on)
         }
-    }
-}
-
-/// A call of a method of a host type.
-fn host_method(
-    alloc: Global,
-    context: &BodyContext<'_>,
-    name: &Token,
-    on: Receiver,
-    object: Operand,
-    operands: Vec<Operand>,
-) -> Result<Operand, Stop>
-    ensures exact { Gives view_operand result (spec.method_of_type context.now (view_operand object)
-        name.now (view_operands operands.items) on.number on.read_only None) }
-{
-    let types = types_of(alloc, operands.as_slice())?;
-    let asks = Asks::Method(on.number, on.read_only, List::from_vec(types));
-    let resolution = resolved(alloc, context, name, &asks)?;
-    let place = object.place;
-    let operands = with_receiver(object, operands)?;
-    let site = CallSite { place, name: *name };
-    called_use(alloc, context, site, asks, false, operands, resolution)
-}
-
-/// A call of a method of a family of the scripts.
-fn script_method(
-    alloc: Global,
-    context: &BodyContext<'_>,
-    name: &Token,
-    on: Receiver,
-    family: usize,
-    object: Operand,
-    operands: Vec<Operand>,
-) -> Result<Operand, Stop>
-    ensures exact { Gives view_operand result (spec.own_method context.now family on.number
-        on.read_only name.now (view_operand object) (view_operands operands.items)) }
-{
-    let text = context.text_of(name);
-    let methods = methods_named(alloc, context.families(), family, text)?;
-    own_method(
-        alloc,
-        context,
-        methods.as_slice(),
-        on,
-        name,
-        object,
-        operands,
-    )
-}
-
-/// A method of an object, which is its first argument.
-#[tactic(auto, unfolding(crate::specs::Calls::method_call_typing))]
-pub fn method_call(
-    alloc: Global,
-    context: &BodyContext<'_>,
-    object: Operand,
-    name: &Token,
-    operands: Vec<Operand>,
-) -> Result<Operand, Stop>
-    ensures exact { Gives view_operand result (spec.method_call_typing context.now
-        (view_operand object) name.now (view_operands operands.items)) }
-{
-    let Some((number, read_only)) = object_of(object.ty) else {
-        return Err(refused(ErrorKind::UnknownName, name));
-    };
-    let on = Receiver { number, read_only };
-    match family_of_type(number) {
-        None => host_method(alloc, context, name, on, object, operands),
-        Some(family) => script_method(alloc, context, name, on, family, object, operands),
     }
 }

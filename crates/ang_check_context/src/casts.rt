@@ -3,15 +3,15 @@ ghost use Rattle.std.specs.Prelude.{◌≡◌, Ok};
 ghost use Rattle.ang_check_operand.specs.Operands as operands;
 ghost use Rattle.ang_check_operand.specs.Refusals.{Gives};
 ghost use Rattle.ang_check_operand.specs.View.{view_operand};
-ghost use Rattle.ang_check_typing.specs.Calls as spec;
-ghost use Rattle.ang_check_typing.specs.Scope as scopes;
+ghost use Rattle.ang_check_context.specs.Casts as spec;
+ghost use Rattle.ang_check_context.specs.Scope as scopes;
 ghost use Rattle.ang_names_known.specs.Spaces as spaces;
 ghost use Rattle.ang_names_written.specs.Types as types;
 ghost use Rattle.ang_typed.specs.Typed as t;
 ghost use Rattle.ang_typed.specs.View.{view_tree};
 
 use crate::context::{BodyContext, type_or_refusal};
-use crate::methods::Receiver;
+use crate::receiver::Receiver;
 use crate::scope::LocalVariable;
 use ang_check_operand::{Operand, Stop, boxed, fault, object_of, plain_operand};
 use ang_check_uses::family_of_type;
@@ -25,15 +25,20 @@ use ang_types::ArgType;
 use std::alloc::Global;
 
 fn written_type(context: &BodyContext<'_>, declared: &TypeName) -> Result<ArgType, ErrorKind>
-    ensures exact { result ≡ types.type_in (scopes.space_of context.now) Role.Cast context.now.text
-        declared.now }
+    ensures exact { result
+        ≡ types.type_in (scopes.space_of context.now) Role.Cast context.now.text declared.now }
 {
     let space = Space::of_names(context.view(), context.names());
     type_in(&space, Role::Cast, context.text(), declared)
 }
 
-/// The type between the `<` and `>` of a cast.
-#[tactic(auto, unfolding(crate::specs::Calls::cast_type))]
+/// The type between the `<` and `>` of a cast. It takes no memory.
+///
+/// # Errors
+///
+/// At the type's name: `UnknownType` where it names no type, and `BadType` of a type that nothing is
+/// cast to.
+#[tactic(auto, unfolding(crate::specs::Casts::cast_type))]
 pub fn cast_type(
     context: &BodyContext<'_>,
     locals: &[LocalVariable<'_>],
@@ -99,8 +104,14 @@ fn cast_between(
     }
 }
 
-/// Between types of the scripts a cast asks the object; a host type is cast to itself alone.
-#[tactic(auto, unfolding(crate::specs::Calls::cast_typing))]
+/// A cast of an operand to this type. Between types of the scripts a cast asks the object; a host
+/// type is cast to itself alone.
+///
+/// # Errors
+///
+/// `BadConversion` at the operand, where it or the type is no object or handle, or between a host
+/// type and another type. `Memory` where a growth was refused.
+#[tactic(auto, unfolding(crate::specs::Casts::cast_typing))]
 pub fn cast(alloc: Global, word: &Token, ty: ArgType, written: Operand) -> Result<Operand, Stop>
     ensures exact { Gives view_operand result
         (spec.cast_typing word.now ty (view_operand written)) }
