@@ -1,8 +1,8 @@
 //! Variables and members of objects: where they stand, how they are read, stored and changed.
 ghost use Rattle.std.specs.Prelude.{◌≡◌, ◌+◌, ◌-◌, suc, reverse, IfOk, OnOk};
 ghost use Rattle.ang_typed.specs.View.{view_arg, view_args};
-ghost use Rattle.ang_lower.specs.Plain.{plain_expr};
-ghost use Rattle.ang_lower.specs.Lowered as spec;
+ghost use Rattle.ang_lower_expr.specs.Plain.{plain_expr};
+ghost use Rattle.ang_lower_expr.specs.Lowered as spec;
 
 use crate::build::{Pair, binary, nullary, unary};
 use crate::operators::brought_to;

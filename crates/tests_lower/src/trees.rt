@@ -49,7 +49,7 @@ pub fn first_wrong(
 }
 
 /// `int c = a + 1; b = c; return c;`
-pub fn counting_rows(alloc: Global) -> Rows {
+fn counting_rows(alloc: Global) -> Rows {
     let sum = operate(alloc, Operator::Add, local(alloc, 0), number(alloc, 1));
     let rows = only(alloc, one_local(alloc, sum));
     let stored = assign(alloc, Variable::Local(1), local(alloc, 2));

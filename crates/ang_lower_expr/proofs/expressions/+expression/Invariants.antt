@@ -1,8 +1,8 @@
 use Rattle.std.proofs.Common.{◌≡◌, ◌++◌, drop, map as list_map}
 use Rattle.ang_typed.specs.View.{view_args}
-use Rattle.ang_lower.specs.Plain.{plain_expr}
-use Rattle.ang_lower.specs.Lowered.{lowered_args}
-use Rattle.ang_lower.proofs.expressions.+expression.Given as goal
+use Rattle.ang_lower_expr.specs.Plain.{plain_expr}
+use Rattle.ang_lower_expr.specs.Lowered.{lowered_args}
+use Rattle.ang_lower_expr.proofs.expressions.+expression.Given as goal
 
 abbrev pub invariant-add_arguments-loop-argument : goal.invariant-add_arguments-loop-argument
 invariant-add_arguments-loop-argument l =

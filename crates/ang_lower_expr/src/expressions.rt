@@ -2,9 +2,9 @@
 ghost use Rattle.std.specs.Prelude.{◌≡◌, ◌++◌, IfOk, OnOk, true, map as list_map};
 ghost use Rattle.ang_typed.specs.View.{view_expr, view_arg, view_args, view_option, view_site};
 ghost use Rattle.ang_source.specs.Meaning.{callee_of};
-ghost use Rattle.ang_lower.specs.Plain.{plain_expr, plain_tree};
-ghost use Rattle.ang_lower.specs.Kinds.{is_unary, is_binary, is_choice, is_change, is_call};
-ghost use Rattle.ang_lower.specs.Lowered as spec;
+ghost use Rattle.ang_lower_expr.specs.Plain.{plain_expr, plain_tree};
+ghost use Rattle.ang_lower_expr.specs.Kinds.{is_unary, is_binary, is_choice, is_change, is_call};
+ghost use Rattle.ang_lower_expr.specs.Lowered as spec;
 
 use crate::build::{Pair, add_operand, apply, binary, call, choice, nullary, unary};
 use crate::folding::{complement, conversion, denial, negation};

@@ -1,7 +1,7 @@
 //! Operations on one number, which are done at once where the script wrote the number.
 ghost use Rattle.std.specs.Prelude.{◌≡◌, IfOk};
-ghost use Rattle.ang_lower.specs.Plain.{plain_expr};
-ghost use Rattle.ang_lower.specs.Lowered as spec;
+ghost use Rattle.ang_lower_expr.specs.Plain.{plain_expr};
+ghost use Rattle.ang_lower_expr.specs.Lowered as spec;
 
 use crate::build::unary;
 use ang_core::Expression;
