@@ -17,7 +17,7 @@ ghost use Rattle.ang_engine_modules.specs.Modules.{module_at, TakesSoMany, AreDr
 use crate::globals::defaults;
 use crate::runs::{body_count, run_initializers};
 use crate::tables::{code_of, no_code};
-use ang_gen::compile;
+use ang_gen::generate;
 use ang_host::{Driver, HostEvent};
 use ang_kinds::{Fault, List};
 use ang_meaning::{Routine, Slot};
@@ -148,7 +148,7 @@ impl Modules {
         ensures placed { OnOk result (self.new ≡ slice_set self.old home (Some loaded)) }
         ensures unchanged { OnErr result (self.new ≡ self.old) }
     {
-        let codes = compile(alloc, &loaded.tree)?;
+        let codes = generate(alloc, &loaded.tree)?;
         let code = code_of(
             alloc,
             home,
