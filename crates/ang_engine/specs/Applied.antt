@@ -7,13 +7,22 @@ use Rattle.ang_host.specs.Events.{DriversFollow}
 use Rattle.ang_view.specs.Registration.{RegistrationList}
 use Rattle.ang_registry.specs.Roles.{roles_of}
 use Rattle.ang_engine.specs.declared.command.Command.{Command}
+use Rattle.ang_engine.specs.declared.engine.Engine.{Engine}
 use Rattle.ang_engine.specs.declared.reply.Reply.{Reply}
 use Rattle.ang_engine.specs.World.{World}
+use Rattle.ang_engine.specs.Engines.{registrations, world_in, drivers_in}
 use Rattle.ang_engine.specs.Step.{Takes, IsEntitled}
 
 -- It takes the modules from w to v, its host calls are entitled, and the drivers follow them.
-pub record Applied {V : Type 0} {P : V → Type 0} (m : Meanings P) (R : RegistrationList) (w : World) (xs : List (DynBox V Global P))
-    (c : Command) (reply : Reply) (v : World) (ys : List (DynBox V Global P)) : Type 0 where
+pub record Applied {V : Type 0} {P : V → Type 0} (m : Meanings P) (R : RegistrationList)
+    (w : World) (xs : List (DynBox V Global P)) (c : Command) (reply : Reply) (v : World)
+    (ys : List (DynBox V Global P)) : Type 0 where
   pub takes : Takes R w c reply v
   pub entitled : All (IsEntitled R v) reply.events
   pub follow : DriversFollow m (roles_of R) xs reply.events ys
+
+-- it takes one engine to the other
+abbrev pub HasApplied : {V : Type 0} {P : V → Type 0} → Meanings P → Engine V P → Command → Reply
+    → Engine V P → Type 0
+HasApplied m e c reply f =
+    Applied m (registrations e) (world_in m e) (drivers_in e) c reply (world_in m f) (drivers_in f)

@@ -42,13 +42,18 @@ pub fn run_initializers(
 ) -> Result<(), Fault>
     requires drivers { DriversThere table.now (length (members machine.old.store.drivers)) }
     requires ready { IsReady ⟦<dyn Driver as Driver>⟧ (lent machine.old events.old) }
-    requires counted { IsCounted [] (world_of ⟦<dyn Driver as Driver>⟧ (lent machine.old events.old)) }
+    requires counted { IsCounted []
+        (world_of ⟦<dyn Driver as Driver>⟧ (lent machine.old events.old)) }
     requires few { end < 2 ^ 32 }
-    ensures begun { HasBegun table.now budget home first end (world_of ⟦<dyn Driver as Driver>⟧ (lent machine.old events.old))
-        (completed result) (world_of ⟦<dyn Driver as Driver>⟧ (lent machine.new events.new)) }
-    ensures moves { (roles : List Role) → HaveRoles table.now roles → StoreMoves ⟦<dyn Driver as Driver>⟧ roles (lent machine.old events.old) (lent machine.new events.new) }
+    ensures begun { HasBegun table.now budget home first end
+        (world_of ⟦<dyn Driver as Driver>⟧ (lent machine.old events.old)) (completed result)
+        (world_of ⟦<dyn Driver as Driver>⟧ (lent machine.new events.new)) }
+    ensures moves { (roles : List Role) → HaveRoles table.now roles
+        → StoreMoves ⟦<dyn Driver as Driver>⟧ roles (lent machine.old events.old)
+        (lent machine.new events.new) }
     ensures ready { IsReady ⟦<dyn Driver as Driver>⟧ (lent machine.new events.new) }
-    ensures count { length (members machine.new.store.drivers) ≡ length (members machine.old.store.drivers) }
+    ensures count { length (members machine.new.store.drivers)
+        ≡ length (members machine.old.store.drivers) }
 {
     let mut ticks = budget;
     let mut number = first;

@@ -37,11 +37,14 @@ pub fn do_operation(
     requires in_room { here.top ≤ room }
     requires within { room ≤ length stack.old }
     requires ready { IsReady ⟦<dyn Driver as Driver>⟧ store.old }
-    requires counted { IsCounted (values stack.old here.top) (world_of ⟦<dyn Driver as Driver>⟧ store.old) }
+    requires counted { IsCounted (values stack.old here.top)
+        (world_of ⟦<dyn Driver as Driver>⟧ store.old) }
     requires drivers { DriversThere table.now (length (members store.old.drivers)) }
     ensures turned { IsNext table.now body here (Do operation.now) size
-        → Turned table.now body room here stack.old (world_of ⟦<dyn Driver as Driver>⟧ store.old) result stack.new (world_of ⟦<dyn Driver as Driver>⟧ store.new) }
-    ensures moves { (roles : List Role) → HaveRoles table.now roles → StoreMoves ⟦<dyn Driver as Driver>⟧ roles store.old store.new }
+        → Turned table.now body room here stack.old (world_of ⟦<dyn Driver as Driver>⟧ store.old)
+        result stack.new (world_of ⟦<dyn Driver as Driver>⟧ store.new) }
+    ensures moves { (roles : List Role) → HaveRoles table.now roles
+        → StoreMoves ⟦<dyn Driver as Driver>⟧ roles store.old store.new }
     ensures ready { IsReady ⟦<dyn Driver as Driver>⟧ store.new }
     ensures count { length (members store.new.drivers) ≡ length (members store.old.drivers) }
 {

@@ -35,10 +35,12 @@ pub(crate) fn put_answer(
     requires within { top ≤ length stack.old }
     requires room { top - count < length stack.old }
     ensures exact { (room : ℕ) (f : Routine) (pc : ℕ) (fr : List Frame) (t : ℕ) (w : World)
-        → did (done answer w) (values stack.old top) (λ v u. At f (pc + 1) room (v ∷ drop_some count (values stack.old top)) fr t u)
+        → did (done answer w) (values stack.old top)
+        (λ v u. At f (pc + 1) room (v ∷ drop_some count (values stack.old top)) fr t u)
         ≡ went result f pc room stack.new top fr t w }
     ensures in_room { IfOk result (λ n. n ≤ top - count + 1) }
-    ensures fails { (x : FaultOf) → result ≡ Err (Fails x) → (answer ≡ Err x) × (stack.new ≡ stack.old) }
+    ensures fails { (x : FaultOf) → result ≡ Err (Fails x)
+        → (answer ≡ Err x) × (stack.new ≡ stack.old) }
 {
     match answer {
         Ok(value) => {
@@ -60,7 +62,8 @@ pub(crate) fn do_work(
 ) -> Result<usize, Stop>
     requires in_room { top ≤ room }
     requires within { room ≤ length stack.old }
-    ensures acts { (z : Setting) (code : Texts) (w : World) → Acts z code (Do (Work what at)) room top stack.old w result stack.new w }
+    ensures acts { (z : Setting) (code : Texts) (w : World)
+        → Acts z code (Do (Work what at)) room top stack.old w result stack.new w }
     ensures in_room { IfOk result (λ n. n ≤ room) }
 {
     if top < 2 {
@@ -83,7 +86,8 @@ pub(crate) fn do_compare(
 ) -> Result<usize, Stop>
     requires in_room { top ≤ room }
     requires within { room ≤ length stack.old }
-    ensures acts { (z : Setting) (code : Texts) (w : World) → Acts z code (Do (Compare what signed)) room top stack.old w result stack.new w }
+    ensures acts { (z : Setting) (code : Texts) (w : World)
+        → Acts z code (Do (Compare what signed)) room top stack.old w result stack.new w }
     ensures in_room { IfOk result (λ n. n ≤ room) }
 {
     if top < 2 {
@@ -105,7 +109,8 @@ pub(crate) fn do_convert(
 ) -> Result<usize, Stop>
     requires in_room { top ≤ room }
     requires within { room ≤ length stack.old }
-    ensures acts { (z : Setting) (code : Texts) (w : World) → Acts z code (Do (Convert to)) room top stack.old w result stack.new w }
+    ensures acts { (z : Setting) (code : Texts) (w : World)
+        → Acts z code (Do (Convert to)) room top stack.old w result stack.new w }
     ensures in_room { IfOk result (λ n. n ≤ room) }
 {
     if top == 0 {
@@ -126,7 +131,8 @@ pub(crate) fn do_negate(
 ) -> Result<usize, Stop>
     requires in_room { top ≤ room }
     requires within { room ≤ length stack.old }
-    ensures acts { (z : Setting) (code : Texts) (w : World) → Acts z code (Do (Negate at)) room top stack.old w result stack.new w }
+    ensures acts { (z : Setting) (code : Texts) (w : World)
+        → Acts z code (Do (Negate at)) room top stack.old w result stack.new w }
     ensures in_room { IfOk result (λ n. n ≤ room) }
 {
     if top == 0 {
@@ -147,7 +153,8 @@ pub(crate) fn do_complement(
 ) -> Result<usize, Stop>
     requires in_room { top ≤ room }
     requires within { room ≤ length stack.old }
-    ensures acts { (z : Setting) (code : Texts) (w : World) → Acts z code (Do (Complement at)) room top stack.old w result stack.new w }
+    ensures acts { (z : Setting) (code : Texts) (w : World)
+        → Acts z code (Do (Complement at)) room top stack.old w result stack.new w }
     ensures in_room { IfOk result (λ n. n ≤ room) }
 {
     if top == 0 {
@@ -163,7 +170,8 @@ pub(crate) fn do_complement(
 pub(crate) fn do_not(stack: &mut [Slot], top: usize, room: usize) -> Result<usize, Stop>
     requires in_room { top ≤ room }
     requires within { room ≤ length stack.old }
-    ensures acts { (z : Setting) (code : Texts) (w : World) → Acts z code (Do Not) room top stack.old w result stack.new w }
+    ensures acts { (z : Setting) (code : Texts) (w : World)
+        → Acts z code (Do Not) room top stack.old w result stack.new w }
     ensures in_room { IfOk result (λ n. n ≤ room) }
 {
     if top == 0 {

@@ -1,13 +1,12 @@
 //! Values that change places with a variable, for the targets of `&out` parameters.
 ghost use Rattle.std.specs.Prelude.{◌≡◌, ◌<◌, ◌≤◌, List, length, IfOk};
-ghost use Rattle.ang_host.specs.declared.event.Role.{Role};
 ghost use Rattle.ang_meaning.specs.World.{World};
 ghost use Rattle.ang_meaning.specs.Setting.{Setting};
 ghost use Rattle.ang_meaning.specs.Results.{brought};
 ghost use Rattle.ang_meaning.specs.Counting.{IsCounted};
 ghost use Rattle.ang_code.specs.declared.instruction.Instruction.TheVariants.{Swap, SwapGlobal, SwapField};
 ghost use Rattle.ang_code.specs.Machine.{Texts};
-ghost use Rattle.ang_heap.specs.Stores.{world_of, IsReady, StoreMoves};
+ghost use Rattle.ang_heap.specs.Stores.{world_of, IsReady, HasMoved};
 ghost use Rattle.ang_vm_stack.specs.Stacks.{values};
 ghost use Rattle.ang_vm_steps.specs.Arms.{Acts, ActsIn};
 
@@ -82,11 +81,14 @@ pub fn swap_global(
     requires in_room { top ≤ room }
     requires within { room ≤ length stack.old }
     requires ready { IsReady ⟦<dyn Driver as Driver>⟧ store.old }
-    requires counted { IsCounted (values stack.old top) (world_of ⟦<dyn Driver as Driver>⟧ store.old) }
-    ensures acts { (z : Setting) (code : Texts) → ActsIn body z code (SwapGlobal to under global) room top stack.old (world_of ⟦<dyn Driver as Driver>⟧ store.old)
-        result stack.new (world_of ⟦<dyn Driver as Driver>⟧ store.new) }
+    requires counted { IsCounted (values stack.old top)
+        (world_of ⟦<dyn Driver as Driver>⟧ store.old) }
+    ensures acts { (z : Setting) (code : Texts)
+        → ActsIn body z code (SwapGlobal to under global) room top stack.old
+        (world_of ⟦<dyn Driver as Driver>⟧ store.old) result stack.new
+        (world_of ⟦<dyn Driver as Driver>⟧ store.new) }
     ensures in_room { IfOk result (λ n. n ≤ room) }
-    ensures moves { (roles : List Role) → StoreMoves ⟦<dyn Driver as Driver>⟧ roles store.old store.new }
+    ensures moves { HasMoved ⟦<dyn Driver as Driver>⟧ store.old store.new }
 {
     let place = under as usize;
     if place >= top {
@@ -113,11 +115,14 @@ pub fn swap_field(
     requires in_room { top ≤ room }
     requires within { room ≤ length stack.old }
     requires ready { IsReady ⟦<dyn Driver as Driver>⟧ store.old }
-    requires counted { IsCounted (values stack.old top) (world_of ⟦<dyn Driver as Driver>⟧ store.old) }
-    ensures acts { (z : Setting) (code : Texts) → Acts z code (SwapField to under object field) room top stack.old (world_of ⟦<dyn Driver as Driver>⟧ store.old)
-        result stack.new (world_of ⟦<dyn Driver as Driver>⟧ store.new) }
+    requires counted { IsCounted (values stack.old top)
+        (world_of ⟦<dyn Driver as Driver>⟧ store.old) }
+    ensures acts { (z : Setting) (code : Texts)
+        → Acts z code (SwapField to under object field) room top stack.old
+        (world_of ⟦<dyn Driver as Driver>⟧ store.old) result stack.new
+        (world_of ⟦<dyn Driver as Driver>⟧ store.new) }
     ensures in_room { IfOk result (λ n. n ≤ room) }
-    ensures moves { (roles : List Role) → StoreMoves ⟦<dyn Driver as Driver>⟧ roles store.old store.new }
+    ensures moves { HasMoved ⟦<dyn Driver as Driver>⟧ store.old store.new }
 {
     let place = under as usize;
     if place >= top {
