@@ -1,29 +1,24 @@
--- A body and an initializer that were typed have what they were declared with, and those of functions and globals are sound where these are
--- not beyond what is built.
-use Rattle.std.specs.Prelude.{◌≡◌, ℕ, Bool, false, ◌||◌, length, List, [], ◌∷◌, map, Option, IfOk}
+-- A body and an initializer that were typed have what they were declared with, and those of functions and globals are sound.
+use Rattle.std.specs.Prelude.{◌≡◌, ℕ, ◌<◌, Bool, false, ◌||◌, length, List, [], ◌∷◌, map, Option, None, IfSome, IfOk}
 use Rattle.std.proofs.Common.{refl, sym, ◌∙◌, subst}
 use Rattle.std.proofs.lemmas.List.{length-map}
 use Rattle.ang_lex.specs.declared.token.Token.{Token}
 use Rattle.ang_tree.specs.declared.type_name.TypeName.{TypeName}
 use Rattle.ang_tree.specs.Declarations.{SuperTree}
-use Rattle.ang_tree.specs.Stmt.{Init, Body, Stmts, Every}
+use Rattle.ang_tree.specs.Stmt.{Init, Body, Stmts}
 use Rattle.ang_types.specs.declared.arg_type.ArgType.{ArgType}
 use Rattle.ang_typed.specs.declared.program.Parameter.{Parameter}
 use Rattle.ang_typed.specs.Typed as t
 use Rattle.ang_names_known.specs.declared.names.ScriptFunction.{ScriptFunction}
 use Rattle.ang_names_known.specs.declared.names.ScriptGlobal.{ScriptGlobal}
-use Rattle.ang_names_known.specs.declared.names.ScriptParameter.{ScriptParameter}
-use Rattle.ang_names_written.specs.NotYet.{is_initializer_beyond, is_body_beyond}
-use Rattle.ang_check_typing.specs.declared.scope.LocalVariable.{LocalVariable}
 use Rattle.ang_check_typing.specs.declared.scope.Within.{Within}
 use Rattle.ang_check_typing.specs.Scope.{BodyContext}
 use Rattle.ang_check_statements.specs.Typing.{block_typing, stmts_typing, initializer_typing}
 use Rattle.ang_check_body.specs.Typing.{Base, parameter_local, typed_parameter, typed_parameters, this_local, is_void, ending, frame_of, function_typing, method_body_typing, base_typing, maker_frame, constructor_typing, global_typing}
 use Rattle.ang_source.specs.Sound.{SoundOption, SoundStatements, SoundFunction}
 use Rattle.ang_check_sound.specs.Checked.{with_this}
-use Rattle.ang_check_sound.specs.PlainNames.{IsPlainType, IsPlainFunction, ArePlainLocals, IsPlainContext}
+use Rattle.ang_check_sound.specs.Built.{IsBuiltContext, HasThis}
 use Rattle.ang_check_sound.proofs.Judged.{holds, either_holds, any}
-use Rattle.ang_check_sound.proofs.Items.{every_mapped}
 use Rattle.ang_check_sound.proofs.Uses.{Here}
 use Rattle.ang_check_sound.proofs.Statements.{initializer_sound, block_sound}
 
@@ -71,33 +66,30 @@ unfolding global_typing
 global_declared s g y i =
     holds (λ (x : Option t.Expr). Unit {0}) (IsGlobal g) (initializer_typing s [] y g.written.ty i) _ (any _) (λ x h. refl)
 
--- ---- soundness, in a body of scripts without objects
+-- ---- soundness, outside of classes
 
-module _ (s : BodyContext) (plain : IsPlainContext s) where
+module _ (s : BodyContext) (built : IsBuiltContext s) (outside : s.within ≡ None) where
   ending_sound : (f : ScriptFunction) (x : Token) (ends : Bool) (ss : t.Stmts) → SoundStatements (Here s) false (length (map parameter_local f.params)) ss
       → IfOk (ending f.result.ty x ends (typed_parameters f) ss) (SoundFunction (Here s))
   ending_sound f x ends ss h =
       either_holds (SoundFunction (Here s)) (ends || is_void f.result.ty) _ _
       (subst (λ n. SoundStatements (Here s) false n ss) (length-map f.params parameter_local ∙ sym (length-map f.params typed_parameter)) h) tt
 
-  -- the parameters of a plain function
-  locals_plain : (ps : List ScriptParameter) → Every (λ (p : ScriptParameter). IsPlainType p.written.ty) ps → ArePlainLocals (map parameter_local ps)
-  locals_plain ps h =
-      every_mapped (λ (p : ScriptParameter). IsPlainType p.written.ty) (λ (q : LocalVariable). IsPlainType q.ty) parameter_local ps (λ p e. e) h
+  -- no `this` is wanted
+  no_this : (n : ℕ) → HasThis s n
+  no_this n = subst (λ (w : Option Within). IfSome w (λ v. 0 < n)) (sym outside) tt
 
-  pub function_sound : (f : ScriptFunction) (x : Token) (b : Body) → IsPlainFunction f → is_body_beyond s.view s.text b ≡ false
-      → IfOk (function_typing s f x b) (SoundFunction (Here s))
+  pub function_sound : (f : ScriptFunction) (x : Token) (b : Body) → IfOk (function_typing s f x b) (SoundFunction (Here s))
   unfolding function_typing
-  function_sound f x b one e =
+  function_sound f x b =
       let ps = map parameter_local f.params in
       holds (SoundStatements (Here s) false (length ps)) (SoundFunction (Here s)) (block_typing (frame_of s f.result.ty ps) false ps b) _
-      (block_sound (frame_of s f.result.ty ps) plain tt b false ps (locals_plain f.params one.params) e)
+      (block_sound (frame_of s f.result.ty ps) built tt b false ps (no_this (length ps)))
       (λ ss h. ending_sound f x _ ss h)
 
   -- an initializer has no locals
-  pub global_sound : (g : ScriptGlobal) (y : TypeName) (i : Init) → IsPlainType g.written.ty → is_initializer_beyond s.view s.text i ≡ false
-      → IfOk (global_typing s g y i) (λ x. SoundOption (Here s) 0 x.initializer)
+  pub global_sound : (g : ScriptGlobal) (y : TypeName) (i : Init) → IfOk (global_typing s g y i) (λ x. SoundOption (Here s) 0 x.initializer)
   unfolding global_typing
-  global_sound g y i one e =
+  global_sound g y i =
       holds (SoundOption (Here s) 0) (λ (x : t.Global). SoundOption (Here s) 0 x.initializer) (initializer_typing s [] y g.written.ty i) _
-      (initializer_sound s plain [] tt y g.written.ty i one e) (λ x sx. sx)
+      (initializer_sound s built [] (no_this 0) y g.written.ty i) (λ x sx. sx)

@@ -9,11 +9,6 @@ pub every_joined : {A : Type 0} (P : A → Type 0) (xs ys : List A) → Every P 
 every_joined P [] ys h k = k
 every_joined P (x ∷ xs) ys h k = (h.0, every_joined P xs ys h.1 k)
 
--- nothing is wanted of the items
-pub every_any : {A : Type 0} (xs : List A) → Every (λ a. Unit {0}) xs
-every_any [] = tt
-every_any (x ∷ xs) = (tt, every_any xs)
-
 pub every_option : {A : Type 0} (P : A → Type 0) (o : Option A) → IfSome o P → Every P (option_to_list o)
 every_option P None h = tt
 every_option P (Some a) h = (h, tt)
@@ -46,27 +41,10 @@ pub second_true : (a b : Bool) → (a && b) ≡ true → b ≡ true
 second_true true b e = e
 second_true false b e = cc
 
--- where a test of three parts fails
-pub third_false : (a b c : Bool) → (a && b) ≡ true → (a && b && c) ≡ false → c ≡ false
-third_false true true c e f = f
-third_false true false c e f = cc
-third_false false b c e f = cc
-
--- none of several tests passes
+-- neither of two tests passes
 pub two_false : (a b : Bool) → (a || b) ≡ false → (a ≡ false) × (b ≡ false)
 two_false true b e = cc
 two_false false b e = (refl, e)
-
-pub three_false : (a b c : Bool) → (a || b || c) ≡ false → (a ≡ false) × (b ≡ false) × (c ≡ false)
-three_false true b c e = cc
-three_false false true c e = cc
-three_false false false c e = (refl, refl, e)
-
-pub four_false : (a b c d : Bool) → (a || b || c || d) ≡ false → (a ≡ false) × (b ≡ false) × (c ≡ false) × (d ≡ false)
-four_false true b c d e = cc
-four_false false true c d e = cc
-four_false false false true d e = cc
-four_false false false false d e = (refl, refl, refl, e)
 
 pub not_true : (b : Bool) → not b ≡ true → b ≡ false
 not_true true e = cc

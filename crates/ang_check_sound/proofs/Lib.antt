@@ -1,12 +1,12 @@
 pub mod Judged
 pub mod Items
-pub mod Conversions
 pub mod Types
 pub mod Hosts
 pub mod Views
 pub mod Operators
 pub mod Uses
 pub mod Calls
+pub mod Objects
 pub mod Expressions
 pub mod Statements
 pub mod Bodies

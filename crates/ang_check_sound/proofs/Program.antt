@@ -1,5 +1,5 @@
 -- The resolved tree of scripts without errors: it has what the names declare, each body at its number, and is sound.
-use Rattle.std.specs.Prelude.{◌≡◌, ℕ, suc, ◌+◌, true, false, Contains, length, take, List, [], ◌∷◌, ◌++◌, map, unwrap_or, option_map, option_and_then, Option, Some, None, Ok, Err, IfOk, slice_get}
+use Rattle.std.specs.Prelude.{◌≡◌, ℕ, suc, ◌+◌, ◌≤◌, true, false, Contains, length, take, List, [], ◌∷◌, ◌++◌, map, unwrap_or, option_map, option_and_then, Option, Some, None, Ok, Err, IfOk, slice_get}
 use Rattle.std.specs.List.{cons_option, filter_map, flat_map, list_any, range_with_len}
 use Rattle.std.proofs.Common.{refl, ap, sym, ◌∙◌, subst, arith}
 use Rattle.std.proofs.lemmas.Bool.{eqb-true}
@@ -23,6 +23,7 @@ use Rattle.ang_names_known.specs.declared.names.Names.{Names}
 use Rattle.ang_names_known.specs.declared.names.ScriptFunction.{ScriptFunction}
 use Rattle.ang_names_known.specs.declared.names.ScriptGlobal.{ScriptGlobal}
 use Rattle.ang_names_known.specs.Items.{each_after}
+use Rattle.ang_names_known.specs.Spaces.{first_family}
 use Rattle.ang_names_written.specs.NotYet.{not_yet}
 use Rattle.ang_names_written.specs.Sources.{Source}
 use Rattle.ang_names_listed.specs.Declarations.{declarations_of, families_of}
@@ -34,14 +35,13 @@ use Rattle.ang_check_body.specs.Typing.{Base, typed_parameters, function_typing,
 use Rattle.ang_check_bodies.specs.Bodies.{Part, a_function, a_global, a_method, a_constructor, a_default, parts_of, Judgement, of_function, of_global, of_member, of_default, context_in, within_of, base_of, base_name, judged_function, judged_global, method_at, judged_method, constructor_at, judged_constructor, judged, judgements, refusal_in, function_given, member_given, global_given, body_refusals, typed_class, typed_classes, method_headings, import_heading, program_of, HasMethodBody, HasConstructorBody, HasBodies}
 use Rattle.ang_source.specs.Sound.{Module, module_of, SoundOption, SoundFunction, SoundFunctions, SoundGlobals, SoundClasses, SoundProgram}
 use Rattle.ang_check_sound.specs.Checked.{NumberedBody, with_this, bodies_of, body_parameters, module_in, HasNames}
-use Rattle.ang_check_sound.specs.PlainNames.{IsPlainType, IsPlainFunction, ArePlainNames, IsPlainContext}
+use Rattle.ang_check_sound.specs.Built.{IsBuiltContext}
 use Rattle.ang_check_sound.proofs.Bodies.{IsOf, IsGlobal, function_declared, method_declared, constructor_declared, global_declared, function_sound, global_sound}
-use Rattle.ang_check_sound.proofs.Items.{every_at}
 use Rattle.ang_check_sound.proofs.Members.{number_of, IsMethod, IsConstructor, AreNumbered, IsMethodWritten, IsConstructorWritten}
 use Rattle.ang_check_sound.proofs.Numbers.{has_number, bodies_counted, method_numbered, constructor_numbered, HoldsIn, every_body, found}
 use Rattle.ang_check_sound.proofs.Parts.{total_of, IsFamilyWritten, HasParts, names_have_parts}
 use Rattle.ang_check_sound.proofs.Places.{Behind, all_left, next_item, next_left, EachFrom, at_number, all_of_each, in_second}
-use Rattle.ang_check_sound.proofs.Within.{names_plain, IsWithin, parts_within}
+use Rattle.ang_check_sound.proofs.Within.{no_families, IsOutside, parts_outside}
 
 -- ---- judgements without refusals
 
@@ -500,12 +500,12 @@ has_names V names sources e none =
 
 -- ---- soundness
 
-module _ (V : RegistrationList) (names : Names) (values : TakesValues V) (plain : ArePlainNames names) where
+module _ (V : RegistrationList) (names : Names) (values : TakesValues V) (few : length V ≤ first_family) (none : names.families ≡ []) where
   abbrev M : Module
   M = module_in V names
 
-  in_body : (text : List ℕ) (within : Option Within) → IsPlainContext (context_in V names text within)
-  in_body text within = record { values = values; names = plain }
+  in_body : (text : List ℕ) (within : Option Within) → IsBuiltContext (context_in V names text within)
+  in_body text within = record { values = values; few = few; no_families = none }
 
   function_then : (text : List ℕ) (x : Typing t.Function) (js : List Judgement) → IfOk x (SoundFunction M) → filter_map refusal_in (of_function text x ∷ js) ≡ []
       → SoundFunctions M (filter_map function_given js) → SoundFunctions M (filter_map function_given (of_function text x ∷ js))
@@ -523,36 +523,33 @@ module _ (V : RegistrationList) (names : Names) (values : TakesValues V) (plain 
     members : filter_map member_given js ≡ []
     globals : SoundGlobals M (filter_map global_given js)
 
-  one_function : (n : ℕ) (text : List ℕ) (x : Token) (b : Body) (o : Option ScriptFunction) (js : List Judgement) → slice_get names.functions n ≡ o
-      → IsWithin V (a_function n text x b) → filter_map refusal_in (judged_function V names text x b o ++ js) ≡ [] → AreSound js
-      → AreSound (judged_function V names text x b o ++ js)
-  one_function n text x b None js at w e r = r
-  one_function n text x b (Some f) js at w e r = record {
+  one_function : (text : List ℕ) (x : Token) (b : Body) (o : Option ScriptFunction) (js : List Judgement)
+      → filter_map refusal_in (judged_function V names text x b o ++ js) ≡ [] → AreSound js → AreSound (judged_function V names text x b o ++ js)
+  one_function text x b None js e r = r
+  one_function text x b (Some f) js e r = record {
     functions = function_then text (function_typing (context_in V names text None) f x b) js
-        (function_sound (context_in V names text None) (in_body text None) f x b (every_at IsPlainFunction names.functions n f plain.functions at) w) e r.functions;
+        (function_sound (context_in V names text None) (in_body text None) refl f x b) e r.functions;
     members = r.members;
     globals = r.globals;
   }
 
-  one_global : (n : ℕ) (text : List ℕ) (y : TypeName) (i : Init) (o : Option ScriptGlobal) (js : List Judgement) → slice_get names.globals n ≡ o
-      → IsWithin V (a_global n text y i) → filter_map refusal_in (judged_global V names text y i o ++ js) ≡ [] → AreSound js
-      → AreSound (judged_global V names text y i o ++ js)
-  one_global n text y i None js at w e r = r
-  one_global n text y i (Some g) js at w e r = record {
+  one_global : (text : List ℕ) (y : TypeName) (i : Init) (o : Option ScriptGlobal) (js : List Judgement)
+      → filter_map refusal_in (judged_global V names text y i o ++ js) ≡ [] → AreSound js → AreSound (judged_global V names text y i o ++ js)
+  one_global text y i None js e r = r
+  one_global text y i (Some g) js e r = record {
     functions = r.functions;
     members = r.members;
     globals = global_then text (global_typing (context_in V names text None) g y i) js
-        (global_sound (context_in V names text None) (in_body text None) g y i
-        (every_at (λ (g : ScriptGlobal). IsPlainType g.written.ty) names.globals n g plain.globals at) w) e r.globals;
+        (global_sound (context_in V names text None) (in_body text None) refl g y i) e r.globals;
   }
 
-  all_sound : (ps : List Part) → Every (IsWithin V) ps → filter_map refusal_in (J V names ps) ≡ [] → AreSound (J V names ps)
+  all_sound : (ps : List Part) → Every IsOutside ps → filter_map refusal_in (J V names ps) ≡ [] → AreSound (J V names ps)
   all_sound [] w e = record { functions = tt; members = refl; globals = tt }
   all_sound (a_function n text x b ∷ ps) w e =
-      one_function n text x b (slice_get names.functions n) (J V names ps) refl w.0 e
+      one_function text x b (slice_get names.functions n) (J V names ps) e
       (all_sound ps w.1 (none_behind (judged V names (a_function n text x b)) (J V names ps) e))
   all_sound (a_global n text y i ∷ ps) w e =
-      one_global n text y i (slice_get names.globals n) (J V names ps) refl w.0 e
+      one_global text y i (slice_get names.globals n) (J V names ps) e
       (all_sound ps w.1 (none_behind (judged V names (a_global n text y i)) (J V names ps) e))
   all_sound (a_method c m text x b ∷ ps) w e = absurd w.0
   all_sound (a_constructor c m text x own bases u ss ∷ ps) w e = absurd w.0
@@ -597,24 +594,26 @@ record SoundOver (M : Module) (p : t.Program) : Type 0 where
   globals : SoundGlobals M p.globals
   classes : SoundClasses M p.classes
 
-sound_over : (V : RegistrationList) (names : Names) (sources : List Source) → TakesValues V → names ≡ names_of V (declarations_of sources)
-    → not_yet sources ≡ [] → body_refusals V names sources ≡ [] → SoundOver (module_in V names) (program_of V names sources)
+sound_over : (V : RegistrationList) (names : Names) (sources : List Source) → TakesValues V → length V ≤ first_family
+    → names ≡ names_of V (declarations_of sources) → not_yet sources ≡ [] → body_refusals V names sources ≡ []
+    → SoundOver (module_in V names) (program_of V names sources)
 unfolding judgements body_refusals program_of
-sound_over V names sources values e built none =
-    let plain : ArePlainNames names = subst ArePlainNames (sym e) (names_plain V sources built) in
-    let all = all_sound V names values plain (parts_of sources) (parts_within V sources built) none in
+sound_over V names sources values few e built none =
+    let empty : names.families ≡ [] = no_families V names sources e built in
+    let all = all_sound V names values few empty (parts_of sources) (parts_outside sources built) none in
     record {
       functions = sound_joined (module_in V names) _ _ all.functions all.members;
       globals = all.globals;
-      classes = no_classes (module_in V names) names.families plain.no_families;
+      classes = no_classes (module_in V names) names.families empty;
     }
 
-pub program_is_sound : (V : RegistrationList) (names : Names) (sources : List Source) → TakesValues V → names ≡ names_of V (declarations_of sources)
-    → not_yet sources ≡ [] → body_refusals V names sources ≡ [] → SoundProgram V (program_of V names sources)
-program_is_sound V names sources values e built none =
+pub program_is_sound : (V : RegistrationList) (names : Names) (sources : List Source) → TakesValues V → length V ≤ first_family
+    → names ≡ names_of V (declarations_of sources) → not_yet sources ≡ [] → body_refusals V names sources ≡ []
+    → SoundProgram V (program_of V names sources)
+program_is_sound V names sources values few e built none =
     let p = program_of V names sources in
     let same = same_module V names sources (has_names V names sources e none) in
-    let sound = sound_over V names sources values e built none in
+    let sound = sound_over V names sources values few e built none in
     record {
       functions = subst (λ (N : Module). SoundFunctions N p.functions) same sound.functions;
       globals = subst (λ (N : Module). SoundGlobals N p.globals) same sound.globals;

@@ -1,5 +1,5 @@
 -- What holds of each program that a build gives.
-use Rattle.std.proofs.Common.{◌≡◌, refl, subst, ℕ, List, [], ◌∷◌}
+use Rattle.std.proofs.Common.{◌≡◌, ◌≤◌, refl, subst, ℕ, List, [], ◌∷◌, length}
 use Rattle.std.specs.Prelude.{map, Result, Ok, Err}
 use Rattle.ang_kinds.specs.declared.error.Error.{Error}
 use Rattle.ang_view.specs.Registration.{RegistrationList}
@@ -61,10 +61,10 @@ scripts_resolve V ss r is =
 
 -- ---- the laws, of scripts
 
-sound_scripts : (V : RegistrationList) (ss : List Source) (r : Resolved) → TakesValues V → IsResolution V ss r → SoundProgram V r.tree
-sound_scripts V ss r values h =
+sound_scripts : (V : RegistrationList) (ss : List Source) (r : Resolved) → TakesValues V → length V ≤ 1024 → IsResolution V ss r → SoundProgram V r.tree
+sound_scripts V ss r values few h =
     let names = names_of V (declarations_of ss) in
-    let sound : SoundProgram V (program_of V names ss) = program_is_sound V names ss values refl (none_beyond V ss h.declared) h.accepted in
+    let sound : SoundProgram V (program_of V names ss) = program_is_sound V names ss values few refl (none_beyond V ss h.declared) h.accepted in
     subst (λ (q : Resolved). SoundProgram V q.tree) h.is sound
 
 named_scripts : (V : RegistrationList) (ss : List Source) (r : Resolved) → IsResolution V ss r → HasNames V r.names ss r.tree
@@ -76,10 +76,10 @@ few_scripts V ss r h = subst (λ (q : Resolved). AreFamilies q.names.families) h
 
 -- ---- the laws, of sections
 
-sound_read : (V : RegistrationList) (read : Result (List Source) Error) (r : Resolved) → TakesValues V → after_reading V read ≡ Compiled r
-    → SoundProgram V r.tree
-sound_read V (Ok ss) r values is = sound_scripts V ss r values (scripts_resolve V ss r is)
-sound_read V (Err e) r values is = cc
+sound_read : (V : RegistrationList) (read : Result (List Source) Error) (r : Resolved) → TakesValues V → length V ≤ 1024
+    → after_reading V read ≡ Compiled r → SoundProgram V r.tree
+sound_read V (Ok ss) r values few is = sound_scripts V ss r values few (scripts_resolve V ss r is)
+sound_read V (Err e) r values few is = cc
 
 named_read : (V : RegistrationList) (sections : List (List ℕ)) (read : Result (List Source) Error) (r : Resolved) → sources_of 0 sections ≡ read
     → after_reading V read ≡ Compiled r → HasNamesOf V sections r
@@ -91,9 +91,9 @@ few_read V (Ok ss) r is = few_scripts V ss r (scripts_resolve V ss r is)
 few_read V (Err e) r is = cc
 
 -- the tree is sound over the view
-pub program-sound : (V : RegistrationList) (sections : List (List ℕ)) (r : Resolved) → TakesValues V → build_of V sections ≡ Compiled r
-    → SoundProgram V r.tree
-program-sound V sections r values is = sound_read V (sources_of 0 sections) r values is
+pub program-sound : (V : RegistrationList) (sections : List (List ℕ)) (r : Resolved) → TakesValues V → length V ≤ 1024
+    → build_of V sections ≡ Compiled r → SoundProgram V r.tree
+program-sound V sections r values few is = sound_read V (sources_of 0 sections) r values few is
 
 -- the functions and globals of the tree are those of the names
 pub program-named : (V : RegistrationList) (sections : List (List ℕ)) (r : Resolved) → build_of V sections ≡ Compiled r → HasNamesOf V sections r

@@ -1,5 +1,5 @@
 -- Where a declaration that is not built yet is refused: at the first of its tokens.
-use Rattle.std.proofs.Common.{◌≡◌, refl, Bool, true, false, List, [], ◌∷◌, All, Option, Some, None}
+use Rattle.std.proofs.Common.{◌≡◌, refl, Bool, true, false, if◌then◌else◌, List, [], ◌∷◌, All, Option, Some, None}
 use Rattle.std.proofs.lemmas.List.Elements.{All-nil, All-cons}
 use Rattle.ang_kinds.specs.declared.error.Error.{Error}
 use Rattle.ang_lex.specs.declared.token.Token.{Token}

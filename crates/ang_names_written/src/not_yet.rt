@@ -33,10 +33,10 @@ fn refuse_declaration(
     ensures added { OnOk result (errors.new.items
         ≡ errors.old.items ++ spec.declaration_errors (view_decl declaration.now)) }
 {
-    match beyond_at(declaration) {
-        Some(first) => errors.push(fault_at(alloc, ErrorKind::NotYet, first.place)),
-        None => Ok(()),
+    if let Some(first) = beyond_at(declaration) {
+        errors.push(fault_at(alloc, ErrorKind::NotYet, first.place))?;
     }
+    Ok(())
 }
 
 /// The errors of one section.
