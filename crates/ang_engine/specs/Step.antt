@@ -153,10 +153,10 @@ after_build V (Compiled q) w i m budget r =
 abbrev pub build : RegistrationList → World → ℕ → ModuleState → ℕ → List Input → Option Stepped
 build R w i m budget (Room true ∷ inputs) =
     Some (after_build (seen R m.mask) (build_of (seen R m.mask) m.sections) w i m budget
-        (globals_ended i (running w inputs)))
+    (globals_ended i (running w inputs)))
 build R w i m budget (Room false ∷ inputs) =
     Some (after_run (Refused BuildMemory) [] (placed w i (emptied m))
-        (globals_ended i (running w inputs)))
+    (globals_ended i (running w inputs)))
 build R w i m budget _ = None
 
 -- the budget is judged before anything is done

@@ -75,7 +75,11 @@ built_in ms = list_map (λ m. built_of m.name m.program) ms
 -- the world of a run that begins, with nothing listed yet
 abbrev pub running : World → List Input → RunWorld
 running w inputs = record {
-  objects = w.objects; hosts = w.hosts; globals = w.globals; events = []; inputs = inputs;
+  objects = w.objects;
+  hosts = w.hosts;
+  globals = w.globals;
+  events = [];
+  inputs = inputs;
 }
 
 -- what a run leaves, beside these modules

@@ -238,9 +238,9 @@ fn build_module(
         (world_of ⟦<dyn Driver as Driver>⟧ (lent machine.old events.old)) }
     requires first { events.old.items ≡ [] }
     ensures done { Leads (build registry.now.entries
-            (world_during ⟦<dyn Driver as Driver>⟧ list.old machine.old events.old) home
-            (module_at (world_during ⟦<dyn Driver as Driver>⟧ list.old machine.old events.old) home)
-            budget)
+        (world_during ⟦<dyn Driver as Driver>⟧ list.old machine.old events.old) home
+        (module_at (world_during ⟦<dyn Driver as Driver>⟧ list.old machine.old events.old) home)
+        budget)
         (reply_to_build result events.new.items)
         (world_during ⟦<dyn Driver as Driver>⟧ list.new machine.new events.new) }
     ensures asked { HasAsked ⟦<dyn Driver as Driver>⟧ registry.now.entries
@@ -274,7 +274,7 @@ pub fn build(
         (world_of ⟦<dyn Driver as Driver>⟧ (lent machine.old events.old)) }
     requires first { events.old.items ≡ [] }
     ensures done { Leads (building registry.now.entries name.now budget
-            (world_during ⟦<dyn Driver as Driver>⟧ list.old machine.old events.old))
+        (world_during ⟦<dyn Driver as Driver>⟧ list.old machine.old events.old))
         (reply_to_build result events.new.items)
         (world_during ⟦<dyn Driver as Driver>⟧ list.new machine.new events.new) }
     ensures asked { HasAsked ⟦<dyn Driver as Driver>⟧ registry.now.entries

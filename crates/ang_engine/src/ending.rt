@@ -28,9 +28,9 @@ fn give_back(heap: &mut Heap, drivers: &mut Drivers, events: &mut Vec<HostEvent>
         (counts_among ⟦<dyn Driver as Driver>⟧ drivers.old) }
     ensures gives { (gs : List (List Slot)) (is : List Input)
         → given_back values.now (world_by (objects_of heap.old)
-            (counts_among ⟦<dyn Driver as Driver>⟧ drivers.old) gs events.old.items is)
+        (counts_among ⟦<dyn Driver as Driver>⟧ drivers.old) gs events.old.items is)
         ≡ world_by (objects_of heap.new) (counts_among ⟦<dyn Driver as Driver>⟧ drivers.new) gs
-            events.new.items is }
+        events.new.items is }
     ensures ready { AreReady (states_among ⟦<dyn Driver as Driver>⟧ drivers.new)
         (vec_len events.new) (vec_capacity events.new) }
     ensures level { vec_len events.new + live_among ⟦<dyn Driver as Driver>⟧ drivers.new
@@ -75,10 +75,10 @@ fn end_module(
         (counts_among ⟦<dyn Driver as Driver>⟧ drivers.old) (values_in globals.old) }
     ensures ended { (is : List Input)
         → globals_ended home (world_by (objects_of heap.old)
-            (counts_among ⟦<dyn Driver as Driver>⟧ drivers.old) (values_in globals.old)
-            events.old.items is)
+        (counts_among ⟦<dyn Driver as Driver>⟧ drivers.old) (values_in globals.old)
+        events.old.items is)
         ≡ world_by (objects_of heap.new) (counts_among ⟦<dyn Driver as Driver>⟧ drivers.new)
-            (values_in globals.new) events.new.items is }
+        (values_in globals.new) events.new.items is }
     ensures ready { AreReady (states_among ⟦<dyn Driver as Driver>⟧ drivers.new)
         (vec_len events.new) (vec_capacity events.new) }
     ensures level { vec_len events.new + live_among ⟦<dyn Driver as Driver>⟧ drivers.new
@@ -109,10 +109,10 @@ pub fn end_all(
         (counts_among ⟦<dyn Driver as Driver>⟧ drivers.old) (values_in globals.old) }
     ensures ended { (is : List Input)
         → all_ended (length (values_in globals.old)) (world_by (objects_of heap.old)
-            (counts_among ⟦<dyn Driver as Driver>⟧ drivers.old) (values_in globals.old)
-            ends.old.items is)
+        (counts_among ⟦<dyn Driver as Driver>⟧ drivers.old) (values_in globals.old)
+        ends.old.items is)
         ≡ world_by (objects_of heap.new) (counts_among ⟦<dyn Driver as Driver>⟧ drivers.new)
-            (values_in globals.new) ends.new.items is }
+        (values_in globals.new) ends.new.items is }
     ensures ready { AreReady (states_among ⟦<dyn Driver as Driver>⟧ drivers.new) (vec_len ends.new)
         (vec_capacity ends.new) }
     ensures moves { (roles : List Role)

@@ -112,7 +112,7 @@ impl Engine {
         ensures registry_back { IfErr result (λ r. r.registry ≡ registry) }
         ensures drivers_back { IfErr result (λ r. members r.drivers ≡ members drivers) }
         ensures why { IfErr result (λ r. r.why ≡ NewError.NoDriver
-                ↔ (HaveDrivers registry.entries (length (members drivers)) → ⊥)) }
+            ↔ (HaveDrivers registry.entries (length (members drivers)) → ⊥)) }
     {
         if !have_drivers(&registry, drivers.len()) {
             return Err(NewRefused {

@@ -92,7 +92,7 @@ pub fn add_module(
     requires zipped { length list.old.code ≡ length list.old.modules.items }
     ensures done { (r : RunWorld)
         → IsDone result (added_module name mask.0
-            (left_to (states_in list.old) (record r { globals = values_in globals.old })))
+        (left_to (states_in list.old) (record r { globals = values_in globals.old })))
         (left_to (states_in list.old) (record r { globals = values_in globals.old }))
         (left_to (states_in list.new) (record r { globals = values_in globals.new })) }
     ensures sound { (R : RegistrationList) → AreSoundModules R list.old
@@ -141,9 +141,9 @@ fn add_text(modules: &mut [Module], name: &[u8], text: List<u8>) -> Result<(), R
     requires few { length modules.old < 2 ^ 32 }
     ensures done { (code : List (Option LoadedModule)) (r : RunWorld)
         → IsDone result (λ inputs. on_module
-            (module_named name.now (left_to (module_states modules.old code) r))
-            (left_to (module_states modules.old code) r) inputs
-            (spec.add_section text (left_to (module_states modules.old code) r)))
+        (module_named name.now (left_to (module_states modules.old code) r))
+        (left_to (module_states modules.old code) r) inputs
+        (spec.add_section text (left_to (module_states modules.old code) r)))
         (left_to (module_states modules.old code) r) (left_to (module_states modules.new code) r) }
     ensures sound { (R : RegistrationList) (code : List (Option LoadedModule))
         → AllZip (IsSoundModule R) modules.old code → AllZip (IsSoundModule R) modules.new code }
@@ -160,8 +160,8 @@ pub fn add_section(list: &mut ModuleList, name: List<u8>, text: List<u8>) -> Res
     requires few { length list.old.modules.items < 2 ^ 32 }
     ensures done { (r : RunWorld)
         → IsDone result (λ inputs. on_module (module_named name (left_to (states_in list.old) r))
-            (left_to (states_in list.old) r) inputs
-            (spec.add_section text (left_to (states_in list.old) r)))
+        (left_to (states_in list.old) r) inputs
+        (spec.add_section text (left_to (states_in list.old) r)))
         (left_to (states_in list.old) r) (left_to (states_in list.new) r) }
     ensures sound { (R : RegistrationList) → AreSoundModules R list.old
         → AreSoundModules R list.new }

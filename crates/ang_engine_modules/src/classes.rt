@@ -148,7 +148,7 @@ fn class_code(
 /// checked module has.
 pub fn classes_of(alloc: Global, home: u32, classes: &[Class]) -> Result<Vec<ClassCode>, AllocError>
     ensures exact { IfOk result (λ codes.
-            list_map spec.class_of codes.items ≡ classes_from home classes.now 0 classes.now) }
+        list_map spec.class_of codes.items ≡ classes_from home classes.now 0 classes.now) }
 {
     let mut codes = Vec::with_capacity(alloc, classes.len())?;
     for (number, class) in classes.iter().enumerate() {

@@ -106,7 +106,7 @@ pub fn code_of(
         (λ m. list_map (λ y. y.bound) m.imports.items ≡ list_map (λ h. None) tree.now.imports) }
     ensures entities { IfOk result (λ m. m.entities.items ≡ spec.uses_of view.now) }
     ensures classes { IfOk result (λ m. list_map spec.class_of m.classes.items
-            ≡ classes_from home tree.now.classes 0 tree.now.classes) }
+        ≡ classes_from home tree.now.classes 0 tree.now.classes) }
     ensures slots { IfOk result
         (λ m. list_map (λ y. y.items) m.slots.items ≡ headings_in tree.now.methods) }
 {

@@ -33,7 +33,7 @@ pub record IsReady {V : Type 0} {P : V → Type 0} (m : Meanings P) (s : Store V
 pub record StoreMoves {V : Type 0} {P : V → Type 0} (m : Meanings P) (roles : List Role)
     (s t : Store V P) : Type 0 where
   pub parts :
-    PartsMove m roles (members s.drivers) s.events.items (members t.drivers) t.events.items
+      PartsMove m roles (members s.drivers) s.events.items (members t.drivers) t.events.items
   pub ready : IsReady m s → IsReady m t
 
 -- the same, whatever roles entities have

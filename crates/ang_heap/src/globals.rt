@@ -24,7 +24,7 @@ impl Globals {
     pub fn put(&mut self, home: u32, number: u32, value: Slot)
         ensures put { values_in self.new
             ≡ slice_set (values_in self.old) home
-                (slice_set (slice_index_or (values_in self.old) home []) number value) }
+            (slice_set (slice_index_or (values_in self.old) home []) number value) }
     {
         let home = home as usize;
         if home < self.modules.len() {

@@ -50,14 +50,14 @@ impl Heap {
         requires there { HasKey value (counts_among ⟦<dyn Driver as Driver>⟧ drivers.old) }
         ensures holds { (gs : List (List Slot)) (es : List HostEvent)
             → Told (λ is. hold_in value (world_by (objects_of self.old)
-                    (counts_among ⟦<dyn Driver as Driver>⟧ drivers.old) gs es is))
+            (counts_among ⟦<dyn Driver as Driver>⟧ drivers.old) gs es is))
             (λ is. if_told (is_ok result) (world_by (objects_of self.new)
-                    (counts_among ⟦<dyn Driver as Driver>⟧ drivers.new) gs es is)) }
+            (counts_among ⟦<dyn Driver as Driver>⟧ drivers.new) gs es is)) }
         ensures full { OnErr result (IsTallyFull value (objects_of self.old)
-                (states_among ⟦<dyn Driver as Driver>⟧ drivers.old)) }
+            (states_among ⟦<dyn Driver as Driver>⟧ drivers.old)) }
         ensures same_objects { OnErr result (objects_of self.new ≡ objects_of self.old) }
         ensures same_drivers { OnErr result (states_among ⟦<dyn Driver as Driver>⟧ drivers.new
-                ≡ states_among ⟦<dyn Driver as Driver>⟧ drivers.old) }
+            ≡ states_among ⟦<dyn Driver as Driver>⟧ drivers.old) }
         ensures live { live_among ⟦<dyn Driver as Driver>⟧ drivers.new
             ≡ live_among ⟦<dyn Driver as Driver>⟧ drivers.old }
         ensures ready { (len capacity : ℕ)
@@ -89,9 +89,9 @@ impl Heap {
             (counts_among ⟦<dyn Driver as Driver>⟧ drivers.old) }
         ensures gives { (gs : List (List Slot)) (is : List Input)
             → give_in value (world_by (objects_of self.old)
-                (counts_among ⟦<dyn Driver as Driver>⟧ drivers.old) gs events.old.items is)
+            (counts_among ⟦<dyn Driver as Driver>⟧ drivers.old) gs events.old.items is)
             ≡ world_by (objects_of self.new) (counts_among ⟦<dyn Driver as Driver>⟧ drivers.new) gs
-                events.new.items is }
+            events.new.items is }
         ensures ready { AreReady (states_among ⟦<dyn Driver as Driver>⟧ drivers.new)
             (vec_len events.new) (vec_capacity events.new) }
         ensures level { vec_len events.new + live_among ⟦<dyn Driver as Driver>⟧ drivers.new
@@ -140,9 +140,9 @@ fn hold(records: &mut Slab<ScriptObject>, drivers: &mut Drivers, value: Slot) ->
     requires there { HasKey value (counts_among ⟦<dyn Driver as Driver>⟧ drivers.old) }
     ensures holds { (gs : List (List Slot)) (es : List HostEvent)
         → Told (λ is. hold_in value (world_by (objects_in records.old)
-                (counts_among ⟦<dyn Driver as Driver>⟧ drivers.old) gs es is))
+        (counts_among ⟦<dyn Driver as Driver>⟧ drivers.old) gs es is))
         (λ is. if_told result (world_by (objects_in records.new)
-                (counts_among ⟦<dyn Driver as Driver>⟧ drivers.new) gs es is)) }
+        (counts_among ⟦<dyn Driver as Driver>⟧ drivers.new) gs es is)) }
     ensures full { result ≡ false
         → IsTallyFull value (objects_in records.old)
         (states_among ⟦<dyn Driver as Driver>⟧ drivers.old) }
@@ -175,7 +175,7 @@ fn hold(records: &mut Slab<ScriptObject>, drivers: &mut Drivers, value: Slot) ->
 /// One place less holds a script object: the object, where it was the last.
 fn lower(records: &mut Slab<ScriptObject>, key: usize) -> Option<ScriptObject>
     ensures gone { IfSome result (λ o. script_lowered key (objects_in records.old)
-            ≡ Gone o.fields.items (objects_in records.new)) }
+        ≡ Gone o.fields.items (objects_in records.new)) }
     ensures shorter { IfSome result (λ o. slab_len records.new < slab_len records.old) }
     ensures kept { IfNone result
         (script_lowered key (objects_in records.old) ≡ Kept (objects_in records.new)) }
@@ -206,9 +206,9 @@ fn give_up(
         (counts_among ⟦<dyn Driver as Driver>⟧ drivers.old) }
     ensures gives { (gs : List (List Slot)) (is : List Input)
         → give_in value (world_by (objects_in records.old)
-            (counts_among ⟦<dyn Driver as Driver>⟧ drivers.old) gs events.old.items is)
+        (counts_among ⟦<dyn Driver as Driver>⟧ drivers.old) gs events.old.items is)
         ≡ world_by (objects_in records.new) (counts_among ⟦<dyn Driver as Driver>⟧ drivers.new) gs
-            events.new.items is }
+        events.new.items is }
     ensures ready { AreReady (states_among ⟦<dyn Driver as Driver>⟧ drivers.new)
         (vec_len events.new) (vec_capacity events.new) }
     ensures level { vec_len events.new + live_among ⟦<dyn Driver as Driver>⟧ drivers.new

@@ -42,8 +42,8 @@ pub fn add(drivers: &mut Drivers, driver: u32, key: u64) -> bool
     requires held { 0 < count_at (counts_among ⟦<dyn Driver as Driver>⟧ drivers.old driver) key }
     ensures counts { counts_among ⟦<dyn Driver as Driver>⟧ drivers.new
         ≡ (if result
-                then host_raised driver key (counts_among ⟦<dyn Driver as Driver>⟧ drivers.old)
-                else (counts_among ⟦<dyn Driver as Driver>⟧ drivers.old)) }
+        then host_raised driver key (counts_among ⟦<dyn Driver as Driver>⟧ drivers.old)
+        else (counts_among ⟦<dyn Driver as Driver>⟧ drivers.old)) }
     ensures live { live_among ⟦<dyn Driver as Driver>⟧ drivers.new
         ≡ live_among ⟦<dyn Driver as Driver>⟧ drivers.old }
     ensures ready { (len capacity : ℕ)

@@ -75,7 +75,7 @@ impl Heap {
         ensures old { result ≡ field_of (map.get (objects_of self.old) number) index value }
         ensures put { objects_of self.new
             ≡ with_field number (map.get (objects_of self.old) number) index value
-                (objects_of self.old) }
+            (objects_of self.old) }
     {
         let old = self.field(number, index, value);
         store(&mut self.records, number, index, value);

@@ -14,7 +14,7 @@ holds d key i k p = nat_eq (d p) i && nat_eq (key p) k
 pub record Agrees {P : Type 0} (d key : P → ℕ) (places : List P) (ss : List State) : Type 0 where
   pub within : All (λ p. d p < length ss) places
   pub counts : (i k : ℕ) → i < length ss
-    → count_at (state_at ss i).counts k ≡ count_by (holds d key i k) places
+      → count_at (state_at ss i).counts k ≡ count_by (holds d key i k) places
   pub sound : (i : ℕ) → i < length ss → IsSound (state_at ss i)
 
 -- nothing of the driver is alive

@@ -132,14 +132,14 @@ pub record EachFollows (roles : List Role) (rules : List Fits) (ss : List State)
   pub same_length : length ts ≡ length ss
   pub within : All (λ e. driver_of e < length ss) es
   pub each : (i : ℕ) → i < length ss
-    → Follows roles (rule_at rules i) (state_at ss i) (events_of i es) (state_at ts i)
+      → Follows roles (rule_at rules i) (state_at ss i) (events_of i es) (state_at ts i)
 
 -- the same of members, of which each has a state and a kind, and each kind a relation
 pub record AllFollow {B V : Type 0} (st : B → State) (kind : B → V) (rule : V → Fits)
     (roles : List Role) (xs : List B) (es : List HostEvent) (ys : List B) : Type 0 where
   pub kinds : list_map kind ys ≡ list_map kind xs
   pub follow : EachFollows roles (list_map rule (list_map kind xs)) (list_map st xs) es
-    (list_map st ys)
+      (list_map st ys)
 
 -- boxed drivers follow the events
 abbrev pub DriversFollow :

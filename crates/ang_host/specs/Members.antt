@@ -31,7 +31,7 @@ pub record OneMoved {B V : Type 0} (st : B → State) (kind : B → V) (rule : V
     (xs : List B) (i : ℕ) (R : Fits → State → State → Type 0) (ys : List B) : Type 0 where
   pub in_list : i < length xs
   pub moved : R (rule_at (list_map rule (list_map kind xs)) i) (state_at (list_map st xs) i)
-    (state_at (list_map st ys) i)
+      (state_at (list_map st ys) i)
   pub others : list_map st ys ≡ slice_set (list_map st xs) i (state_at (list_map st ys) i)
   pub kinds : list_map kind ys ≡ list_map kind xs
 

@@ -63,7 +63,7 @@ pub fn give_up(stack: &Vec<Slot>, store: &mut Store, top: usize, stop: Stop) -> 
 fn interrupt(stack: &Vec<Slot>, store: &mut Store, interruption: Interruption) -> Ending
     requires ready { IsReady ⟦<dyn Driver as Driver>⟧ store.old }
     requires held { IfFaults (pause_by interruption) (λ top. (top ≤ length stack.now.items)
-            × CanGive (values stack.now.items top) (world_of ⟦<dyn Driver as Driver>⟧ store.old)) }
+        × CanGive (values stack.now.items top) (world_of ⟦<dyn Driver as Driver>⟧ store.old)) }
     ensures told { (f : Routine) (room : ℕ) (frames : List Frame)
         → StoreTold ⟦<dyn Driver as Driver>⟧
         (paused (pause_by interruption) f room stack.now.items frames) store.old
@@ -125,8 +125,8 @@ fn leave_within(
         (world_of ⟦<dyn Driver as Driver>⟧ store.old) }
     ensures told { (nesting : ℕ)
         → StoreTold ⟦<dyn Driver as Driver>⟧ (act (setting_of table.now nesting)
-            (texts_of table.now) (Some (Return count)) from.body from.place.at from.room
-            (values stack.old.items from.place.top) (reverse frames.old.items) from.place.ticks)
+        (texts_of table.now) (Some (Return count)) from.body from.place.at from.room
+        (values stack.old.items from.place.top) (reverse frames.old.items) from.place.ticks)
         store.old (left result stack.new.items (reverse frames.new.items)) store.new }
     ensures fits { IfOk result (λ s. Fits s stack.new.items frames.new.items) }
     ensures moves { HasMoved ⟦<dyn Driver as Driver>⟧ store.old store.new }
@@ -150,7 +150,7 @@ fn with_code<'t>(
 ) -> Result<(Standing, Option<&'t Body>), Ending>
     ensures exact { standing_in result ≡ next }
     ensures code { IfOk result (λ r. MatchOption r.1 (body_of table.now r.0.body ≡ None)
-            (λ code. body_of table.now r.0.body ≡ Some code.now)) }
+        (λ code. body_of table.now r.0.body ≡ Some code.now)) }
 {
     match next {
         Ok(standing) => Ok((standing, body_at(table, standing.body))),
@@ -177,7 +177,7 @@ fn leg<'t>(
         (world_of ⟦<dyn Driver as Driver>⟧ store.old) (standing_in result) stack.new.items
         frames.new.items (world_of ⟦<dyn Driver as Driver>⟧ store.new) }
     ensures code { IfOk result (λ r. MatchOption r.1 (body_of table.now r.0.body ≡ None)
-            (λ code. body_of table.now r.0.body ≡ Some code.now)) }
+        (λ code. body_of table.now r.0.body ≡ Some code.now)) }
     ensures moves { RunMoves ⟦<dyn Driver as Driver>⟧ table.now store.old store.new }
 {
     match run_within(table, code, stack, store, from) {

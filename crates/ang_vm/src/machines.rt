@@ -63,7 +63,7 @@ fn refuse(store: &mut Store, args: &[Slot], budget: u64) -> Ending
     requires held { CanGive (reverse args.now) (world_of ⟦<dyn Driver as Driver>⟧ store.old) }
     ensures ends { (z : Setting) (code : Texts) (entry : Routine)
         → Ends z code (λ is. call_begins z code budget entry (reverse args.now)
-            (with_inputs is (world_of ⟦<dyn Driver as Driver>⟧ store.old))) result
+        (with_inputs is (world_of ⟦<dyn Driver as Driver>⟧ store.old))) result
         (world_of ⟦<dyn Driver as Driver>⟧ store.new) }
     ensures moves { HasMoved ⟦<dyn Driver as Driver>⟧ store.old store.new }
 {
@@ -159,8 +159,8 @@ fn call_told(
         result (world_of ⟦<dyn Driver as Driver>⟧ store.new) }
     ensures moves { RunMoves ⟦<dyn Driver as Driver>⟧ table.now store.old store.new }
     ensures counted { (IsLost (setting_of table.now 200) (texts_of table.now)
-            (call_in ⟦<dyn Driver as Driver>⟧ table.now budget entry (reverse args.now) store.old)
-            → ⊥) → IsCounted [] (world_of ⟦<dyn Driver as Driver>⟧ store.new) }
+        (call_in ⟦<dyn Driver as Driver>⟧ table.now budget entry (reverse args.now) store.old)
+        → ⊥) → IsCounted [] (world_of ⟦<dyn Driver as Driver>⟧ store.new) }
 {
     let ending = run_call(alloc, table, store, entry, args, budget);
     match settle(store, ending) {
@@ -186,7 +186,7 @@ fn initializer_told(
         (world_of ⟦<dyn Driver as Driver>⟧ store.new) }
     ensures moves { RunMoves ⟦<dyn Driver as Driver>⟧ table.now store.old store.new }
     ensures counted { (IsLost (setting_of table.now 201) (texts_of table.now)
-            (initializer_in ⟦<dyn Driver as Driver>⟧ table.now ticks entry store.old) → ⊥)
+        (initializer_in ⟦<dyn Driver as Driver>⟧ table.now ticks entry store.old) → ⊥)
         → IsCounted [] (world_of ⟦<dyn Driver as Driver>⟧ store.new) }
 {
     let ending = initialize(alloc, table, store, entry, ticks);
@@ -237,7 +237,7 @@ pub fn run(
         (world_of ⟦<dyn Driver as Driver>⟧ (lent machine.old events.old)) }
     ensures told { HasRun (setting_of table.now 200) (texts_of table.now)
         (call_in ⟦<dyn Driver as Driver>⟧ table.now budget entry (reverse args.now)
-            (lent machine.old events.old)) result
+        (lent machine.old events.old)) result
         (world_of ⟦<dyn Driver as Driver>⟧ (lent machine.new events.new)) }
     ensures moves { (roles : List Role) → HaveRoles table.now roles
         → StoreMoves ⟦<dyn Driver as Driver>⟧ roles (lent machine.old events.old)
@@ -246,8 +246,8 @@ pub fn run(
     ensures count { length (members machine.new.store.drivers)
         ≡ length (members machine.old.store.drivers) }
     ensures counted { (IsLost (setting_of table.now 200) (texts_of table.now)
-            (call_in ⟦<dyn Driver as Driver>⟧ table.now budget entry (reverse args.now)
-                (lent machine.old events.old)) → ⊥)
+        (call_in ⟦<dyn Driver as Driver>⟧ table.now budget entry (reverse args.now)
+        (lent machine.old events.old)) → ⊥)
         → IsCounted [] (world_of ⟦<dyn Driver as Driver>⟧ (lent machine.new events.new)) }
 {
     let alloc = *events.allocator();
@@ -275,7 +275,7 @@ pub fn run_initializer(
         (world_of ⟦<dyn Driver as Driver>⟧ (lent machine.old events.old)) }
     ensures told { HasInitialized (setting_of table.now 201) (texts_of table.now)
         (initializer_in ⟦<dyn Driver as Driver>⟧ table.now ticks entry
-            (lent machine.old events.old)) result
+        (lent machine.old events.old)) result
         (world_of ⟦<dyn Driver as Driver>⟧ (lent machine.new events.new)) }
     ensures moves { (roles : List Role) → HaveRoles table.now roles
         → StoreMoves ⟦<dyn Driver as Driver>⟧ roles (lent machine.old events.old)
@@ -284,8 +284,8 @@ pub fn run_initializer(
     ensures count { length (members machine.new.store.drivers)
         ≡ length (members machine.old.store.drivers) }
     ensures counted { (IsLost (setting_of table.now 201) (texts_of table.now)
-            (initializer_in ⟦<dyn Driver as Driver>⟧ table.now ticks entry
-                (lent machine.old events.old)) → ⊥)
+        (initializer_in ⟦<dyn Driver as Driver>⟧ table.now ticks entry
+        (lent machine.old events.old)) → ⊥)
         → IsCounted [] (world_of ⟦<dyn Driver as Driver>⟧ (lent machine.new events.new)) }
 {
     let alloc = *events.allocator();

@@ -194,8 +194,8 @@ pub fn leave_body(
         (world_of ⟦<dyn Driver as Driver>⟧ store.old) }
     ensures told { (nesting : ℕ)
         → StoreTold ⟦<dyn Driver as Driver>⟧ (act (setting_of table.now nesting)
-            (texts_of table.now) (Some (Return count)) from.body from.place.at from.room
-            (values stack.old from.place.top) (reverse frames.old.items) from.place.ticks) store.old
+        (texts_of table.now) (Some (Return count)) from.body from.place.at from.room
+        (values stack.old from.place.top) (reverse frames.old.items) from.place.ticks) store.old
         (left result stack.new (reverse frames.new.items)) store.new }
     ensures fits { IfOk result (λ s. Fits s stack.new frames.new.items) }
     ensures moves { HasMoved ⟦<dyn Driver as Driver>⟧ store.old store.new }

@@ -62,8 +62,8 @@ pub fn start_call(
         (world_of ⟦<dyn Driver as Driver>⟧ store.old) }
     ensures starts { (nesting : ℕ)
         → RunReaches ⟦<dyn Driver as Driver>⟧ table.now nesting (call_begins
-            (setting_of table.now nesting) (texts_of table.now) budget entry
-            (reverse stack.old.items)) store.old
+        (setting_of table.now nesting) (texts_of table.now) budget entry
+        (reverse stack.old.items)) store.old
         (left result stack.new.items (reverse frames.new.items)) store.new }
     ensures fits { IfOk result (λ s. Fits s stack.new.items frames.new.items) }
     ensures moves { HasMoved ⟦<dyn Driver as Driver>⟧ store.old store.new }

@@ -45,7 +45,7 @@ pub(crate) fn call(
         (values_of host.now.driver host.now.params args.now) }
     ensures told { (z : Setting) (m : ℕ) → Sees z m caller.now entity host.now
         → StoreTold ⟦<dyn Driver as Driver>⟧ (asked z m entity object
-            (values_of host.now.driver host.now.params args.now) host.now.result) store.old
+        (values_of host.now.driver host.now.params args.now) host.now.result) store.old
         (done result) store.new }
     ensures enough { (vs : List Slot) → CanGive vs (world_of ⟦<dyn Driver as Driver>⟧ store.old)
         → CanGive (with_result result vs) (world_of ⟦<dyn Driver as Driver>⟧ store.new) }

@@ -56,7 +56,7 @@ fn put(
         (value_of host.now.driver host.now.result stored) }
     ensures told { (z : Setting) (m : ℕ) → Sees z m caller.now entity host.now
         → StoreTold ⟦<dyn Driver as Driver>⟧ (λ w. in_place_of given (asked z m entity object
-                (value_of host.now.driver host.now.result stored ∷ []) Nothing w)) store.old
+        (value_of host.now.driver host.now.result stored ∷ []) Nothing w)) store.old
         (done result) store.new }
     ensures enough { StillGives ⟦<dyn Driver as Driver>⟧ store.old store.new }
     ensures asked { StoreAsked ⟦<dyn Driver as Driver>⟧ entity host.now.role store.old store.new }
@@ -326,7 +326,7 @@ pub fn ask(
         → is_fit (setting_of table.now nesting) home operation ≡ true
         → count ≡ operand_count (setting_of table.now nesting) home operation
         → StoreTold ⟦<dyn Driver as Driver>⟧ (asks (setting_of table.now nesting) home operation
-            (take_some count (values stack.now top))) store.old (done result) store.new }
+        (take_some count (values stack.now top))) store.old (done result) store.new }
     ensures enough { StillGives ⟦<dyn Driver as Driver>⟧ store.old store.new }
     ensures ready { IsReady ⟦<dyn Driver as Driver>⟧ store.new }
     ensures same { length (members store.new.drivers) ≡ length (members store.old.drivers) }

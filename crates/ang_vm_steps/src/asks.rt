@@ -49,7 +49,7 @@ fn perform_on_host(
         → is_fit (setting_of table.now nesting) home operation ≡ true
         → count ≡ operand_count (setting_of table.now nesting) home operation
         → StoreTold ⟦<dyn Driver as Driver>⟧ (perform (setting_of table.now nesting) home operation
-            (take_some count (values stack.now top))) store.old (done result) store.new }
+        (take_some count (values stack.now top))) store.old (done result) store.new }
     ensures moves { (roles : List Role) → HaveRoles table.now roles
         → StoreMoves ⟦<dyn Driver as Driver>⟧ roles store.old store.new }
     ensures ready { IsReady ⟦<dyn Driver as Driver>⟧ store.new }

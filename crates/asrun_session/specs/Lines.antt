@@ -12,7 +12,7 @@ unfoldable pub before_last : ℕ → List ℕ → Option (List ℕ)
 before_last b line =
     if length line == 0 then None
     else (if slice_index line (length line - 1) == b
-      then Some (take (length line - 1) line)
+    then Some (take (length line - 1) line)
     else None)
 
 -- a line without its CR

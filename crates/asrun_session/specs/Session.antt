@@ -65,4 +65,4 @@ session_from n budget zero (l ∷ ls) =
     if is_skipped (shown_of l)
     then session_from (n + 1) budget zero ls
     else acts n budget (option_and_then (act_of budget ls) (session_line_of (shown_of l)))
-        (λ b lines. session_from (n + 1) b lines ls)
+    (λ b lines. session_from (n + 1) b lines ls)

@@ -76,9 +76,9 @@ module _ (R : RegistrationList) (session : List ℕ) (budget : ℕ) (old new : O
   abbrev pub RunsSession : Status → List HostEvent → World → Type 0
   RunsSession status es after =
       ((most_session < length session) × Appends old new long_session_text × (status ≡ BadInput)
-        × DidNothing es after)
+      × DidNothing es after)
       ⊎ ((length session ≤ most_session)
-        × IsDone R no_modules (session_from 1 budget 0 (lines_of session)) old new status es after)
+      × IsDone R no_modules (session_from 1 budget 0 (lines_of session)) old new status es after)
 
   -- It was not done to its end.
   abbrev pub StopsSession : List HostEvent → World → Type 0

@@ -27,8 +27,8 @@ pub enum Text {
 fn read_more<R: Read>(reader: &mut R, text: &mut Vec<u8>, room: usize) -> Result<usize, Stop>
     requires some { 0 < room }
     ensures taken { IfOk result (λ count. (bytes : List ℕ) × (length bytes ≡ count)
-            × (text.new.items ≡ text.old.items ++ bytes)
-            × Consumes (R.remaining reader.old) (R.remaining reader.new) bytes) }
+        × (text.new.items ≡ text.old.items ++ bytes)
+        × Consumes (R.remaining reader.old) (R.remaining reader.new) bytes) }
     ensures few { IfOk result (λ count. count ≤ room) }
     ensures end { IfOk result (λ count. count ≡ 0 → IsAtEnd (R.remaining reader.new)) }
     ensures fault { IfErr result (λ e. e ≢ unwritten) }

@@ -129,11 +129,11 @@ pub fn run_session<W: Write>(
     ensures registrations { registrations engine.new ≡ registrations engine.old }
     ensures order { kinds_of (drivers_in engine.new) ≡ kinds_of (drivers_in engine.old) }
     ensures done { IfOk result (λ status. RunsLines ⟦<dyn Driver as Driver>⟧ engine.old engine.new
-            (session_from 1 budget 0 (lines_of text.now)) (W.contents writer.old)
-            (W.contents writer.new) status) }
+        (session_from 1 budget 0 (lines_of text.now)) (W.contents writer.old)
+        (W.contents writer.new) status) }
     ensures cut { OnErr result (StopsLines ⟦<dyn Driver as Driver>⟧ engine.old engine.new
-            (session_from 1 budget 0 (lines_of text.now)) (W.contents writer.old)
-            (W.contents writer.new)) }
+        (session_from 1 budget 0 (lines_of text.now)) (W.contents writer.old)
+        (W.contents writer.new)) }
     ensures fault { IfErr result (λ e. e ≢ unread) }
 {
     let mut rest = text;
