@@ -2,13 +2,13 @@
 ghost use Rattle.std.specs.Prelude.{◌≡◌, ◌+◌, ◌≤◌, List, [], length, slice_index_or, slice_set, vec_len, vec_capacity};
 ghost use Rattle.ang_host.specs.declared.event.Role.{Role};
 ghost use Rattle.ang_host.specs.Boxes.{members};
-ghost use Rattle.ang_meaning.specs.World.{Input, with_inputs};
+ghost use Rattle.ang_meaning.specs.World.{Input};
 ghost use Rattle.ang_meaning.specs.Results.{give_back as given_back};
 ghost use Rattle.ang_meaning.specs.Counting.{EnoughIn, CountedIn, IsCounted};
 ghost use Rattle.ang_heap.specs.Globals.{values_in};
 ghost use Rattle.ang_heap.specs.Heaps.{objects_of};
 ghost use Rattle.ang_heap.specs.Parts.{world_by, AreReady, PartsMove, states_among, counts_among, live_among};
-ghost use Rattle.ang_heap.specs.Stores.{world_of, IsReady, HasMoved};
+ghost use Rattle.ang_heap.specs.Stores.{world_of, IsReady, HasMoved, StoreBecomes};
 ghost use Rattle.ang_vm.specs.Machines.{lent};
 ghost use Rattle.ang_engine.specs.World.{globals_ended, all_ended};
 
@@ -131,10 +131,8 @@ pub fn end_globals(alloc: Global, machine: &mut Machine, events: &mut Vec<HostEv
     requires ready { IsReady ⟦<dyn Driver as Driver>⟧ (lent machine.old events.old) }
     requires counted { IsCounted []
         (world_of ⟦<dyn Driver as Driver>⟧ (lent machine.old events.old)) }
-    ensures ended { (is : List Input)
-        → globals_ended home
-        (with_inputs is (world_of ⟦<dyn Driver as Driver>⟧ (lent machine.old events.old)))
-        ≡ with_inputs is (world_of ⟦<dyn Driver as Driver>⟧ (lent machine.new events.new)) }
+    ensures ended { StoreBecomes ⟦<dyn Driver as Driver>⟧ (globals_ended home)
+        (lent machine.old events.old) (lent machine.new events.new) }
     ensures moves { HasMoved ⟦<dyn Driver as Driver>⟧ (lent machine.old events.old)
         (lent machine.new events.new) }
 {

@@ -24,8 +24,8 @@ use ang_meaning::{Routine, Slot};
 use ang_names::Names;
 use ang_typed::Typed;
 use ang_view::View;
-use ang_vm::{Machine, run};
-use ang_vm_stack::table::{ModuleCode, Table};
+use ang_vm::{Machine, Table, run};
+use ang_vm_stack::table::ModuleCode;
 use std::alloc::{AllocError, Global};
 use std::marker::Model;
 

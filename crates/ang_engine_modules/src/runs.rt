@@ -14,8 +14,7 @@ ghost use Rattle.ang_engine_modules.specs.Started.{HasBegun};
 use ang_host::{Driver, HostEvent};
 use ang_kinds::Fault;
 use ang_meaning::Routine;
-use ang_vm::{Machine, run_initializer};
-use ang_vm_stack::table::Table;
+use ang_vm::{Machine, Table, run_initializer};
 
 /// How many bodies a module has.
 pub fn body_count(table: &Table, home: u32) -> usize

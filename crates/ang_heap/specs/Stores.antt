@@ -4,7 +4,7 @@ use Rattle.ang_host.specs.declared.event.Role.{Role}
 use Rattle.ang_host.specs.Meanings.{Meanings}
 use Rattle.ang_host.specs.Members.{states_of}
 use Rattle.ang_host.specs.Boxes.{members}
-use Rattle.ang_meaning.specs.World.{World, with_inputs}
+use Rattle.ang_meaning.specs.World.{World, Input, with_inputs}
 use Rattle.ang_meaning.specs.Told.{Told}
 use Rattle.ang_heap.specs.declared.store.Store.{Store}
 use Rattle.ang_heap.specs.Globals.{values_in}
@@ -47,3 +47,9 @@ abbrev pub StoreTold : {V : Type 0} {P : V → Type 0} {A : Type 0} → Meanings
 StoreTold m before s after t =
     Told (λ is. before (with_inputs is (world_of m s)))
     (λ is. after (with_inputs is (world_of m t)))
+
+-- what is done to the first store's world makes it the second's, whatever it is told
+abbrev pub StoreBecomes : {V : Type 0} {P : V → Type 0} → Meanings P → (World → World)
+    → Store V P → Store V P → Type 0
+StoreBecomes m act s t =
+    (is : List Input) → act (with_inputs is (world_of m s)) ≡ with_inputs is (world_of m t)

@@ -1,10 +1,10 @@
 //! What lies outside the stack of a run, as one thing.
 ghost use Rattle.std.specs.Prelude.{◌≡◌, ◌∷◌, false, List, []};
-ghost use Rattle.ang_meaning.specs.World.{Input, hold as hold_in, give as give_in, if_told, with_inputs};
+ghost use Rattle.ang_meaning.specs.World.{hold as hold_in, give as give_in, if_told};
 ghost use Rattle.ang_meaning.specs.Counting.{CanGive, HasKey};
 ghost use Rattle.ang_heap.specs.Heaps.{objects_of};
 ghost use Rattle.ang_heap.specs.Parts.{IsTallyFull, states_among, counts_among};
-ghost use Rattle.ang_heap.specs.Stores.{world_of, IsReady, StoreTold, HasMoved};
+ghost use Rattle.ang_heap.specs.Stores.{world_of, IsReady, StoreTold, HasMoved, StoreBecomes};
 
 use crate::globals::Globals;
 use crate::heap::Heap;
@@ -72,9 +72,7 @@ fn hold_object(store: &mut Store, value: Slot) -> bool
 pub fn give(store: &mut Store, value: Slot)
     requires ready { IsReady ⟦<dyn Driver as Driver>⟧ store.old }
     requires enough { CanGive (value ∷ []) (world_of ⟦<dyn Driver as Driver>⟧ store.old) }
-    ensures given { (is : List Input)
-        → give_in value (with_inputs is (world_of ⟦<dyn Driver as Driver>⟧ store.old))
-        ≡ with_inputs is (world_of ⟦<dyn Driver as Driver>⟧ store.new) }
+    ensures given { StoreBecomes ⟦<dyn Driver as Driver>⟧ (give_in value) store.old store.new }
     ensures moves { HasMoved ⟦<dyn Driver as Driver>⟧ store.old store.new }
 {
     match value {
@@ -88,9 +86,7 @@ pub fn give(store: &mut Store, value: Slot)
 fn give_object(store: &mut Store, value: Slot)
     requires ready { IsReady ⟦<dyn Driver as Driver>⟧ store.old }
     requires enough { CanGive (value ∷ []) (world_of ⟦<dyn Driver as Driver>⟧ store.old) }
-    ensures given { (is : List Input)
-        → give_in value (with_inputs is (world_of ⟦<dyn Driver as Driver>⟧ store.old))
-        ≡ with_inputs is (world_of ⟦<dyn Driver as Driver>⟧ store.new) }
+    ensures given { StoreBecomes ⟦<dyn Driver as Driver>⟧ (give_in value) store.old store.new }
     ensures moves { HasMoved ⟦<dyn Driver as Driver>⟧ store.old store.new }
 {
     let before = store.events.len();

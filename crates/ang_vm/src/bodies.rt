@@ -3,7 +3,7 @@ ghost use Rattle.std.specs.Prelude.{◌≡◌, ℕ, ◌≤◌, List, length, rev
 ghost use Rattle.ang_code.specs.declared.instruction.Frame.{Frame};
 ghost use Rattle.ang_code.specs.declared.instruction.Instruction.TheVariants.{Return};
 ghost use Rattle.ang_meaning.specs.declared.routine.Routine.{Routine};
-ghost use Rattle.ang_meaning.specs.Counting.{IsCounted, CanGive};
+ghost use Rattle.ang_meaning.specs.Counting.{CanGive};
 ghost use Rattle.ang_code.specs.Machine.{Over, act, fault as faulted};
 ghost use Rattle.ang_heap.specs.Stores.{world_of, IsReady, StoreTold, HasMoved};
 ghost use Rattle.ang_vm_stack.specs.Stacks.{values};
@@ -12,6 +12,7 @@ ghost use Rattle.ang_vm_steps.specs.Turns.{IfFaults, paused};
 ghost use Rattle.ang_vm.specs.Legs.{Fits, Led, begun, left, outcome, standing, standing_in};
 ghost use Rattle.ang_vm.specs.Crossings.{Comes, pause_by};
 ghost use Rattle.ang_vm.specs.Running.{MayRun, RunMoves, RunReaches};
+ghost use Rattle.ang_vm_steps.specs.Arms.{AreCounted};
 
 use crate::calls::enter;
 use crate::crossing::{Crossing, Interruption};
@@ -121,8 +122,8 @@ fn leave_within(
     requires there { body_of table.now from.body ≡ Some code.now }
     requires fits { Fits from stack.old.items frames.old.items }
     requires ready { IsReady ⟦<dyn Driver as Driver>⟧ store.old }
-    requires counted { IsCounted (values stack.old.items from.place.top)
-        (world_of ⟦<dyn Driver as Driver>⟧ store.old) }
+    requires counted { AreCounted ⟦<dyn Driver as Driver>⟧ stack.old.items from.place.top
+        store.old }
     ensures told { (nesting : ℕ)
         → StoreTold ⟦<dyn Driver as Driver>⟧ (act (setting_of table.now nesting)
         (texts_of table.now) (Some (Return count)) from.body from.place.at from.room

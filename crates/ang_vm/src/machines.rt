@@ -1,19 +1,19 @@
 //! The machine.
 ghost use Rattle.std.specs.Prelude.{◌≡◌, ◌<◌, ℕ, List, [], length, reverse};
 ghost use Rattle.ang_kinds.specs.declared.fault.Fault.TheVariants.{Budget as BudgetFault, Memory as MemoryFault};
-ghost use Rattle.ang_host.specs.declared.event.Role.{Role};
 ghost use Rattle.ang_host.specs.Boxes.{members};
 ghost use Rattle.ang_meaning.specs.World.{with_inputs};
 ghost use Rattle.ang_meaning.specs.declared.routine.Routine.{Routine};
 ghost use Rattle.ang_meaning.specs.Setting.{Setting};
 ghost use Rattle.ang_meaning.specs.Counting.{IsCounted, CanGive};
 ghost use Rattle.ang_code.specs.Machine.{Texts, call_begins};
-ghost use Rattle.ang_heap.specs.Stores.{world_of, IsReady, StoreMoves, HasMoved};
+ghost use Rattle.ang_heap.specs.Stores.{world_of, IsReady, HasMoved};
 ghost use Rattle.ang_vm_stack.specs.Tables.{setting_of, texts_of};
-ghost use Rattle.ang_vm_ask.specs.Entities.{DriversThere, HaveRoles};
+ghost use Rattle.ang_vm_ask.specs.Entities.{DriversThere};
 ghost use Rattle.ang_vm.specs.Legs.{Ends};
 ghost use Rattle.ang_vm.specs.Running.{MayRun, RunMoves, HeldAt, IsSettled};
 ghost use Rattle.ang_vm.specs.Machines.{lent, IsLost, HasRun, HasInitialized, call_in, initializer_in};
+ghost use Rattle.ang_vm_ask.specs.Askings.{HasMovedOver};
 
 use crate::bodies::run_from;
 use crate::start::{start_call, start_initializer};
@@ -239,8 +239,7 @@ pub fn run(
         (call_in ⟦<dyn Driver as Driver>⟧ table.now budget entry (reverse args.now)
         (lent machine.old events.old)) result
         (world_of ⟦<dyn Driver as Driver>⟧ (lent machine.new events.new)) }
-    ensures moves { (roles : List Role) → HaveRoles table.now roles
-        → StoreMoves ⟦<dyn Driver as Driver>⟧ roles (lent machine.old events.old)
+    ensures moves { HasMovedOver ⟦<dyn Driver as Driver>⟧ table.now (lent machine.old events.old)
         (lent machine.new events.new) }
     ensures ready { IsReady ⟦<dyn Driver as Driver>⟧ (lent machine.new events.new) }
     ensures count { length (members machine.new.store.drivers)
@@ -277,8 +276,7 @@ pub fn run_initializer(
         (initializer_in ⟦<dyn Driver as Driver>⟧ table.now ticks entry
         (lent machine.old events.old)) result
         (world_of ⟦<dyn Driver as Driver>⟧ (lent machine.new events.new)) }
-    ensures moves { (roles : List Role) → HaveRoles table.now roles
-        → StoreMoves ⟦<dyn Driver as Driver>⟧ roles (lent machine.old events.old)
+    ensures moves { HasMovedOver ⟦<dyn Driver as Driver>⟧ table.now (lent machine.old events.old)
         (lent machine.new events.new) }
     ensures ready { IsReady ⟦<dyn Driver as Driver>⟧ (lent machine.new events.new) }
     ensures count { length (members machine.new.store.drivers)

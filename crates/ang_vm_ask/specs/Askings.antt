@@ -19,7 +19,9 @@ use Rattle.ang_meaning.specs.Counting.{CanGive}
 use Rattle.ang_heap.specs.declared.store.Store.{Store}
 use Rattle.ang_heap.specs.Stores.{world_of, IsReady, StoreMoves}
 use Rattle.ang_vm_stack.specs.Arms.{done}
+use Rattle.ang_vm_stack.specs.declared.table.Table.{Table}
 use Rattle.ang_vm_ask.specs.Asks.{asks}
+use Rattle.ang_vm_ask.specs.Entities.{HaveRoles}
 
 -- a module of this name sees an entity as this
 pub record Sees (z : Setting) (m : ℕ) (caller : List ℕ) (e : EntityNo) (u : HostUse) : Type 0 where
@@ -50,3 +52,8 @@ driver_state m s d = state_at (states_of m (members s.drivers)) d
 -- what could be given up before can be given up still
 abbrev pub StillGives : {V : Type 0} {P : V → Type 0} → Meanings P → Store V P → Store V P → Type 0
 StillGives m s t = (vs : List Slot) → CanGive vs (world_of m s) → CanGive vs (world_of m t)
+
+-- the drivers follow what was listed, where they have the roles of the table's entities
+abbrev pub HasMovedOver : {V : Type 0} {P : V → Type 0} → Meanings P → Table → Store V P
+    → Store V P → Type 0
+HasMovedOver m t s u = (roles : List Role) → HaveRoles t roles → StoreMoves m roles s u

@@ -13,14 +13,14 @@ ghost use Rattle.ang_meaning.specs.Hosts.{value_of, asked};
 ghost use Rattle.ang_meaning.specs.Numbers.{Changed};
 ghost use Rattle.ang_meaning.specs.Perform.{Receiver, in_place_of, altered_to, operands as operand_count};
 ghost use Rattle.ang_meaning.specs.Setting.{Setting, is_fit};
-ghost use Rattle.ang_heap.specs.Stores.{world_of, IsReady, StoreMoves, StoreTold};
+ghost use Rattle.ang_heap.specs.Stores.{world_of, IsReady, StoreTold};
 ghost use Rattle.ang_vm_numbers.specs.Answers.{altered_of};
 ghost use Rattle.ang_vm_stack.specs.Arms.{done};
 ghost use Rattle.ang_vm_stack.specs.Stacks.{values};
 ghost use Rattle.ang_vm_stack.specs.Tables.{setting_of};
 ghost use Rattle.ang_vm_ask.specs.Asks.{asked_by, asks_host, asks};
-ghost use Rattle.ang_vm_ask.specs.Askings.{Sees, Performed, StoreAsked, StillGives, driver_state};
-ghost use Rattle.ang_vm_ask.specs.Entities.{DriversThere, HaveRoles};
+ghost use Rattle.ang_vm_ask.specs.Askings.{Sees, Performed, StoreAsked, StillGives, driver_state, HasMovedOver};
+ghost use Rattle.ang_vm_ask.specs.Entities.{DriversThere};
 ghost use Rattle.ang_vm_ask.specs.Handing.{object_in};
 
 use crate::asking::{call, make, read, write};
@@ -330,8 +330,7 @@ pub fn ask(
     ensures enough { StillGives ⟦<dyn Driver as Driver>⟧ store.old store.new }
     ensures ready { IsReady ⟦<dyn Driver as Driver>⟧ store.new }
     ensures same { length (members store.new.drivers) ≡ length (members store.old.drivers) }
-    ensures moves { (roles : List Role) → HaveRoles table.now roles
-        → StoreMoves ⟦<dyn Driver as Driver>⟧ roles store.old store.new }
+    ensures moves { HasMovedOver ⟦<dyn Driver as Driver>⟧ table.now store.old store.new }
 {
     let Some(entity) = asked_by(operation) else {
         return Err(Fault::Null);

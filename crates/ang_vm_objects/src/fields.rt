@@ -3,12 +3,12 @@ ghost use Rattle.std.specs.Prelude.{◌≡◌, ℕ, ◌∷◌, nat_eq, List, []}
 ghost use Rattle.std.specs.List.{list_any};
 ghost use Rattle.ang_host.specs.declared.event.HostEvent.{HostEvent};
 ghost use Rattle.ang_meaning.specs.declared.operation.Operation.TheVariants.{Make, FieldGet, FieldSet, FieldChange, Cast};
-ghost use Rattle.ang_meaning.specs.World.{HostCounts, Input, with_inputs};
+ghost use Rattle.ang_meaning.specs.World.{HostCounts, Input};
 ghost use Rattle.ang_meaning.specs.Setting.{Setting, class_at as class_of_number};
 ghost use Rattle.ang_meaning.specs.Perform.{perform, may_take as may_take_in, member_or, member_put};
 ghost use Rattle.ang_heap.specs.Heaps.{objects_of};
 ghost use Rattle.ang_heap.specs.Parts.{world_by};
-ghost use Rattle.ang_heap.specs.Stores.{world_of, IsReady, StoreTold, HasMoved};
+ghost use Rattle.ang_heap.specs.Stores.{world_of, IsReady, StoreTold, HasMoved, StoreBecomes};
 ghost use Rattle.ang_vm_stack.specs.Tables.{setting_of};
 ghost use Rattle.ang_vm_stack.specs.Arms.{done};
 ghost use Rattle.ang_vm_objects.specs.Counts.{StandCounted};
@@ -67,10 +67,8 @@ pub fn trade_member(store: &mut Store, object: Slot, index: u32, value: Slot) ->
     requires ready { IsReady ⟦<dyn Driver as Driver>⟧ store.old }
     ensures old { result
         ≡ member_or index object value (world_of ⟦<dyn Driver as Driver>⟧ store.old) }
-    ensures put { (is : List Input)
-        → member_put index object value
-        (with_inputs is (world_of ⟦<dyn Driver as Driver>⟧ store.old))
-        ≡ with_inputs is (world_of ⟦<dyn Driver as Driver>⟧ store.new) }
+    ensures put { StoreBecomes ⟦<dyn Driver as Driver>⟧ (member_put index object value) store.old
+        store.new }
     ensures moves { HasMoved ⟦<dyn Driver as Driver>⟧ store.old store.new }
 {
     let number = match number_of(object) {

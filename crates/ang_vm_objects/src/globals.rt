@@ -1,10 +1,9 @@
 //! Operations on the globals of a module.
 ghost use Rattle.std.specs.Prelude.{◌≡◌, ◌∷◌, List, []};
 ghost use Rattle.ang_meaning.specs.declared.operation.Operation.TheVariants.{GlobalGet, GlobalSet, GlobalChange};
-ghost use Rattle.ang_meaning.specs.World.{Input, with_inputs};
 ghost use Rattle.ang_meaning.specs.Setting.{Setting};
 ghost use Rattle.ang_meaning.specs.Perform.{perform, global_or, global_put};
-ghost use Rattle.ang_heap.specs.Stores.{world_of, IsReady, StoreTold, HasMoved};
+ghost use Rattle.ang_heap.specs.Stores.{world_of, IsReady, StoreTold, HasMoved, StoreBecomes};
 ghost use Rattle.ang_vm_stack.specs.Arms.{done};
 ghost use Rattle.ang_vm_objects.specs.Counts.{StandCounted};
 
@@ -20,10 +19,8 @@ pub fn trade_global(store: &mut Store, home: u32, number: u32, value: Slot) -> S
     requires ready { IsReady ⟦<dyn Driver as Driver>⟧ store.old }
     ensures old { result
         ≡ global_or home number value (world_of ⟦<dyn Driver as Driver>⟧ store.old) }
-    ensures put { (is : List Input)
-        → global_put home number value
-        (with_inputs is (world_of ⟦<dyn Driver as Driver>⟧ store.old))
-        ≡ with_inputs is (world_of ⟦<dyn Driver as Driver>⟧ store.new) }
+    ensures put { StoreBecomes ⟦<dyn Driver as Driver>⟧ (global_put home number value) store.old
+        store.new }
     ensures moves { HasMoved ⟦<dyn Driver as Driver>⟧ store.old store.new }
 {
     let old = store.globals.get_or(home, number, value);
