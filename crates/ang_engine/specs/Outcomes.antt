@@ -25,7 +25,7 @@ use Rattle.ang_engine.specs.declared.reply.Outcome.{Outcome}
 use Rattle.ang_engine.specs.declared.reply.Outcome.TheVariants.{Done, Failed, Refused}
 use Rattle.ang_engine.specs.declared.reply.Reply.{Reply}
 use Rattle.ang_engine.specs.declared.reply.Refusal.{Refusal}
-use Rattle.ang_engine.specs.declared.reply.Refusal.TheVariants.{Memory, Limit, BuildMemory, BuildErrors, InitFailed}
+use Rattle.ang_engine.specs.declared.reply.Refusal.TheVariants.{BadName, ModuleExists, Limit, NoModule, NotBuilt, BadBudget, BuildMemory, BuildErrors, InitFailed, NoFunction, NotCallable, BadArguments, Memory}
 use Rattle.ang_engine.specs.World.{Program, ModuleState, World, module_named, globals_ended}
 use Rattle.ang_engine.specs.Engines.{resolved_in}
 use Rattle.ang_engine.specs.Step.{Stepped, Leads, Choice, Chosen, Not, answered, refused, section_added, reply_of, globals_begun, on_module, build_within, call}
@@ -34,6 +34,25 @@ use Rattle.ang_engine.specs.Step.{Stepped, Leads, Choice, Chosen, Not, answered,
 abbrev pub IsRefused : Refusal → (List Input → Option Stepped) → World → World → Type 0
 IsRefused why go before after =
     ((why ≡ Memory) ⊎ ((rest : List Input) → go rest ≡ refused why before rest)) × (after ≡ before)
+
+-- This holds where a command was refused before it did anything, as every refused command is but a
+-- build that was begun.
+abbrev pub IfRefusedAtOnce : Outcome → Type 0 → Type 0
+IfRefusedAtOnce (Done v) P = Unit {0}
+IfRefusedAtOnce (Failed f) P = Unit {0}
+IfRefusedAtOnce (Refused BuildMemory) P = Unit {0}
+IfRefusedAtOnce (Refused BuildErrors) P = Unit {0}
+IfRefusedAtOnce (Refused (InitFailed f)) P = Unit {0}
+IfRefusedAtOnce (Refused BadName) P = P
+IfRefusedAtOnce (Refused ModuleExists) P = P
+IfRefusedAtOnce (Refused Limit) P = P
+IfRefusedAtOnce (Refused NoModule) P = P
+IfRefusedAtOnce (Refused NotBuilt) P = P
+IfRefusedAtOnce (Refused BadBudget) P = P
+IfRefusedAtOnce (Refused NoFunction) P = P
+IfRefusedAtOnce (Refused NotCallable) P = P
+IfRefusedAtOnce (Refused BadArguments) P = P
+IfRefusedAtOnce (Refused Memory) P = P
 
 -- ---- commands that ask nothing
 
@@ -66,6 +85,13 @@ IsCompiled (Err unbuilt.Memory) built = Unit {0}
 abbrev pub refused_by : Unbuilt → BuildRefused
 refused_by (unbuilt.Errors es) = why.Errors es
 refused_by unbuilt.Memory = why.Memory
+
+-- a build was begun that is refused so
+abbrev pub IsBegun : BuildRefused → Type 0
+IsBegun (why.Before refusal) = ⊥
+IsBegun why.Memory = Unit {0}
+IsBegun (why.Errors es) = Unit {0}
+IsBegun (why.Initializer f) = Unit {0}
 
 -- A program's globals have begun and its initializers have run, in module i among these; and where
 -- one has failed the globals have ended. Or memory was refused before, and nothing was done.

@@ -1,5 +1,5 @@
 //! Builds.
-ghost use Rattle.std.specs.Prelude.{◌≡◌, ◌<◌, ◌≤◌, ◌^◌, [], Option, Some, None, length, IfOk, OnOk, OnErr, slice_set, slice_index_or};
+ghost use Rattle.std.specs.Prelude.{◌≡◌, ◌<◌, ◌≤◌, ◌^◌, [], Option, Some, None, length, IfOk, IfErr, OnOk, OnErr, slice_set, slice_index_or};
 ghost use Rattle.ang_host.specs.Boxes.{members};
 ghost use Rattle.ang_view.specs.Registration.{seen};
 ghost use Rattle.ang_source.specs.Sound.{SoundProgram};
@@ -15,7 +15,7 @@ ghost use Rattle.ang_engine_modules.specs.Modules.{module_at as built_module_at,
 ghost use Rattle.ang_engine_modules.specs.declared.modules.LoadedModule.{LoadedModule};
 ghost use Rattle.ang_engine.specs.Asked.{HasRunOn, HasAsked};
 ghost use Rattle.ang_engine.specs.Engines.{states_in, state_of, resolved_in, program_in, world_during};
-ghost use Rattle.ang_engine.specs.Outcomes.{IsCompiled, HasStarted, refused_by, building, reply_to_build};
+ghost use Rattle.ang_engine.specs.Outcomes.{IfRefusedAtOnce, IsBegun, IsCompiled, HasStarted, refused_by, building, reply_to_build};
 ghost use Rattle.ang_engine.specs.Sound.{IsBuiltBy, HaveDrivers, AreSoundModules};
 ghost use Rattle.ang_engine.specs.Step.{Leads, emptied, build};
 ghost use Rattle.ang_engine.specs.World.{module_at, left_to};
@@ -51,6 +51,7 @@ pub enum BuildRefused {
 /// What a build is refused by that comes to no program.
 fn refused_by(unbuilt: Unbuilt) -> BuildRefused
     ensures exact { result ≡ refused_by unbuilt }
+    ensures begun { IsBegun result }
 {
     match unbuilt {
         Unbuilt::Errors(errors) => BuildRefused::Errors(errors),
@@ -201,6 +202,7 @@ fn start(
         (lent machine.new events.new) }
     ensures built { OnOk result (code.new ≡ slice_set code.old home (Some loaded)) }
     ensures cleared { OnErr result (code.new ≡ slice_set code.old home None) }
+    ensures begun { IfErr result IsBegun }
 {
     match load(alloc, code, home, loaded) {
         Ok(values) => put_globals(&mut machine.store.globals, home, values),
@@ -247,6 +249,7 @@ fn build_module(
         (left_to (states_in list.new) (world_of ⟦<dyn Driver as Driver>⟧ machine.new.store))
         (reply_to_build result events.new.items).events machine.old.store machine.new.store }
     ensures sound { AreSoundModules registry.now.entries list.new }
+    ensures begun { IfErr result IsBegun }
 {
     end_globals(alloc, machine, events, home as usize);
     list.code.clear(alloc, home);
@@ -281,6 +284,8 @@ pub fn build(
         (left_to (states_in list.new) (world_of ⟦<dyn Driver as Driver>⟧ machine.new.store))
         (reply_to_build result events.new.items).events machine.old.store machine.new.store }
     ensures sound { AreSoundModules registry.now.entries list.new }
+    ensures refused { IfRefusedAtOnce (reply_to_build result events.new.items).outcome
+        (members machine.new.store.drivers ≡ members machine.old.store.drivers) }
 {
     let Some(home) = find(&list.modules, name) else {
         return Err(BuildRefused::Before(Refusal::NoModule));

@@ -94,7 +94,7 @@ fn room_for_ends(alloc: Global, machine: &Machine) -> Result<Vec<HostEvent>, All
 impl Engine {
     ghost use Rattle.ang_engine.specs.Applied.{HasApplied};
     ghost use Rattle.ang_engine.specs.Asked.{HasAsked};
-    ghost use Rattle.ang_engine.specs.Outcomes.{IsCalled, calling, reply_to_call};
+    ghost use Rattle.ang_engine.specs.Outcomes.{IfRefusedAtOnce, IsCalled, calling, reply_to_call};
     ghost use Rattle.ang_engine.specs.Sound.{AreSoundModules};
     ghost use Rattle.ang_engine.specs.Engines.{registrations, world_in, drivers_in};
 
@@ -144,7 +144,8 @@ impl Engine {
     ///
     /// The reply and the modules after it are those of the source meaning, where each build sees what
     /// the module's mask meets, told what the drivers answered and whether there was memory. Each host
-    /// call is of an entity that its caller saw when it was built, and the drivers follow the events.
+    /// call is of an entity that its caller saw when it was built, and the drivers follow the events. After a
+    /// refusal other than `BuildMemory`, `BuildErrors` and `InitFailed` they are as they were.
     pub fn apply(&mut self, command: Command) -> Reply
         requires sound { IsSound ⟦<dyn Driver as Driver>⟧ self.old }
         ensures takes { Takes (registrations self.old) (world_in ⟦<dyn Driver as Driver>⟧ self.old)
@@ -154,6 +155,8 @@ impl Engine {
             result.events }
         ensures follow { DriversFollow ⟦<dyn Driver as Driver>⟧ (roles_of (registrations self.old))
             (drivers_in self.old) result.events (drivers_in self.new) }
+        ensures refused { IfRefusedAtOnce result.outcome
+            (drivers_in self.new ≡ drivers_in self.old) }
         ensures sound { IsSound ⟦<dyn Driver as Driver>⟧ self.new }
         ensures registrations { registrations self.new ≡ registrations self.old }
     {
@@ -236,6 +239,8 @@ impl Engine {
             (world_in ⟦<dyn Driver as Driver>⟧ self.new)
             (reply_to_call result events.new.items).events self.old.machine.store
             self.new.machine.store }
+        ensures refused { IfRefusedAtOnce (reply_to_call result events.new.items).outcome
+            (drivers_in self.new ≡ drivers_in self.old) }
         ensures modules { self.new.modules ≡ self.old.modules }
         ensures registrations { registrations self.new ≡ registrations self.old }
     {
