@@ -113,8 +113,8 @@ module _ (z : Setting) (V : ℕ → RegistrationList) (program : ℕ → tree.Pr
       (lowers_program (program m) x.compiled.bodies x.compiled.lowered).lowered (V m) z m bodies (sources_of program) x.sound x.program (are_bodies m)
       (record { each = λ k c there. ap code_or there })
 
-  means : (g : Routine) → MeansSame z bodies (sources_of program) g
-  means g = everywhere z (λ m. module_of (V m) (program m)) bodies (sources_of program) are_lowered links g
+  bodies_mean : (g : Routine) → MeansSame z bodies (sources_of program) g
+  bodies_mean g = everywhere z (λ m. module_of (V m) (program m)) bodies (sources_of program) are_lowered links g
 
   pub behaves_as_source : BehavesAsSource z (sources_of program) code
   behaves_as_source =
@@ -122,10 +122,10 @@ module _ (z : Setting) (V : ℕ → RegistrationList) (program : ℕ → tree.Pr
       record {
         calls = λ budget g ps vs w known count.
             let p = b.calls budget g ps vs w known count in
-            (p.0, p.1 ∙ ap (λ r. Over (outcome_of r)) ((means g).calls budget ps vs w known count));
+            (p.0, p.1 ∙ ap (λ r. Over (outcome_of r)) ((bodies_mean g).calls budget ps vs w known count));
         initializers = λ ticks g w known.
             let p = b.initializers ticks g w known in
-            (p.0, p.1 ∙ ap (λ r. Over (outcome_of r)) ((means g).initializers ticks w known));
+            (p.0, p.1 ∙ ap (λ r. Over (outcome_of r)) ((bodies_mean g).initializers ticks w known));
       }
 
 -- ---- one module among others
