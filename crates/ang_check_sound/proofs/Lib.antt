@@ -1,6 +1,8 @@
 pub mod Judged
 pub mod Items
 pub mod Types
+pub mod Families
+pub mod Passings
 pub mod Hosts
 pub mod Views
 pub mod Operators
