@@ -36,6 +36,11 @@ pub every_filter : {A : Type 0} (P : A → Type 0) (p : A → Bool) (xs : List A
 every_filter P p [] h = tt
 every_filter P p (x ∷ xs) h = kept P x (filter p xs) (p x) h.0 (every_filter P p xs h.1)
 
+-- what follows of each item
+pub every_other : {A : Type 0} (P Q : A → Type 0) (xs : List A) → ((a : A) → P a → Q a) → Every P xs → Every Q xs
+every_other P Q [] g h = tt
+every_other P Q (x ∷ xs) g h = (g x h.0, every_other P Q xs g h.1)
+
 -- what holds at each place
 pub every_placed : {A : Type 0} (P : A → Type 0) (xs : List A) → ((i : ℕ) (a : A) → slice_get xs i ≡ Some a → P a) → Every P xs
 every_placed P [] g = tt

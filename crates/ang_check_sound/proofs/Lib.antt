@@ -13,9 +13,13 @@ pub mod Expressions
 pub mod Statements
 pub mod Bodies
 pub mod Declared
-pub mod Within
 pub mod Places
+pub mod Slots
+pub mod Classes
 pub mod Members
 pub mod Parts
 pub mod Numbers
+pub mod Standing
+pub mod Built
 pub mod Program
+pub mod Soundness

@@ -9,7 +9,7 @@ use Rattle.ang_types.specs.declared.arg_type.ArgType.TheVariants as type
 use Rattle.ang_types.specs.Overloads.{Params}
 use Rattle.ang_typed.specs.declared.program.Parameter.{Parameter}
 use Rattle.ang_meaning.specs.declared.routine.Passing.{Passing}
-use Rattle.ang_meaning.specs.declared.routine.Passing.TheVariants.{In, Out, Object}
+use Rattle.ang_meaning.specs.declared.routine.Passing.TheVariants.{Out}
 use Rattle.ang_source.specs.Meaning.{referred, passing_by, passing_of, passings_of}
 use Rattle.ang_names_known.specs.declared.names.ScriptParameter.{ScriptParameter}
 use Rattle.ang_names_known.specs.Lookup.{type_and_pass}

@@ -1,6 +1,6 @@
 -- A use of a name means a variable, a property or a function that is there.
 use Rattle.std.specs.Prelude.{◌≡◌, ◌≢◌, ℕ, suc, ◌<◌, Bool, true, false, if◌then◌else◌, length, List, [], ◌∷◌, map, slice_get, option_map, Option, Some, None, IfSome}
-use Rattle.std.proofs.Common.{refl, ap, sym, ◌∙◌, subst}
+use Rattle.std.proofs.Common.{refl, ap, sym, ◌∙◌}
 use Rattle.std.proofs.lemmas.Option.{slice_get_within, slice_get-map}
 use Rattle.ang_kinds.specs.declared.error.ErrorKind.{ErrorKind}
 use Rattle.ang_kinds.specs.declared.error.ErrorKind.TheVariants as kind
