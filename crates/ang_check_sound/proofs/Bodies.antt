@@ -20,10 +20,12 @@ use Rattle.ang_names_known.specs.declared.names.ScriptGlobal.{ScriptGlobal}
 use Rattle.ang_names_known.specs.Lookup.{default_of}
 use Rattle.ang_names_known.specs.Spaces.{family_type}
 use Rattle.ang_check_operand.specs.Operands.{Operand}
-use Rattle.ang_check_typing.specs.declared.scope.LocalVariable.{LocalVariable}
-use Rattle.ang_check_typing.specs.declared.scope.Within.{Within}
-use Rattle.ang_check_typing.specs.Calls.{arguments_for, own_type, types_of}
-use Rattle.ang_check_typing.specs.Scope.{BodyContext, scope_of}
+use Rattle.ang_check_context.specs.declared.scope.LocalVariable.{LocalVariable}
+use Rattle.ang_check_context.specs.declared.scope.Within.{Within}
+use Rattle.ang_check_context.specs.Names.{own_type}
+use Rattle.ang_check_context.specs.Operands.{types_of}
+use Rattle.ang_check_typing.specs.Calls.{arguments_for}
+use Rattle.ang_check_context.specs.Scope.{BodyContext, scope_of}
 use Rattle.ang_check_typing.specs.Typing.{typing_of_args}
 use Rattle.ang_check_uses.specs.declared.uses.Called.{Called}
 use Rattle.ang_check_uses.specs.declared.uses.Called.TheVariants as calls

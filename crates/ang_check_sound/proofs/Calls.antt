@@ -27,10 +27,13 @@ use Rattle.ang_names_written.specs.Sources.{text_of}
 use Rattle.ang_check_operand.specs.declared.operand.Target.{Target}
 use Rattle.ang_check_operand.specs.Refusals.{Typing, fault}
 use Rattle.ang_check_operand.specs.Operands.{Operand, fit, site_in}
-use Rattle.ang_check_typing.specs.declared.scope.LocalVariable.{LocalVariable}
-use Rattle.ang_check_typing.specs.declared.scope.Within.{Within}
-use Rattle.ang_check_typing.specs.Scope.{BodyContext, scope_of, last_named, family_of, is_there}
-use Rattle.ang_check_typing.specs.Calls.{if_in_reach, is_out_variable, is_out_type, is_out, variable_in, out_or, out_of, value_for, out_for, argument_by, argument, arguments_for, call_of, call_with, types_of, called_use, called_own, own_type, this_operand, virtual_method, direct_by, direct_method, own_method, value_use, field_within, field_or_global, local_at, local_named, local_or, name_typing, this_in, this_typing, named_methods, call_by, call_typing, ancestor_by, ancestor_in, scoped_by, scoped_typing}
+use Rattle.ang_check_context.specs.declared.scope.LocalVariable.{LocalVariable}
+use Rattle.ang_check_context.specs.declared.scope.Within.{Within}
+use Rattle.ang_check_context.specs.Scope.{BodyContext, scope_of, last_named, family_of, is_there}
+use Rattle.ang_check_context.specs.Access.{if_in_reach}
+use Rattle.ang_check_context.specs.Names.{own_type, this_operand, value_use, field_within, field_or_global, local_at, local_named, local_or, name_typing, this_in, this_typing}
+use Rattle.ang_check_context.specs.Operands.{types_of}
+use Rattle.ang_check_typing.specs.Calls.{is_out_variable, is_out_type, is_out, variable_in, out_or, out_of, value_for, out_for, argument_by, argument, arguments_for, call_of, call_with, called_use, called_own, virtual_method, direct_by, direct_method, own_method, named_methods, call_by, call_typing, ancestor_by, ancestor_in, scoped_by, scoped_typing}
 use Rattle.ang_check_uses.specs.declared.uses.Callable.{Callable}
 use Rattle.ang_check_uses.specs.declared.uses.Called.{Called}
 use Rattle.ang_check_uses.specs.declared.uses.Called.TheVariants as calls

@@ -9,9 +9,9 @@ use Rattle.ang_types.specs.declared.arg_type.ArgType.{ArgType}
 use Rattle.ang_names_written.specs.Sources.{text_of}
 use Rattle.ang_check_operand.specs.Refusals.{Typing}
 use Rattle.ang_check_operand.specs.Operands.{Operand, object_of}
-use Rattle.ang_check_typing.specs.declared.scope.LocalVariable.{LocalVariable}
-use Rattle.ang_check_typing.specs.Calls.{cast_type}
-use Rattle.ang_check_typing.specs.Scope.{BodyContext}
+use Rattle.ang_check_context.specs.declared.scope.LocalVariable.{LocalVariable}
+use Rattle.ang_check_context.specs.Casts.{cast_type}
+use Rattle.ang_check_context.specs.Scope.{BodyContext}
 use Rattle.ang_check_typing.specs.Typing.{word_by, typing_of, typing_of_args, typing_of_all}
 use Rattle.ang_source.specs.Sound.{Module, Sound}
 use Rattle.ang_check_sound.specs.Built.{IsBuiltContext, HasThis}

@@ -19,9 +19,12 @@ use Rattle.ang_names_written.specs.declared.role.Role.TheVariants as role
 use Rattle.ang_names_written.specs.Sources.{text_of}
 use Rattle.ang_names_written.specs.Types.{TypeOrError, is_unknown_type, type_in}
 use Rattle.ang_check_operand.specs.Operands.{Operand, object_of}
-use Rattle.ang_check_typing.specs.declared.scope.LocalVariable.{LocalVariable}
-use Rattle.ang_check_typing.specs.Scope.{BodyContext, scope_of, space_of, family_of, is_there}
-use Rattle.ang_check_typing.specs.Calls.{types_of, property_use, field_typing, member_of_type, member_on, member_typing, method_of_type, method_on, method_call_typing, type_or_refusal, cast_type, cast_between, cast_from, cast_by, cast_typing, made_by, default_typing, made_typing}
+use Rattle.ang_check_context.specs.declared.scope.LocalVariable.{LocalVariable}
+use Rattle.ang_check_context.specs.Scope.{BodyContext, scope_of, space_of, family_of, is_there}
+use Rattle.ang_check_context.specs.Casts.{type_or_refusal, cast_type, cast_between, cast_from, cast_by, cast_typing}
+use Rattle.ang_check_context.specs.Members.{property_use, field_typing, member_of_type, member_on, member_typing}
+use Rattle.ang_check_context.specs.Operands.{types_of}
+use Rattle.ang_check_typing.specs.Calls.{method_of_type, method_on, method_call_typing, made_by, default_typing, made_typing}
 use Rattle.ang_check_uses.specs.declared.uses.Resolution.{Resolution}
 use Rattle.ang_check_uses.specs.declared.uses.Resolution.TheVariants as resolution
 use Rattle.ang_check_uses.specs.Uses.{makers_of, resolution_of}

@@ -12,10 +12,10 @@ use Rattle.ang_typed.specs.Typed as t
 use Rattle.ang_types.specs.Ranks.{Ancestors}
 use Rattle.ang_check_operand.specs.Refusals.{Typing}
 use Rattle.ang_check_operand.specs.Operands.{Operand, fit}
-use Rattle.ang_check_typing.specs.declared.scope.LocalVariable.{LocalVariable}
-use Rattle.ang_check_typing.specs.declared.scope.Within.{Within}
+use Rattle.ang_check_context.specs.declared.scope.LocalVariable.{LocalVariable}
+use Rattle.ang_check_context.specs.declared.scope.Within.{Within}
 use Rattle.ang_check_typing.specs.Calls.{default_typing, made_typing}
-use Rattle.ang_check_typing.specs.Scope.{BodyContext}
+use Rattle.ang_check_context.specs.Scope.{BodyContext}
 use Rattle.ang_check_typing.specs.Typing.{typing_of, typing_of_args, typing_of_all}
 use Rattle.ang_check_statements.specs.declared.frame.Returns.{Returns}
 use Rattle.ang_check_statements.specs.declared.frame.Returns.TheVariants as returns

@@ -32,7 +32,7 @@ use Rattle.ang_names_known.specs.Host.{host_where, property_where}
 use Rattle.ang_names_known.specs.Items.{is_empty}
 use Rattle.ang_names_known.specs.Lookup.{functions_named, global_named, parameters_of, takes_nothing, default_of}
 use Rattle.ang_names_known.specs.Spaces.{family_of_type, type_of_name, space_of_names}
-use Rattle.ang_check_typing.specs.Scope.{BodyContext, scope_of}
+use Rattle.ang_check_context.specs.Scope.{BodyContext, scope_of}
 use Rattle.ang_check_uses.specs.declared.uses.Callable.{Callable}
 use Rattle.ang_check_uses.specs.declared.uses.Called.{Called}
 use Rattle.ang_check_uses.specs.declared.uses.Called.TheVariants as calls

@@ -7,7 +7,7 @@ use Rattle.ang_names_known.specs.declared.names.Constructor.{Constructor}
 use Rattle.ang_names_known.specs.declared.names.Family.{Family}
 use Rattle.ang_names_known.specs.declared.names.Method.{Method}
 use Rattle.ang_names_known.specs.Spaces.{first_family}
-use Rattle.ang_check_typing.specs.Scope.{BodyContext}
+use Rattle.ang_check_context.specs.Scope.{BodyContext}
 use Rattle.ang_source.specs.Meaning.{passings_of}
 use Rattle.ang_source.specs.Sound.{Module}
 use Rattle.ang_check_sound.specs.Checked.{with_this, module_in}

@@ -1,14 +1,9 @@
 //! `Do`: operations on the globals of the running module.
 ghost use Rattle.std.specs.Prelude.{◌≡◌, ◌≤◌, ◌∷◌, List, [], length, IfOk};
-ghost use Rattle.ang_host.specs.declared.event.Role.{Role};
 ghost use Rattle.ang_meaning.specs.declared.operation.Operation.TheVariants.{GlobalGet, GlobalSet, GlobalChange};
-ghost use Rattle.ang_meaning.specs.Setting.{Setting};
-ghost use Rattle.ang_meaning.specs.Counting.{IsCounted};
 ghost use Rattle.ang_code.specs.declared.instruction.Instruction.TheVariants.{Do};
-ghost use Rattle.ang_code.specs.Machine.{Texts};
-ghost use Rattle.ang_heap.specs.Stores.{world_of, IsReady, StoreMoves};
-ghost use Rattle.ang_vm_stack.specs.Stacks.{values};
-ghost use Rattle.ang_vm_steps.specs.Arms.{ActsIn};
+ghost use Rattle.ang_heap.specs.Stores.{IsReady, HasMoved};
+ghost use Rattle.ang_vm_steps.specs.Arms.{AreCounted, BodyActs};
 
 use crate::doing::put_answer;
 use ang_heap::Store;
@@ -30,11 +25,11 @@ pub(crate) fn get_global(
     requires in_room { top ≤ room }
     requires within { room ≤ length stack.old }
     requires ready { IsReady ⟦<dyn Driver as Driver>⟧ store.old }
-    requires counted { IsCounted (values stack.old top) (world_of ⟦<dyn Driver as Driver>⟧ store.old) }
-    ensures acts { (z : Setting) (code : Texts) → ActsIn body z code (Do (GlobalGet number)) room top stack.old (world_of ⟦<dyn Driver as Driver>⟧ store.old)
-        result stack.new (world_of ⟦<dyn Driver as Driver>⟧ store.new) }
+    requires counted { AreCounted ⟦<dyn Driver as Driver>⟧ stack.old top store.old }
+    ensures acts { BodyActs ⟦<dyn Driver as Driver>⟧ body (Do (GlobalGet number)) room top stack.old
+        store.old result stack.new store.new }
     ensures in_room { IfOk result (λ n. n ≤ room) }
-    ensures moves { (roles : List Role) → StoreMoves ⟦<dyn Driver as Driver>⟧ roles store.old store.new }
+    ensures moves { HasMoved ⟦<dyn Driver as Driver>⟧ store.old store.new }
 {
     if top >= room {
         return Err(Stop::Lost);
@@ -55,11 +50,11 @@ pub(crate) fn set_global(
     requires in_room { top ≤ room }
     requires within { room ≤ length stack.old }
     requires ready { IsReady ⟦<dyn Driver as Driver>⟧ store.old }
-    requires counted { IsCounted (values stack.old top) (world_of ⟦<dyn Driver as Driver>⟧ store.old) }
-    ensures acts { (z : Setting) (code : Texts) → ActsIn body z code (Do (GlobalSet number)) room top stack.old (world_of ⟦<dyn Driver as Driver>⟧ store.old)
-        result stack.new (world_of ⟦<dyn Driver as Driver>⟧ store.new) }
+    requires counted { AreCounted ⟦<dyn Driver as Driver>⟧ stack.old top store.old }
+    ensures acts { BodyActs ⟦<dyn Driver as Driver>⟧ body (Do (GlobalSet number)) room top stack.old
+        store.old result stack.new store.new }
     ensures in_room { IfOk result (λ n. n ≤ room) }
-    ensures moves { (roles : List Role) → StoreMoves ⟦<dyn Driver as Driver>⟧ roles store.old store.new }
+    ensures moves { HasMoved ⟦<dyn Driver as Driver>⟧ store.old store.new }
 {
     if top == 0 {
         return Err(Stop::Lost);
@@ -82,11 +77,11 @@ pub(crate) fn change_global(
     requires in_room { top ≤ room }
     requires within { room ≤ length stack.old }
     requires ready { IsReady ⟦<dyn Driver as Driver>⟧ store.old }
-    requires counted { IsCounted (values stack.old top) (world_of ⟦<dyn Driver as Driver>⟧ store.old) }
-    ensures acts { (z : Setting) (code : Texts) → ActsIn body z code (Do (GlobalChange number by)) room top stack.old (world_of ⟦<dyn Driver as Driver>⟧ store.old)
-        result stack.new (world_of ⟦<dyn Driver as Driver>⟧ store.new) }
+    requires counted { AreCounted ⟦<dyn Driver as Driver>⟧ stack.old top store.old }
+    ensures acts { BodyActs ⟦<dyn Driver as Driver>⟧ body (Do (GlobalChange number by)) room top
+        stack.old store.old result stack.new store.new }
     ensures in_room { IfOk result (λ n. n ≤ room) }
-    ensures moves { (roles : List Role) → StoreMoves ⟦<dyn Driver as Driver>⟧ roles store.old store.new }
+    ensures moves { HasMoved ⟦<dyn Driver as Driver>⟧ store.old store.new }
 {
     if top == 0 {
         return Err(Stop::Lost);

@@ -27,8 +27,10 @@ use std::io::Write;
 
 /// Prints a reply.
 fn print_reply<W: Write>(alloc: Global, writer: &mut W, reply: &Reply) -> Result<(), Stop>
-    ensures whole { OnOk result (Appends (W.contents writer.old) (W.contents writer.new) (reply_text reply.now)) }
-    ensures front { OnErr result (HasFront (W.contents writer.old) (W.contents writer.new) (reply_text reply.now)) }
+    ensures whole { OnOk result
+        (Appends (W.contents writer.old) (W.contents writer.new) (reply_text reply.now)) }
+    ensures front { OnErr result
+        (HasFront (W.contents writer.old) (W.contents writer.new) (reply_text reply.now)) }
     ensures fault { IfErr result (λ e. e ≢ unread) }
 {
     let mut text = Vec::new(alloc);
@@ -39,8 +41,10 @@ fn print_reply<W: Write>(alloc: Global, writer: &mut W, reply: &Reply) -> Result
 
 /// Prints `line N BadLine`.
 fn print_bad_line<W: Write>(alloc: Global, writer: &mut W, number: u64) -> Result<(), Stop>
-    ensures whole { OnOk result (Appends (W.contents writer.old) (W.contents writer.new) (bad_line_text (Some number))) }
-    ensures front { OnErr result (HasFront (W.contents writer.old) (W.contents writer.new) (bad_line_text (Some number))) }
+    ensures whole { OnOk result
+        (Appends (W.contents writer.old) (W.contents writer.new) (bad_line_text (Some number))) }
+    ensures front { OnErr result
+        (HasFront (W.contents writer.old) (W.contents writer.new) (bad_line_text (Some number))) }
     ensures fault { IfErr result (λ e. e ≢ unread) }
 {
     let mut text = Vec::new(alloc);
@@ -125,9 +129,11 @@ pub fn run_session<W: Write>(
     ensures registrations { registrations engine.new ≡ registrations engine.old }
     ensures order { kinds_of (drivers_in engine.new) ≡ kinds_of (drivers_in engine.old) }
     ensures done { IfOk result (λ status. RunsLines ⟦<dyn Driver as Driver>⟧ engine.old engine.new
-        (session_from 1 budget 0 (lines_of text.now)) (W.contents writer.old) (W.contents writer.new) status) }
+        (session_from 1 budget 0 (lines_of text.now)) (W.contents writer.old)
+        (W.contents writer.new) status) }
     ensures cut { OnErr result (StopsLines ⟦<dyn Driver as Driver>⟧ engine.old engine.new
-        (session_from 1 budget 0 (lines_of text.now)) (W.contents writer.old) (W.contents writer.new)) }
+        (session_from 1 budget 0 (lines_of text.now)) (W.contents writer.old)
+        (W.contents writer.new)) }
     ensures fault { IfErr result (λ e. e ≢ unread) }
 {
     let mut rest = text;

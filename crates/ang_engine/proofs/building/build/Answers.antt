@@ -10,6 +10,7 @@ use Rattle.ang_engine.specs.Step.{build_within, is_budget}
 use Rattle.ang_engine.proofs.Finding.{found-same, on_module-none}
 use Rattle.ang_engine.proofs.Leading.{leads-at_once, leads-same}
 use Rattle.ang_engine.proofs.Asking.{asked-nothing, kept-same}
+use Rattle.ang_engine.proofs.Refusing.{begun_build}
 use Rattle.ang_engine.proofs.Rebuilding.{building-found, building-refused}
 use Rattle.ang_engine.proofs.building.build.Goals as goal
 
@@ -49,3 +50,6 @@ returns-clause-done g c =
     leads-same _ (building R c.args.name.now c.args.budget w) _ _ _
     (λ rest. building-found R c.args.name.now c.args.budget w c.in-Some.home rest (found-same _ _ _ ls _ _ (c.in-Some.ensures.exact ls) c.deref.ensures.value refl) b)
     refl c.build_module.ensures.done
+
+pub returns-clause-refused : goal.returns-clause-refused
+returns-clause-refused g c = begun_build c.build_module.result c.build_module.new.events.items _ c.build_module.ensures.begun

@@ -13,7 +13,7 @@ pub returns-clause-applied : goal.returns-clause-applied
 returns-clause-applied g c =
     applied-build (λ v. (g.dyn-1.0.entry v).1) (registrations c.args.self.now) (world_in (λ v. (g.dyn-1.0.entry v).1) c.args.self.now) _
     c.args.self.now.machine.store c.build-done.new.machine.store c.as_slice.result.now c.args.name c.args.budget _ c.build-done.result c.build-done.new.events.items
-    c.as_slice.ensures.same c.build_reply.ensures.exact c.build-done.ensures.done c.build-done.ensures.asked
+    c.as_slice.ensures.same c.build_reply.ensures.exact c.build-done.ensures.done c.build-done.ensures.asked c.build-done.ensures.refused
 
 pub returns-clause-sound : goal.returns-clause-sound
 returns-clause-sound g c =

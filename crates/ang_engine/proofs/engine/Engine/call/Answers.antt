@@ -15,7 +15,7 @@ returns-clause-applied g c =
     applied-call (λ v. (g.dyn-1.0.entry v).1) (registrations c.args.self.now) (world_in (λ v. (g.dyn-1.0.entry v).1) c.args.self.now) _
     c.args.self.now.machine.store c.call_named-done.new.self.machine.store c.as_slice.result.now c.args.name c.as_slice-2.result.now c.args.decl c.as_slice-3.result.now c.args.args c.args.budget _
     c.call_named-done.result c.call_named-done.new.events.items c.as_slice.ensures.same c.as_slice-2.ensures.same c.as_slice-3.ensures.same
-    c.call_reply.ensures.exact c.call_named-done.ensures.done c.call_named-done.ensures.asked
+    c.call_reply.ensures.exact c.call_named-done.ensures.done c.call_named-done.ensures.asked c.call_named-done.ensures.refused
 
 pub returns-clause-sound : goal.returns-clause-sound
 returns-clause-sound g c =

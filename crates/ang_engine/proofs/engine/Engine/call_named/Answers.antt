@@ -11,6 +11,8 @@ use Rattle.ang_engine.proofs.Entries.{drivers_there}
 use Rattle.ang_engine.proofs.Finding.{found-same, on_module-none}
 use Rattle.ang_engine.proofs.Calls.{call-run}
 use Rattle.ang_engine.proofs.Named.{few_families, program_there, takes_chosen, chosen_refused, calling-unbuilt, calling-unbudgeted, calling-built}
+use Rattle.ang_engine.specs.declared.reply.Outcome.TheVariants.{Refused}
+use Rattle.ang_engine.proofs.Refusing.{refused_anyway, called_ended}
 use Rattle.ang_engine.proofs.Asking.{asked-nothing, asked-run}
 use Rattle.ang_engine.proofs.engine.Engine.call_named.Goals as goal
 
@@ -92,6 +94,9 @@ returns-in-Err-clause-asked g c =
     asked-nothing (λ v. (g.dyn-1.0.entry v).1) (registrations c.args.self.now) (world_in (λ v. (g.dyn-1.0.entry v).1) c.args.self.now) c.args.self.now.machine.store
     c.requires.sound.kept c.requires.sound.counted
 
+pub returns-in-Err-clause-refused : goal.returns-in-Err-clause-refused
+returns-in-Err-clause-refused g c = refused_anyway (Refused c.in-Err.refusal) _ refl
+
 -- ---- it is called
 
 pub run_chosen-requires-clause-drivers : goal.run_chosen-requires-clause-drivers
@@ -125,3 +130,8 @@ returns-in-Ok-clause-asked g c =
     asked-run (λ v. (g.dyn-1.0.entry v).1) (registrations c.args.self.now) c.args.self.now.machine.store c.run_chosen.new.machine.store c.args.events.now c.run_chosen.new.events
     c.requires.first c.requires.ready c.requires.sound.counted m.modules.items m.code m.code (world_of (λ v. (g.dyn-1.0.entry v).1) c.run_chosen.new.machine.store)
     c.requires.sound.modules.each c.requires.sound.modules.few c.run_chosen.ensures.asked
+
+pub returns-in-Ok-clause-refused : goal.returns-in-Ok-clause-refused
+returns-in-Ok-clause-refused g c =
+    let means = c.run_chosen.ensures.means in
+    called_ended means.function means.value c.run_chosen.result _ means.ended
