@@ -39,7 +39,7 @@ record Stands (first : ℕ) (bodies : List (List Parameter)) (k : ℕ) (ps : Lis
 
 -- the same among more bodies
 stands_among : (first own : ℕ) (front bodies rest : List (List Parameter)) (k : ℕ) (ps : List Parameter) → own ≡ first + length front
-    → Stands own bodies k ps → Stands first (front ++ bodies ++ rest) k ps
+    → Stands own bodies k ps → Stands first (front ++ (bodies ++ rest)) k ps
 stands_among first own front bodies rest k ps e s = record {
   place = length front + s.place;
   number = let n : k ≡ own + s.place = s.number in omega (arith, e, n);
