@@ -35,6 +35,6 @@ module _ (V : RegistrationList) (names : Names) (sources : List Source) (same : 
     constructors = λ m k at. (has_bodies_in V names sources same).constructors c m f k there at;
   }
 
-pub context_built : (V : RegistrationList) (names : Names) (sources : List Source) → TakesValues V → length V ≤ first_family
+pub context_built : (V : RegistrationList) (values : TakesValues V) (few : length V ≤ first_family) (names : Names) (sources : List Source)
     → names ≡ names_of V (declarations_of sources) → (text : List ℕ) (within : Option Within) → IsBuiltContext (context_in V names text within)
-context_built V names sources values few same text within = record { values = values; few = few; families = families_built V names sources same }
+context_built V values few names sources same text within = record { values = values; few = few; families = families_built V names sources same }

@@ -151,7 +151,7 @@ sound_over : (V : RegistrationList) (names : Names) (sources : List Source) → 
     → names ≡ names_of V (declarations_of sources) → body_refusals V names sources ≡ [] → SoundOver (module_in V names) (program_of V names sources)
 unfolding judgements body_refusals program_of
 sound_over V names sources values few e none =
-    let built = context_built V names sources values few e in
+    let built = context_built V values few names sources e in
     let all = all_sound V names built (parts_of sources) none in
     record {
       functions = sound_joined (module_in V names) _ _ all.functions all.members;

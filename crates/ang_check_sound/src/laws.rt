@@ -57,13 +57,11 @@ pub fn expression_is_sound()
 
 /// Of the names that `declare` gives the module has all methods and constructors, whatever is refused: so what was
 /// typed in a body of them is sound.
-#[tactic(auto, using(crate::proofs::Built::context_built))]
 pub fn each_context_is_built()
-    ensures built { (V : RegistrationList) (names : Names) (sources : List Source) (text : List ℕ) (within : Option Within)
-        → TakesValues V
-        → length V ≤ first_family
+    ensures built { (V : RegistrationList) (values : TakesValues V) (few : length V ≤ first_family)
+        (names : Names) (sources : List Source)
         → names ≡ names_of V (declarations_of sources)
-        → IsBuiltContext (context_in V names text within) }
+        → (text : List ℕ) (within : Option Within) → IsBuiltContext (context_in V names text within) }
 {}
 
 /// Of the names that `declare` gives each function, method and constructor has the body that stands at its own name, and each
