@@ -21,7 +21,7 @@ use Rattle.ang_typed.specs.Typed as t
 use Rattle.ang_names_known.specs.declared.names.Family.{Family}
 use Rattle.ang_names_known.specs.declared.names.FoundField.{FoundField}
 use Rattle.ang_names_known.specs.Items.{is_empty}
-use Rattle.ang_names_known.specs.Lookup.{FoundMethod, kin_of, field_named, methods_of, methods_named, is_under, may_use}
+use Rattle.ang_names_known.specs.Lookup.{FoundMethod, field_named, methods_named, parameters_of, is_under, may_use}
 use Rattle.ang_names_known.specs.Spaces.{family_type}
 use Rattle.ang_names_written.specs.Sources.{text_of}
 use Rattle.ang_check_operand.specs.declared.operand.Target.{Target}
@@ -33,7 +33,7 @@ use Rattle.ang_check_context.specs.Scope.{BodyContext, scope_of, last_named, fam
 use Rattle.ang_check_context.specs.Access.{if_in_reach}
 use Rattle.ang_check_context.specs.Names.{own_type, this_operand, value_use, field_within, field_or_global, local_at, local_named, local_or, name_typing, this_in, this_typing}
 use Rattle.ang_check_context.specs.Operands.{types_of}
-use Rattle.ang_check_typing.specs.Calls.{is_out_variable, is_out_type, is_out, variable_in, out_or, out_of, value_for, out_for, argument_by, argument, arguments_for, call_of, call_with, called_use, called_own, virtual_method, direct_method, own_method, named_methods, call_by, call_typing, ancestor_by, ancestor_in, scoped_by, scoped_typing}
+use Rattle.ang_check_typing.specs.Calls.{is_out_variable, is_out_type, is_out, variable_in, out_or, out_of, value_for, out_for, argument_by, argument, arguments_for, call_of, call_with, called_use, called_own, virtual_method, direct_by, direct_method, own_method, named_methods, call_by, call_typing, ancestor_by, ancestor_in, scoped_by, scoped_typing}
 use Rattle.ang_check_uses.specs.declared.uses.Callable.{Callable}
 use Rattle.ang_check_uses.specs.declared.uses.Called.{Called}
 use Rattle.ang_check_uses.specs.declared.uses.Called.TheVariants as calls
@@ -43,9 +43,14 @@ use Rattle.ang_check_uses.specs.declared.uses.Resolution.TheVariants as resoluti
 use Rattle.ang_check_uses.specs.Uses.{resolution_of}
 use Rattle.ang_tree.specs.Stmt.{Every}
 use Rattle.ang_source.specs.Sound.{Module, IsStored, IsTarget, Sound, SoundArguments, SoundArgument, SoundValues, argument_count}
-use Rattle.ang_check_sound.specs.Built.{IsBuiltContext, HasThis}
+use Rattle.ang_meaning.specs.declared.routine.Passing.TheVariants as passing
+use Rattle.ang_source.specs.Meaning.{passing_by, passing_of}
+use Rattle.ang_check_sound.specs.Built.{IsMethodIn, IsBuiltContext, HasThis}
+use Rattle.ang_check_sound.specs.Checked.{with_this}
 use Rattle.ang_check_sound.proofs.Judged.{holds, either_holds}
-use Rattle.ang_check_sound.proofs.Items.{first_true, second_true, not_true}
+use Rattle.ang_check_sound.proofs.Families.{named_hold}
+use Rattle.ang_check_sound.proofs.Passings.{takes, TakeAlike, params_alike, only_out, in_order}
+use Rattle.ang_check_sound.proofs.Items.{every_mapped, every_flat_of, first_true, second_true, not_true}
 use Rattle.ang_check_sound.proofs.Operators.{IsStoredSite, IsTargeted, SoundOperand, no_site, read_sound, fit_sound}
 use Rattle.ang_check_sound.proofs.Hosts.{Values}
 use Rattle.ang_check_sound.proofs.Uses.{Here, IsMeant, global_sound, IsCallee, IsCallable, IsMeantCall, call_there, best_method_there}
@@ -107,7 +112,7 @@ module _ (M : Module) (n : ℕ) where
   Fit (p ∷ ps) [] = ⊥
   Fit (p ∷ ps) (x ∷ xs) = SoundArgument M n p.1 x × Fit ps xs
 
-  arguments_sound : (ancestors : Ancestors) (ps : List (ArgType × Pass)) (operands : List Operand) → Every (SoundOperand M n) operands
+  pub arguments_sound : (ancestors : Ancestors) (ps : List (ArgType × Pass)) (operands : List Operand) → Every (SoundOperand M n) operands
       → length ps ≡ length operands → IfOk (arguments_for ancestors ps operands) (Fit ps)
   arguments_sound ancestors [] [] s e = tt
   arguments_sound ancestors [] (a ∷ rest) s e = cc
@@ -117,11 +122,23 @@ module _ (M : Module) (n : ℕ) where
       (λ x sx. holds (Fit ps) (Fit (p ∷ ps)) (arguments_for ancestors ps rest) _ (arguments_sound ancestors ps rest s.1 (let same : length ps ≡ length rest = cc in same))
       (λ xs sxs. (sx, sxs)))
 
-  script_arguments : (ps : List Parameter) (xs : List t.Arg) → Fit (map (λ (p : Parameter). (p.ty, p.pass)) ps) xs → SoundArguments M n ps (t.args xs)
-  script_arguments [] [] f = tt
-  script_arguments [] (x ∷ xs) f = f
-  script_arguments (p ∷ ps) [] f = f
-  script_arguments (p ∷ ps) (x ∷ xs) f = (f.0, script_arguments ps xs f.1)
+  -- a parameter that takes its argument alike
+  argument_alike : (p : ArgType × Pass) (q : Parameter) (x : t.Arg) → takes p ≡ passing_of q → SoundArgument M n p.1 x → SoundArgument M n q.pass x
+  argument_alike p q (t.by_value ty e) same s = (λ out. s.0 (only_out p.1 p.0 (same ∙ ap (λ way. passing_by way q.ty) out)), s.1)
+  argument_alike p q (t.out x from to) same s = (only_out q.pass q.ty (sym same ∙ ap (λ way. passing_by way p.0) s.0), s.1)
+
+  pub script_arguments : (ps : List (ArgType × Pass)) (qs : List Parameter) (xs : List t.Arg) → TakeAlike ps qs → Fit ps xs → SoundArguments M n qs (t.args xs)
+  script_arguments [] [] [] same f = tt
+  script_arguments [] [] (x ∷ xs) same f = absurd f
+  script_arguments [] (q ∷ qs) xs same f = cc
+  script_arguments (p ∷ ps) [] xs same f = cc
+  script_arguments (p ∷ ps) (q ∷ qs) [] same f = absurd f
+  script_arguments (p ∷ ps) (q ∷ qs) (x ∷ xs) same f =
+      (argument_alike p q x (let one : takes p ≡ passing_of q = cc in one) f.0, script_arguments ps qs xs (let others : TakeAlike ps qs = cc in others) f.1)
+
+  nothing_given : (xs : List t.Arg) → Fit [] xs → t.args xs ≡ t.none
+  nothing_given [] f = refl
+  nothing_given (x ∷ xs) f = absurd f
 
   host_argument : (way : Pass) (x : t.Arg) → way ≢ pass.RefOut → SoundArgument M n way x → SoundValues M n (t.more x t.none)
   host_argument way (t.by_value ty e) ne s = (s.1, tt)
@@ -148,12 +165,15 @@ module _ (s : BodyContext) (n : ℕ) where
   call_sound : (c : Called) (result : ArgType) (ps : List (ArgType × Pass)) (xs : List t.Arg) → IsCallee s c ps → Fit M n ps xs
       → Sound M n (call_of c result xs)
   call_sound (calls.Script f) result ps xs h fit =
-      (h.0, h.1, script_arguments M n h.0 xs (subst (λ (qs : List (ArgType × Pass)). Fit M n qs xs) h.2 fit))
+      (h.0, h.1, script_arguments M n ps h.0 xs h.2 fit)
   call_sound (calls.Host h) result ps xs k fit = (
     record { kind = k.0.kind; entity = k.0.entity; params = k.0.params ∙ ap Some (host_count M n ps xs fit) },
     host_arguments M n ps xs k.1 fit,
   )
-  call_sound (calls.Makes c k) result ps xs h fit = absurd h
+  call_sound (calls.Makes c None) result ps xs h fit =
+      (h.0, nothing_given M n xs (subst (λ (qs : List (ArgType × Pass)). Fit M n qs xs) h.1 fit))
+  call_sound (calls.Makes c (Some k)) result ps xs h fit =
+      (h.0, (h.1.0, h.1.1, h.1.2, h.1.3, script_arguments M n ps h.1.1 xs h.1.4 fit))
 
   called_sound : (place : Place) (c : Callable) (operands : List Operand) → IsCallable s c → length c.candidate.params ≡ length operands
       → Every (SoundOperand M n) operands → IfOk (call_with s place c operands) (SoundOperand M n)
@@ -191,16 +211,38 @@ module _ (s : BodyContext) (n : ℕ) where
 
   -- ---- methods of the scripts
 
-  -- no class has one
-  no_methods : IsBuiltContext s → (d : ℕ) (name : List ℕ) → methods_named s.names.families d name ≡ []
-  unfolding methods_named methods_of kin_of
-  no_methods built d name = ap (λ (fs : List Family). methods_named fs d name) built.no_families
+  -- it is one of a family of the module
+  abbrev IsFound : FoundMethod → Type 0
+  IsFound x = (c : ℕ) × IsMethodIn M c x.method
+
+  found : IsBuiltContext s → (d : ℕ) (name : List ℕ) → Every IsFound (methods_named s.names.families d name)
+  found built d name = named_hold s.names.families IsFound (λ c f there m y at. (c, (built.families c f there).methods m y at)) d name
+
+  -- with its receiver it takes what its slot takes
+  virtual_one : (number : ℕ) (x : FoundMethod) → IsFound x → IsCallable s (virtual_method number x)
+  unfolding parameters_of
+  virtual_one number x h =
+      let own = with_this (record { family = h.0; read_only = x.method.read_only }) x.method.function in (
+        h.1.heading,
+        h.1.slot_is,
+        ap (λ ps. passing.Object ∷ ps) (params_alike x.method.function.params) ∙ sym (in_order h.1.heading own h.1.alike),
+      )
+
+  direct_one : (number : ℕ) (x : FoundMethod) (k : Option ℕ) → x.method.body ≡ k → IsFound x → Every (IsCallable s) (direct_by number x k)
+  unfolding parameters_of
+  direct_one number x None e h = tt
+  direct_one number x (Some k) e h =
+      let own = with_this (record { family = h.0; read_only = x.method.read_only }) x.method.function in
+      ((own, h.1.body k e, ap (λ ps. passing.Object ∷ ps) (params_alike x.method.function.params)), tt)
 
   methods_callable : IsBuiltContext s → (number d : ℕ) (name : List ℕ) → Every (IsCallable s) (map (virtual_method number) (methods_named s.names.families d name))
-  methods_callable built number d name = subst (λ (ms : List FoundMethod). Every (IsCallable s) (map (virtual_method number) ms)) (sym (no_methods built d name)) tt
+  methods_callable built number d name =
+      every_mapped IsFound (IsCallable s) (virtual_method number) (methods_named s.names.families d name) (virtual_one number) (found built d name)
 
   direct_callable : IsBuiltContext s → (number d : ℕ) (name : List ℕ) → Every (IsCallable s) (flat_map (direct_method number) (methods_named s.names.families d name))
-  direct_callable built number d name = subst (λ (ms : List FoundMethod). Every (IsCallable s) (flat_map (direct_method number) ms)) (sym (no_methods built d name)) tt
+  direct_callable built number d name =
+      every_flat_of IsFound (IsCallable s) (direct_method number) (methods_named s.names.families d name) (λ x h. direct_one number x x.method.body refl h)
+      (found built d name)
 
   pub own_method_sound : IsBuiltContext s → (d number : ℕ) (c : Bool) (x : Token) (receiver : Operand) (operands : List Operand)
       → SoundOperand M n receiver → Every (SoundOperand M n) operands → IfOk (own_method s d number c x receiver operands) (SoundOperand M n)

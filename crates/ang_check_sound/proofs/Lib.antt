@@ -1,6 +1,8 @@
 pub mod Judged
 pub mod Items
 pub mod Types
+pub mod Families
+pub mod Passings
 pub mod Hosts
 pub mod Views
 pub mod Operators
@@ -11,9 +13,13 @@ pub mod Expressions
 pub mod Statements
 pub mod Bodies
 pub mod Declared
-pub mod Within
 pub mod Places
+pub mod Slots
+pub mod Classes
 pub mod Members
 pub mod Parts
 pub mod Numbers
+pub mod Standing
+pub mod Built
 pub mod Program
+pub mod Soundness

@@ -1,10 +1,10 @@
 -- A use of a name means a variable, a property or a function that is there.
-use Rattle.std.specs.Prelude.{◌≡◌, ℕ, suc, Bool, true, false, if◌then◌else◌, length, List, [], ◌∷◌, map, slice_get, option_map, Option, Some, None, IfSome}
-use Rattle.std.proofs.Common.{refl, ap, sym, ◌∙◌, subst}
+use Rattle.std.specs.Prelude.{◌≡◌, ◌≢◌, ℕ, suc, ◌<◌, Bool, true, false, if◌then◌else◌, length, List, [], ◌∷◌, map, slice_get, option_map, Option, Some, None, IfSome}
+use Rattle.std.proofs.Common.{refl, ap, sym, ◌∙◌}
 use Rattle.std.proofs.lemmas.Option.{slice_get_within, slice_get-map}
 use Rattle.ang_kinds.specs.declared.error.ErrorKind.{ErrorKind}
 use Rattle.ang_kinds.specs.declared.error.ErrorKind.TheVariants as kind
-use Rattle.ang_kinds.specs.declared.types.Pass.{Pass}
+use Rattle.ang_kinds.specs.declared.types.Pass.TheVariants as pass
 use Rattle.ang_typed.specs.declared.program.Parameter.{Parameter}
 use Rattle.ang_types.specs.declared.arg_type.ArgType.{ArgType}
 use Rattle.ang_types.specs.declared.arg_type.ArgType.TheVariants as type
@@ -19,6 +19,9 @@ use Rattle.ang_names_known.specs.declared.host.HostFunction.{HostFunction}
 use Rattle.ang_names_known.specs.declared.host.HostProperty.{HostProperty}
 use Rattle.ang_names_known.specs.declared.host.Wanted.TheVariants as wanted
 use Rattle.ang_names_known.specs.declared.host.WantedProperty.TheVariants as property
+use Rattle.ang_names_known.specs.declared.names.Constructor.{Constructor}
+use Rattle.ang_names_known.specs.declared.names.Default.{Default}
+use Rattle.ang_names_known.specs.declared.names.Default.TheVariants as default
 use Rattle.ang_names_known.specs.declared.names.Family.{Family}
 use Rattle.ang_names_known.specs.declared.names.ScriptFunction.{ScriptFunction}
 use Rattle.ang_names_known.specs.declared.names.ScriptGlobal.{ScriptGlobal}
@@ -27,7 +30,7 @@ use Rattle.ang_names_known.specs.declared.space.Named.{Named}
 use Rattle.ang_names_known.specs.declared.space.Named.TheVariants as named
 use Rattle.ang_names_known.specs.Host.{host_where, property_where}
 use Rattle.ang_names_known.specs.Items.{is_empty}
-use Rattle.ang_names_known.specs.Lookup.{functions_named, global_named, parameters_of, type_and_pass}
+use Rattle.ang_names_known.specs.Lookup.{functions_named, global_named, parameters_of, takes_nothing, default_of}
 use Rattle.ang_names_known.specs.Spaces.{family_of_type, type_of_name, space_of_names}
 use Rattle.ang_check_context.specs.Scope.{BodyContext, scope_of}
 use Rattle.ang_check_uses.specs.declared.uses.Callable.{Callable}
@@ -35,14 +38,16 @@ use Rattle.ang_check_uses.specs.declared.uses.Called.{Called}
 use Rattle.ang_check_uses.specs.declared.uses.Called.TheVariants as calls
 use Rattle.ang_check_uses.specs.declared.uses.Resolution.{Resolution}
 use Rattle.ang_check_uses.specs.declared.uses.Resolution.TheVariants as resolution
-use Rattle.ang_check_uses.specs.Uses.{host_meant, variable_meant, global_or_host, global_meant, own_function, imported_function, callable_in, callable_at, script_callables, host_callable, maker, factories_of, makers_in, makers_for, makers_of, candidates_of, called_at, picked, best_of_those, functions_of, called_by, called_name, property_meant, host_method, host_methods, unmatched, best_method, resolution_of}
-use Rattle.ang_check_body.specs.Typing.{typed_parameter, typed_parameters}
+use Rattle.ang_check_uses.specs.Uses.{host_meant, variable_meant, global_or_host, global_meant, own_function, imported_function, callable_in, callable_at, script_callables, host_callable, maker, factories_of, constructor_of, default_maker, makers_in, makers_for, makers_of, candidates_of, called_at, picked, best_of_those, functions_of, called_by, called_name, property_meant, host_method, host_methods, unmatched, best_method, resolution_of}
+use Rattle.ang_check_body.specs.Typing.{typed_parameter, typed_parameters, this_parameter}
 use Rattle.ang_source.specs.Sound as sound
 use Rattle.ang_source.specs.Sound.{Module, IsVariable, IsStored, IsHostCallee}
 use Rattle.ang_tree.specs.Stmt.{Every}
 use Rattle.ang_check_sound.specs.Checked.{module_in}
-use Rattle.ang_check_sound.specs.Built.{IsBuiltContext}
-use Rattle.ang_check_sound.proofs.Items.{every_joined, every_option, every_mapped, every_flat, every_at, at_front}
+use Rattle.ang_check_sound.specs.Built.{IsConstructorIn, IsBuiltContext}
+use Rattle.ang_check_sound.proofs.Items.{every_joined, every_option, every_mapped, every_flat, every_placed, every_at, at_front}
+use Rattle.ang_check_sound.proofs.Families.{IfWritten, default_holds}
+use Rattle.ang_check_sound.proofs.Passings.{TakeAlike, params_alike}
 use Rattle.ang_check_sound.proofs.Hosts.{Values, IsHost, hosts_there, IsHostProperty, property_there}
 
 -- In a body:
@@ -90,22 +95,19 @@ module _ (s : BodyContext) where
 
   -- ---- functions
 
-  -- the type and the passing of a parameter
-  abbrev pub as_passed : Parameter → ArgType × Pass
-  as_passed p = (p.ty, p.pass)
+  -- The body of a constructor takes its object, and then these parameters.
+  abbrev pub IsMaker : ℕ → Params → Type 0
+  IsMaker k ps = (own : Parameter) × (qs : List Parameter) × (slice_get Here.parameters k ≡ Some (own ∷ qs)) × (own.pass ≢ pass.RefOut) × TakeAlike ps qs
 
   -- what is called with these parameters is there
   abbrev pub IsCallee : Called → Params → Type 0
-  IsCallee (calls.Script f) ps = (qs : List Parameter) × (sound.parameters_of Here f ≡ Some qs) × (ps ≡ map as_passed qs)
+  IsCallee (calls.Script f) ps = (qs : List Parameter) × (sound.parameters_of Here f ≡ Some qs) × TakeAlike ps qs
   IsCallee (calls.Host h) ps = IsHostCallee s.view h (length ps) × Values ps
-  IsCallee (calls.Makes c k) ps = ⊥
+  IsCallee (calls.Makes c None) ps = (c < length s.names.families) × (ps ≡ [])
+  IsCallee (calls.Makes c (Some k)) ps = (c < length s.names.families) × IsMaker k ps
 
   abbrev pub IsCallable : Callable → Type 0
   IsCallable c = IsCallee c.called c.candidate.params
-
-  params_alike : (ps : List ScriptParameter) → map type_and_pass ps ≡ map as_passed (map typed_parameter ps)
-  params_alike [] = refl
-  params_alike (p ∷ ps) = ap (λ rest. type_and_pass p ∷ rest) (params_alike ps)
 
   own_one : (i : ℕ) (f : Option ScriptFunction) → slice_get s.names.functions i ≡ f → IfSome (callable_in own_function i f) IsCallable
   unfolding parameters_of
@@ -161,13 +163,55 @@ module _ (s : BodyContext) where
       every_mapped (IsHost s.view entry.Method) IsCallable (host_method t) (host_where (wanted.Method t name) s.view) (method_one t)
       (hosts_there s.view (wanted.Method t name) built.values)
 
-  -- no class has a constructor
-  no_makers : IsBuiltContext s → (c : ℕ) → makers_in s.names.families c (slice_get s.names.families c) ≡ []
-  no_makers built c = ap (λ (fs : List Family). makers_in fs c (slice_get fs c)) built.no_families
+  -- ---- what makes an object of a class
+
+  constructor_one : (c : ℕ) → c < length s.names.families → (k : Constructor) → IsConstructorIn Here c k → IsCallable (constructor_of c k)
+  unfolding parameters_of
+  constructor_one c there k e =
+      (there, (this_parameter (record { family = c; read_only = false }), typed_parameters k.function, e, (λ same. cc), params_alike k.function.params))
+
+  nothing_taken : (k : Constructor) → takes_nothing k ≡ true → TakeAlike [] (typed_parameters k.function)
+  nothing_taken k e = by k.function.params e
+    where
+      by : (ps : List ScriptParameter) → is_empty ps ≡ true → TakeAlike [] (map typed_parameter ps)
+      by [] e = refl
+      by (p ∷ ps) e = cc
+
+  -- A body that makes an object without arguments takes its object alone.
+  pub default_made : IsBuiltContext s → (d : ℕ) → IfWritten (λ k. IsMaker k []) (default_of s.names.families d)
+  default_made built d =
+      default_holds s.names.families (λ k. IsMaker k [])
+      (λ c f there m k at nothing. (
+        this_parameter (record { family = c; read_only = false }),
+        typed_parameters k.function,
+        (built.families c f there).constructors m k at,
+        (λ same. cc),
+        nothing_taken k nothing,
+      )) d
+
+  default_one : (c : ℕ) → c < length s.names.families → (d : Default) → IfWritten (λ k. IsMaker k []) d
+      → Every IsCallable (default_maker c d)
+  default_one c there default.Missing h = tt
+  default_one c there default.Unwritten h = ((there, refl), tt)
+  default_one c there (default.Written k) h = ((there, h), tt)
+
+  makers_of_class : (b e : Bool) (xs ys : List Callable) → Every IsCallable xs → Every IsCallable ys → Every IsCallable (if b then (if e then xs else ys) else [])
+  makers_of_class false e xs ys h k = tt
+  makers_of_class true true xs ys h k = h
+  makers_of_class true false xs ys h k = k
+
+  makers_of_family : IsBuiltContext s → (c : ℕ) (f : Option Family) → slice_get s.names.families c ≡ f → Every IsCallable (makers_in s.names.families c f)
+  makers_of_family built c None e = tt
+  makers_of_family built c (Some f) e =
+      let there = slice_get_within s.names.families c f e in
+      makers_of_class f.is_class (is_empty f.constructors) (default_maker c (default_of s.names.families c)) (map (constructor_of c) f.constructors)
+      (default_one c there (default_of s.names.families c) (default_made built c))
+      (every_mapped (IsConstructorIn Here c) IsCallable (constructor_of c) f.constructors (constructor_one c there)
+      (every_placed (IsConstructorIn Here c) f.constructors (built.families c f e).constructors))
 
   makers_by : IsBuiltContext s → (t : ℕ) (c : Option ℕ) → Every IsCallable (makers_for (scope_of s) t c)
   makers_by built t None = factories_there built t
-  makers_by built t (Some c) = subst (Every IsCallable) (sym (no_makers built c)) tt
+  makers_by built t (Some c) = makers_of_family built c (slice_get s.names.families c) refl
 
   pub makers_there : IsBuiltContext s → (t : ℕ) → Every IsCallable (makers_of (scope_of s) t)
   unfolding makers_of
