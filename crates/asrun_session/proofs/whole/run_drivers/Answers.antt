@@ -1,4 +1,5 @@
-use Rattle.asrun_session.specs.Drivers.{NotListed}
+use Rattle.std.proofs.Common.{subst, sym}
+use Rattle.asrun_session.specs.Drivers.{AreListed, NotListed}
 use Rattle.asrun_session.proofs.Taking.{ends_refused, stops_refused, read_refused}
 use Rattle.asrun_session.proofs.whole.run_drivers.Goals as goal
 
@@ -30,3 +31,9 @@ pub returns-in-Err-clause-read : goal.returns-in-Err-clause-read
 returns-in-Err-clause-read g c =
     read_refused (λ v. (g.dyn-1.0.entry v).1) c.args.registry.entries c.args.drivers.items _ (NotListed c.in-Err.why) c.print_drivers_error.result
     c.in-Err.ensures.why
+
+pub run_engine-requires : goal.run_engine-requires
+run_engine-requires g c = record {
+  listed =
+      subst (AreListed (λ v. (g.dyn-1.0.entry v).1)) (sym c.in-Ok.ensures.kept) (record { few = c.in-Ok.ensures.few; idle = c.in-Ok.ensures.fresh });
+}
