@@ -1,7 +1,8 @@
 #!/usr/bin/env python3
 """Runs the scripts of bench/scripts in the program, and in the original engine where its program is given, and prints a line for
 each: the ticks of the run, how many ticks a second the program makes, the seconds of both, and the original's seconds divided by
-the program's. Above 1 the program is faster. The last line has the geometric mean of the ratios.
+the program's. Above 1 the program is faster. The last line has the geometric mean of the ratios. Then it does the same with those
+of bench/objects, which use objects of the host; the program lists and prints what they ask of it, which is in its seconds.
 
     python3 bench/machine.py ASRUN [--original MACHINE] [--modes plain,bare,counted] [--rounds N] [--check] [SCRIPT ...]
 
@@ -25,8 +26,16 @@ import tempfile
 from dataclasses import dataclass
 from pathlib import Path
 
-HEAD = re.compile(r"// ticks (\d+)\n// answer (-?\d+)\n")
-PROFILE = "mask 00000001\nfunction 0 0 void print(int64)\n"
+HEAD = re.compile(r"// ticks (\d+)\n// answer (-?\d+)\n(?:// events (\d+)\n)?")
+PROFILE = """mask 00000001
+function 0 0 void print(int64)
+type Counter 1
+factory Counter 1 Counter@ make(int)
+method Counter 0 void bump()
+method Counter 1 int value() const
+"""
+EVENTS = ("host ", "end ")
+FOLDERS = ["scripts", "objects"]
 MOST_TICKS = 2147483647
 CALL = "call bench () int64 main()\n"
 MODES = ["plain", "bare", "counted"]
@@ -43,6 +52,7 @@ class Script:
     text: str
     ticks: int
     answer: int
+    events: int
 
 
 @dataclass
@@ -58,7 +68,7 @@ def script_at(path):
     head = HEAD.match(text)
     if not head:
         sys.exit("%s: the head states no ticks and answer" % path)
-    return Script(path.stem, path, text, int(head[1]), int(head[2]))
+    return Script(path.stem, path, text, int(head[1]), int(head[2]), int(head[3] or 0))
 
 
 def building(script):
@@ -92,27 +102,30 @@ class Program:
         self.output = os.path.join(folder, "bench.output")
         Path(self.profile).write_text(PROFILE)
 
-    def seconds(self, commands, expected):
-        """The processor time of a session that prints these lines."""
+    def seconds(self, commands, expected, events=0):
+        """The processor time of a session that prints these lines, and so many events among them (None: any number)."""
         Path(self.session).write_text(commands)
         seconds = seconds_of([self.path, "--profile", self.profile, "--session", self.session], self.output)
-        self.compare(expected)
+        self.compare(expected, events)
         return seconds
 
-    def compare(self, expected):
-        printed = Path(self.output).read_text().splitlines()
+    def compare(self, expected, events):
+        lines = Path(self.output).read_text().splitlines()
+        printed = [line for line in lines if not line.startswith(EVENTS)]
         if printed != expected:
             differing = [line for line in printed if line != "ok"]
             raise Refused("it prints " + " / ".join(differing or printed or ["nothing"]))
+        if events is not None and len(lines) - len(printed) != events:
+            raise Refused("it prints %d events" % (len(lines) - len(printed)))
 
     def build(self, script):
         commands, lines = building(script)
         return self.seconds(commands, lines)
 
-    def build_and_call(self, script, budget, outcome):
+    def build_and_call(self, script, budget, outcome, events):
         commands, lines = building(script)
         more, outcomes = called(script, budget, outcome)
-        return self.seconds(commands + more, lines + outcomes)
+        return self.seconds(commands + more, lines + outcomes, events)
 
 
 class Original:
@@ -134,7 +147,7 @@ def measured(script, program, original, modes, rounds):
     others = {mode: [] for mode in modes}
     for _ in range(rounds):
         builds.append(program.build(script))
-        calls.append(program.build_and_call(script, MOST_TICKS, "ok %d" % script.answer))
+        calls.append(program.build_and_call(script, MOST_TICKS, "ok %d" % script.answer, script.events))
         for mode in modes:
             others[mode].append(original.seconds(script, mode))
     return Figures(min(calls) - min(builds), {mode: min(taken) for mode, taken in others.items()})
@@ -142,8 +155,8 @@ def measured(script, program, original, modes, rounds):
 
 def check(script, program):
     """The head's ticks are enough, and one less is not."""
-    program.build_and_call(script, script.ticks, "ok %d" % script.answer)
-    program.build_and_call(script, script.ticks - 1, "fault Budget")
+    program.build_and_call(script, script.ticks, "ok %d" % script.answer, script.events)
+    program.build_and_call(script, script.ticks - 1, "fault Budget", None)
     print("%-12s %12d ticks" % (script.name, script.ticks))
 
 
@@ -210,16 +223,26 @@ def options():
     return chosen
 
 
+def scripts_in(name):
+    return sorted((Path(__file__).parent / name).glob("*.as"))
+
+
+def act_on(scripts, program, chosen):
+    """Checks or measures the scripts; how many are refused."""
+    if chosen.check:
+        _, refused = each_of(scripts, lambda script: check(script, program))
+        return refused
+    return measure_all(scripts, program, Original(chosen.original), chosen.modes, chosen.rounds)
+
+
 def main():
     chosen = options()
-    paths = chosen.scripts or sorted((Path(__file__).parent / "scripts").glob("*.as"))
-    scripts = [script_at(path) for path in paths]
+    groups = [chosen.scripts] if chosen.scripts else [scripts_in(name) for name in FOLDERS]
+    refused = 0
     with tempfile.TemporaryDirectory() as folder:
         program = Program(chosen.asrun, folder)
-        if chosen.check:
-            _, refused = each_of(scripts, lambda script: check(script, program))
-        else:
-            refused = measure_all(scripts, program, Original(chosen.original), chosen.modes, chosen.rounds)
+        for paths in groups:
+            refused += act_on([script_at(path) for path in paths], program, chosen)
     sys.exit(1 if refused else 0)
 
 

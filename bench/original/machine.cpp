@@ -69,11 +69,47 @@ void show_message(const asSMessageInfo *message, void *) {
     std::fprintf(stderr, "%d:%d %s\n", message->row, message->col, message->message);
 }
 
+/// An object of the host that counts, as those of our sample driver do.
+class Counter {
+public:
+    explicit Counter(int value) : value_(value) {}
+    void add_reference() { references_ += 1; }
+    void release() {
+        references_ -= 1;
+        if (references_ == 0) delete this;
+    }
+    void bump() { value_ = static_cast<int>(static_cast<unsigned>(value_) + 1u); }
+    int value() const { return value_; }
+
+private:
+    int references_ = 1;
+    int value_;
+};
+
+Counter *make_counter(int value) { return new Counter(value); }
+
+int value_of(const Counter *counter) { return counter->value(); }
+
+/// What the scripts of bench/objects use of the host.
+void register_counter(asIScriptEngine *engine) {
+    const auto well = [](int answer) { require(answer >= 0, "the counter is refused"); };
+    well(engine->RegisterObjectType("Counter", 0, asOBJ_REF));
+    well(engine->RegisterObjectBehaviour("Counter", asBEHAVE_FACTORY, "Counter@ make(int)", asFUNCTION(make_counter),
+                                         asCALL_CDECL));
+    well(engine->RegisterObjectBehaviour("Counter", asBEHAVE_ADDREF, "void add_reference()",
+                                         asMETHOD(Counter, add_reference), asCALL_THISCALL));
+    well(engine->RegisterObjectBehaviour("Counter", asBEHAVE_RELEASE, "void release()", asMETHOD(Counter, release),
+                                         asCALL_THISCALL));
+    well(engine->RegisterObjectMethod("Counter", "void bump()", asMETHOD(Counter, bump), asCALL_THISCALL));
+    well(engine->RegisterObjectMethod("Counter", "int value() const", asFUNCTION(value_of), asCALL_CDECL_OBJFIRST));
+}
+
 /// The engine with a module in which the script is built.
 asIScriptFunction *built_main(asIScriptEngine *engine, const Request &request) {
     const std::string text = text_of(request.path);
     engine->SetMessageCallback(asFUNCTION(show_message), nullptr, asCALL_CDECL);
     engine->SetEngineProperty(asEP_BUILD_WITHOUT_LINE_CUES, request.mode == Mode::Bare);
+    register_counter(engine);
     asIScriptModule *module = engine->GetModule("bench", asGM_ALWAYS_CREATE);
     require(module->AddScriptSection("bench", text.data(), text.size()) >= 0, "the section is refused");
     require(module->Build() >= 0, "the script does not build");

@@ -24,7 +24,7 @@ def rows():
         elif not line.startswith("|-"):
             script, there = (1, 2) if at[1] == "Example" else (0, 1)
             code = re.fullmatch(r"`([^`]*)`", cells[script])
-            if not code or at[-1] == "Error" and "Counter@" in code[1]:
+            if not code:
                 continue
             if at[-1] == "Error":
                 yield code[1], None

@@ -4,4 +4,5 @@
 mod checking;
 pub mod laws;
 
+pub use ang_kinds::{Denial, Error, ErrorKind};
 pub use checking::check;

@@ -17,8 +17,8 @@ use Rattle.ang_names_known.specs.declared.names.Family.{Family}
 use Rattle.ang_names_known.specs.declared.names.Method.{Method}
 use Rattle.ang_names_known.specs.declared.names.Names.{Names}
 use Rattle.ang_names_known.specs.Items.{each_after}
-use Rattle.ang_check_typing.specs.Scope.{BodyContext}
-use Rattle.ang_check_typing.specs.declared.scope.Within.{Within}
+use Rattle.ang_check_context.specs.Scope.{BodyContext}
+use Rattle.ang_check_context.specs.declared.scope.Within.{Within}
 use Rattle.ang_check_bodies.specs.declared.found.Found.{Found}
 use Rattle.ang_check_bodies.specs.declared.members.MembersLeft.{MembersLeft}
 use Rattle.ang_check_bodies.specs.declared.members.OfClass.{OfClass}

@@ -17,8 +17,8 @@ use Rattle.ang_names_known.specs.declared.names.ScriptFunction.{ScriptFunction}
 use Rattle.ang_names_known.specs.declared.names.ScriptGlobal.{ScriptGlobal}
 use Rattle.ang_names_known.specs.Items.{each_after}
 use Rattle.ang_names_known.specs.Spaces.{ancestors_of}
-use Rattle.ang_check_typing.specs.Scope.{BodyContext}
-use Rattle.ang_check_typing.specs.declared.scope.Within.{Within}
+use Rattle.ang_check_context.specs.Scope.{BodyContext}
+use Rattle.ang_check_context.specs.declared.scope.Within.{Within}
 use Rattle.ang_check_bodies.specs.declared.found.Found.{Found}
 use Rattle.ang_check_bodies.specs.declared.parts.Left.{Left}
 use Rattle.ang_check_body.specs.Typing.{implicit_super, function_typing, global_typing}

@@ -24,13 +24,13 @@ use Rattle.ang_names_known.specs.declared.names.Names.{Names}
 use Rattle.ang_names_known.specs.declared.names.ScriptFunction.{ScriptFunction}
 use Rattle.ang_names_known.specs.declared.names.ScriptGlobal.{ScriptGlobal}
 use Rattle.ang_check_operand.specs.declared.refusal.Refusal.{Refusal}
-use Rattle.ang_check_typing.specs.declared.scope.Within.{Within}
+use Rattle.ang_check_context.specs.declared.scope.Within.{Within}
 use Rattle.ang_names_known.specs.Items.{each_after}
 use Rattle.ang_names_known.specs.Lookup.{Numbered, kin_of}
 use Rattle.ang_names_known.specs.Spaces.{ancestors_of}
 use Rattle.ang_names_written.specs.Sources.{Source, text_of, name_of}
 use Rattle.ang_check_operand.specs.Refusals.{Typing}
-use Rattle.ang_check_typing.specs.Scope.{BodyContext}
+use Rattle.ang_check_context.specs.Scope.{BodyContext}
 use Rattle.ang_check_body.specs.Typing.{Base, this_parameter, typed_parameters, function_typing, method_body_typing, constructor_typing, global_typing, implicit_super}
 
 -- ---- all of them

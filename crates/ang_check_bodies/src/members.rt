@@ -13,7 +13,7 @@ ghost use Rattle.ang_check_bodies.specs.Judging as spec;
 use crate::found::{Found, note_default, note_member};
 use crate::parts::Build;
 use ang_check_body::{constructor_typing, implicit_super, method_typing};
-use ang_check_typing::{BodyContext, Within};
+use ang_check_context::{BodyContext, Within};
 use ang_lex::Token;
 use ang_names_known::{Constructor, Family, Method};
 use ang_names_written::text_at;

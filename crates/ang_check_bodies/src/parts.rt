@@ -9,7 +9,7 @@ ghost use Rattle.ang_check_bodies.specs.Judging as spec;
 use crate::found::{Found, note_function, note_global};
 use crate::members::add_class;
 use ang_check_body::{function_typing, global_typing};
-use ang_check_typing::BodyContext;
+use ang_check_context::BodyContext;
 use ang_names_known::{Family, Names, ScriptFunction, ScriptGlobal};
 use ang_tree as written;
 use ang_tree::{Declaration, Script, TypeName, Variable, Variables};

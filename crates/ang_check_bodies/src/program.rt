@@ -6,7 +6,7 @@ ghost use Rattle.ang_check_bodies.specs.Bodies as spec;
 ghost use Rattle.ang_check_bodies.specs.Judging.{field_type};
 
 use ang_check_body::{member_parameters, parameters_of};
-use ang_check_typing::Within;
+use ang_check_context::Within;
 use ang_kinds::List;
 use ang_names_known::{Family, Field, Method, ScriptFunction};
 use ang_typed::{Class, Heading};

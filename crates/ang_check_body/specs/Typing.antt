@@ -20,8 +20,8 @@ use Rattle.ang_names_known.specs.declared.names.ScriptFunction.{ScriptFunction}
 use Rattle.ang_names_known.specs.declared.names.ScriptGlobal.{ScriptGlobal}
 use Rattle.ang_names_known.specs.declared.names.ScriptParameter.{ScriptParameter}
 use Rattle.ang_check_statements.specs.declared.frame.Returns.TheVariants as returns
-use Rattle.ang_check_typing.specs.declared.scope.LocalVariable.{LocalVariable}
-use Rattle.ang_check_typing.specs.declared.scope.Within.{Within}
+use Rattle.ang_check_context.specs.declared.scope.LocalVariable.{LocalVariable}
+use Rattle.ang_check_context.specs.declared.scope.Within.{Within}
 use Rattle.ang_check_uses.specs.declared.uses.Called.{Called}
 use Rattle.ang_check_uses.specs.declared.uses.Called.TheVariants as calls
 use Rattle.ang_check_uses.specs.declared.uses.Resolution.{Resolution}
@@ -32,8 +32,10 @@ use Rattle.ang_names_known.specs.Spaces.{family_type}
 use Rattle.ang_check_operand.specs.Operands.{Operand}
 use Rattle.ang_check_operand.specs.Refusals.{Typing, ◌>>=◌, refused, refused_for}
 use Rattle.ang_check_statements.specs.Typing.{Frame, block_typing, stmts_typing, initializer_typing, own_object}
-use Rattle.ang_check_typing.specs.Calls.{arguments_for, own_type, types_of}
-use Rattle.ang_check_typing.specs.Scope.{BodyContext, scope_of}
+use Rattle.ang_check_context.specs.Names.{own_type}
+use Rattle.ang_check_context.specs.Operands.{types_of}
+use Rattle.ang_check_context.specs.Scope.{BodyContext, scope_of}
+use Rattle.ang_check_typing.specs.Calls.{arguments_for}
 use Rattle.ang_check_typing.specs.Typing.{typing_of_args}
 use Rattle.ang_check_uses.specs.Uses.{best_of_those, makers_of, why}
 

@@ -7,16 +7,16 @@ ghost use Rattle.ang_typed.specs.View.{view_arg, view_block, view_function, view
 ghost use Rattle.ang_check_operand.specs.Refusals.{Gives};
 ghost use Rattle.ang_check_operand.specs.View.{view_operands};
 ghost use Rattle.ang_check_statements.specs.Typing.{own_object as object_of};
-ghost use Rattle.ang_check_typing.specs.Calls as calls;
 ghost use Rattle.ang_check_uses.specs.Uses.{makers_of as all_makers};
 ghost use Rattle.ang_names_known.specs.Spaces.{family_type};
 ghost use Rattle.ang_check_body.specs.Typing as spec;
 ghost use Rattle.ang_check_body.specs.View.{view_base};
 
-use crate::functions::{member_locals, member_parameters, own_type};
+use crate::functions::{member_locals, member_parameters};
+use ang_check_context::{BodyContext, LocalVariable, Within, own_type, types_of};
 use ang_check_operand::{Operand, Stop, boxed, refused, refused_for};
 use ang_check_statements::{Frame, Returns, block, own_object};
-use ang_check_typing::{BodyContext, LocalVariable, Within, arguments_for, typing_of_all};
+use ang_check_typing::{arguments_for, typing_of_all};
 use ang_check_uses::{Callables, Called, Resolution, Scope, best_of_those, makers_of};
 use ang_kinds::{ErrorKind, List, Place};
 use ang_lex::Token;
@@ -30,7 +30,8 @@ use std::alloc::{AllocError, Global};
 /// The number of the first family as a type.
 const FIRST_FAMILY: u32 = 1024;
 
-/// The base class's constructor that runs first: the number of its body, where one is written, and its arguments.
+/// The base class's constructor that runs first: the number of its body, where one is written, and
+/// its arguments.
 #[derive(Drop)]
 pub struct BaseCall {
     /// The number of its body.
@@ -65,7 +66,8 @@ fn default_base(
 
 /// What runs first where `super` is not written.
 ///
-/// `NoDefault` at this place, naming the base class, where that one has no constructor without parameters.
+/// `NoDefault` at this place, naming the base class, where that one has no constructor without
+/// parameters.
 #[tactic(auto, unfolding(crate::specs::Typing::implicit_super))]
 pub fn implicit_super(
     alloc: Global,
@@ -93,19 +95,6 @@ fn body_called(called: Called) -> Option<usize>
         Called::Script(_) | Called::Host(_) => None,
         Called::Makes(_, body) => body,
     }
-}
-
-/// The types of operands.
-///
-/// The only error is want of memory.
-fn types_of(alloc: Global, operands: &[Operand]) -> Result<Vec<ArgType>, AllocError>
-    ensures exact { IfOk result (λ v. v.items ≡ calls.types_of (view_operands operands.now)) }
-{
-    let mut types = Vec::new(alloc);
-    for operand in operands {
-        types.push(operand.ty)?;
-    }
-    Ok(types)
 }
 
 /// The call of the constructor that was chosen, refused at the word `super` where none was.
@@ -190,8 +179,8 @@ fn super_by(
 
 /// `super(..)`.
 ///
-/// `UnknownName` at the word where there is no base class, and `NoMatch` or `Ambiguous` where none of its constructors is
-/// the best, besides the refusals of the arguments.
+/// `UnknownName` at the word where there is no base class, and `NoMatch` or `Ambiguous` where none
+/// of its constructors is the best, besides the refusals of the arguments.
 #[tactic(auto, unfolding(crate::specs::Typing::super_typing))]
 fn super_typing(
     alloc: Global,

@@ -4,13 +4,12 @@ ghost use Rattle.ang_tree.specs.View.{view_body, view_init};
 ghost use Rattle.ang_typed.specs.View.{view_block, view_function, view_global};
 ghost use Rattle.ang_check_operand.specs.Refusals.{Gives};
 ghost use Rattle.ang_check_statements.specs.Typing.{block_typing};
-ghost use Rattle.ang_check_typing.specs.Calls as calls;
 ghost use Rattle.ang_check_body.specs.Typing as spec;
 
+use ang_check_context::{BodyContext, LocalVariable, Within, own_type};
 use ang_check_operand::{Stop, refused};
 use ang_check_paths::body_ends;
 use ang_check_statements::{Frame, Returns, block, initializer};
-use ang_check_typing::{BodyContext, LocalVariable, Within};
 use ang_kinds::{ErrorKind, List, Pass};
 use ang_lex::Token;
 use ang_names_known::{ScriptFunction, ScriptGlobal, ScriptParameter, Text, is_read_only};
@@ -19,20 +18,6 @@ use ang_tree::{Initializer, TypeName};
 use ang_typed::{Block, Function, Global as TypedGlobal, Parameter};
 use ang_types::ArgType;
 use std::alloc::{AllocError, Global};
-
-/// The number of the first family as a type.
-const FIRST_FAMILY: u32 = 1024;
-
-/// The type of `this`.
-pub fn own_type(within: Within) -> ArgType
-    requires few { within.family < 256 }
-    ensures exact { result ≡ calls.own_type within }
-{
-    ArgType::Object {
-        number: FIRST_FAMILY + within.family as u32,
-        read_only: within.read_only,
-    }
-}
 
 /// The parameters of a function as its statements see them, at the end of some locals.
 fn push_locals<'a>(

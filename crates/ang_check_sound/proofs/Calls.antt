@@ -1,5 +1,6 @@
 -- A name and a call make sound trees of sound operands.
-use Rattle.std.specs.Prelude.{◌≡◌, ◌≢◌, ℕ, suc, Bool, true, false, not, ◌&&◌, if◌then◌else◌, length, List, [], ◌∷◌, map, option_map, option_and_then, Option, Some, None, IfSome, Err, IfOk, slice_get}
+use Rattle.std.specs.Prelude.{◌≡◌, ◌≢◌, ℕ, suc, ◌<◌, ◌==◌, Bool, true, false, not, ◌&&◌, if◌then◌else◌, length, List, [], ◌∷◌, map, option_map, option_and_then, Option, Some, None, IfSome, Err, IfOk, slice_get}
+use Rattle.std.specs.List.{flat_map}
 use Rattle.std.proofs.Common.{refl, ap, sym, ◌∙◌, subst}
 use Rattle.std.proofs.lemmas.List.{length-map}
 use Rattle.std.proofs.lemmas.Option.{slice_get_within}
@@ -9,25 +10,30 @@ use Rattle.ang_kinds.specs.declared.types.Pass.{Pass}
 use Rattle.ang_kinds.specs.declared.types.Pass.TheVariants as pass
 use Rattle.ang_lex.specs.declared.token.Token.{Token}
 use Rattle.ang_types.specs.declared.arg_type.ArgType.{ArgType}
+use Rattle.ang_types.specs.declared.arg_type.ArgType.TheVariants as type
 use Rattle.ang_types.specs.declared.asks.Asks.{Asks}
 use Rattle.ang_types.specs.declared.asks.Asks.TheVariants as asks
 use Rattle.ang_types.specs.Ranks.{Ancestors}
 use Rattle.ang_typed.specs.declared.expression.Variable.{Variable}
 use Rattle.ang_typed.specs.declared.expression.Variable.TheVariants as variable
+use Rattle.ang_typed.specs.declared.program.Parameter.{Parameter}
 use Rattle.ang_typed.specs.Typed as t
 use Rattle.ang_names_known.specs.declared.names.Family.{Family}
 use Rattle.ang_names_known.specs.declared.names.FoundField.{FoundField}
-use Rattle.ang_names_known.specs.declared.names.ScriptParameter.{ScriptParameter}
 use Rattle.ang_names_known.specs.Items.{is_empty}
-use Rattle.ang_names_known.specs.Lookup.{FoundMethod, type_and_pass, kin_of, field_named, methods_of, methods_named, may_use}
+use Rattle.ang_names_known.specs.Lookup.{FoundMethod, field_named, methods_named, parameters_of, is_under, may_use}
+use Rattle.ang_names_known.specs.Spaces.{family_type}
 use Rattle.ang_names_written.specs.Sources.{text_of}
 use Rattle.ang_check_operand.specs.declared.operand.Target.{Target}
 use Rattle.ang_check_operand.specs.Refusals.{Typing, fault}
 use Rattle.ang_check_operand.specs.Operands.{Operand, fit, site_in}
-use Rattle.ang_check_typing.specs.declared.scope.LocalVariable.{LocalVariable}
-use Rattle.ang_check_typing.specs.declared.scope.Within.{Within}
-use Rattle.ang_check_typing.specs.Scope.{BodyContext, scope_of, last_named, family_of, is_there}
-use Rattle.ang_check_typing.specs.Calls.{if_in_reach, is_out_variable, is_out_type, is_out, variable_in, out_or, out_of, value_for, out_for, argument_by, argument, arguments_for, call_of, call_with, types_of, called_use, value_use, field_within, field_or_global, local_at, local_named, local_or, name_typing, named_methods, call_by, call_typing}
+use Rattle.ang_check_context.specs.declared.scope.LocalVariable.{LocalVariable}
+use Rattle.ang_check_context.specs.declared.scope.Within.{Within}
+use Rattle.ang_check_context.specs.Scope.{BodyContext, scope_of, last_named, family_of, is_there}
+use Rattle.ang_check_context.specs.Access.{if_in_reach}
+use Rattle.ang_check_context.specs.Names.{own_type, this_operand, value_use, field_within, field_or_global, local_at, local_named, local_or, name_typing, this_in, this_typing}
+use Rattle.ang_check_context.specs.Operands.{types_of}
+use Rattle.ang_check_typing.specs.Calls.{is_out_variable, is_out_type, is_out, variable_in, out_or, out_of, value_for, out_for, argument_by, argument, arguments_for, call_of, call_with, called_use, called_own, virtual_method, direct_by, direct_method, own_method, named_methods, call_by, call_typing, ancestor_by, ancestor_in, scoped_by, scoped_typing}
 use Rattle.ang_check_uses.specs.declared.uses.Callable.{Callable}
 use Rattle.ang_check_uses.specs.declared.uses.Called.{Called}
 use Rattle.ang_check_uses.specs.declared.uses.Called.TheVariants as calls
@@ -37,15 +43,17 @@ use Rattle.ang_check_uses.specs.declared.uses.Resolution.TheVariants as resoluti
 use Rattle.ang_check_uses.specs.Uses.{resolution_of}
 use Rattle.ang_tree.specs.Stmt.{Every}
 use Rattle.ang_source.specs.Sound.{Module, IsStored, IsTarget, Sound, SoundArguments, SoundArgument, SoundValues, argument_count}
-use Rattle.ang_names_written.specs.NotYet.{is_host_type, is_object_call}
-use Rattle.ang_check_body.specs.Typing.{typed_parameter}
-use Rattle.ang_check_sound.proofs.Judged.{holds, either_holds, both_hold}
-use Rattle.ang_check_sound.proofs.Items.{first_true, second_true, not_true, every_at}
-use Rattle.ang_check_sound.proofs.Operators.{IsStoredSite, IsTargeted, SoundOperand, plain, read_sound, fit_sound}
-use Rattle.ang_check_sound.specs.PlainNames.{IsPlainType, ArePlainLocals, IsPlainContext}
-use Rattle.ang_check_sound.proofs.Conversions.{fit_plain}
-use Rattle.ang_check_sound.proofs.Hosts.{Values, TakesPlain}
-use Rattle.ang_check_sound.proofs.Uses.{Here, IsMeant, global_sound, IsCallee, IsCallable, IsMeantCall, call_there}
+use Rattle.ang_meaning.specs.declared.routine.Passing.TheVariants as passing
+use Rattle.ang_source.specs.Meaning.{passing_by, passing_of}
+use Rattle.ang_check_sound.specs.Built.{IsMethodIn, IsBuiltContext, HasThis}
+use Rattle.ang_check_sound.specs.Checked.{with_this}
+use Rattle.ang_check_sound.proofs.Judged.{holds, either_holds}
+use Rattle.ang_check_sound.proofs.Families.{named_hold}
+use Rattle.ang_check_sound.proofs.Passings.{takes, TakeAlike, params_alike, only_out, in_order}
+use Rattle.ang_check_sound.proofs.Items.{every_mapped, every_flat_of, first_true, second_true, not_true}
+use Rattle.ang_check_sound.proofs.Operators.{IsStoredSite, IsTargeted, SoundOperand, no_site, read_sound, fit_sound}
+use Rattle.ang_check_sound.proofs.Hosts.{Values}
+use Rattle.ang_check_sound.proofs.Uses.{Here, IsMeant, global_sound, IsCallee, IsCallable, IsMeantCall, call_there, best_method_there}
 
 -- ---- arguments, in a module where n locals are alive
 
@@ -78,53 +86,59 @@ module _ (M : Module) (n : ℕ) where
   unfolding out_of
   out_sound a s = out_there a a.target (is_out a a.target) refl s.target
 
-  -- an argument for a parameter; what is no `&out` takes no object, since no argument is one
-  abbrev FitsOne : Pass → ArgType → t.Arg → Type 0
-  FitsOne way ty x = SoundArgument M n way x × (way ≢ pass.RefOut → IsPlainType ty)
-
   value_for_sound : (ancestors : Ancestors) (way : Pass) (ty : ArgType) (a : Operand) → way ≢ pass.RefOut → SoundOperand M n a
-      → IfOk (value_for ancestors ty a) (FitsOne way ty)
+      → IfOk (value_for ancestors ty a) (SoundArgument M n way)
   value_for_sound ancestors way ty a ne s =
-      holds (λ (x : t.Expr). Sound M n x × IsPlainType ty) (FitsOne way ty) (fit ancestors ty a) _
-      (both_hold (Sound M n) (λ x. IsPlainType ty) (fit ancestors ty a) (fit_sound M n ancestors ty a s) (fit_plain ancestors ty a s.ty))
-      (λ x sx. ((ne, sx.0), λ e. sx.1))
+      holds (Sound M n) (SoundArgument M n way) (fit ancestors ty a) _ (fit_sound M n ancestors ty a s) (λ x sx. (ne, sx))
 
-  out_for_sound : (ty : ArgType) (a : Operand) → SoundOperand M n a → IfOk (out_for ty a) (FitsOne pass.RefOut ty)
-  out_for_sound ty a s = holds (IsTarget M n) (FitsOne pass.RefOut ty) (out_of a) _ (out_sound a s) (λ x sx. ((refl, sx), λ ne. absurd (ne refl)))
+  out_for_sound : (ty : ArgType) (a : Operand) → SoundOperand M n a → IfOk (out_for ty a) (SoundArgument M n pass.RefOut)
+  out_for_sound ty a s = holds (IsTarget M n) (SoundArgument M n pass.RefOut) (out_of a) _ (out_sound a s) (λ x sx. (refl, sx))
 
   argument_by_sound : (ancestors : Ancestors) (way : Pass) (ty : ArgType) (a : Operand) → SoundOperand M n a
-      → IfOk (argument_by ancestors way ty a) (FitsOne way ty)
+      → IfOk (argument_by ancestors way ty a) (SoundArgument M n way)
   argument_by_sound ancestors pass.Value ty a s = value_for_sound ancestors pass.Value ty a (λ e. cc) s
   argument_by_sound ancestors pass.RefIn ty a s = value_for_sound ancestors pass.RefIn ty a (λ e. cc) s
   argument_by_sound ancestors pass.RefOut ty a s = out_for_sound ty a s
   argument_by_sound ancestors pass.RefInOut ty a s = value_for_sound ancestors pass.RefInOut ty a (λ e. cc) s
 
-  argument_sound : (ancestors : Ancestors) (p : ArgType × Pass) (a : Operand) → SoundOperand M n a → IfOk (argument ancestors p a) (FitsOne p.1 p.0)
+  argument_sound : (ancestors : Ancestors) (p : ArgType × Pass) (a : Operand) → SoundOperand M n a → IfOk (argument ancestors p a) (SoundArgument M n p.1)
   unfolding argument
   argument_sound ancestors p a s = argument_by_sound ancestors p.1 p.0 a s
 
   -- an argument for each parameter
-  abbrev Fit : List (ArgType × Pass) → List t.Arg → Type 0
+  abbrev pub Fit : List (ArgType × Pass) → List t.Arg → Type 0
   Fit [] [] = Unit {0}
   Fit [] (x ∷ xs) = ⊥
   Fit (p ∷ ps) [] = ⊥
-  Fit (p ∷ ps) (x ∷ xs) = FitsOne p.1 p.0 x × Fit ps xs
+  Fit (p ∷ ps) (x ∷ xs) = SoundArgument M n p.1 x × Fit ps xs
 
-  arguments_sound : (ancestors : Ancestors) (ps : List (ArgType × Pass)) (operands : List Operand) → Every (SoundOperand M n) operands
+  pub arguments_sound : (ancestors : Ancestors) (ps : List (ArgType × Pass)) (operands : List Operand) → Every (SoundOperand M n) operands
       → length ps ≡ length operands → IfOk (arguments_for ancestors ps operands) (Fit ps)
   arguments_sound ancestors [] [] s e = tt
   arguments_sound ancestors [] (a ∷ rest) s e = cc
   arguments_sound ancestors (p ∷ ps) [] s e = cc
   arguments_sound ancestors (p ∷ ps) (a ∷ rest) s e =
-      holds (FitsOne p.1 p.0) (Fit (p ∷ ps)) (argument ancestors p a) _ (argument_sound ancestors p a s.0)
+      holds (SoundArgument M n p.1) (Fit (p ∷ ps)) (argument ancestors p a) _ (argument_sound ancestors p a s.0)
       (λ x sx. holds (Fit ps) (Fit (p ∷ ps)) (arguments_for ancestors ps rest) _ (arguments_sound ancestors ps rest s.1 (let same : length ps ≡ length rest = cc in same))
       (λ xs sxs. (sx, sxs)))
 
-  script_arguments : (ps : List ScriptParameter) (xs : List t.Arg) → Fit (map type_and_pass ps) xs → SoundArguments M n (map typed_parameter ps) (t.args xs)
-  script_arguments [] [] f = tt
-  script_arguments [] (x ∷ xs) f = f
-  script_arguments (p ∷ ps) [] f = f
-  script_arguments (p ∷ ps) (x ∷ xs) f = (f.0.0, script_arguments ps xs f.1)
+  -- a parameter that takes its argument alike
+  argument_alike : (p : ArgType × Pass) (q : Parameter) (x : t.Arg) → takes p ≡ passing_of q → SoundArgument M n p.1 x → SoundArgument M n q.pass x
+  argument_alike p q (t.by_value ty e) same s = (λ out. s.0 (only_out p.1 p.0 (same ∙ ap (λ way. passing_by way q.ty) out)), s.1)
+  argument_alike p q (t.out x from to) same s = (only_out q.pass q.ty (sym same ∙ ap (λ way. passing_by way p.0) s.0), s.1)
+
+  pub script_arguments : (ps : List (ArgType × Pass)) (qs : List Parameter) (xs : List t.Arg) → TakeAlike ps qs → Fit ps xs → SoundArguments M n qs (t.args xs)
+  script_arguments [] [] [] same f = tt
+  script_arguments [] [] (x ∷ xs) same f = absurd f
+  script_arguments [] (q ∷ qs) xs same f = cc
+  script_arguments (p ∷ ps) [] xs same f = cc
+  script_arguments (p ∷ ps) (q ∷ qs) [] same f = absurd f
+  script_arguments (p ∷ ps) (q ∷ qs) (x ∷ xs) same f =
+      (argument_alike p q x (let one : takes p ≡ passing_of q = cc in one) f.0, script_arguments ps qs xs (let others : TakeAlike ps qs = cc in others) f.1)
+
+  nothing_given : (xs : List t.Arg) → Fit [] xs → t.args xs ≡ t.none
+  nothing_given [] f = refl
+  nothing_given (x ∷ xs) f = absurd f
 
   host_argument : (way : Pass) (x : t.Arg) → way ≢ pass.RefOut → SoundArgument M n way x → SoundValues M n (t.more x t.none)
   host_argument way (t.by_value ty e) ne s = (s.1, tt)
@@ -134,13 +148,7 @@ module _ (M : Module) (n : ℕ) where
   host_arguments [] [] v f = tt
   host_arguments [] (x ∷ xs) v f = absurd f
   host_arguments (p ∷ ps) [] v f = absurd f
-  host_arguments (p ∷ ps) (x ∷ xs) v f = ((host_argument p.1 x v.0 f.0.0).0, host_arguments ps xs v.1 f.1)
-
-  host_takes : (ps : List (ArgType × Pass)) (xs : List t.Arg) → Values ps → Fit ps xs → TakesPlain ps
-  host_takes [] [] v f = tt
-  host_takes [] (x ∷ xs) v f = absurd f
-  host_takes (p ∷ ps) [] v f = absurd f
-  host_takes (p ∷ ps) (x ∷ xs) v f = (f.0.1 v.0, host_takes ps xs v.1 f.1)
+  host_arguments (p ∷ ps) (x ∷ xs) v f = ((host_argument p.1 x v.0 f.0).0, host_arguments ps xs v.1 f.1)
 
   host_count : (ps : List (ArgType × Pass)) (xs : List t.Arg) → Fit ps xs → length ps ≡ argument_count (t.args xs)
   host_count [] [] f = refl
@@ -156,94 +164,212 @@ module _ (s : BodyContext) (n : ℕ) where
 
   call_sound : (c : Called) (result : ArgType) (ps : List (ArgType × Pass)) (xs : List t.Arg) → IsCallee s c ps → Fit M n ps xs
       → Sound M n (call_of c result xs)
-  call_sound (calls.Script f) result ps xs h f' =
-      let fit : Fit M n (map type_and_pass h.0.params) xs = subst (λ (qs : List (ArgType × Pass)). Fit M n qs xs) h.2 f' in
-      (map typed_parameter h.0.params, h.1, script_arguments M n h.0.params xs fit)
-  call_sound (calls.Host h) result ps xs k f =
-      let there = k.0 (host_takes M n ps xs k.1 f) in (
-        record { kind = there.kind; entity = there.entity; params = there.params ∙ ap Some (host_count M n ps xs f) },
-        host_arguments M n ps xs k.1 f,
-      )
-  call_sound (calls.Makes c k) result ps xs h f = absurd h
+  call_sound (calls.Script f) result ps xs h fit =
+      (h.0, h.1, script_arguments M n ps h.0 xs h.2 fit)
+  call_sound (calls.Host h) result ps xs k fit = (
+    record { kind = k.0.kind; entity = k.0.entity; params = k.0.params ∙ ap Some (host_count M n ps xs fit) },
+    host_arguments M n ps xs k.1 fit,
+  )
+  call_sound (calls.Makes c None) result ps xs h fit =
+      (h.0, nothing_given M n xs (subst (λ (qs : List (ArgType × Pass)). Fit M n qs xs) h.1 fit))
+  call_sound (calls.Makes c (Some k)) result ps xs h fit =
+      (h.0, (h.1.0, h.1.1, h.1.2, h.1.3, script_arguments M n ps h.1.1 xs h.1.4 fit))
 
   called_sound : (place : Place) (c : Callable) (operands : List Operand) → IsCallable s c → length c.candidate.params ≡ length operands
       → Every (SoundOperand M n) operands → IfOk (call_with s place c operands) (SoundOperand M n)
   called_sound place c operands h count all =
       holds (Fit M n c.candidate.params) (SoundOperand M n) (arguments_for s.ancestors c.candidate.params operands) _
       (arguments_sound M n s.ancestors c.candidate.params operands all count)
-      (λ xs sxs. plain M n place c.result (call_of c.called c.result xs) h.1 (call_sound c.called c.result c.candidate.params xs h.0 sxs))
+      (λ xs sxs. no_site M n place c.result (call_of c.called c.result xs) (call_sound c.called c.result c.candidate.params xs h sxs))
 
   -- where the body may use it
   reached_sound : (x : Token) (r : Option Reach) (next : Typing Operand) → IfOk next (SoundOperand M n) → IfOk (if_in_reach s x r next) (SoundOperand M n)
   reached_sound x None next h = h
   reached_sound x (Some r) next h = either_holds (SoundOperand M n) (may_use s.names.families (family_of s.within) r.owner r.access) next _ h tt
 
-  use_sound : (place : Place) (x : Token) (a : Asks) (there : Bool) (operands : List Operand) (r : Resolution) → IsMeantCall s (types_of operands) r
-      → Every (SoundOperand M n) operands → IfOk (called_use s place x a there operands r) (SoundOperand M n)
-  use_sound place x a there operands (resolution.Call c) h all =
-      reached_sound x c.reach (call_with s place c operands) (called_sound place c operands h.0 (h.1 ∙ length-map operands (λ (a : Operand). a.ty)) all)
-  use_sound place x a there operands (resolution.Variable v ty read_only) h all = tt
-  use_sound place x a there operands (resolution.Property p) h all = tt
-  use_sound place x a there operands (resolution.Type k) h all = tt
-  use_sound place x a there operands (resolution.Refused why) h all = tt
+  -- what is meant, with an argument for each type that it was chosen by
+  pub use_sound : (place : Place) (x : Token) (a : Asks) (there : Bool) (operands : List Operand) (args : List ArgType) (r : Resolution) → IsMeantCall s args r
+      → length args ≡ length operands → Every (SoundOperand M n) operands → IfOk (called_use s place x a there operands r) (SoundOperand M n)
+  use_sound place x a there operands args (resolution.Call c) h count all =
+      reached_sound x c.reach (call_with s place c operands) (called_sound place c operands h.0 (h.1 ∙ count) all)
+  use_sound place x a there operands args (resolution.Variable v ty read_only) h count all = tt
+  use_sound place x a there operands args (resolution.Property p) h count all = tt
+  use_sound place x a there operands args (resolution.Type k) h count all = tt
+  use_sound place x a there operands args (resolution.Refused why) h count all = tt
 
-  -- no class has a method
-  no_methods : IsPlainContext s → (w : Option Within) (name : List ℕ) → named_methods s w name ≡ None
-  unfolding methods_named methods_of kin_of
-  no_methods plain None name = refl
-  no_methods plain (Some w) name =
-      ap (λ (fs : List Family). let found = methods_named fs w.family name in if is_empty found then None else Some (w, found)) plain.names.no_families
+  pub own_use_sound : (place : Place) (x : Token) (operands : List Operand) (args : List ArgType) (r : Resolution) → IsMeantCall s args r
+      → length args ≡ length operands → Every (SoundOperand M n) operands → IfOk (called_own s place x operands r) (SoundOperand M n)
+  own_use_sound place x operands args (resolution.Call c) h count all =
+      reached_sound x c.reach (call_with s place c operands) (called_sound place c operands h.0 (h.1 ∙ count) all)
+  own_use_sound place x operands args (resolution.Variable v ty read_only) h count all = tt
+  own_use_sound place x operands args (resolution.Property p) h count all = tt
+  own_use_sound place x operands args (resolution.Type k) h count all = tt
+  own_use_sound place x operands args (resolution.Refused why) h count all = tt
 
-  pub call_typed : (ps : List LocalVariable) (x : Token) (operands : List Operand) → IsPlainContext s → is_host_type s.view s.text x ≡ false
-      → is_object_call s.view s.text x ≡ false → Every (SoundOperand M n) operands → IfOk (call_typing s ps x operands) (SoundOperand M n)
-  unfolding call_typing is_object_call is_host_type
-  call_typed ps x operands plain no_type none all =
-      subst (λ (m : Option (Within × List FoundMethod)). IfOk (call_by s ps x operands m) (SoundOperand M n)) (sym (no_methods plain s.within (text_of s.text x)))
-      (use_sound x.place x (asks.Call (types_of operands)) (is_there s ps (text_of s.text x)) operands
+  pub types_counted : (operands : List Operand) → length (types_of operands) ≡ length operands
+  types_counted operands = length-map operands (λ (a : Operand). a.ty)
+
+  -- ---- methods of the scripts
+
+  -- it is one of a family of the module
+  abbrev IsFound : FoundMethod → Type 0
+  IsFound x = (c : ℕ) × IsMethodIn M c x.method
+
+  found : IsBuiltContext s → (d : ℕ) (name : List ℕ) → Every IsFound (methods_named s.names.families d name)
+  found built d name = named_hold s.names.families IsFound (λ c f there m y at. (c, (built.families c f there).methods m y at)) d name
+
+  -- with its receiver it takes what its slot takes
+  virtual_one : (number : ℕ) (x : FoundMethod) → IsFound x → IsCallable s (virtual_method number x)
+  unfolding parameters_of
+  virtual_one number x h =
+      let own = with_this (record { family = h.0; read_only = x.method.read_only }) x.method.function in (
+        h.1.heading,
+        h.1.slot_is,
+        ap (λ ps. passing.Object ∷ ps) (params_alike x.method.function.params) ∙ sym (in_order h.1.heading own h.1.alike),
+      )
+
+  direct_one : (number : ℕ) (x : FoundMethod) (k : Option ℕ) → x.method.body ≡ k → IsFound x → Every (IsCallable s) (direct_by number x k)
+  unfolding parameters_of
+  direct_one number x None e h = tt
+  direct_one number x (Some k) e h =
+      let own = with_this (record { family = h.0; read_only = x.method.read_only }) x.method.function in
+      ((own, h.1.body k e, ap (λ ps. passing.Object ∷ ps) (params_alike x.method.function.params)), tt)
+
+  methods_callable : IsBuiltContext s → (number d : ℕ) (name : List ℕ) → Every (IsCallable s) (map (virtual_method number) (methods_named s.names.families d name))
+  methods_callable built number d name =
+      every_mapped IsFound (IsCallable s) (virtual_method number) (methods_named s.names.families d name) (virtual_one number) (found built d name)
+
+  direct_callable : IsBuiltContext s → (number d : ℕ) (name : List ℕ) → Every (IsCallable s) (flat_map (direct_method number) (methods_named s.names.families d name))
+  direct_callable built number d name =
+      every_flat_of IsFound (IsCallable s) (direct_method number) (methods_named s.names.families d name) (λ x h. direct_one number x x.method.body refl h)
+      (found built d name)
+
+  pub own_method_sound : IsBuiltContext s → (d number : ℕ) (c : Bool) (x : Token) (receiver : Operand) (operands : List Operand)
+      → SoundOperand M n receiver → Every (SoundOperand M n) operands → IfOk (own_method s d number c x receiver operands) (SoundOperand M n)
+  own_method_sound built d number c x receiver operands sr all =
+      own_use_sound receiver.place x (receiver ∷ operands) (type.Object number c ∷ types_of operands) _
+      (best_method_there s (map (virtual_method number) (methods_named s.names.families d (text_of s.text x))) number c (types_of operands)
+      (methods_callable built number d (text_of s.text x))) (ap suc (types_counted operands)) (sr, all)
+
+  -- `this`, where it is alive
+  this_sound : (place : Place) (w : Within) → 0 < n → SoundOperand M n (this_operand place w)
+  this_sound place w alive = no_site M n place (own_type w) (t.read (t.named (variable.Local 0)) (own_type w)) alive
+
+  this_by_sound : (x : Token) (w : Option Within) → IfSome w (λ v. 0 < n) → IfOk (this_in x w) (SoundOperand M n)
+  this_by_sound x None alive = tt
+  this_by_sound x (Some w) alive = this_sound x.place w alive
+
+  pub this_typed : (x : Token) → HasThis s n → IfOk (this_typing s x) (SoundOperand M n)
+  unfolding this_typing
+  this_typed x alive = this_by_sound x s.within alive
+
+  -- ---- a bare call
+
+  call_by_name : (ps : List LocalVariable) (x : Token) (operands : List Operand) → IsBuiltContext s → Every (SoundOperand M n) operands
+      → IfOk (call_by s ps x operands None) (SoundOperand M n)
+  call_by_name ps x operands built all =
+      use_sound x.place x (asks.Call (types_of operands)) (is_there s ps (text_of s.text x)) operands (types_of operands)
       (resolution_of (scope_of s) (text_of s.text x) (asks.Call (types_of operands)))
-      (call_there s plain (text_of s.text x) (types_of operands) no_type none) all)
+      (call_there s built (text_of s.text x) (types_of operands)) (types_counted operands) all
+
+  call_within : (ps : List LocalVariable) (x : Token) (operands : List Operand) (w : Option Within) → IsBuiltContext s → IfSome w (λ v. 0 < n)
+      → Every (SoundOperand M n) operands → IfOk (call_by s ps x operands (named_methods s w (text_of s.text x))) (SoundOperand M n)
+  call_within ps x operands None built alive all = call_by_name ps x operands built all
+  call_within ps x operands (Some w) built alive all = by (is_empty found)
+    where
+      found : List FoundMethod
+      found = methods_named s.names.families w.family (text_of s.text x)
+
+      by : (b : Bool) → IfOk (call_by s ps x operands (if b then None else Some (w, found))) (SoundOperand M n)
+      by true = call_by_name ps x operands built all
+      by false =
+          own_method_sound built w.family (family_type w.family) w.read_only x (this_operand x.place w) operands (this_sound x.place w alive) all
+
+  pub call_typed : (ps : List LocalVariable) (x : Token) (operands : List Operand) → IsBuiltContext s → HasThis s n → Every (SoundOperand M n) operands
+      → IfOk (call_typing s ps x operands) (SoundOperand M n)
+  unfolding call_typing
+  call_typed ps x operands built alive all = call_within ps x operands s.within built alive all
+
+  -- ---- `B::f(..)`
+
+  -- the class of the body, where some class above it is meant
+  abbrev IsAbove : Option (Within × ℕ) → Type 0
+  IsAbove a = IfSome a (λ b. 0 < n)
+
+  ancestor_by_there : (w : Within) (d : Option ℕ) (f : Option Family) → 0 < n → IsAbove (ancestor_by s w d f)
+  ancestor_by_there w d None alive = tt
+  ancestor_by_there w None (Some f) alive = tt
+  ancestor_by_there w (Some d) (Some f) alive = by (f.is_class && (not (d == w.family) && is_under s.names.families w.family d))
+    where
+      by : (b : Bool) → IsAbove (if b then Some (w, d) else None)
+      by true = alive
+      by false = tt
+
+  ancestor_there : (c : Token) (w : Option Within) → IfSome w (λ v. 0 < n) → IsAbove (ancestor_in s c w)
+  ancestor_there c None alive = tt
+  ancestor_there c (Some w) alive = ancestor_by_there w _ _ alive
+
+  scoped_by_sound : (c x : Token) (operands : List Operand) (a : Option (Within × ℕ)) → IsBuiltContext s → IsAbove a → Every (SoundOperand M n) operands
+      → IfOk (scoped_by s c x operands a) (SoundOperand M n)
+  scoped_by_sound c x operands None built alive all = tt
+  scoped_by_sound c x operands (Some a) built alive all =
+      let number = family_type a.0.family in
+      let own = type.Object number a.0.read_only in
+      own_use_sound c.place x (this_operand c.place a.0 ∷ operands) (own ∷ types_of operands) _
+      (best_method_there s (flat_map (direct_method number) (methods_named s.names.families a.1 (text_of s.text x))) number a.0.read_only (types_of operands)
+      (direct_callable built number a.1 (text_of s.text x))) (ap suc (types_counted operands)) (this_sound c.place a.0 alive, all)
+
+  pub scoped_typed : (c x : Token) (operands : List Operand) → IsBuiltContext s → HasThis s n → Every (SoundOperand M n) operands
+      → IfOk (scoped_typing s c x operands) (SoundOperand M n)
+  unfolding scoped_typing
+  scoped_typed c x operands built alive all = scoped_by_sound c x operands (ancestor_in s c s.within) built (ancestor_there c s.within alive) all
 
   -- ---- names
 
   value_sound : (x : Token) (there : Bool) (r : Resolution) → IsMeant s n r → IfOk (value_use s x there r) (SoundOperand M n)
-  value_sound x there (resolution.Variable v ty read_only) h = read_sound M n x.place v ty _ h.2 h.0 h.1
+  value_sound x there (resolution.Variable v ty read_only) h = read_sound M n x.place v ty _ h.0 h.1
   value_sound x there (resolution.Property p) h = tt
   value_sound x there (resolution.Call c) h = tt
   value_sound x there (resolution.Type k) h = tt
   value_sound x there (resolution.Refused why) h = tt
 
-  -- no class has a field
-  no_field : IsPlainContext s → (w : Option Within) (name : List ℕ) → field_within s w name ≡ None
-  unfolding field_named kin_of
-  no_field plain None name = refl
-  no_field plain (Some w) name =
-      ap (λ (fs : List Family). option_map (λ (f : FoundField). (w, f)) (field_named fs w.family name)) plain.names.no_families
+  -- a field of `this`, else a global
+  global_typed : (x : Token) (there : Bool) → IfOk (field_or_global s x there None) (SoundOperand M n)
+  global_typed x there =
+      value_sound x there (resolution_of (scope_of s) (text_of s.text x) asks.Value) (global_sound s n (text_of s.text x))
 
-  global_typed : IsPlainContext s → (x : Token) (there : Bool) → IfOk (field_or_global s x there (field_within s s.within (text_of s.text x))) (SoundOperand M n)
-  global_typed plain x there =
-      subst (λ (f : Option (Within × FoundField)). IfOk (field_or_global s x there f) (SoundOperand M n)) (sym (no_field plain s.within (text_of s.text x)))
-      (value_sound x there (resolution_of (scope_of s) (text_of s.text x) asks.Value) (global_sound s plain n (text_of s.text x)))
+  field_typed : (x : Token) (there : Bool) (w : Within) (f : Option FoundField) → 0 < n
+      → IfOk (field_or_global s x there (option_map (λ (g : FoundField). (w, g)) f)) (SoundOperand M n)
+  field_typed x there w None alive = global_typed x there
+  field_typed x there w (Some f) alive =
+      either_holds (SoundOperand M n) (may_use s.names.families (family_of s.within) f.owner f.access) _ _
+      (read_sound M n x.place (variable.Field f.number) f.written.ty _ alive (λ writable. alive)) tt
+
+  within_typed : (x : Token) (there : Bool) (w : Option Within) → IfSome w (λ v. 0 < n)
+      → IfOk (field_or_global s x there (field_within s w (text_of s.text x))) (SoundOperand M n)
+  within_typed x there None alive = global_typed x there
+  within_typed x there (Some w) alive = field_typed x there w (field_named s.names.families w.family (text_of s.text x)) alive
 
   found_or : (o : Option Operand) (otherwise : Typing Operand) → IfSome o (SoundOperand M n) → IfOk otherwise (SoundOperand M n)
       → IfOk (local_or o otherwise) (SoundOperand M n)
   found_or None otherwise h k = k
   found_or (Some a) otherwise h k = h
 
-module _ (s : BodyContext) (ps : List LocalVariable) (all : ArePlainLocals ps) where
+module _ (s : BodyContext) (ps : List LocalVariable) where
   local_there : (x : Token) (i : ℕ) (p : Option LocalVariable) → slice_get ps i ≡ p
       → IfSome (option_map (local_at x i) p) (SoundOperand (Here s) (length ps))
   local_there x i None e = tt
   local_there x i (Some p) e =
       let there = slice_get_within ps i p e in
-      read_sound (Here s) (length ps) x.place (variable.Local i) p.ty _ (every_at (λ (p : LocalVariable). IsPlainType p.ty) ps i p all e) there (λ writable. there)
+      read_sound (Here s) (length ps) x.place (variable.Local i) p.ty _ there (λ writable. there)
 
   local_by : (x : Token) (o : Option ℕ) → IfSome (option_and_then (λ i. option_map (local_at x i) (slice_get ps i)) o) (SoundOperand (Here s) (length ps))
   local_by x None = tt
   local_by x (Some i) = local_there x i (slice_get ps i) refl
 
-  pub name_typed : (x : Token) → IsPlainContext s → IfOk (name_typing s ps x) (SoundOperand (Here s) (length ps))
+  pub name_typed : (x : Token) → HasThis s (length ps) → IfOk (name_typing s ps x) (SoundOperand (Here s) (length ps))
   unfolding name_typing
-  name_typed x plain =
+  name_typed x alive =
       let name = text_of s.text x in
       found_or s (length ps) (local_named x name ps) (field_or_global s x (is_there s ps name) (field_within s s.within name))
-      (local_by x (last_named name 0 ps)) (global_typed s (length ps) plain x (is_there s ps name))
+      (local_by x (last_named name 0 ps)) (within_typed s (length ps) x (is_there s ps name) s.within alive)

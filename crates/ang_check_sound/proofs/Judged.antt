@@ -16,8 +16,3 @@ either_holds P false x y h k = k
 pub any : {A : Type 0} (x : Typing A) → IfOk x (λ a. Unit {0})
 any (Ok a) = tt
 any (Err r) = tt
-
--- two properties of one value
-pub both_hold : {A : Type 0} (P Q : A → Type 0) (x : Typing A) → IfOk x P → IfOk x Q → IfOk x (λ a. P a × Q a)
-both_hold P Q (Ok a) h k = (h, k)
-both_hold P Q (Err r) h k = tt

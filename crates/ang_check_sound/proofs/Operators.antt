@@ -1,4 +1,4 @@
--- The tree that an operator makes is sound where those of its operands are, and of a plain type where these are.
+-- The tree that an operator makes is sound where those of its operands are.
 use Rattle.std.specs.Prelude.{◌≡◌, ℕ, zero, suc, Bool, true, false, if◌then◌else◌, List, Option, Some, None, IfSome, Ok, Err, IfOk}
 use Rattle.std.proofs.Common.{refl}
 use Rattle.ang_kinds.specs.declared.error.ErrorKind.TheVariants as why
@@ -12,6 +12,7 @@ use Rattle.ang_types.specs.declared.arg_type.ArgType.{ArgType}
 use Rattle.ang_types.specs.declared.arg_type.ArgType.TheVariants as type
 use Rattle.ang_types.specs.Integers.{common_type}
 use Rattle.ang_types.specs.Ranks.{Ancestors, rank_of}
+use Rattle.ang_typed.specs.declared.expression.Member.{Member}
 use Rattle.ang_typed.specs.declared.expression.Operator.{Operator}
 use Rattle.ang_typed.specs.declared.expression.Comparison.{Comparison}
 use Rattle.ang_typed.specs.declared.expression.Comparison.TheVariants as cmp
@@ -25,14 +26,12 @@ use Rattle.ang_check_operators.specs.declared.forms.Form.{Form}
 use Rattle.ang_check_operators.specs.declared.forms.Form.TheVariants as form
 use Rattle.ang_check_operators.specs.declared.forms.Work.{Work}
 use Rattle.ang_check_operators.specs.declared.forms.Work.TheVariants as work
-use Rattle.ang_check_operand.specs.Operands.{Operand, operand, reading, conversion, fit_by, fit, integer, truth_in, truth, identity_in, identity, site_in, site_or, target_by, target}
+use Rattle.ang_check_operand.specs.Operands.{Operand, operand, reading, conversion, fit_by, fit, integer, truth_in, truth, identity_in, identity, object_of, site_in, site_or, target_by, target, seat_by, seat}
 use Rattle.ang_check_operand.specs.Refusals.{Typing, ◌>>=◌, refused}
 use Rattle.ang_check_operators.specs.Forms.{binary_form, compound_work}
-use Rattle.ang_check_operators.specs.Operations.{literal_by, literal_typing, raised_type, worked_in, arithmetic, shift, compared_in, order, equality_by, equality, conjunction, disjunction, exclusion, sameness, difference, formed, binary_typing, negated, complemented, raised_operand, opposite, handle_in, handle_typing, stepped, prefix_by, prefix_typing, postfix_by, postfix_typing, converted_by, convert_typing, inside, group_typing, choice_as, choice_of_integers, choice_by, choice, conditional_typing, assign_in, assigned, assigned_by, compound_in, compound_arithmetic, compound_shift, assignment_by, assignment_typing}
-use Rattle.ang_names_written.specs.NotYet.{is_object_word}
-use Rattle.ang_source.specs.Sound.{Module, IsVariable, IsStored, IsStoredMember, Sound}
-use Rattle.ang_check_sound.specs.PlainNames.{IsPlainType}
-use Rattle.ang_check_sound.proofs.Judged.{holds, any}
+use Rattle.ang_check_operators.specs.Operations.{literal_by, literal_typing, raised_type, worked_in, arithmetic, shift, compared_in, order, equality_by, equality, conjunction, disjunction, exclusion, sameness, difference, formed, binary_typing, negated, complemented, raised_operand, opposite, seat_of, handle_in, handle_typing, stepped, prefix_by, prefix_typing, postfix_by, postfix_typing, converted_by, convert_typing, inside, group_typing, choice_as, choice_of_integers, stands_for, choice_of, choice_of_objects, choice_by, choice, conditional_typing, assign_in, assigned, reseated, assigned_by, compound_in, compound_arithmetic, compound_shift, assignment_by, assignment_typing}
+use Rattle.ang_source.specs.Sound.{Module, IsVariable, IsStored, IsMember, IsStoredMember, Sound}
+use Rattle.ang_check_sound.proofs.Judged.{holds, either_holds, any}
 
 -- In a module, where n locals are alive:
 module _ (M : Module) (n : ℕ) where
@@ -46,21 +45,29 @@ module _ (M : Module) (n : ℕ) where
   IsTargeted None e = Unit {0}
   IsTargeted (Some x) e = x.read_only ≡ false → IfSome (site_in e) IsStoredSite
 
-  -- what was typed, without objects
+  -- The same of the site behind `@`.
+  abbrev pub IsSeated : Option Seat → t.Expr → Type 0
+  IsSeated None e = Unit {0}
+  IsSeated (Some s) e = IsTargeted (Some s.target) e
+
+  -- what was typed
   pub record SoundOperand (a : Operand) : Type 0 where
-    pub ty : IsPlainType a.ty
     pub tree : Sound M n a.tree
     pub target : IsTargeted a.target a.tree
-    pub seat : a.seat ≡ None
+    pub seat : IsSeated a.seat a.tree
 
-  -- no site
-  pub plain : (place : Place) (ty : ArgType) (e : t.Expr) → IsPlainType ty → Sound M n e → SoundOperand (operand place ty e)
-  plain place ty e k s = record { ty = k; tree = s; target = tt; seat = refl }
+  pub no_site : (place : Place) (ty : ArgType) (e : t.Expr) → Sound M n e → SoundOperand (operand place ty e)
+  no_site place ty e s = record { tree = s; target = tt; seat = tt }
 
   -- a variable by its bare name
-  pub read_sound : (place : Place) (x : Variable) (ty : ArgType) (how : Target) → IsPlainType ty → IsVariable M n x
+  pub read_sound : (place : Place) (x : Variable) (ty : ArgType) (how : Target) → IsVariable M n x
       → (how.read_only ≡ false → IsStored M n x) → SoundOperand (reading place (t.named x) ty how)
-  read_sound place x ty how k s stored = record { ty = k; tree = s; target = stored; seat = refl }
+  read_sound place x ty how s stored = record { tree = s; target = stored; seat = tt }
+
+  -- a member of a sound object
+  pub member_sound : (place : Place) (o : t.Expr) (m : Member) (ty : ArgType) (how : Target) → Sound M n o → IsMember M m
+      → (how.read_only ≡ false → IsStoredMember M m) → SoundOperand (reading place (t.member_of o m) ty how)
+  member_sound place o m ty how so sm stored = record { tree = (sm, so); target = λ writable. (stored writable, so); seat = tt }
 
   -- what is stored into a site
   assign_sound : (x : t.Site) (ty : ArgType) (e : t.Expr) → IsStoredSite x → Sound M n e → Sound M n (t.assign x ty e)
@@ -122,17 +129,24 @@ module _ (M : Module) (n : ℕ) where
   unfolding target
   target_sound a s = target_by_sound a.place a.target a.tree s.target
 
-  -- no plain operand is an object
-  identity_by_sound : (ty : ArgType) (a : Operand) → IsPlainType ty → IfOk (identity_in a ty) (Sound M n)
-  identity_by_sound type.Void a k = tt
-  identity_by_sound type.Null a k = absurd k
-  identity_by_sound (type.Plain q) a k = tt
-  identity_by_sound (type.Object m c) a k = absurd k
-  identity_by_sound (type.Handle m c) a k = absurd k
+  seat_by_sound : (place : Place) (x : Option Seat) (e : t.Expr) → IsSeated x e → IfOk (seat_by place x e) IsStoredSite
+  seat_by_sound place None e s = tt
+  seat_by_sound place (Some x) e s = either_holds IsStoredSite x.is_object _ _ tt (target_by_sound place (Some x.target) e s)
+
+  pub seat_sound : (a : Operand) → SoundOperand a → IfOk (seat a) IsStoredSite
+  unfolding seat
+  seat_sound a s = seat_by_sound a.place a.seat a.tree s.seat
+
+  identity_by_sound : (ty : ArgType) (a : Operand) → SoundOperand a → IfOk (identity_in a ty) (Sound M n)
+  identity_by_sound type.Void a s = tt
+  identity_by_sound type.Null a s = s.tree
+  identity_by_sound (type.Plain q) a s = tt
+  identity_by_sound (type.Object m c) a s = s.tree
+  identity_by_sound (type.Handle m c) a s = s.tree
 
   identity_sound : (a : Operand) → SoundOperand a → IfOk (identity a) (Sound M n)
   unfolding identity
-  identity_sound a s = identity_by_sound a.ty a s.ty
+  identity_sound a s = identity_by_sound a.ty a s
 
   -- what comes of an integer's type
   with_integer : {B : Type 0} (Q : B → Type 0) (a : Operand) (f : Primitive → Typing B) → ((q : Primitive) → IfOk (f q) Q) → IfOk (integer a >>= f) Q
@@ -155,29 +169,28 @@ module _ (M : Module) (n : ℕ) where
 
   -- ---- literals
 
-  literal_by_sound : (x : Token) (text : List ℕ) (kind : TokenKind) → is_object_word kind ≡ false → IfOk (literal_by x text kind) SoundOperand
-  literal_by_sound x text k.Number e = plain _ _ _ tt tt
-  literal_by_sound x text k.True e = plain _ _ _ tt tt
-  literal_by_sound x text k.False e = plain _ _ _ tt tt
-  literal_by_sound x text k.Null e = cc
-  literal_by_sound x text _ e = tt
+  literal_by_sound : (x : Token) (text : List ℕ) (kind : TokenKind) → IfOk (literal_by x text kind) SoundOperand
+  literal_by_sound x text k.Number = no_site _ _ _ tt
+  literal_by_sound x text k.True = no_site _ _ _ tt
+  literal_by_sound x text k.False = no_site _ _ _ tt
+  literal_by_sound x text k.Null = no_site _ _ _ tt
+  literal_by_sound x text _ = tt
 
-  -- but for `null`
-  pub literal_sound : (x : Token) (text : List ℕ) → is_object_word x.kind ≡ false → IfOk (literal_typing x text) SoundOperand
+  pub literal_sound : (x : Token) (text : List ℕ) → IfOk (literal_typing x text) SoundOperand
   unfolding literal_typing
-  literal_sound x text e = literal_by_sound x text x.kind e
+  literal_sound x text = literal_by_sound x text x.kind
 
   -- ---- two operands
 
   worked_sound : (ancestors : Ancestors) (r : Primitive) (op : Operator) (a b : Operand) → SoundOperand a → SoundOperand b
       → IfOk (worked_in ancestors r op a b) SoundOperand
   worked_sound ancestors r op a b sa sb =
-      fit_two ancestors (type.Plain r) a b (λ x y. Ok (operand a.place (type.Plain r) (t.operate op r x y))) sa sb (λ x y sx sy. plain _ _ _ tt (sx, sy))
+      fit_two ancestors (type.Plain r) a b (λ x y. Ok (operand a.place (type.Plain r) (t.operate op r x y))) sa sb (λ x y sx sy. no_site _ _ _ (sx, sy))
 
   compared_sound : (ancestors : Ancestors) (r : Primitive) (c : Comparison) (a b : Operand) → SoundOperand a → SoundOperand b
       → IfOk (compared_in ancestors r c a b) SoundOperand
   compared_sound ancestors r c a b sa sb =
-      fit_two ancestors (type.Plain r) a b (λ x y. Ok (operand a.place (type.Plain p.Bool) (t.compare c r x y))) sa sb (λ x y sx sy. plain _ _ _ tt (sx, sy))
+      fit_two ancestors (type.Plain r) a b (λ x y. Ok (operand a.place (type.Plain p.Bool) (t.compare c r x y))) sa sb (λ x y sx sy. no_site _ _ _ (sx, sy))
 
   arithmetic_sound : (ancestors : Ancestors) (op : Operator) (a b : Operand) → SoundOperand a → SoundOperand b → IfOk (arithmetic ancestors op a b) SoundOperand
   unfolding arithmetic
@@ -206,17 +219,17 @@ module _ (M : Module) (n : ℕ) where
   conjunction_sound : (a b : Operand) → SoundOperand a → SoundOperand b → IfOk (conjunction a b) SoundOperand
   unfolding conjunction
   conjunction_sound a b sa sb =
-      truth_two a b (λ x y. Ok (operand a.place (type.Plain p.Bool) (t.and x y))) sa sb (λ x y sx sy. plain _ _ _ tt (sx, sy))
+      truth_two a b (λ x y. Ok (operand a.place (type.Plain p.Bool) (t.and x y))) sa sb (λ x y sx sy. no_site _ _ _ (sx, sy))
 
   disjunction_sound : (a b : Operand) → SoundOperand a → SoundOperand b → IfOk (disjunction a b) SoundOperand
   unfolding disjunction
   disjunction_sound a b sa sb =
-      truth_two a b (λ x y. Ok (operand a.place (type.Plain p.Bool) (t.or x y))) sa sb (λ x y sx sy. plain _ _ _ tt (sx, sy))
+      truth_two a b (λ x y. Ok (operand a.place (type.Plain p.Bool) (t.or x y))) sa sb (λ x y sx sy. no_site _ _ _ (sx, sy))
 
   exclusion_sound : (a b : Operand) → SoundOperand a → SoundOperand b → IfOk (exclusion a b) SoundOperand
   unfolding exclusion
   exclusion_sound a b sa sb =
-      truth_two a b (λ x y. Ok (operand a.place (type.Plain p.Bool) (t.compare cmp.NotEqual p.Bool x y))) sa sb (λ x y sx sy. plain _ _ _ tt (sx, sy))
+      truth_two a b (λ x y. Ok (operand a.place (type.Plain p.Bool) (t.compare cmp.NotEqual p.Bool x y))) sa sb (λ x y sx sy. no_site _ _ _ (sx, sy))
 
   identity_two : (a b : Operand) (f : t.Expr → t.Expr → Typing Operand) → SoundOperand a → SoundOperand b
       → ((x y : t.Expr) → Sound M n x → Sound M n y → IfOk (f x y) SoundOperand)
@@ -228,12 +241,12 @@ module _ (M : Module) (n : ℕ) where
   sameness_sound : (a b : Operand) → SoundOperand a → SoundOperand b → IfOk (sameness a b) SoundOperand
   unfolding sameness
   sameness_sound a b sa sb =
-      identity_two a b (λ x y. Ok (operand a.place (type.Plain p.Bool) (t.same x y))) sa sb (λ x y sx sy. plain _ _ _ tt (sx, sy))
+      identity_two a b (λ x y. Ok (operand a.place (type.Plain p.Bool) (t.same x y))) sa sb (λ x y sx sy. no_site _ _ _ (sx, sy))
 
   difference_sound : (a b : Operand) → SoundOperand a → SoundOperand b → IfOk (difference a b) SoundOperand
   unfolding difference
   difference_sound a b sa sb =
-      identity_two a b (λ x y. Ok (operand a.place (type.Plain p.Bool) (t.not (t.same x y)))) sa sb (λ x y sx sy. plain _ _ _ tt (sx, sy))
+      identity_two a b (λ x y. Ok (operand a.place (type.Plain p.Bool) (t.not (t.same x y)))) sa sb (λ x y sx sy. no_site _ _ _ (sx, sy))
 
   formed_sound : (ancestors : Ancestors) (f : Option Form) (a b : Operand) → SoundOperand a → SoundOperand b → IfOk (formed ancestors f a b) SoundOperand
   formed_sound ancestors None a b sa sb = tt
@@ -261,38 +274,42 @@ module _ (M : Module) (n : ℕ) where
   negated_sound : (ancestors : Ancestors) (place : Place) (a : Operand) → SoundOperand a → IfOk (negated ancestors place a) SoundOperand
   unfolding negated
   negated_sound ancestors place a sa =
-      with_integer SoundOperand a _ (λ q. fit_one ancestors (type.Plain (raised_type q)) a _ sa (λ x sx. plain _ _ _ tt sx))
+      with_integer SoundOperand a _ (λ q. fit_one ancestors (type.Plain (raised_type q)) a _ sa (λ x sx. no_site _ _ _ sx))
 
   complemented_sound : (ancestors : Ancestors) (place : Place) (a : Operand) → SoundOperand a → IfOk (complemented ancestors place a) SoundOperand
   unfolding complemented
   complemented_sound ancestors place a sa =
-      with_integer SoundOperand a _ (λ q. fit_one ancestors (type.Plain (raised_type q)) a _ sa (λ x sx. plain _ _ _ tt sx))
+      with_integer SoundOperand a _ (λ q. fit_one ancestors (type.Plain (raised_type q)) a _ sa (λ x sx. no_site _ _ _ sx))
 
   raised_sound : (ancestors : Ancestors) (place : Place) (a : Operand) → SoundOperand a → IfOk (raised_operand ancestors place a) SoundOperand
   unfolding raised_operand
   raised_sound ancestors place a sa =
-      with_integer SoundOperand a _ (λ q. fit_one ancestors (type.Plain (raised_type q)) a _ sa (λ x sx. plain _ _ _ tt sx))
+      with_integer SoundOperand a _ (λ q. fit_one ancestors (type.Plain (raised_type q)) a _ sa (λ x sx. no_site _ _ _ sx))
 
   opposite_sound : (place : Place) (a : Operand) → SoundOperand a → IfOk (opposite place a) SoundOperand
   unfolding opposite
-  opposite_sound place a sa = holds (Sound M n) SoundOperand (truth a) _ (truth_sound a sa) (λ x sx. plain _ _ _ tt sx)
+  opposite_sound place a sa = holds (Sound M n) SoundOperand (truth a) _ (truth_sound a sa) (λ x sx. no_site _ _ _ sx)
 
   stepped_sound : (kind : StepKind) (place : Place) (a : Operand) → SoundOperand a → IfOk (stepped kind place a) SoundOperand
   unfolding stepped
   stepped_sound kind place a sa =
       holds IsStoredSite SoundOperand (target a) _ (target_sound a sa)
-      (λ x sx. with_integer SoundOperand a _ (λ q. plain _ _ _ tt (step_sound x q kind sx)))
+      (λ x sx. with_integer SoundOperand a _ (λ q. no_site _ _ _ (step_sound x q kind sx)))
 
-  handle_by_sound : (place : Place) (a : Operand) (ty : ArgType) → IsPlainType ty → IfOk (handle_in place a ty) SoundOperand
-  handle_by_sound place a type.Void k = tt
-  handle_by_sound place a type.Null k = absurd k
-  handle_by_sound place a (type.Plain q) k = tt
-  handle_by_sound place a (type.Object m c) k = absurd k
-  handle_by_sound place a (type.Handle m c) k = absurd k
+  seated : (is_object : Bool) (x : Option Target) (e : t.Expr) → IsTargeted x e → IsSeated (seat_of is_object x) e
+  seated is_object None e s = tt
+  seated is_object (Some x) e s = s
+
+  handle_by_sound : (place : Place) (a : Operand) (ty : ArgType) → SoundOperand a → IfOk (handle_in place a ty) SoundOperand
+  handle_by_sound place a type.Void sa = tt
+  handle_by_sound place a type.Null sa = no_site _ _ _ sa.tree
+  handle_by_sound place a (type.Plain q) sa = tt
+  handle_by_sound place a (type.Object m c) sa = record { tree = sa.tree; target = tt; seat = seated true a.target a.tree sa.target }
+  handle_by_sound place a (type.Handle m c) sa = record { tree = sa.tree; target = tt; seat = seated false a.target a.tree sa.target }
 
   handle_sound : (place : Place) (a : Operand) → SoundOperand a → IfOk (handle_typing place a) SoundOperand
   unfolding handle_typing
-  handle_sound place a sa = handle_by_sound place a a.ty sa.ty
+  handle_sound place a sa = handle_by_sound place a a.ty sa
 
   prefix_by_sound : (ancestors : Ancestors) (op : Token) (kind : TokenKind) (a : Operand) → SoundOperand a → IfOk (prefix_by ancestors op kind a) SoundOperand
   prefix_by_sound ancestors op k.Not a sa = opposite_sound op.place a sa
@@ -319,7 +336,7 @@ module _ (M : Module) (n : ℕ) where
 
   converted_by_sound : (ancestors : Ancestors) (word : Token) (kind : TokenKind) (a : Operand) → SoundOperand a
       → IfOk (converted_by ancestors word kind a) SoundOperand
-  converted_by_sound ancestors word (k.Primitive q) a sa = fit_one ancestors (type.Plain q) a _ sa (λ x sx. plain _ _ _ tt sx)
+  converted_by_sound ancestors word (k.Primitive q) a sa = fit_one ancestors (type.Plain q) a _ sa (λ x sx. no_site _ _ _ sx)
   converted_by_sound ancestors word _ a sa = tt
 
   pub converted_sound : (ancestors : Ancestors) (word : Token) (a : Operand) → SoundOperand a → IfOk (convert_typing ancestors word a) SoundOperand
@@ -331,31 +348,42 @@ module _ (M : Module) (n : ℕ) where
   inside_targeted (Some x) e s = s
 
   pub group_sound : (place : Place) (a : Operand) → SoundOperand a → SoundOperand (group_typing place a)
-  group_sound place a sa = record { ty = sa.ty; tree = sa.tree; target = inside_targeted a.target a.tree sa.target; seat = refl }
+  group_sound place a sa = record { tree = sa.tree; target = inside_targeted a.target a.tree sa.target; seat = tt }
 
   -- ---- `?:`
 
-  chosen_sound : (ancestors : Ancestors) (r : Primitive) (place : Place) (c : t.Expr) (a b : Operand) → Sound M n c → SoundOperand a → SoundOperand b
-      → IfOk (choice_as ancestors (type.Plain r) place c a b) SoundOperand
-  chosen_sound ancestors r place c a b sc sa sb =
-      fit_two ancestors (type.Plain r) a b (λ x y. Ok (operand place (type.Plain r) (t.choose c x y))) sa sb (λ x y sx sy. plain _ _ _ tt (sc, sx, sy))
+  chosen_sound : (ancestors : Ancestors) (ty : ArgType) (place : Place) (c : t.Expr) (a b : Operand) → Sound M n c → SoundOperand a → SoundOperand b
+      → IfOk (choice_as ancestors ty place c a b) SoundOperand
+  chosen_sound ancestors ty place c a b sc sa sb =
+      fit_two ancestors ty a b (λ x y. Ok (operand place ty (t.choose c x y))) sa sb (λ x y sx sy. no_site _ _ _ (sc, sx, sy))
 
   integers_sound : (ancestors : Ancestors) (place : Place) (c : t.Expr) (a b : Operand) → Sound M n c → SoundOperand a → SoundOperand b
       → IfOk (choice_of_integers ancestors place c a b) SoundOperand
   integers_sound ancestors place c a b sc sa sb =
-      with_integer SoundOperand a _ (λ q. with_integer SoundOperand b _ (λ r. chosen_sound ancestors (common_type q r) place c a b sc sa sb))
+      with_integer SoundOperand a _ (λ q. with_integer SoundOperand b _ (λ r. chosen_sound ancestors (type.Plain (common_type q r)) place c a b sc sa sb))
 
-  choice_by_sound : (ancestors : Ancestors) (place : Place) (c : t.Expr) (a b : Operand) (ty : ArgType) → IsPlainType ty → Sound M n c → SoundOperand a
-      → SoundOperand b → IfOk (choice_by ancestors place c a b ty) SoundOperand
-  choice_by_sound ancestors place c a b (type.Plain p.Bool) k sc sa sb = chosen_sound ancestors p.Bool place c a b sc sa sb
-  choice_by_sound ancestors place c a b (type.Object m r) k sc sa sb = absurd k
-  choice_by_sound ancestors place c a b (type.Handle m r) k sc sa sb = absurd k
-  choice_by_sound ancestors place c a b _ k sc sa sb = integers_sound ancestors place c a b sc sa sb
+  one_of_two_sound : (ancestors : Ancestors) (place : Place) (c : t.Expr) (a b : Operand) → Sound M n c → SoundOperand a → SoundOperand b
+      → IfOk (choice_of ancestors place c a b) SoundOperand
+  one_of_two_sound ancestors place c a b sc sa sb =
+      either_holds SoundOperand (stands_for ancestors b.ty a.ty) _ _ (chosen_sound ancestors a.ty place c a b sc sa sb)
+      (either_holds SoundOperand (stands_for ancestors a.ty b.ty) _ _ (chosen_sound ancestors b.ty place c a b sc sa sb) tt)
+
+  objects_sound : (ancestors : Ancestors) (place : Place) (c : t.Expr) (a b : Operand) (o : Option (ℕ × Bool)) → Sound M n c → SoundOperand a → SoundOperand b
+      → IfOk (choice_of_objects ancestors place c a b o) SoundOperand
+  objects_sound ancestors place c a b None sc sa sb = tt
+  objects_sound ancestors place c a b (Some x) sc sa sb = one_of_two_sound ancestors place c a b sc sa sb
+
+  choice_by_sound : (ancestors : Ancestors) (place : Place) (c : t.Expr) (a b : Operand) (ty : ArgType) → Sound M n c → SoundOperand a → SoundOperand b
+      → IfOk (choice_by ancestors place c a b ty) SoundOperand
+  choice_by_sound ancestors place c a b (type.Plain p.Bool) sc sa sb = chosen_sound ancestors (type.Plain p.Bool) place c a b sc sa sb
+  choice_by_sound ancestors place c a b (type.Object m r) sc sa sb = objects_sound ancestors place c a b (object_of b.ty) sc sa sb
+  choice_by_sound ancestors place c a b (type.Handle m r) sc sa sb = objects_sound ancestors place c a b (object_of b.ty) sc sa sb
+  choice_by_sound ancestors place c a b _ sc sa sb = integers_sound ancestors place c a b sc sa sb
 
   choice_sound : (ancestors : Ancestors) (place : Place) (c : t.Expr) (a b : Operand) → Sound M n c → SoundOperand a → SoundOperand b
       → IfOk (choice ancestors place c a b) SoundOperand
   unfolding choice
-  choice_sound ancestors place c a b sc sa sb = choice_by_sound ancestors place c a b a.ty sa.ty sc sa sb
+  choice_sound ancestors place c a b sc sa sb = choice_by_sound ancestors place c a b a.ty sc sa sb
 
   pub conditional_sound : (ancestors : Ancestors) (c a b : Operand) → SoundOperand c → SoundOperand a → SoundOperand b
       → IfOk (conditional_typing ancestors c a b) SoundOperand
@@ -368,7 +396,7 @@ module _ (M : Module) (n : ℕ) where
   assign_in_sound : (ancestors : Ancestors) (at place : Place) (x : t.Site) (b : Operand) (ty : ArgType) → IsStoredSite x → SoundOperand b
       → IfOk (assign_in ancestors at place x b ty) SoundOperand
   assign_in_sound ancestors at place x b (type.Plain q) sx sb =
-      fit_one ancestors (type.Plain q) b _ sb (λ y sy. plain _ _ _ tt (assign_sound x (type.Plain q) y sx sy))
+      fit_one ancestors (type.Plain q) b _ sb (λ y sy. no_site _ _ _ (assign_sound x (type.Plain q) y sx sy))
   assign_in_sound ancestors at place x b _ sx sb = tt
 
   assigned_sound : (ancestors : Ancestors) (at : Place) (a b : Operand) → SoundOperand a → SoundOperand b → IfOk (assigned ancestors at a b) SoundOperand
@@ -376,15 +404,21 @@ module _ (M : Module) (n : ℕ) where
   assigned_sound ancestors at a b sa sb =
       holds IsStoredSite SoundOperand (target a) _ (target_sound a sa) (λ x sx. assign_in_sound ancestors at a.place x b a.ty sx sb)
 
-  assigned_by_sound : (ancestors : Ancestors) (at : Place) (a b : Operand) (s : Option Seat) → s ≡ None → SoundOperand a → SoundOperand b
+  reseated_sound : (ancestors : Ancestors) (a b : Operand) → SoundOperand a → SoundOperand b → IfOk (reseated ancestors a b) SoundOperand
+  unfolding reseated
+  reseated_sound ancestors a b sa sb =
+      holds IsStoredSite SoundOperand (seat a) _ (seat_sound a sa)
+      (λ x sx. fit_one ancestors a.ty b _ sb (λ y sy. no_site _ _ _ (assign_sound x a.ty y sx sy)))
+
+  assigned_by_sound : (ancestors : Ancestors) (at : Place) (a b : Operand) (s : Option Seat) → SoundOperand a → SoundOperand b
       → IfOk (assigned_by ancestors at a b s) SoundOperand
-  assigned_by_sound ancestors at a b None e sa sb = assigned_sound ancestors at a b sa sb
-  assigned_by_sound ancestors at a b (Some s) e sa sb = cc
+  assigned_by_sound ancestors at a b None sa sb = assigned_sound ancestors at a b sa sb
+  assigned_by_sound ancestors at a b (Some s) sa sb = reseated_sound ancestors a b sa sb
 
   compound_sound : (ancestors : Ancestors) (op : Operator) (place : Place) (x : t.Site) (q r : Primitive) (b : Operand) → IsStoredSite x → SoundOperand b
       → IfOk (compound_in ancestors op place x q r b) SoundOperand
   compound_sound ancestors op place x q r b sx sb =
-      fit_one ancestors (type.Plain r) b _ sb (λ y sy. plain _ _ _ tt (change_sound x q r op y sx sy))
+      fit_one ancestors (type.Plain r) b _ sb (λ y sy. no_site _ _ _ (change_sound x q r op y sx sy))
 
   compound_arithmetic_sound : (ancestors : Ancestors) (op : Operator) (a b : Operand) → SoundOperand a → SoundOperand b
       → IfOk (compound_arithmetic ancestors op a b) SoundOperand
@@ -402,7 +436,7 @@ module _ (M : Module) (n : ℕ) where
 
   assignment_by_sound : (ancestors : Ancestors) (at : Place) (w : Option Work) (a b : Operand) → SoundOperand a → SoundOperand b
       → IfOk (assignment_by ancestors at w a b) SoundOperand
-  assignment_by_sound ancestors at None a b sa sb = assigned_by_sound ancestors at a b a.seat sa.seat sa sb
+  assignment_by_sound ancestors at None a b sa sb = assigned_by_sound ancestors at a b a.seat sa sb
   assignment_by_sound ancestors at (Some (work.Arithmetic op)) a b sa sb = compound_arithmetic_sound ancestors op a b sa sb
   assignment_by_sound ancestors at (Some (work.Shift op)) a b sa sb = compound_shift_sound ancestors op a b sa sb
 

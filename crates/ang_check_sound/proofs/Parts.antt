@@ -34,7 +34,7 @@ sum_same : (f : InSection → ℕ) (before : List InSection) (x : InSection) →
 sum_same f before x e =
     let more : sum_by f before + 0 ≡ sum_by f (before ++ x ∷ []) = sum_more f before x 0 e in omega (arith, more)
 
-bodies_more : (before : List Declaring) (d : Declaring) (n : ℕ) → length (body_members d) ≡ n
+pub bodies_more : (before : List Declaring) (d : Declaring) (n : ℕ) → length (body_members d) ≡ n
     → length (flat_map body_members before) + n ≡ length (flat_map body_members (before ++ d ∷ []))
 bodies_more before d n e =
     let one : length (flat_map body_members (d ∷ [])) ≡ n = ap length (append-nil (body_members d)) ∙ e in

@@ -14,7 +14,7 @@ Behind A n xs rest = (front : List A) × (xs ≡ front ++ rest) × (length front
 pub all_left : {A : Type 0} (xs : List A) → Behind A 0 xs xs
 all_left xs = ([], refl, refl)
 
-at_seam : {A : Type 0} (front : List A) (x : A) (rest : List A) → slice_get (front ++ x ∷ rest) (length front) ≡ Some x
+pub at_seam : {A : Type 0} (front : List A) (x : A) (rest : List A) → slice_get (front ++ x ∷ rest) (length front) ≡ Some x
 at_seam [] x rest = refl
 at_seam (y ∷ front) x rest = at_seam front x rest
 

@@ -1,4 +1,4 @@
--- The resolved tree of scripts without errors: it has what the names declare, each body at its number, and is sound.
+-- The resolved tree of scripts without errors has what the names declare, each body at its number.
 use Rattle.std.specs.Prelude.{◌≡◌, ℕ, suc, ◌+◌, true, false, Contains, length, take, List, [], ◌∷◌, ◌++◌, map, unwrap_or, option_map, option_and_then, Option, Some, None, Ok, Err, IfOk, slice_get}
 use Rattle.std.specs.List.{cons_option, filter_map, flat_map, list_any, range_with_len}
 use Rattle.std.proofs.Common.{refl, ap, sym, ◌∙◌, subst, arith}
@@ -7,13 +7,11 @@ use Rattle.std.proofs.lemmas.List.{length-map, map-append}
 use Rattle.std.proofs.lemmas.Option.{same_Some}
 use Rattle.ang_lex.specs.declared.token.Token.{Token}
 use Rattle.ang_view.specs.Registration.{RegistrationList}
-use Rattle.ang_view.specs.Values.{TakesValues}
 use Rattle.ang_tree.specs.declared.type_name.TypeName.{TypeName}
 use Rattle.ang_tree.specs.Declarations.{SuperTree}
 use Rattle.ang_tree.specs.Stmt.{Init, Body, Stmts, Every}
 use Rattle.ang_types.specs.declared.arg_type.ArgType.{ArgType}
 use Rattle.ang_types.specs.declared.asks.Refused.{Refused}
-use Rattle.ang_typed.specs.declared.program.Heading.{Heading}
 use Rattle.ang_typed.specs.declared.program.Parameter.{Parameter}
 use Rattle.ang_typed.specs.Typed as t
 use Rattle.ang_names_known.specs.declared.names.Constructor.{Constructor}
@@ -22,30 +20,23 @@ use Rattle.ang_names_known.specs.declared.names.Method.{Method}
 use Rattle.ang_names_known.specs.declared.names.Names.{Names}
 use Rattle.ang_names_known.specs.declared.names.ScriptFunction.{ScriptFunction}
 use Rattle.ang_names_known.specs.declared.names.ScriptGlobal.{ScriptGlobal}
-use Rattle.ang_names_known.specs.Items.{each_after}
-use Rattle.ang_names_written.specs.NotYet.{not_yet}
 use Rattle.ang_names_written.specs.Sources.{Source}
 use Rattle.ang_names_listed.specs.Declarations.{declarations_of, families_of}
 use Rattle.ang_names.specs.Meant.{space_of_declared}
 use Rattle.ang_names.specs.Resolved.{signatures_of, functions_in, families_in, names_of}
 use Rattle.ang_check_operand.specs.Refusals.{Typing}
-use Rattle.ang_check_typing.specs.declared.scope.Within.{Within}
 use Rattle.ang_check_body.specs.Typing.{Base, typed_parameters, function_typing, method_body_typing, constructor_typing, global_typing}
-use Rattle.ang_check_bodies.specs.Bodies.{Part, a_function, a_global, a_method, a_constructor, a_default, parts_of, Judgement, of_function, of_global, of_member, of_default, context_in, within_of, base_of, base_name, judged_function, judged_global, method_at, judged_method, constructor_at, judged_constructor, judged, judgements, refusal_in, function_given, member_given, global_given, body_refusals, typed_class, typed_classes, method_headings, import_heading, program_of, HasMethodBody, HasConstructorBody, HasBodies}
-use Rattle.ang_source.specs.Sound.{Module, module_of, SoundOption, SoundFunction, SoundFunctions, SoundGlobals, SoundClasses, SoundProgram}
-use Rattle.ang_check_sound.specs.Checked.{NumberedBody, with_this, bodies_of, body_parameters, module_in, HasNames}
-use Rattle.ang_check_sound.specs.PlainNames.{IsPlainType, IsPlainFunction, ArePlainNames, IsPlainContext}
-use Rattle.ang_check_sound.proofs.Bodies.{IsOf, IsGlobal, function_declared, method_declared, constructor_declared, global_declared, function_sound, global_sound}
-use Rattle.ang_check_sound.proofs.Items.{every_at}
+use Rattle.ang_check_bodies.specs.Bodies.{Part, a_function, a_global, a_method, a_constructor, a_default, parts_of, Judgement, of_function, of_global, of_member, of_default, context_in, within_of, base_of, base_name, judged_function, judged_global, method_at, judged_method, constructor_at, judged_constructor, judged, judgements, refusal_in, function_given, member_given, global_given, body_refusals, program_of, HasMethodBody, HasConstructorBody, HasBodies}
+use Rattle.ang_check_sound.specs.Checked.{NumberedBody, with_this, bodies_of, body_parameters, HasNames}
+use Rattle.ang_check_sound.proofs.Bodies.{IsOf, IsGlobal, function_declared, method_declared, constructor_declared, global_declared}
 use Rattle.ang_check_sound.proofs.Members.{number_of, IsMethod, IsConstructor, AreNumbered, IsMethodWritten, IsConstructorWritten}
 use Rattle.ang_check_sound.proofs.Numbers.{has_number, bodies_counted, method_numbered, constructor_numbered, HoldsIn, every_body, found}
 use Rattle.ang_check_sound.proofs.Parts.{total_of, IsFamilyWritten, HasParts, names_have_parts}
 use Rattle.ang_check_sound.proofs.Places.{Behind, all_left, next_item, next_left, EachFrom, at_number, all_of_each, in_second}
-use Rattle.ang_check_sound.proofs.Within.{names_plain, IsWithin, parts_within}
 
 -- ---- judgements without refusals
 
-none_behind : (xs ys : List Judgement) → filter_map refusal_in (xs ++ ys) ≡ [] → filter_map refusal_in ys ≡ []
+pub none_behind : (xs ys : List Judgement) → filter_map refusal_in (xs ++ ys) ≡ [] → filter_map refusal_in ys ≡ []
 none_behind [] ys e = e
 none_behind (x ∷ xs) ys e = none_behind xs ys (behind_first (refusal_in x) (filter_map refusal_in (xs ++ ys)) e)
   where
@@ -59,7 +50,7 @@ each_has P xs x h c = subst P c.2 (all_of_each P xs h c.0 x c.1)
 -- ---- what the parts give, over a view and names
 
 module _ (V : RegistrationList) (names : Names) where
-  abbrev J : List Part → List Judgement
+  abbrev pub J : List Part → List Judgement
   J ps = flat_map (judged V names) ps
 
   -- ---- functions and globals
@@ -496,127 +487,4 @@ has_names V names sources e none =
       types = same_by_place (λ (x : t.Global). x.ty) (λ (g : ScriptGlobal). g.written.ty) names.globals 0 globals names.globals (all_left names.globals)
           given.globals global_count;
       bodies = has_bodies V names sources p functions members refl count has sit;
-    }
-
--- ---- soundness
-
-module _ (V : RegistrationList) (names : Names) (values : TakesValues V) (plain : ArePlainNames names) where
-  abbrev M : Module
-  M = module_in V names
-
-  in_body : (text : List ℕ) (within : Option Within) → IsPlainContext (context_in V names text within)
-  in_body text within = record { values = values; names = plain }
-
-  function_then : (text : List ℕ) (x : Typing t.Function) (js : List Judgement) → IfOk x (SoundFunction M) → filter_map refusal_in (of_function text x ∷ js) ≡ []
-      → SoundFunctions M (filter_map function_given js) → SoundFunctions M (filter_map function_given (of_function text x ∷ js))
-  function_then text (Ok h) js s e r = (s, r)
-  function_then text (Err why) js s e r = cc
-
-  global_then : (text : List ℕ) (x : Typing t.Global) (js : List Judgement) → IfOk x (λ g. SoundOption M 0 g.initializer)
-      → filter_map refusal_in (of_global text x ∷ js) ≡ [] → SoundGlobals M (filter_map global_given js)
-      → SoundGlobals M (filter_map global_given (of_global text x ∷ js))
-  global_then text (Ok g) js s e r = (s, r)
-  global_then text (Err why) js s e r = cc
-
-  record AreSound (js : List Judgement) : Type 0 where
-    functions : SoundFunctions M (filter_map function_given js)
-    members : filter_map member_given js ≡ []
-    globals : SoundGlobals M (filter_map global_given js)
-
-  one_function : (n : ℕ) (text : List ℕ) (x : Token) (b : Body) (o : Option ScriptFunction) (js : List Judgement) → slice_get names.functions n ≡ o
-      → IsWithin V (a_function n text x b) → filter_map refusal_in (judged_function V names text x b o ++ js) ≡ [] → AreSound js
-      → AreSound (judged_function V names text x b o ++ js)
-  one_function n text x b None js at w e r = r
-  one_function n text x b (Some f) js at w e r = record {
-    functions = function_then text (function_typing (context_in V names text None) f x b) js
-        (function_sound (context_in V names text None) (in_body text None) f x b (every_at IsPlainFunction names.functions n f plain.functions at) w) e r.functions;
-    members = r.members;
-    globals = r.globals;
-  }
-
-  one_global : (n : ℕ) (text : List ℕ) (y : TypeName) (i : Init) (o : Option ScriptGlobal) (js : List Judgement) → slice_get names.globals n ≡ o
-      → IsWithin V (a_global n text y i) → filter_map refusal_in (judged_global V names text y i o ++ js) ≡ [] → AreSound js
-      → AreSound (judged_global V names text y i o ++ js)
-  one_global n text y i None js at w e r = r
-  one_global n text y i (Some g) js at w e r = record {
-    functions = r.functions;
-    members = r.members;
-    globals = global_then text (global_typing (context_in V names text None) g y i) js
-        (global_sound (context_in V names text None) (in_body text None) g y i
-        (every_at (λ (g : ScriptGlobal). IsPlainType g.written.ty) names.globals n g plain.globals at) w) e r.globals;
-  }
-
-  all_sound : (ps : List Part) → Every (IsWithin V) ps → filter_map refusal_in (J V names ps) ≡ [] → AreSound (J V names ps)
-  all_sound [] w e = record { functions = tt; members = refl; globals = tt }
-  all_sound (a_function n text x b ∷ ps) w e =
-      one_function n text x b (slice_get names.functions n) (J V names ps) refl w.0 e
-      (all_sound ps w.1 (none_behind (judged V names (a_function n text x b)) (J V names ps) e))
-  all_sound (a_global n text y i ∷ ps) w e =
-      one_global n text y i (slice_get names.globals n) (J V names ps) refl w.0 e
-      (all_sound ps w.1 (none_behind (judged V names (a_global n text y i)) (J V names ps) e))
-  all_sound (a_method c m text x b ∷ ps) w e = absurd w.0
-  all_sound (a_constructor c m text x own bases u ss ∷ ps) w e = absurd w.0
-  all_sound (a_default c text x bases ∷ ps) w e = absurd w.0
-
--- the tree's module is that of its names
-module_with : RegistrationList → List (List Parameter) → List (List Parameter) → List (List Parameter) → ℕ → ℕ → Module
-module_with V ps ms is gs cs = record { view = V; parameters = ps; methods = ms; imports = is; globals = gs; classes = cs }
-
-imports_same : (fs : List ScriptFunction) → map typed_parameters fs ≡ map (λ (h : Heading). h.parameters) (map import_heading fs)
-imports_same [] = refl
-imports_same (f ∷ fs) = ap (λ ps. typed_parameters f ∷ ps) (imports_same fs)
-
-classes_counted : (all before fs : List Family) → length fs ≡ length (each_after (λ (front : List Family) (f : Family). typed_class all (length front) f ∷ []) before fs)
-classes_counted all before [] = refl
-classes_counted all before (f ∷ fs) = ap suc (classes_counted all (before ++ f ∷ []) fs)
-
-same_module : (V : RegistrationList) (names : Names) (sources : List Source) → HasNames V names sources (program_of V names sources)
-    → module_in V names ≡ module_of V (program_of V names sources)
-unfolding module_with program_of
-same_module V names sources h =
-    let p = program_of V names sources in
-    let globals : length names.globals ≡ length p.globals =
-    sym (length-map names.globals (λ (g : ScriptGlobal). g.written.ty)) ∙ ap length (sym h.types) ∙ length-map p.globals (λ (g : t.Global). g.ty) in
-    let methods = map (λ (g : Heading). g.parameters) (method_headings names.families) in
-    let imports = map typed_parameters names.imports in
-    ap (λ ps. module_with V ps methods imports (length names.globals) (length names.families)) (sym h.parameters)
-    ∙ ap (λ is. module_with V (map (λ (f : t.Function). f.parameters) p.functions) methods is (length names.globals) (length names.families)) (imports_same names.imports)
-    ∙ ap (λ n. module_with V (map (λ (f : t.Function). f.parameters) p.functions) methods (map (λ (g : Heading). g.parameters) p.imports) n (length names.families)) globals
-    ∙ ap (λ n. module_with V (map (λ (f : t.Function). f.parameters) p.functions) methods (map (λ (g : Heading). g.parameters) p.imports) (length p.globals) n)
-    (classes_counted names.families [] names.families)
-
-sound_joined : (M : Module) (xs ys : List t.Function) → SoundFunctions M xs → ys ≡ [] → SoundFunctions M (xs ++ ys)
-sound_joined M [] ys h e = subst (SoundFunctions M) (sym e) tt
-sound_joined M (x ∷ xs) ys h e = (h.0, sound_joined M xs ys h.1 e)
-
-no_classes : (M : Module) (fs : List Family) → fs ≡ [] → SoundClasses M (typed_classes fs)
-no_classes M fs e = subst (λ (gs : List Family). SoundClasses M (typed_classes gs)) (sym e) tt
-
-record SoundOver (M : Module) (p : t.Program) : Type 0 where
-  functions : SoundFunctions M p.functions
-  globals : SoundGlobals M p.globals
-  classes : SoundClasses M p.classes
-
-sound_over : (V : RegistrationList) (names : Names) (sources : List Source) → TakesValues V → names ≡ names_of V (declarations_of sources)
-    → not_yet V sources ≡ [] → body_refusals V names sources ≡ [] → SoundOver (module_in V names) (program_of V names sources)
-unfolding judgements body_refusals program_of
-sound_over V names sources values e built none =
-    let plain : ArePlainNames names = subst ArePlainNames (sym e) (names_plain V sources built) in
-    let all = all_sound V names values plain (parts_of sources) (parts_within V sources built) none in
-    record {
-      functions = sound_joined (module_in V names) _ _ all.functions all.members;
-      globals = all.globals;
-      classes = no_classes (module_in V names) names.families plain.no_families;
-    }
-
-pub program_is_sound : (V : RegistrationList) (names : Names) (sources : List Source) → TakesValues V → names ≡ names_of V (declarations_of sources)
-    → not_yet V sources ≡ [] → body_refusals V names sources ≡ [] → SoundProgram V (program_of V names sources)
-program_is_sound V names sources values e built none =
-    let p = program_of V names sources in
-    let same = same_module V names sources (has_names V names sources e none) in
-    let sound = sound_over V names sources values e built none in
-    record {
-      functions = subst (λ (N : Module). SoundFunctions N p.functions) same sound.functions;
-      globals = subst (λ (N : Module). SoundGlobals N p.globals) same sound.globals;
-      classes = subst (λ (N : Module). SoundClasses N p.classes) same sound.classes;
     }

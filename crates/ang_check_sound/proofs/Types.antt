@@ -1,128 +1,101 @@
--- What a written type means where no handle and no object type is written: a plain type, if any.
-use Rattle.std.specs.Prelude.{◌≡◌, ℕ, Bool, true, false, is_some, List, [], Option, Some, None, Ok, Err, IfOk, bytes_eq}
+-- What type a cast is to: an object type of the host, or a class or an interface that is there.
+use Rattle.std.specs.Prelude.{◌≡◌, ℕ, ◌+◌, ◌-◌, ◌≤◌, ◌<◌, nat_lt, if◌then◌else◌, Bool, true, false, is_some, length, List, [], Option, Some, None, IfSome, Ok, Err, IfOk, bytes_eq}
 use Rattle.std.specs.List.{position}
-use Rattle.std.proofs.Common.{ap, ◌∙◌, refl}
-use Rattle.ang_kinds.specs.declared.types.Pass.{Pass}
-use Rattle.ang_kinds.specs.declared.types.Pass.TheVariants as pass
+use Rattle.std.proofs.Common.{refl, sym, subst, arith}
+use Rattle.std.proofs.lemmas.List.Quantifiers.{position-Some}
 use Rattle.ang_lex.specs.declared.token.TokenKind.{TokenKind}
 use Rattle.ang_lex.specs.declared.token.TokenKind.TheVariants as k
 use Rattle.ang_tree.specs.declared.type_name.TypeName.{TypeName}
 use Rattle.ang_tree.specs.declared.type_name.Handle.{Handle}
 use Rattle.ang_types.specs.declared.arg_type.ArgType.{ArgType}
 use Rattle.ang_types.specs.declared.arg_type.ArgType.TheVariants as type
-use Rattle.ang_view.specs.Types.{type_named}
+use Rattle.ang_view.specs.Types.{is_type_named, type_named}
 use Rattle.ang_names_known.specs.declared.space.Named.{Named}
 use Rattle.ang_names_known.specs.declared.space.Named.TheVariants as named
-use Rattle.ang_names_known.specs.Spaces.{Space, family_or_host, type_of_name}
-use Rattle.ang_names_written.specs.declared.role.Role.{Role}
+use Rattle.ang_names_known.specs.Spaces.{Space, first_family, family_type, family_of_type, family_or_host, type_of_name}
 use Rattle.ang_names_written.specs.declared.role.Role.TheVariants as role
-use Rattle.ang_names_written.specs.NotYet.{is_host_type, is_type_beyond}
 use Rattle.ang_names_written.specs.Sources.{text_of}
-use Rattle.ang_names_written.specs.Types.{TypeOrError, ◌and_then◌, without_handle, object_type, written_type, no_void, no_object, taken_in, changed, passed, crossing, is_by_value, cast_to, admitted, type_in, settled}
-use Rattle.ang_check_sound.specs.PlainNames.{IsPlainType}
-use Rattle.ang_check_sound.proofs.Items.{two_false}
+use Rattle.ang_names_written.specs.Types.{TypeOrError, ◌and_then◌, without_handle, object_type, written_type, cast_to, type_in}
+use Rattle.ang_check_operand.specs.Operands.{object_of}
 
--- ---- where a plain type can stand
+-- ---- numbers of types
 
-then_plain : (m : TypeOrError) (f : ArgType → TypeOrError) → IfOk m IsPlainType → ((ty : ArgType) → IsPlainType ty → IfOk (f ty) IsPlainType)
-    → IfOk (m and_then f) IsPlainType
-then_plain (Ok ty) f h g = g ty h
-then_plain (Err e) f h g = tt
+is_low : (a b : ℕ) → a < b → nat_lt a b ≡ true
+is_low a b h = search arith
 
-no_void_plain : (ty : ArgType) → IsPlainType ty → IfOk (no_void ty) IsPlainType
-no_void_plain type.Void h = tt
-no_void_plain type.Null h = h
-no_void_plain (type.Plain p) h = tt
-no_void_plain (type.Object n c) h = h
-no_void_plain (type.Handle n c) h = h
+-- a number below those of families is no family's
+host_number : (P : ℕ → Type 0) (n : ℕ) → n < first_family → IfSome (family_of_type n) P
+host_number P n h =
+    subst (λ (low : Bool). IfSome (if low then None else Some (n - first_family)) P) (sym (is_low n first_family h)) tt
 
-no_object_plain : (ty : ArgType) → IsPlainType ty → IfOk (no_object ty) IsPlainType
-no_object_plain type.Void h = tt
-no_object_plain type.Null h = h
-no_object_plain (type.Plain p) h = tt
-no_object_plain (type.Object n c) h = tt
-no_object_plain (type.Handle n c) h = h
+family_number : (c count : ℕ) → c < count → IfSome (family_of_type (family_type c)) (λ d. d < count)
+family_number c count h = by (nat_lt (family_type c) first_family)
+  where
+    by : (low : Bool) → IfSome (if low then None else Some (family_type c - first_family)) (λ d. d < count)
+    by true = tt
+    by false = let goal : 1024 + c - 1024 < count = omega (arith, h) in goal
 
-taken_plain : (ty : ArgType) → IsPlainType ty → IfOk (taken_in ty) IsPlainType
-taken_plain type.Void h = tt
-taken_plain type.Null h = h
-taken_plain (type.Plain p) h = tt
-taken_plain (type.Object n c) h = absurd h
-taken_plain (type.Handle n c) h = h
+-- ---- a name
 
-changed_plain : (ty : ArgType) → IsPlainType ty → IfOk (changed ty) IsPlainType
-changed_plain type.Void h = tt
-changed_plain type.Null h = tt
-changed_plain (type.Plain p) h = tt
-changed_plain (type.Object n c) h = h
-changed_plain (type.Handle n c) h = tt
+-- In a space over a view whose types have numbers below those of families:
+module _ (E : Space) (few : length E.view ≤ first_family) where
+  -- the family of this type's number, if it is one of a family, is there
+  abbrev IsThere : ℕ → Type 0
+  IsThere n = IfSome (family_of_type n) (λ d. d < length E.families)
 
-passed_plain : (way : Pass) (ty : ArgType) → IsPlainType ty → IfOk (passed way ty) IsPlainType
-passed_plain pass.Value ty h = no_object_plain ty h
-passed_plain pass.RefIn ty h = taken_plain ty h
-passed_plain pass.RefOut ty h = no_object_plain ty h
-passed_plain pass.RefInOut ty h = changed_plain ty h
+  abbrev NamesOneThere : Named → Type 0
+  NamesOneThere named.Unknown = Unit {0}
+  NamesOneThere (named.Object n) = IsThere n
 
-crossing_plain : (by_value : Bool) (ty : ArgType) → IsPlainType ty → IfOk (crossing by_value ty) IsPlainType
-crossing_plain by_value type.Void h = tt
-crossing_plain by_value type.Null h = tt
-crossing_plain true (type.Plain p) h = tt
-crossing_plain false (type.Plain p) h = tt
-crossing_plain by_value (type.Object n c) h = tt
-crossing_plain by_value (type.Handle n c) h = absurd h
+  host_there : (name : List ℕ) (n : ℕ) → position (is_type_named name) E.view ≡ Some n → IsThere n
+  host_there name n e =
+      let within : n < length E.view = (position-Some (is_type_named name) E.view n None e).0 in
+      host_number (λ d. d < length E.families) n (omega (arith, few, within))
 
-cast_plain : (ty : ArgType) → IsPlainType ty → IfOk (cast_to ty) IsPlainType
-cast_plain type.Void h = tt
-cast_plain type.Null h = tt
-cast_plain (type.Plain p) h = tt
-cast_plain (type.Object n c) h = h
-cast_plain (type.Handle n c) h = h
+  family_there : (name : List ℕ) (c : ℕ) → position (bytes_eq name) E.families ≡ Some c → IsThere (family_type c)
+  family_there name c e = family_number c (length E.families) (position-Some (bytes_eq name) E.families c [] e).0
 
-admitted_plain : (r : Role) (ty : ArgType) → IsPlainType ty → IfOk (admitted r ty) IsPlainType
-admitted_plain role.Result ty h = no_object_plain ty h
-admitted_plain role.Variable ty h = no_void_plain ty h
-admitted_plain role.Field ty h = then_plain (no_void ty) no_object (no_void_plain ty h) no_object_plain
-admitted_plain (role.Parameter way) ty h = then_plain (no_void ty) (passed way) (no_void_plain ty h) (passed_plain way)
-admitted_plain role.ImportResult ty h = then_plain (no_object ty) (crossing true) (no_object_plain ty h) (crossing_plain true)
-admitted_plain (role.ImportParameter way) ty h =
-    then_plain (no_void ty and_then passed way) (crossing (is_by_value way))
-    (then_plain (no_void ty) (passed way) (no_void_plain ty h) (passed_plain way)) (crossing_plain (is_by_value way))
-admitted_plain role.Cast ty h = cast_plain ty h
+  one_there : (name : List ℕ) (c n : Option ℕ) → position (bytes_eq name) E.families ≡ c → position (is_type_named name) E.view ≡ n
+      → NamesOneThere (family_or_host c n)
+  one_there name (Some c) n e f = family_there name c e
+  one_there name None (Some n) e f = host_there name n f
+  one_there name None None e f = tt
 
--- ---- what is written
+  name_there : (name : List ℕ) → NamesOneThere (type_of_name E name)
+  unfolding type_of_name type_named
+  name_there name = one_there name (position (bytes_eq name) E.families) (position (is_type_named name) E.view) refl refl
 
-without_plain : (ty : ArgType) (h : Option Handle) → IsPlainType ty → IfOk (without_handle ty h) IsPlainType
-without_plain ty None e = e
-without_plain ty (Some h) e = tt
+  -- ---- a written type
 
-object_plain : (d : Named) (constant : Bool) (h : Option Handle) → d ≡ named.Unknown → IfOk (object_type d constant h) IsPlainType
-object_plain named.Unknown constant h e = tt
-object_plain (named.Object n) constant h e = cc
+  -- the same of an object's or a handle's type
+  abbrev pub IsTypeThere : ArgType → Type 0
+  IsTypeThere ty = IfSome (object_of ty) (λ o. IfSome (family_of_type o.0) (λ d. d < length E.families))
 
--- what is meant, if it is plain
-pub settled_plain : (m : TypeOrError) → IfOk m IsPlainType → IsPlainType (settled m)
-settled_plain (Ok ty) h = h
-settled_plain (Err e) h = tt
+  object_there : (d : Named) (constant : Bool) (h : Option Handle) → NamesOneThere d → IfOk (object_type d constant h) IsTypeThere
+  object_there named.Unknown constant h there = tt
+  object_there (named.Object n) constant None there = there
+  object_there (named.Object n) constant (Some h) there = there
 
--- Where scripts declare no type:
-module _ (E : Space) (none : E.families ≡ []) where
-  unknown : (o : Option ℕ) → is_some o ≡ false → family_or_host None o ≡ named.Unknown
-  unknown None e = refl
-  unknown (Some n) e = cc
+  without_there : (ty : ArgType) (h : Option Handle) → IsTypeThere ty → IfOk (without_handle ty h) IsTypeThere
+  without_there ty None there = there
+  without_there ty (Some h) there = tt
 
-  pub name_unknown : (name : List ℕ) → is_some (type_named E.view name) ≡ false → type_of_name E name ≡ named.Unknown
-  unfolding type_of_name
-  name_unknown name e =
-      ap (λ (fs : List (List ℕ)). family_or_host (position (bytes_eq name) fs) (type_named E.view name)) none ∙ unknown (type_named E.view name) e
+  kind_there : (text : List ℕ) (y : TypeName) (kind : TokenKind) → IfOk (written_type E text y kind) IsTypeThere
+  kind_there text y (k.Primitive p) = without_there (type.Plain p) y.handle tt
+  kind_there text y k.Void = without_there type.Void y.handle tt
+  kind_there text y _ = object_there (type_of_name E (text_of text y.name)) (is_some y.constant) y.handle (name_there (text_of text y.name))
 
-  kind_plain : (text : List ℕ) (y : TypeName) (kind : TokenKind) → is_some (type_named E.view (text_of text y.name)) ≡ false
-      → IfOk (written_type E text y kind) IsPlainType
-  kind_plain text y (k.Primitive p) e = without_plain (type.Plain p) y.handle tt
-  kind_plain text y k.Void e = without_plain type.Void y.handle tt
-  kind_plain text y _ e = object_plain (type_of_name E (text_of text y.name)) (is_some y.constant) y.handle (name_unknown (text_of text y.name) e)
+  cast_to_there : (ty : ArgType) → IsTypeThere ty → IfOk (cast_to ty) IsTypeThere
+  cast_to_there type.Void there = tt
+  cast_to_there type.Null there = tt
+  cast_to_there (type.Plain p) there = tt
+  cast_to_there (type.Object n c) there = there
+  cast_to_there (type.Handle n c) there = there
 
-  pub type_plain : (r : Role) (text : List ℕ) (y : TypeName) → is_type_beyond E.view text y ≡ false → IfOk (type_in E r text y) IsPlainType
-  unfolding type_in is_host_type
-  type_plain r text y e =
-      then_plain (written_type E text y y.name.kind) (admitted r)
-      (kind_plain text y y.name.kind (two_false (is_some y.handle) (is_host_type E.view text y.name) e).1) (admitted_plain r)
+  then_there : (m : TypeOrError) → IfOk m IsTypeThere → IfOk (m and_then cast_to) IsTypeThere
+  then_there (Ok ty) there = cast_to_there ty there
+  then_there (Err why) there = tt
+
+  pub cast_there : (text : List ℕ) (y : TypeName) → IfOk (type_in E role.Cast text y) IsTypeThere
+  unfolding type_in
+  cast_there text y = then_there (written_type E text y y.name.kind) (kind_there text y y.name.kind)

@@ -1,48 +1,54 @@
--- A use of a name means a variable or a function that is there, and no object is among what is meant.
-use Rattle.std.specs.Prelude.{◌≡◌, ℕ, Bool, true, false, if◌then◌else◌, is_some, length, List, [], map, slice_get, option_map, Option, Some, None, IfSome}
-use Rattle.std.specs.List.{list_any}
-use Rattle.std.proofs.Common.{refl, ap, sym, ◌∙◌, subst}
+-- A use of a name means a variable, a property or a function that is there.
+use Rattle.std.specs.Prelude.{◌≡◌, ◌≢◌, ℕ, suc, ◌<◌, Bool, true, false, if◌then◌else◌, length, List, [], ◌∷◌, map, slice_get, option_map, Option, Some, None, IfSome}
+use Rattle.std.proofs.Common.{refl, ap, sym, ◌∙◌}
 use Rattle.std.proofs.lemmas.Option.{slice_get_within, slice_get-map}
 use Rattle.ang_kinds.specs.declared.error.ErrorKind.{ErrorKind}
 use Rattle.ang_kinds.specs.declared.error.ErrorKind.TheVariants as kind
-use Rattle.ang_view.specs.Types.{type_named}
+use Rattle.ang_kinds.specs.declared.types.Pass.TheVariants as pass
+use Rattle.ang_typed.specs.declared.program.Parameter.{Parameter}
 use Rattle.ang_types.specs.declared.arg_type.ArgType.{ArgType}
+use Rattle.ang_types.specs.declared.arg_type.ArgType.TheVariants as type
 use Rattle.ang_types.specs.declared.asks.Asks.TheVariants as asks
 use Rattle.ang_types.specs.declared.candidate.Pick.{Pick}
 use Rattle.ang_types.specs.declared.candidate.Pick.TheVariants as pick
 use Rattle.ang_types.specs.Overloads.{Params, params_in, params_at}
 use Rattle.ang_types.specs.Best.{best_of}
 use Rattle.ang_types.proofs.BestLaws.{best_of-says}
+use Rattle.ang_view.specs.declared.entry.EntryKind.TheVariants as entry
 use Rattle.ang_names_known.specs.declared.host.HostFunction.{HostFunction}
 use Rattle.ang_names_known.specs.declared.host.HostProperty.{HostProperty}
 use Rattle.ang_names_known.specs.declared.host.Wanted.TheVariants as wanted
 use Rattle.ang_names_known.specs.declared.host.WantedProperty.TheVariants as property
+use Rattle.ang_names_known.specs.declared.names.Constructor.{Constructor}
+use Rattle.ang_names_known.specs.declared.names.Default.{Default}
+use Rattle.ang_names_known.specs.declared.names.Default.TheVariants as default
 use Rattle.ang_names_known.specs.declared.names.Family.{Family}
 use Rattle.ang_names_known.specs.declared.names.ScriptFunction.{ScriptFunction}
 use Rattle.ang_names_known.specs.declared.names.ScriptGlobal.{ScriptGlobal}
+use Rattle.ang_names_known.specs.declared.names.ScriptParameter.{ScriptParameter}
 use Rattle.ang_names_known.specs.declared.space.Named.{Named}
 use Rattle.ang_names_known.specs.declared.space.Named.TheVariants as named
 use Rattle.ang_names_known.specs.Host.{host_where, property_where}
 use Rattle.ang_names_known.specs.Items.{is_empty}
-use Rattle.ang_names_known.specs.Lookup.{functions_named, global_named, parameters_of, type_and_pass}
-use Rattle.ang_names_known.specs.Spaces.{type_of_name, space_of_names}
-use Rattle.ang_check_typing.specs.Scope.{BodyContext, scope_of}
+use Rattle.ang_names_known.specs.Lookup.{functions_named, global_named, parameters_of, takes_nothing, default_of}
+use Rattle.ang_names_known.specs.Spaces.{family_of_type, type_of_name, space_of_names}
+use Rattle.ang_check_context.specs.Scope.{BodyContext, scope_of}
 use Rattle.ang_check_uses.specs.declared.uses.Callable.{Callable}
 use Rattle.ang_check_uses.specs.declared.uses.Called.{Called}
 use Rattle.ang_check_uses.specs.declared.uses.Called.TheVariants as calls
 use Rattle.ang_check_uses.specs.declared.uses.Resolution.{Resolution}
 use Rattle.ang_check_uses.specs.declared.uses.Resolution.TheVariants as resolution
-use Rattle.ang_check_uses.specs.Uses.{host_meant, variable_meant, global_or_host, global_meant, own_function, imported_function, callable_in, callable_at, script_callables, host_callable, candidates_of, called_at, picked, best_of_those, functions_of, best_function, called_by, called_name, resolution_of}
-use Rattle.ang_check_body.specs.Typing.{typed_parameters}
-use Rattle.ang_names_written.specs.NotYet.{is_object_function}
+use Rattle.ang_check_uses.specs.Uses.{host_meant, variable_meant, global_or_host, global_meant, own_function, imported_function, callable_in, callable_at, script_callables, host_callable, maker, factories_of, constructor_of, default_maker, makers_in, makers_for, makers_of, candidates_of, called_at, picked, best_of_those, functions_of, called_by, called_name, property_meant, host_method, host_methods, unmatched, best_method, resolution_of}
+use Rattle.ang_check_body.specs.Typing.{typed_parameter, typed_parameters, this_parameter}
 use Rattle.ang_source.specs.Sound as sound
 use Rattle.ang_source.specs.Sound.{Module, IsVariable, IsStored, IsHostCallee}
 use Rattle.ang_tree.specs.Stmt.{Every}
 use Rattle.ang_check_sound.specs.Checked.{module_in}
-use Rattle.ang_check_sound.specs.PlainNames.{IsPlainType, IsPlainFunction, IsPlainContext}
-use Rattle.ang_check_sound.proofs.Items.{every_joined, every_option, every_mapped, every_flat, every_at, at_front}
-use Rattle.ang_check_sound.proofs.Types.{name_unknown}
-use Rattle.ang_check_sound.proofs.Hosts.{Values, TakesPlain, IsHost, hosts_named, IsHostProperty, global_host_named}
+use Rattle.ang_check_sound.specs.Built.{IsConstructorIn, IsBuiltContext}
+use Rattle.ang_check_sound.proofs.Items.{every_joined, every_option, every_mapped, every_flat, every_placed, every_at, at_front}
+use Rattle.ang_check_sound.proofs.Families.{IfWritten, default_holds}
+use Rattle.ang_check_sound.proofs.Passings.{TakeAlike, params_alike}
+use Rattle.ang_check_sound.proofs.Hosts.{Values, IsHost, hosts_there, IsHostProperty, property_there}
 
 -- In a body:
 module _ (s : BodyContext) where
@@ -50,90 +56,166 @@ module _ (s : BodyContext) where
   abbrev pub Here : Module
   Here = module_in s.view s.names
 
-  -- ---- variables
+  -- ---- variables and properties
 
   -- where n locals are alive
   abbrev pub IsMeant : ℕ → Resolution → Type 0
-  IsMeant n (resolution.Variable x ty read_only) = IsVariable Here n x × (read_only ≡ false → IsStored Here n x) × IsPlainType ty
-  IsMeant n (resolution.Property h) = Unit {0}
+  IsMeant n (resolution.Variable x ty read_only) = IsVariable Here n x × (read_only ≡ false → IsStored Here n x)
+  IsMeant n (resolution.Property h) = IsHostProperty s.view entry.Property h
   IsMeant n (resolution.Call c) = Unit {0}
   IsMeant n (resolution.Type k) = Unit {0}
   IsMeant n (resolution.Refused why) = Unit {0}
 
-  host_there : (n : ℕ) (g : Option HostProperty) → IfSome g (IsHostProperty s.view) → IsMeant n (host_meant g)
+  host_there : (n : ℕ) (g : Option HostProperty) → IfSome g (IsHostProperty s.view entry.Global) → IsMeant n (host_meant g)
   host_there n None h = tt
-  host_there n (Some g) h = (h.entity, h.writable, h.ty)
+  host_there n (Some g) h = (h.entity, h.writable)
 
-  script_there : IsPlainContext s → (n i : ℕ) (g : Option ScriptGlobal) (host : Option HostProperty) → slice_get s.names.globals i ≡ g
-      → IfSome host (IsHostProperty s.view) → IsMeant n (variable_meant i g host)
-  script_there plain n i None host e h = host_there n host h
-  script_there plain n i (Some g) host e h =
-      let there = slice_get_within s.names.globals i g e in
-      (there, λ writable. there, every_at (λ (g : ScriptGlobal). IsPlainType g.written.ty) s.names.globals i g plain.names.globals e)
+  script_there : (n i : ℕ) (g : Option ScriptGlobal) (host : Option HostProperty) → slice_get s.names.globals i ≡ g
+      → IfSome host (IsHostProperty s.view entry.Global) → IsMeant n (variable_meant i g host)
+  script_there n i None host e h = host_there n host h
+  script_there n i (Some g) host e h = let there = slice_get_within s.names.globals i g e in (there, λ writable. there)
 
-  global_there : IsPlainContext s → (n : ℕ) (o : Option ℕ) (host : Option HostProperty) → IfSome host (IsHostProperty s.view)
+  global_there : (n : ℕ) (o : Option ℕ) (host : Option HostProperty) → IfSome host (IsHostProperty s.view entry.Global)
       → IsMeant n (global_or_host s.names.globals o host)
-  global_there plain n None host h = host_there n host h
-  global_there plain n (Some i) host h = script_there plain n i (slice_get s.names.globals i) host refl h
+  global_there n None host h = host_there n host h
+  global_there n (Some i) host h = script_there n i (slice_get s.names.globals i) host refl h
 
-  pub global_sound : IsPlainContext s → (n : ℕ) (name : List ℕ) → IsMeant n (resolution_of (scope_of s) name asks.Value)
+  pub global_sound : (n : ℕ) (name : List ℕ) → IsMeant n (resolution_of (scope_of s) name asks.Value)
   unfolding global_meant
-  global_sound plain n name =
-      global_there plain n (global_named s.names.globals name) (property_where (property.Global name) s.view) (global_host_named s.view name plain.values)
+  global_sound n name =
+      global_there n (global_named s.names.globals name) (property_where (property.Global name) s.view) (property_there s.view (property.Global name))
+
+  property_or_none : (n : ℕ) (g : Option HostProperty) → IfSome g (IsHostProperty s.view entry.Property) → IsMeant n (property_meant g)
+  property_or_none n None h = tt
+  property_or_none n (Some g) h = h
+
+  -- of objects of the type of number t
+  pub property_sound : (n t : ℕ) (name : List ℕ) → IsMeant n (resolution_of (scope_of s) name (asks.Property t))
+  property_sound n t name = property_or_none n (property_where (property.Member t name) s.view) (property_there s.view (property.Member t name))
 
   -- ---- functions
 
+  -- The body of a constructor takes its object, and then these parameters.
+  abbrev pub IsMaker : ℕ → Params → Type 0
+  IsMaker k ps = (own : Parameter) × (qs : List Parameter) × (slice_get Here.parameters k ≡ Some (own ∷ qs)) × (own.pass ≢ pass.RefOut) × TakeAlike ps qs
+
   -- what is called with these parameters is there
   abbrev pub IsCallee : Called → Params → Type 0
-  IsCallee (calls.Script f) ps = (g : ScriptFunction) × (sound.parameters_of Here f ≡ Some (typed_parameters g)) × (ps ≡ map type_and_pass g.params)
-  IsCallee (calls.Host h) ps = (TakesPlain ps → IsHostCallee s.view h (length ps)) × Values ps
-  IsCallee (calls.Makes c k) ps = ⊥
+  IsCallee (calls.Script f) ps = (qs : List Parameter) × (sound.parameters_of Here f ≡ Some qs) × TakeAlike ps qs
+  IsCallee (calls.Host h) ps = IsHostCallee s.view h (length ps) × Values ps
+  IsCallee (calls.Makes c None) ps = (c < length s.names.families) × (ps ≡ [])
+  IsCallee (calls.Makes c (Some k)) ps = (c < length s.names.families) × IsMaker k ps
 
   abbrev pub IsCallable : Callable → Type 0
-  IsCallable c = IsCallee c.called c.candidate.params × IsPlainType c.result
+  IsCallable c = IsCallee c.called c.candidate.params
 
-  own_one : IsPlainContext s → (i : ℕ) (f : Option ScriptFunction) → slice_get s.names.functions i ≡ f
-      → IfSome (callable_in own_function i f) IsCallable
+  own_one : (i : ℕ) (f : Option ScriptFunction) → slice_get s.names.functions i ≡ f → IfSome (callable_in own_function i f) IsCallable
   unfolding parameters_of
-  own_one plain i None e = tt
-  own_one plain i (Some f) e = (
-    (
-      f,
-      at_front (map typed_parameters s.names.functions) _ i (typed_parameters f)
-          (slice_get-map typed_parameters s.names.functions i ∙ ap (option_map typed_parameters) e),
-      refl,
-    ),
-    (every_at IsPlainFunction s.names.functions i f plain.names.functions e).result,
+  own_one i None e = tt
+  own_one i (Some f) e = (
+    typed_parameters f,
+    at_front (map typed_parameters s.names.functions) _ i (typed_parameters f)
+        (slice_get-map typed_parameters s.names.functions i ∙ ap (option_map typed_parameters) e),
+    params_alike f.params,
   )
 
-  -- there are no imports
-  imported_one : IsPlainContext s → (i : ℕ) (f : Option ScriptFunction) → slice_get s.names.imports i ≡ f
-      → IfSome (callable_in imported_function i f) IsCallable
-  imported_one plain i None e = tt
-  imported_one plain i (Some f) e =
-      let none : slice_get [] i ≡ Some f = subst (λ (fs : List ScriptFunction). slice_get fs i ≡ Some f) plain.names.no_imports e in cc
+  imported_one : (i : ℕ) (f : Option ScriptFunction) → slice_get s.names.imports i ≡ f → IfSome (callable_in imported_function i f) IsCallable
+  unfolding parameters_of
+  imported_one i None e = tt
+  imported_one i (Some f) e = (
+    typed_parameters f,
+    slice_get-map typed_parameters s.names.imports i ∙ ap (option_map typed_parameters) e,
+    params_alike f.params,
+  )
 
-  scripts_there : IsPlainContext s → (name : List ℕ) → Every IsCallable (script_callables s.names name)
+  scripts_there : (name : List ℕ) → Every IsCallable (script_callables s.names name)
   unfolding script_callables
-  scripts_there plain name =
+  scripts_there name =
       every_joined IsCallable _ _
       (every_flat IsCallable (callable_at own_function s.names.functions) (functions_named s.names.functions name)
-      (λ i. every_option IsCallable (callable_in own_function i (slice_get s.names.functions i)) (own_one plain i (slice_get s.names.functions i) refl)))
+      (λ i. every_option IsCallable (callable_in own_function i (slice_get s.names.functions i)) (own_one i (slice_get s.names.functions i) refl)))
       (every_flat IsCallable (callable_at imported_function s.names.imports) (functions_named s.names.imports name)
-      (λ i. every_option IsCallable (callable_in imported_function i (slice_get s.names.imports i)) (imported_one plain i (slice_get s.names.imports i) refl)))
+      (λ i. every_option IsCallable (callable_in imported_function i (slice_get s.names.imports i)) (imported_one i (slice_get s.names.imports i) refl)))
 
-  host_one : (f : HostFunction) → IsHost s.view f → IsCallable (host_callable f)
-  host_one f h = ((h.function, h.values), h.result)
+  function_one : (f : HostFunction) → IsHost s.view entry.Function f → IsCallable (host_callable f)
+  function_one f h = (record { kind = entry.Function; entity = h.entity; params = ap Some h.count }, h.values)
 
-  -- no host function of this name gives an object
-  abbrev pub GivesPlain : List ℕ → Type 0
-  GivesPlain name = list_any (is_object_function name) s.view ≡ false
+  maker_one : (t : ℕ) (f : HostFunction) → IsHost s.view entry.Factory f → IsCallable (maker t f)
+  maker_one t f h = (record { kind = entry.Factory; entity = h.entity; params = ap Some h.count }, h.values)
 
-  functions_there : IsPlainContext s → (name : List ℕ) → GivesPlain name → Every IsCallable (functions_of (scope_of s) name)
-  functions_there plain name none =
-      every_joined IsCallable (script_callables s.names name) (map host_callable (host_where (wanted.Function name) s.view)) (scripts_there plain name)
-      (every_mapped (IsHost s.view) IsCallable host_callable (host_where (wanted.Function name) s.view) host_one
-      (hosts_named s.view name plain.values none))
+  -- its receiver is the first parameter
+  method_one : (t : ℕ) (f : HostFunction) → IsHost s.view entry.Method f → IsCallable (host_method t f)
+  method_one t f h = (record { kind = entry.Method; entity = h.entity; params = ap (λ n. Some (suc n)) h.count }, (λ e. cc, h.values))
+
+  functions_there : IsBuiltContext s → (name : List ℕ) → Every IsCallable (functions_of (scope_of s) name)
+  functions_there built name =
+      every_joined IsCallable (script_callables s.names name) (map host_callable (host_where (wanted.Function name) s.view)) (scripts_there name)
+      (every_mapped (IsHost s.view entry.Function) IsCallable host_callable (host_where (wanted.Function name) s.view) function_one
+      (hosts_there s.view (wanted.Function name) built.values))
+
+  factories_there : IsBuiltContext s → (t : ℕ) → Every IsCallable (factories_of s.view t)
+  factories_there built t =
+      every_mapped (IsHost s.view entry.Factory) IsCallable (maker t) (host_where (wanted.Factory t) s.view) (maker_one t)
+      (hosts_there s.view (wanted.Factory t) built.values)
+
+  methods_there : IsBuiltContext s → (t : ℕ) (name : List ℕ) → Every IsCallable (host_methods s.view t name)
+  methods_there built t name =
+      every_mapped (IsHost s.view entry.Method) IsCallable (host_method t) (host_where (wanted.Method t name) s.view) (method_one t)
+      (hosts_there s.view (wanted.Method t name) built.values)
+
+  -- ---- what makes an object of a class
+
+  constructor_one : (c : ℕ) → c < length s.names.families → (k : Constructor) → IsConstructorIn Here c k → IsCallable (constructor_of c k)
+  unfolding parameters_of
+  constructor_one c there k e =
+      (there, (this_parameter (record { family = c; read_only = false }), typed_parameters k.function, e, (λ same. cc), params_alike k.function.params))
+
+  nothing_taken : (k : Constructor) → takes_nothing k ≡ true → TakeAlike [] (typed_parameters k.function)
+  nothing_taken k e = by k.function.params e
+    where
+      by : (ps : List ScriptParameter) → is_empty ps ≡ true → TakeAlike [] (map typed_parameter ps)
+      by [] e = refl
+      by (p ∷ ps) e = cc
+
+  -- A body that makes an object without arguments takes its object alone.
+  pub default_made : IsBuiltContext s → (d : ℕ) → IfWritten (λ k. IsMaker k []) (default_of s.names.families d)
+  default_made built d =
+      default_holds s.names.families (λ k. IsMaker k [])
+      (λ c f there m k at nothing. (
+        this_parameter (record { family = c; read_only = false }),
+        typed_parameters k.function,
+        (built.families c f there).constructors m k at,
+        (λ same. cc),
+        nothing_taken k nothing,
+      )) d
+
+  default_one : (c : ℕ) → c < length s.names.families → (d : Default) → IfWritten (λ k. IsMaker k []) d
+      → Every IsCallable (default_maker c d)
+  default_one c there default.Missing h = tt
+  default_one c there default.Unwritten h = ((there, refl), tt)
+  default_one c there (default.Written k) h = ((there, h), tt)
+
+  makers_of_class : (b e : Bool) (xs ys : List Callable) → Every IsCallable xs → Every IsCallable ys → Every IsCallable (if b then (if e then xs else ys) else [])
+  makers_of_class false e xs ys h k = tt
+  makers_of_class true true xs ys h k = h
+  makers_of_class true false xs ys h k = k
+
+  makers_of_family : IsBuiltContext s → (c : ℕ) (f : Option Family) → slice_get s.names.families c ≡ f → Every IsCallable (makers_in s.names.families c f)
+  makers_of_family built c None e = tt
+  makers_of_family built c (Some f) e =
+      let there = slice_get_within s.names.families c f e in
+      makers_of_class f.is_class (is_empty f.constructors) (default_maker c (default_of s.names.families c)) (map (constructor_of c) f.constructors)
+      (default_one c there (default_of s.names.families c) (default_made built c))
+      (every_mapped (IsConstructorIn Here c) IsCallable (constructor_of c) f.constructors (constructor_one c there)
+      (every_placed (IsConstructorIn Here c) f.constructors (built.families c f e).constructors))
+
+  makers_by : IsBuiltContext s → (t : ℕ) (c : Option ℕ) → Every IsCallable (makers_for (scope_of s) t c)
+  makers_by built t None = factories_there built t
+  makers_by built t (Some c) = makers_of_family built c (slice_get s.names.families c) refl
+
+  pub makers_there : IsBuiltContext s → (t : ℕ) → Every IsCallable (makers_of (scope_of s) t)
+  unfolding makers_of
+  makers_there built t = makers_by built t (family_of_type t)
 
   -- ---- the best of them
 
@@ -161,23 +243,42 @@ module _ (s : BodyContext) where
   picked_there unviable cs args (pick.One i) e all =
       best_there cs args i (slice_get cs i) refl all (((best_of-says s.ancestors (candidates_of cs) args).one i).0 e).viable.viable.equal_number
 
-  chosen_there : (cs : List Callable) (args : List ArgType) → Every IsCallable cs → IsMeantCall args (best_function s.ancestors cs args)
+  pub those_there : (unviable : ErrorKind) (cs : List Callable) (args : List ArgType) → Every IsCallable cs
+      → IsMeantCall args (best_of_those s.ancestors unviable cs args)
   unfolding best_of_those
-  chosen_there cs args all = by (is_empty cs)
-    where
-      by : (b : Bool) → IsMeantCall args (if b then resolution.Refused kind.UnknownName else picked kind.NoMatch cs (best_of s.ancestors (candidates_of cs) args))
-      by true = tt
-      by false = picked_there kind.NoMatch cs args (best_of s.ancestors (candidates_of cs) args) refl all
+  those_there unviable cs args all = picked_there unviable cs args (best_of s.ancestors (candidates_of cs) args) refl all
 
-  -- no type has the name
-  nothing_named : IsPlainContext s → (name : List ℕ) → is_some (type_named s.view name) ≡ false
-      → type_of_name (space_of_names s.view s.names) name ≡ named.Unknown
-  nothing_named plain name e =
-      name_unknown (space_of_names s.view s.names) (ap (λ (fs : List Family). map (λ (f : Family). f.name) fs) plain.names.no_families) name e
+  -- nothing is meant where there is none to choose from
+  or_unknown : (args : List ArgType) (b : Bool) (r : Resolution) → IsMeantCall args r
+      → IsMeantCall args (if b then resolution.Refused kind.UnknownName else r)
+  or_unknown args true r h = tt
+  or_unknown args false r h = h
 
-  pub call_there : IsPlainContext s → (name : List ℕ) (args : List ArgType) → is_some (type_named s.view name) ≡ false → GivesPlain name
-      → IsMeantCall args (resolution_of (scope_of s) name (asks.Call args))
+  by_name : IsBuiltContext s → (name : List ℕ) (args : List ArgType) (d : Named) → IsMeantCall args (called_by (scope_of s) name args d)
+  by_name built name args (named.Object t) = those_there kind.NoMatch (makers_of (scope_of s) t) args (makers_there built t)
+  by_name built name args named.Unknown =
+      let cs = functions_of (scope_of s) name in
+      or_unknown args (is_empty cs) _ (those_there kind.NoMatch cs args (functions_there built name))
+
+  pub call_there : IsBuiltContext s → (name : List ℕ) (args : List ArgType) → IsMeantCall args (resolution_of (scope_of s) name (asks.Call args))
   unfolding called_name
-  call_there plain name args no_type none =
-      subst (λ (d : Named). IsMeantCall args (called_by (scope_of s) name args d)) (sym (nothing_named plain name no_type))
-      (chosen_there (functions_of (scope_of s) name) args (functions_there plain name none))
+  call_there built name args = by_name built name args (type_of_name (space_of_names s.view s.names) name)
+
+  -- on a receiver of the type of number t
+  pub best_method_there : (cs : List Callable) (t : ℕ) (c : Bool) (args : List ArgType) → Every IsCallable cs
+      → IsMeantCall (type.Object t c ∷ args) (best_method s.ancestors cs t c args)
+  unfolding best_method
+  best_method_there cs t c args all =
+      or_unknown (type.Object t c ∷ args) (is_empty cs) _
+      (those_there (unmatched s.ancestors cs t c args) cs (type.Object t c ∷ args) all)
+
+  pub method_there : IsBuiltContext s → (name : List ℕ) (t : ℕ) (c : Bool) (args : List ArgType)
+      → IsMeantCall (type.Object t c ∷ args) (resolution_of (scope_of s) name (asks.Method t c args))
+  method_there built name t c args = best_method_there (host_methods s.view t name) t c args (methods_there built t name)
+
+  pub make_there : IsBuiltContext s → (name : List ℕ) (t : ℕ) (args : List ArgType)
+      → IsMeantCall args (resolution_of (scope_of s) name (asks.Make t args))
+  make_there built name t args = those_there kind.NoMatch (factories_of s.view t) args (factories_there built t)
+
+  pub default_there : IsBuiltContext s → (name : List ℕ) (t : ℕ) → IsMeantCall [] (resolution_of (scope_of s) name (asks.Default t))
+  default_there built name t = those_there kind.NoDefault (factories_of s.view t) [] (factories_there built t)

@@ -11,7 +11,7 @@ use Rattle.ang_names_known.specs.declared.names.Names.{Names}
 use Rattle.ang_names_known.specs.declared.names.ScriptFunction.{ScriptFunction}
 use Rattle.ang_names_known.specs.Items.{each_after}
 use Rattle.ang_names_written.specs.Sources.{Source}
-use Rattle.ang_check_typing.specs.declared.scope.Within.{Within}
+use Rattle.ang_check_context.specs.declared.scope.Within.{Within}
 use Rattle.ang_check_body.specs.Typing.{this_parameter, typed_parameters}
 use Rattle.ang_check_bodies.specs.Bodies.{HasBodies, method_headings}
 use Rattle.ang_source.specs.Sound.{Module}

@@ -1,4 +1,4 @@
 pub mod Views
 pub mod Checked
 pub mod Parts
-pub mod PlainNames
+pub mod Built

@@ -1,35 +1,38 @@
 //! What the checker promises.
-ghost use Rattle.std.specs.Prelude.{◌≡◌, ℕ, false, List, [], All, length, Some, IfOk};
+ghost use Rattle.std.specs.Prelude.{◌≡◌, ℕ, ◌≤◌, List, [], All, length, Option, Some, IfOk};
 ghost use Rattle.ang_view.specs.declared.entry.Entry.{Entry};
 ghost use Rattle.ang_view.specs.Registration.{RegistrationList, entry_at, seen};
 ghost use Rattle.ang_view.specs.Values.{TakesValues};
 ghost use Rattle.ang_tree.specs.Tree.{Tree};
-ghost use Rattle.ang_names_written.specs.NotYet.{is_beyond, not_yet};
 ghost use Rattle.ang_names_written.specs.Sources.{Source};
 ghost use Rattle.ang_names_known.specs.declared.names.Names.{Names};
+ghost use Rattle.ang_names_known.specs.Spaces.{first_family};
 ghost use Rattle.ang_names_listed.specs.Declarations.{declarations_of};
 ghost use Rattle.ang_names.specs.Resolved.{names_of};
-ghost use Rattle.ang_check_typing.specs.declared.scope.LocalVariable.{LocalVariable};
-ghost use Rattle.ang_check_typing.specs.Scope.{BodyContext};
+ghost use Rattle.ang_check_context.specs.declared.scope.LocalVariable.{LocalVariable};
+ghost use Rattle.ang_check_context.specs.declared.scope.Within.{Within};
+ghost use Rattle.ang_check_context.specs.Scope.{BodyContext};
 ghost use Rattle.ang_check_typing.specs.Typing.{typing_of};
-ghost use Rattle.ang_check_bodies.specs.Bodies.{parts_of, judgements, body_refusals, program_of};
+ghost use Rattle.ang_check_bodies.specs.Bodies.{context_in, parts_of, judgements, body_refusals, program_of};
 ghost use Rattle.ang_source.specs.Sound.{Sound, SoundProgram};
 ghost use Rattle.ang_check_sound.specs.Views.{Entitled};
 ghost use Rattle.ang_check_sound.specs.Checked.{module_in, HasNames};
 ghost use Rattle.ang_check_sound.specs.Parts.{IsPartOf};
-ghost use Rattle.ang_check_sound.specs.PlainNames.{ArePlainLocals, IsPlainContext};
+ghost use Rattle.ang_check_sound.specs.Built.{IsBuiltContext, HasThis};
 
 /// The resolved tree of scripts without errors, with the names that `declare` gives for them, is sound: its
 /// locals are alive, its functions and globals are there, each call has an argument for each parameter, and what
-/// it asks the host for is an entity that the view has, a function over primitives or a property of a primitive
-/// type: what uses another is beyond what is built, and an error of its declaration (`ang_names_written::not_yet_errors`).
-/// What a registry shows takes values alone (`Registry::seen`).
-#[tactic(auto, using(crate::proofs::Program::program_is_sound))]
+/// it asks the host for is an entity of the view, of the kind that is asked: a function, a factory or a method
+/// that is called, or a property, which is not written where it is declared `const`. Its classes, methods and
+/// imports are there, and the body that a class has in a slot takes what the methods of the slot take. What a
+/// registry shows takes values alone, in at most 1,024 entries (`Registry::seen`): no host type has the number of a
+/// class.
+#[tactic(auto, using(crate::proofs::Soundness::program_is_sound))]
 pub fn program_is_sound()
     ensures sound { (V : RegistrationList) (names : Names) (sources : List Source)
         → TakesValues V
+        → length V ≤ first_family
         → names ≡ names_of V (declarations_of sources)
-        → not_yet V sources ≡ []
         → body_refusals V names sources ≡ [] → SoundProgram V (program_of V names sources) }
 {}
 
@@ -42,15 +45,23 @@ pub fn program_has_the_names()
         → body_refusals V names sources ≡ [] → HasNames V names sources (program_of V names sources) }
 {}
 
-/// Each expression that was typed is sound, where these parameters and locals are alive, over any names: where
-/// these and the names have no object types, and the expression uses none.
+/// Each expression that was typed is sound, where these parameters and locals are alive, over any names whose
+/// methods and constructors the module has. In the body of a class `this` is the first of the locals.
 #[tactic(auto, using(crate::proofs::Expressions::expression_sound))]
 pub fn expression_is_sound()
     ensures sound { (s : BodyContext) (locals : List LocalVariable) (e : Tree)
-        → IsPlainContext s
-        → ArePlainLocals locals
-        → is_beyond s.view s.text e ≡ false
+        → IsBuiltContext s
+        → HasThis s (length locals)
         → IfOk (typing_of s locals e) (λ a. Sound (module_in s.view s.names) (length locals) a.tree) }
+{}
+
+/// Of the names that `declare` gives the module has all methods and constructors, whatever is refused: so what was
+/// typed in a body of them is sound.
+pub fn each_context_is_built()
+    ensures built { (V : RegistrationList) (values : TakesValues V) (few : length V ≤ first_family)
+        (names : Names) (sources : List Source)
+        → names ≡ names_of V (declarations_of sources)
+        → (text : List ℕ) (within : Option Within) → IsBuiltContext (context_in V names text within) }
 {}
 
 /// Of the names that `declare` gives each function, method and constructor has the body that stands at its own name, and each

@@ -8,7 +8,7 @@ use Rattle.ang_tree.specs.declared.statement.Variable.{Variable}
 use Rattle.ang_tree.specs.declared.type_name.TypeName.{TypeName}
 use Rattle.ang_types.specs.declared.arg_type.ArgType.{ArgType}
 use Rattle.ang_typed.specs.Typed as t
-use Rattle.ang_check_typing.specs.declared.scope.LocalVariable.{LocalVariable}
+use Rattle.ang_check_context.specs.declared.scope.LocalVariable.{LocalVariable}
 use Rattle.ang_check_operand.specs.declared.refusal.Refusal.{Refusal}
 use Rattle.ang_check_operand.specs.Refusals.{Typing, ◌>>=◌}
 use Rattle.ang_typed.specs.View.{view_stmt}

@@ -16,13 +16,14 @@ use Rattle.ang_typed.specs.declared.expression.Variable.TheVariants as variable
 use Rattle.ang_typed.specs.Typed as t
 use Rattle.ang_check_statements.specs.declared.frame.Returns.{Returns}
 use Rattle.ang_check_statements.specs.declared.frame.Returns.TheVariants as returns
-use Rattle.ang_check_typing.specs.declared.scope.LocalVariable.{LocalVariable}
+use Rattle.ang_check_context.specs.declared.scope.LocalVariable.{LocalVariable}
 use Rattle.ang_names_written.specs.declared.role.Role.TheVariants as role
 use Rattle.ang_names_known.specs.Lookup.{is_read_only}
 use Rattle.ang_check_operand.specs.Operands.{Operand, fit, truth}
 use Rattle.ang_check_operand.specs.Refusals.{Typing, ◌>>=◌, fault, refused}
-use Rattle.ang_check_typing.specs.Calls.{type_or_refusal, default_typing, made_typing}
-use Rattle.ang_check_typing.specs.Scope.{BodyContext, space_of}
+use Rattle.ang_check_context.specs.Casts.{type_or_refusal}
+use Rattle.ang_check_context.specs.Scope.{BodyContext, space_of}
+use Rattle.ang_check_typing.specs.Calls.{default_typing, made_typing}
 use Rattle.ang_check_typing.specs.Typing.{typing_of, typing_of_args, typing_of_all}
 use Rattle.ang_names_written.specs.Sources.{text_of}
 use Rattle.ang_names_written.specs.Types.{type_in, is_const_handle}

@@ -1,7 +1,7 @@
 //! What is the same for all statements of a function.
 ghost use Rattle.std.specs.Prelude.{◌≡◌};
 
-use ang_check_typing::BodyContext;
+use ang_check_context::BodyContext;
 use ang_types::ArgType;
 use std::marker::Model;
 

@@ -6,10 +6,9 @@ ghost use Rattle.ang_check_operand.specs.Refusals.{Gives};
 ghost use Rattle.ang_check_operand.specs.View.{view_operand, view_operands};
 ghost use Rattle.ang_check_statements.specs.Typing as spec;
 
+use ang_check_context::{BodyContext, LocalVariable};
 use ang_check_operand::{Operand, Stop, fault, fit, refused};
-use ang_check_typing::{
-    BodyContext, LocalVariable, default_typing, made_typing, typing, typing_of_all,
-};
+use ang_check_typing::{default_typing, made_typing, typing, typing_of_all};
 use ang_kinds::ErrorKind;
 use ang_lex::Token;
 use ang_tree::{Initializer, TypeName};

@@ -7,8 +7,8 @@ ghost use Rattle.ang_check_statements.specs.Typing as spec;
 
 use crate::frame::Frame;
 use crate::initial::initializer;
+use ang_check_context::{BodyContext, LocalVariable, type_or_refusal};
 use ang_check_operand::{Stop, refused};
-use ang_check_typing::{BodyContext, LocalVariable, type_or_refusal};
 use ang_kinds::ErrorKind;
 use ang_lex::Token;
 use ang_names_known::{Space, Text, Written, is_read_only};

@@ -18,8 +18,8 @@ use crate::loops::{LoopHead, for_of, list_of_one};
 use crate::parts::{
     condition_or_halt, expression_or_halt, head_or_halt, jump, locals_or_halt, return_or_halt,
 };
+use ang_check_context::LocalVariable;
 use ang_check_operand::Stop;
-use ang_check_typing::LocalVariable;
 use ang_tree as written;
 use ang_tree::{Argument, ForStart, Statement as Written};
 use ang_typed::{Block, Choice, Expression, Loop, Statement};

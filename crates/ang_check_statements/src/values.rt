@@ -7,8 +7,9 @@ ghost use Rattle.ang_check_operand.specs.View.{view_operand, view_operands};
 ghost use Rattle.ang_check_statements.specs.Typing as spec;
 
 use crate::frame::{Frame, Returns};
+use ang_check_context::{BodyContext, LocalVariable};
 use ang_check_operand::{Operand, Stop, boxed, fault, fit, truth};
-use ang_check_typing::{BodyContext, LocalVariable, typing, typing_of_all};
+use ang_check_typing::{typing, typing_of_all};
 use ang_kinds::ErrorKind;
 use ang_lex::Token;
 use ang_tree as written;

@@ -1,4 +1,3 @@
-pub mod Classes
 pub mod Operands
 pub mod Passing
 pub mod SoFar

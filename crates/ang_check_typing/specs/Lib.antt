@@ -1,5 +1,4 @@
 pub mod Calls
 pub mod Methods
 pub mod Operands
-pub mod Scope
 pub mod Typing

@@ -1,5 +1,5 @@
 //! Arguments, each for its parameter.
-ghost use Rattle.std.specs.Prelude.{◌≡◌, map as list_map, IfOk};
+ghost use Rattle.std.specs.Prelude.{◌≡◌, map as list_map};
 ghost use Rattle.ang_check_operand.specs.Operands.{site_in as site_in_tree};
 ghost use Rattle.ang_check_operand.specs.Refusals.{Gives};
 ghost use Rattle.ang_check_operand.specs.View.{view_operand, view_operands};
@@ -10,7 +10,7 @@ use ang_check_operand::{Operand, Stop, fault, fit, site_in};
 use ang_kinds::{ErrorKind, List, Pass, Place};
 use ang_typed::{Argument, Expression, Site, Variable};
 use ang_types::{ArgType, Lineage};
-use std::alloc::{AllocError, Global};
+use std::alloc::Global;
 
 fn is_out_variable(variable: Variable) -> bool
     ensures exact { result ≡ spec.is_out_variable variable }
@@ -163,17 +163,4 @@ pub fn arguments_for(
         (spec.arguments_for lineage.now params.now (view_operands operands.items)) }
 {
     Ok(List::from_vec(arguments_in(alloc, lineage, params, operands)?))
-}
-
-/// The types of some operands.
-///
-/// The only error is want of memory.
-pub fn types_of(alloc: Global, operands: &[Operand]) -> Result<Vec<ArgType>, AllocError>
-    ensures exact { IfOk result (λ v. v.items ≡ spec.types_of (view_operands operands.now)) }
-{
-    let mut types = Vec::new(alloc);
-    for operand in operands {
-        types.push(operand.ty)?;
-    }
-    Ok(types)
 }

@@ -6,7 +6,7 @@ ghost use Rattle.ang_check_typing.specs.Calls as spec;
 ghost use Rattle.ang_typed.specs.View.{view_arg, view_tree};
 
 use crate::arguments::arguments_for;
-use crate::context::{BodyContext, access_error, may_reach};
+use ang_check_context::{BodyContext, access_error, may_reach};
 use ang_check_operand::{Operand, Stop, boxed, plain_operand, refused, use_refused};
 use ang_check_uses::{Callable, Called, Resolution};
 use ang_kinds::{ErrorKind, List, Place};
@@ -148,8 +148,8 @@ pub fn called_own(
 ///
 /// The only error is want of memory.
 pub fn with_receiver(receiver: Operand, operands: Vec<Operand>) -> Result<Vec<Operand>, AllocError>
-    ensures exact { IfOk result
-        (λ all. view_operands all.items ≡ view_operand receiver ∷ view_operands operands.items) }
+    ensures exact { IfOk result (λ all. view_operands all.items
+        ≡ view_operand receiver ∷ view_operands operands.items) }
 {
     let mut all = operands;
     all.insert(0, receiver)?;

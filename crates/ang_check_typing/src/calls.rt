@@ -1,21 +1,24 @@
 //! Calls by a name alone, and those of a class above.
-ghost use Rattle.std.specs.Prelude.{◌≡◌, ◌<◌, ◌==◌, ◌&&◌, ◌∷◌, not, bytes_eq, option_map, Some, IfOk, IfSome, map as list_map};
+ghost use Rattle.std.specs.Prelude.{◌≡◌, ◌<◌, ◌==◌, ◌&&◌, ◌∷◌, not, bytes_eq, option_map};
+ghost use Rattle.std.specs.Prelude.{Some, IfOk, IfSome, map as list_map};
 ghost use Rattle.std.specs.List.{flat_map, position};
 ghost use Rattle.ang_names_known.specs.Lookup as lookup;
 ghost use Rattle.ang_names_known.specs.Spaces as spaces;
 ghost use Rattle.ang_check_operand.specs.Refusals.{Gives};
 ghost use Rattle.ang_check_operand.specs.View.{view_operand, view_operands};
 ghost use Rattle.ang_check_typing.specs.Calls as spec;
+ghost use Rattle.ang_check_context.specs.Names.{this_operand as own_operand};
+ghost use Rattle.ang_check_context.specs.Operands.{types_of as all_types};
+ghost use Rattle.ang_check_context.specs.Scope as scopes;
 ghost use Rattle.ang_check_uses.specs.Uses as uses;
-ghost use Rattle.ang_check_typing.specs.Scope as scopes;
 ghost use Rattle.ang_names_written.specs.Sources as sources;
 
-use crate::arguments::types_of;
 use crate::called::{CallSite, called_use};
-use crate::context::{BodyContext, is_there, resolved};
-use crate::methods::{Receiver, called_on, direct_meant, own_method};
-use crate::names::this_operand;
-use crate::scope::{LocalVariable, Within};
+use crate::methods::{called_on, direct_meant, own_method};
+use ang_check_context::{
+    BodyContext, LocalVariable, Receiver, Within, is_there, receiver_within, resolved,
+    this_operand, types_of,
+};
 use ang_check_operand::{Operand, Stop, refused};
 use ang_check_uses::Resolution;
 use ang_kinds::{ErrorKind, List};
@@ -23,21 +26,6 @@ use ang_lex::Token;
 use ang_names_known::{Family, FoundMethod, is_under, methods_named};
 use ang_types::Asks;
 use std::alloc::{AllocError, Global};
-
-/// The number of the first family as a type.
-const FIRST_FAMILY: u32 = 1024;
-
-/// `this` as the receiver of a method.
-fn receiver_within(within: Within) -> Receiver
-    requires few { within.family < 256 }
-    ensures number { result.number ≡ spaces.family_type within.family }
-    ensures read_only { result.read_only ≡ within.read_only }
-{
-    Receiver {
-        number: FIRST_FAMILY + within.family as u32,
-        read_only: within.read_only,
-    }
-}
 
 /// The methods of this name that `this` has, with the body's class; none where there are none.
 #[tactic(auto, using(ang_names_known::proofs::Kin::empty_is))]
@@ -69,11 +57,11 @@ fn function_call(
     operands: Vec<Operand>,
 ) -> Result<Operand, Stop>
     ensures exact { Gives view_operand result (spec.called_use context.now name.now.place name.now
-        (Asks.Call (spec.types_of (view_operands operands.items))) is_there
+        (Asks.Call (all_types (view_operands operands.items))) is_there
         (view_operands operands.items)
         (uses.resolution_of (scopes.scope_of context.now)
         (sources.text_of context.now.text name.now)
-        (Asks.Call (spec.types_of (view_operands operands.items))))) }
+        (Asks.Call (all_types (view_operands operands.items))))) }
 {
     let types = types_of(alloc, operands.as_slice())?;
     let asks = Asks::Call(List::from_vec(types));
@@ -96,11 +84,11 @@ fn method_of_this(
 ) -> Result<Operand, Stop>
     requires few { within.family < 256 }
     ensures exact { Gives view_operand result (spec.called_own context.now name.now.place name.now
-        (spec.this_operand name.now.place within ∷ view_operands operands.items)
+        (own_operand name.now.place within ∷ view_operands operands.items)
         (uses.best_method context.now.ancestors
         (list_map (spec.virtual_method (spaces.family_type within.family)) methods.now)
         (spaces.family_type within.family) within.read_only
-        (spec.types_of (view_operands operands.items)))) }
+        (all_types (view_operands operands.items)))) }
 {
     let on = receiver_within(within);
     let receiver = this_operand(alloc, name.place, within)?;
@@ -176,7 +164,7 @@ fn method_above(
         (flat_map (spec.direct_method on.number)
         (lookup.methods_named context.now.names.families family
         (sources.text_of context.now.text name.now)))
-        on.number on.read_only (spec.types_of (view_operands operands.now))) }
+        on.number on.read_only (all_types (view_operands operands.now))) }
 {
     let methods = methods_named(alloc, context.families(), family, context.text_of(name))?;
     direct_meant(alloc, context.lineage(), methods.as_slice(), on, operands)

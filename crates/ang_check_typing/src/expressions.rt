@@ -3,15 +3,13 @@ ghost use Rattle.std.specs.Prelude.{◌≡◌, IfOk, true, ◌++◌, ◌∷◌, 
 ghost use Rattle.ang_tree.specs.View as trees;
 ghost use Rattle.ang_check_operand.specs.Refusals.{Gives};
 ghost use Rattle.ang_check_operand.specs.View.{view_operand, view_operands};
-ghost use Rattle.ang_check_typing.specs.Operands.{has_one_operand, has_two_operands, has_three_operands, is_of_object};
+ghost use Rattle.ang_check_typing.specs.Operands.{has_one_operand, has_two_operands};
+ghost use Rattle.ang_check_typing.specs.Operands.{has_three_operands, is_of_object};
 ghost use Rattle.ang_check_typing.specs.Typing as spec;
 
 use crate::calls::{call, scoped_call};
-use crate::casts::{cast, cast_type};
-use crate::context::BodyContext;
-use crate::members::{member_of, method_call};
-use crate::names::{named, this};
-use crate::scope::LocalVariable;
+use crate::object_methods::method_call;
+use ang_check_context::{BodyContext, LocalVariable, cast, cast_type, member_of, named, this};
 use ang_check_operand::{Operand, Stop};
 use ang_check_operators::{
     assignment, binary, conditional, convert, group, literal, postfix, prefix,
@@ -22,8 +20,8 @@ use std::alloc::{AllocError, Global};
 
 /// The list with one more operand at its end.
 fn with_operand(first: Vec<Operand>, operand: Operand) -> Result<Vec<Operand>, AllocError>
-    ensures exact { IfOk result
-        (λ v. view_operands v.items ≡ view_operands first.items ++ (view_operand operand ∷ [])) }
+    ensures exact { IfOk result (λ v. view_operands v.items
+        ≡ view_operands first.items ++ (view_operand operand ∷ [])) }
 {
     let mut found = first;
     found.push(operand)?;

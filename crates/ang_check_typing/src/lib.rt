@@ -5,17 +5,11 @@
 mod arguments;
 mod called;
 mod calls;
-mod casts;
-mod context;
 mod expressions;
 mod made;
-mod members;
 mod methods;
-mod names;
-mod scope;
+mod object_methods;
 
-pub use arguments::{arguments_for, types_of};
-pub use context::{BodyContext, is_there, type_or_refusal};
+pub use arguments::arguments_for;
 pub use expressions::{typing, typing_of_all};
 pub use made::{default_typing, made_typing};
-pub use scope::{LocalVariable, Within};

@@ -3,14 +3,13 @@ ghost use Rattle.std.specs.Prelude.{◌≡◌, IfOk};
 ghost use Rattle.ang_check_operand.specs.Refusals.{Gives};
 ghost use Rattle.ang_check_operand.specs.View.{view_operand, view_operands};
 ghost use Rattle.ang_check_typing.specs.Calls as spec;
-ghost use Rattle.ang_check_typing.specs.Scope as scopes;
+ghost use Rattle.ang_check_context.specs.Operands.{types_of as all_types};
+ghost use Rattle.ang_check_context.specs.Scope as scopes;
 ghost use Rattle.ang_check_uses.specs.Uses as uses;
 ghost use Rattle.ang_names_known.specs.Spaces as spaces;
 
-use crate::arguments::types_of;
 use crate::called::{CallSite, called_own, called_use};
-use crate::context::{BodyContext, is_there, makers, resolved};
-use crate::scope::LocalVariable;
+use ang_check_context::{BodyContext, LocalVariable, is_there, makers, resolved, types_of};
 use ang_check_operand::{Operand, Stop};
 use ang_check_uses::{Resolution, best_of_those, family_of_type};
 use ang_kinds::{ErrorKind, List};
@@ -28,7 +27,7 @@ fn maker_meant(
 ) -> Result<Resolution, AllocError>
     ensures exact { IfOk result (λ r. r ≡ uses.best_of_those context.now.ancestors unviable
         (uses.makers_of (scopes.scope_of context.now) number)
-        (spec.types_of (view_operands operands.now))) }
+        (all_types (view_operands operands.now))) }
 {
     let types = types_of(alloc, operands)?;
     let callables = makers(alloc, context, number)?;

@@ -5,11 +5,11 @@ ghost use Rattle.ang_check_operand.specs.Refusals.{Gives};
 ghost use Rattle.ang_check_operand.specs.View.{view_operand, view_operands};
 ghost use Rattle.ang_check_typing.specs.Calls as spec;
 ghost use Rattle.ang_check_typing.specs.Methods as methods_spec;
+ghost use Rattle.ang_check_context.specs.Operands.{types_of as all_types};
 ghost use Rattle.ang_check_uses.specs.Uses as uses;
 
-use crate::arguments::types_of;
 use crate::called::{CallSite, called_own, with_receiver};
-use crate::context::BodyContext;
+use ang_check_context::{BodyContext, Receiver, types_of};
 use ang_check_operand::{Operand, Stop};
 use ang_check_uses::{Callable, Callables, Called, Reach, Resolution, best_method};
 use ang_kinds::{List, Pass};
@@ -18,16 +18,6 @@ use ang_names_known::{FoundMethod, Method, parameters_of};
 use ang_typed::Callee;
 use ang_types::{ArgType, Candidate, Lineage};
 use std::alloc::{AllocError, Global};
-
-/// On what a method is called: the number of the receiver's type, and whether the receiver may not
-/// be changed.
-#[derive(Clone, Copy, PartialEq, Eq, Debug)]
-pub struct Receiver {
-    /// The number of its type.
-    pub number: u32,
-    /// Whether it is `const`.
-    pub read_only: bool,
-}
 
 /// The parameters of a method, with its receiver in front.
 fn method_parameters(
@@ -124,7 +114,7 @@ fn best_on(
     operands: &[Operand],
 ) -> Result<Resolution, AllocError>
     ensures exact { IfOk result (λ r. r ≡ uses.best_method lineage.now callables on.number
-        on.read_only (spec.types_of (view_operands operands.now))) }
+        on.read_only (all_types (view_operands operands.now))) }
 {
     let types = types_of(alloc, operands)?;
     let Receiver { number, read_only } = on;
@@ -148,7 +138,7 @@ fn virtual_meant(
 ) -> Result<Resolution, AllocError>
     ensures exact { IfOk result (λ r. r ≡ uses.best_method lineage.now
         (list_map (spec.virtual_method on.number) methods.now) on.number on.read_only
-        (spec.types_of (view_operands operands.now))) }
+        (all_types (view_operands operands.now))) }
 {
     let callables = virtual_methods(alloc, on.number, methods)?;
     best_on(alloc, lineage, callables, on, operands)
@@ -164,7 +154,7 @@ pub fn direct_meant(
 ) -> Result<Resolution, AllocError>
     ensures exact { IfOk result (λ r. r ≡ uses.best_method lineage.now
         (flat_map (spec.direct_method on.number) methods.now) on.number on.read_only
-        (spec.types_of (view_operands operands.now))) }
+        (all_types (view_operands operands.now))) }
 {
     let callables = direct_methods(alloc, on.number, methods)?;
     best_on(alloc, lineage, callables, on, operands)
@@ -207,7 +197,7 @@ pub fn own_method(
         (view_operand receiver ∷ view_operands operands.items)
         (uses.best_method context.now.ancestors
         (list_map (spec.virtual_method on.number) methods.now)
-        on.number on.read_only (spec.types_of (view_operands operands.items)))) }
+        on.number on.read_only (all_types (view_operands operands.items)))) }
 {
     let lineage = context.lineage();
     let resolution = virtual_meant(alloc, lineage, methods, on, operands.as_slice())?;

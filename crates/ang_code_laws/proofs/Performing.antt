@@ -76,7 +76,7 @@ not_is true h = absurd (let x : ⊥ = cc in x)
 not_is false h = refl
 
 -- the arguments of a call, of a read and of a write
-called_by : (r : Role) (u : HostUse) (args : List Value) → is_called_by r u.member u.result ≡ true → length args ≡ length u.params → ArgumentsBy r u args
+called_by : (r : Role) (u : HostUse) (args : List Value) → is_called_by r u.member ≡ true → length args ≡ length u.params → ArgumentsBy r u args
 called_by (MakingRole f) u args h e = e
 called_by (CallingRole f) u args h e = e
 called_by (PropertyRole f) u args h e = absurd (let x : ⊥ = cc in x)

@@ -7,7 +7,7 @@ use Rattle.std.proofs.lemmas.List.Elements.{All-nil}
 use Rattle.ang_host.specs.declared.event.HostEvent.{HostEvent}
 use Rattle.ang_host.specs.declared.event.Role.{Role}
 use Rattle.ang_host.specs.Boxes.{members}
-use Rattle.ang_host.specs.Laws.{Meaning}
+use Rattle.ang_host.specs.Meanings.{Meanings}
 use Rattle.ang_host.specs.Events.{DriversFollow}
 use Rattle.ang_host.proofs.Events.{AllFollow-none}
 use Rattle.ang_view.specs.Registration.{RegistrationList}
@@ -29,10 +29,11 @@ use Rattle.ang_engine.specs.Step.{Takes, IsEntitled}
 use Rattle.ang_engine.specs.Sound.{IsSoundModule}
 use Rattle.ang_engine.specs.Asked.{HasRunOn, HasAsked}
 use Rattle.ang_engine.specs.Applied.{Applied}
+use Rattle.ang_engine.specs.Outcomes.{IfRefusedAtOnce}
 use Rattle.ang_engine.proofs.Entries.{roles_agree, all_entitled, ends_entitled, agrees_none}
 use Rattle.ang_engine.proofs.GlobalsEnd.{globals_ends, ends_all, ended_counted}
 
-module _ {V : Type 0} {P : V → Type 0} (m : (v : V) → Meaning (P v)) where
+module _ {V : Type 0} {P : V → Type 0} (m : Meanings P) where
   -- ---- pieces of a command
 
   -- nothing was done
@@ -91,5 +92,6 @@ module _ {V : Type 0} {P : V → Type 0} (m : (v : V) → Meaning (P v)) where
     asked-ends w h = asked-by [] w h (agrees_none (roles_of R)) (λ es. ends_entitled R w after.items es)
 
   pub applied-asked : (R : RegistrationList) (w v : World) (c : Command) (reply : Reply) (s t : Store V P)
-      → Takes R w c reply v → HasAsked m R v reply.events s t → Applied m R w (members s.drivers) c reply v (members t.drivers)
-  applied-asked R w v c reply s t takes asked = record { takes = takes; entitled = asked.entitled; follow = asked.follow }
+      → Takes R w c reply v → HasAsked m R v reply.events s t → IfRefusedAtOnce reply.outcome (members t.drivers ≡ members s.drivers)
+      → Applied m R w (members s.drivers) c reply v (members t.drivers)
+  applied-asked R w v c reply s t takes asked refused = record { takes = takes; entitled = asked.entitled; follow = asked.follow; refused = refused }

@@ -5,7 +5,8 @@ use Rattle.std.specs.declared.dyn_box.DynBox.{DynBox}
 use Rattle.ang_host.specs.declared.event.HostEvent.{HostEvent}
 use Rattle.ang_host.specs.declared.event.Role.{Role}
 use Rattle.ang_host.specs.State.{State}
-use Rattle.ang_host.specs.Laws.{Meaning, IsSound}
+use Rattle.ang_host.specs.Laws.{IsSound}
+use Rattle.ang_host.specs.Meanings.{Meanings}
 use Rattle.ang_host.specs.Members.{state_at, AreFresh}
 use Rattle.ang_host.specs.Counts.{IsBalanced}
 use Rattle.ang_host.specs.Events.{DriversFollow}
@@ -28,7 +29,7 @@ discarded ss r x counted ended hosts sound =
     record { balanced = All-state_at IsBalanced ss each; fresh = fresh-balanced ss sound each }
 
 -- the drivers follow the ends, which are all that was listed
-pub discarded-follow : {V : Type 0} {P : V → Type 0} (m : (v : V) → Meaning (P v)) (roles : List Role) (xs ys : List (DynBox V Global P)) (es fs gs : List HostEvent)
+pub discarded-follow : {V : Type 0} {P : V → Type 0} (m : Meanings P) (roles : List Role) (xs ys : List (DynBox V Global P)) (es fs gs : List HostEvent)
     → es ≡ [] → gs ≡ fs → PartsMove m roles xs es ys fs → DriversFollow m roles xs gs ys
 discarded-follow m roles xs ys es fs gs none same p =
     subst (λ l. DriversFollow m roles xs l ys) (sym (same ∙ p.events ∙ ap (λ l. l ++ p.more) none)) p.follow

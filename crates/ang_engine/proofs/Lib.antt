@@ -9,6 +9,7 @@ pub mod Builds
 pub mod Starting
 pub mod Emptied
 pub mod Rebuilding
+pub mod Refusing
 pub mod Calls
 pub mod Named
 pub mod Asking

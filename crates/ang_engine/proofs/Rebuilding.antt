@@ -9,7 +9,7 @@ use Rattle.ang_kinds.specs.declared.mask.Mask.{Mask}
 use Rattle.ang_host.specs.declared.event.HostEvent.{HostEvent}
 use Rattle.ang_host.specs.declared.event.Role.{Role}
 use Rattle.ang_host.specs.Boxes.{members}
-use Rattle.ang_host.specs.Laws.{Meaning}
+use Rattle.ang_host.specs.Meanings.{Meanings}
 use Rattle.ang_host.proofs.Events.{AllFollow-length}
 use Rattle.ang_view.specs.Registration.{RegistrationList, seen}
 use Rattle.ang_meaning.specs.World.{Input, World as RunWorld, with_inputs}
@@ -84,7 +84,7 @@ module _ (R : RegistrationList) (name : List ℕ) (budget : ℕ) (w : World) (i 
 -- ---- from the end of its globals on
 
 -- Module `home` among these, d before and n behind: its globals have ended, and its code is gone.
-module _ {V : Type 0} {P : V → Type 0} (m : (v : V) → Meaning (P v)) (R : RegistrationList) (ms : List Module) (ls cs : List (Option LoadedModule)) (home budget : ℕ) (n d : Module)
+module _ {V : Type 0} {P : V → Type 0} (m : Meanings P) (R : RegistrationList) (ms : List Module) (ls cs : List (Option LoadedModule)) (home budget : ℕ) (n d : Module)
     (s t : Store V P) (es fs : Vec HostEvent Global) (zip : AllZip (IsSoundModule R) ms ls) (few : length ms ≤ 1) (lt : home < length ms) (at : d ≡ slice_index_or ms home d)
     (cleared : cs ≡ slice_set ls home None) (first : es.items ≡ [])
     (ended : (is : List Input) → globals_ended home (with_inputs is (world_of m (record s { events = es }))) ≡ with_inputs is (world_of m (record t { events = fs })))

@@ -5,7 +5,7 @@ use Rattle.std.specs.List.{AllByRecursion}
 use Rattle.ang_kinds.specs.declared.fault.Fault.{Fault}
 use Rattle.ang_host.specs.declared.event.Role.{Role}
 use Rattle.ang_host.specs.Boxes.{members}
-use Rattle.ang_host.specs.Laws.{Meaning}
+use Rattle.ang_host.specs.Meanings.{Meanings}
 use Rattle.ang_typed.specs.Typed as t
 use Rattle.ang_meaning.specs.declared.class.ValueKind.{ValueKind}
 use Rattle.ang_meaning.specs.declared.class.ValueKind.TheVariants.{Number, Handle}
@@ -89,7 +89,7 @@ pub started-by : (r : Result Slot Fault) (ls ks : List (Option LoadedModule)) (h
 started-by r ls ks home budget p u v x code begun h =
     subst (λ w. Ends (initialization_of (modules_of ks) budget home) w r x) begun (subst (λ q. Ends (initialization_of (modules_of q) budget home) v r x) code h)
 
-module _ {V : Type 0} {P : V → Type 0} (m : (v : V) → Meaning (P v)) (ms : List RunModule) where
+module _ {V : Type 0} {P : V → Type 0} (m : Meanings P) (ms : List RunModule) where
   ready_with : (s : Store V P) (gs : Globals) → IsReady m s → IsReady m (record s { globals = gs })
   ready_with s gs r = record { kept = record { drivers = r.kept.drivers; alive = r.kept.alive; none = r.kept.none }; room = r.room }
 
@@ -109,7 +109,7 @@ module _ {V : Type 0} {P : V → Type 0} (m : (v : V) → Meaning (P v)) (ms : L
   run-done s t asked moves ready counted = record { asked = asked; moves = moves; ready = λ q. ready; counted = λ q. counted }
 
 -- the same of modules by other words
-pub run-loaded : {V : Type 0} {P : V → Type 0} (m : (v : V) → Meaning (P v)) (ls ks : List (Option LoadedModule)) (s t : Store V P) → ls ≡ ks
+pub run-loaded : {V : Type 0} {P : V → Type 0} (m : Meanings P) (ls ks : List (Option LoadedModule)) (s t : Store V P) → ls ≡ ks
     → (AllByRecursion (IsAskedIn (modules_of ls)) s.events.items → AllByRecursion (IsAskedIn (modules_of ls)) t.events.items)
     → ((roles : List Role) → AgreesWith roles (modules_of ls) → StoreMoves m roles s t) → IsReady m t → IsCounted [] (world_of m t) → HasRunOn m (modules_of ks) s t
 run-loaded m ls ks s t code asked moves ready counted = subst (λ q. HasRunOn m (modules_of q) s t) code (run-done m (modules_of ls) s t asked moves ready counted)

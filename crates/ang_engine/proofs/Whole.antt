@@ -7,7 +7,8 @@ use Rattle.ang_host.specs.declared.event.HostEvent.{HostEvent}
 use Rattle.ang_host.specs.declared.event.Role.{Role}
 use Rattle.ang_host.specs.State.{State}
 use Rattle.ang_host.specs.Boxes.{members}
-use Rattle.ang_host.specs.Laws.{Fits, Meaning}
+use Rattle.ang_host.specs.Laws.{Fits}
+use Rattle.ang_host.specs.Meanings.{Meanings, state_in}
 use Rattle.ang_host.specs.Events.{AllFollow}
 use Rattle.ang_view.specs.Registration.{RegistrationList}
 use Rattle.ang_registry.specs.Roles.{roles_of}
@@ -25,12 +26,13 @@ use Rattle.ang_engine.specs.declared.reply.Refusal.TheVariants.{Memory}
 use Rattle.ang_engine.specs.declared.reply.Reply.{Reply}
 use Rattle.ang_engine.specs.World.{World}
 use Rattle.ang_engine.specs.Step.{Leads, judged, reply_of}
-use Rattle.ang_engine.specs.Outcomes.{IsDone, IsCalled, outcome_of, building, calling, reply_to_build, reply_to_call}
+use Rattle.ang_engine.specs.Outcomes.{IfRefusedAtOnce, IsDone, IsCalled, outcome_of, building, calling, reply_to_build, reply_to_call}
 use Rattle.ang_engine.specs.Engines.{registrations, drivers_in}
 use Rattle.ang_engine.specs.Sound.{HaveDrivers, AreSoundModules, IsSound}
 use Rattle.ang_engine.specs.Asked.{HasAsked}
 use Rattle.ang_engine.specs.Applied.{Applied}
 use Rattle.ang_engine.proofs.Asking.{asked-nothing, applied-asked}
+use Rattle.ang_engine.proofs.Refusing.{refused_anyway}
 use Rattle.ang_engine.proofs.Leading.{takes-done, takes-judged, takes-memory, takes-called}
 
 -- there are as many drivers as before
@@ -39,18 +41,18 @@ follow_count : {B V : Type 0} (st : B → State) (kind : B → V) (rule : V → 
 follow_count st kind rule roles xs es ys h = sym (length-map ys st) ∙ h.follow.same_length ∙ length-map xs st
 
 -- what an engine keeps, behind a command that has asked
-pub sound-asked : {V : Type 0} {P : V → Type 0} (m : (v : V) → Meaning (P v)) (e f : Engine V P) (v : World) (es : List HostEvent) → IsSound m e → registrations f ≡ registrations e
+pub sound-asked : {V : Type 0} {P : V → Type 0} (m : Meanings P) (e f : Engine V P) (v : World) (es : List HostEvent) → IsSound m e → registrations f ≡ registrations e
     → AreSoundModules (registrations e) f.modules → HasAsked m (registrations e) v es e.machine.store f.machine.store → IsSound m f
 sound-asked m e f v es sound same modules asked = record {
   modules = subst (λ R. AreSoundModules R f.modules) (sym same) modules;
   in_list = subst (λ R. HaveDrivers R (length (drivers_in f))) (sym same)
       (subst (λ n. HaveDrivers (registrations e) n)
-      (sym (follow_count (λ b. (m b.vtable).state b.value) (λ b. b.vtable) (λ x. (m x).fits) (roles_of (registrations e)) (drivers_in e) es (drivers_in f) asked.follow)) sound.in_list);
+      (sym (follow_count (λ b. state_in m b) (λ b. b.vtable) (λ x. (m x).meaning.fits) (roles_of (registrations e)) (drivers_in e) es (drivers_in f) asked.follow)) sound.in_list);
   kept = asked.kept;
   counted = asked.counted;
 }
 
-module _ {V : Type 0} {P : V → Type 0} (m : (v : V) → Meaning (P v)) (R : RegistrationList) where
+module _ {V : Type 0} {P : V → Type 0} (m : Meanings P) (R : RegistrationList) where
   -- one that asks nothing
   pub applied-done : {U : Type 0} (w v : World) (s t : Store V P) (c : Command) (reply : Reply) (r : Result U Refusal) (o : Outcome)
       → o ≡ outcome_of r → reply ≡ reply_of o [] [] → IsDone r (judged R w c) w v → IsKept m t → IsCounted [] (world_of m t) → members s.drivers ≡ members t.drivers
@@ -58,31 +60,33 @@ module _ {V : Type 0} {P : V → Type 0} (m : (v : V) → Meaning (P v)) (R : Re
   applied-done w v s t c reply r o ended answered done kept counted same =
       subst (λ xs. Applied m R w xs c reply v (members t.drivers)) (sym same)
       (subst (λ x. Applied m R w (members t.drivers) c x v (members t.drivers)) (sym (answered ∙ ap (λ y. reply_of y [] []) ended))
-      (applied-asked m R w v c (reply_of (outcome_of r) [] []) t t (takes-done R w v c r done) (asked-nothing m R v t kept counted)))
+      (applied-asked m R w v c (reply_of (outcome_of r) [] []) t t (takes-done R w v c r done) (asked-nothing m R v t kept counted) (refused_anyway (outcome_of r) _ refl)))
 
   -- one that is refused for want of memory
   pub applied-memory : (w : World) (s : Store V P) (c : Command) (reply : Reply) → reply ≡ reply_of (Refused Memory) [] [] → IsKept m s → IsCounted [] (world_of m s)
       → Applied m R w (members s.drivers) c reply w (members s.drivers)
   applied-memory w s c reply answered kept counted =
       subst (λ x. Applied m R w (members s.drivers) c x w (members s.drivers)) (sym answered)
-      (applied-asked m R w w c (reply_of (Refused Memory) [] []) s s (takes-memory R w w c refl) (asked-nothing m R w s kept counted))
+      (applied-asked m R w w c (reply_of (Refused Memory) [] []) s s (takes-memory R w w c refl) (asked-nothing m R w s kept counted) refl)
 
   -- a build
   pub applied-build : {U : Type 0} (w v : World) (s t : Store V P) (n name : List ℕ) (budget : ℕ) (reply : Reply) (r : Result U BuildRefused) (es : List HostEvent)
       → n ≡ name → reply ≡ reply_to_build r es → Leads (building R n budget w) (reply_to_build r es) v → HasAsked m R v (reply_to_build r es).events s t
+      → IfRefusedAtOnce (reply_to_build r es).outcome (members t.drivers ≡ members s.drivers)
       → Applied m R w (members s.drivers) (Build name budget) reply v (members t.drivers)
-  applied-build w v s t n name budget reply r es en replied done asked =
+  applied-build w v s t n name budget reply r es en replied done asked refused =
       subst (λ x. Applied m R w (members s.drivers) (Build name budget) x v (members t.drivers)) (sym replied)
       (applied-asked m R w v (Build name budget) (reply_to_build r es) s t
-      (takes-judged R w v (Build name budget) (reply_to_build r es) (subst (λ x. Leads (building R x budget w) (reply_to_build r es) v) en done)) asked)
+      (takes-judged R w v (Build name budget) (reply_to_build r es) (subst (λ x. Leads (building R x budget w) (reply_to_build r es) v) en done)) asked refused)
 
   -- a call
   pub applied-call : (w v : World) (s t : Store V P) (n name d decl : List ℕ) (vs args : List Value) (budget : ℕ) (reply : Reply) (r : Result Outcome Refusal) (es : List HostEvent)
       → n ≡ name → d ≡ decl → vs ≡ args → reply ≡ reply_to_call r es → IsCalled r es (calling n d vs budget w) w v → HasAsked m R v (reply_to_call r es).events s t
+      → IfRefusedAtOnce (reply_to_call r es).outcome (members t.drivers ≡ members s.drivers)
       → Applied m R w (members s.drivers) (Call name decl args budget) reply v (members t.drivers)
-  applied-call w v s t n name d decl vs args budget reply r es en ed ea replied done asked =
+  applied-call w v s t n name d decl vs args budget reply r es en ed ea replied done asked refused =
       let so : IsCalled r es (calling name decl args budget w) w v =
       subst (λ x. IsCalled r es (calling x decl args budget w) w v) en
       (subst (λ x. IsCalled r es (calling n x args budget w) w v) ed (subst (λ x. IsCalled r es (calling n d x budget w) w v) ea done)) in
       subst (λ x. Applied m R w (members s.drivers) (Call name decl args budget) x v (members t.drivers)) (sym replied)
-      (applied-asked m R w v (Call name decl args budget) (reply_to_call r es) s t (takes-called R w v (Call name decl args budget) r es so) asked)
+      (applied-asked m R w v (Call name decl args budget) (reply_to_call r es) s t (takes-called R w v (Call name decl args budget) r es so) asked refused)

@@ -4,7 +4,7 @@ use Rattle.std.specs.List.{AllByRecursion}
 use Rattle.ang_host.specs.declared.event.HostEvent.{HostEvent}
 use Rattle.ang_host.specs.declared.event.Role.{Role}
 use Rattle.ang_host.specs.Boxes.{members}
-use Rattle.ang_host.specs.Laws.{Meaning}
+use Rattle.ang_host.specs.Meanings.{Meanings}
 use Rattle.ang_host.specs.Events.{DriversFollow}
 use Rattle.ang_view.specs.Registration.{RegistrationList}
 use Rattle.ang_registry.specs.Roles.{roles_of}
@@ -15,16 +15,20 @@ use Rattle.ang_engine_modules.specs.Modules.{Module, AgreesWith, IsAskedIn}
 use Rattle.ang_engine.specs.World.{World}
 use Rattle.ang_engine.specs.Step.{IsEntitled}
 
--- A piece of a command, in which these modules may run, has asked what they see; the drivers follow it; all can be given up again, and nothing is held but
--- by globals and fields.
-pub record HasRunOn {V : Type 0} {P : V → Type 0} (m : (v : V) → Meaning (P v)) (ms : List Module) (s t : Store V P) : Type 0 where
-  pub asked : AllByRecursion (IsAskedIn ms) s.events.items → AllByRecursion (IsAskedIn ms) t.events.items
+-- A piece of a command, in which these modules may run, has asked what they see; the drivers follow
+-- it; all can be given up again, and nothing is held but by globals and fields.
+pub record HasRunOn {V : Type 0} {P : V → Type 0} (m : Meanings P) (ms : List Module)
+    (s t : Store V P) : Type 0 where
+  pub asked :
+      AllByRecursion (IsAskedIn ms) s.events.items → AllByRecursion (IsAskedIn ms) t.events.items
   pub moves : (roles : List Role) → AgreesWith roles ms → StoreMoves m roles s t
   pub ready : IsReady m s → IsReady m t
   pub counted : IsCounted [] (world_of m s) → IsCounted [] (world_of m t)
 
--- With these modules after it, the command's host calls are entitled; the drivers follow its events; and what holds between commands holds again.
-pub record HasAsked {V : Type 0} {P : V → Type 0} (m : (v : V) → Meaning (P v)) (R : RegistrationList) (after : World) (events : List HostEvent) (s t : Store V P) : Type 0 where
+-- With these modules after it, the command's host calls are entitled; the drivers follow its
+-- events; and what holds between commands holds again.
+pub record HasAsked {V : Type 0} {P : V → Type 0} (m : Meanings P) (R : RegistrationList)
+    (after : World) (events : List HostEvent) (s t : Store V P) : Type 0 where
   pub entitled : All (IsEntitled R after) events
   pub follow : DriversFollow m (roles_of R) (members s.drivers) events (members t.drivers)
   pub kept : IsKept m t

@@ -12,7 +12,8 @@ ends_of ks = list_map (λ k. Ended k.0 k.1) ks
 
 -- Where a value is given up, ends of objects are listed, and nothing else.
 abbrev pub GivingListsEnds : Type 0
-GivingListsEnds = (v : Slot) (w : RunWorld) → (ks : List (ℕ × ℕ)) × ((give v w).events ≡ w.events ++ ends_of ks)
+GivingListsEnds =
+    (v : Slot) (w : RunWorld) → (ks : List (ℕ × ℕ)) × ((give v w).events ≡ w.events ++ ends_of ks)
 
 -- So it is where an engine ends: no driver is asked anything.
 abbrev pub EndingListsEnds : Type 0

@@ -1,12 +1,15 @@
 -- What contracts see of an engine.
-use Rattle.std.specs.Prelude.{List, [], ◌∷◌, Option, None, option_map}
+use Rattle.std.specs.Prelude.{List, [], ◌∷◌, Option, None, Vec, option_map}
 use Rattle.std.specs.declared.alloc.Global.{Global}
 use Rattle.std.specs.declared.dyn_box.DynBox.{DynBox}
+use Rattle.ang_host.specs.declared.event.HostEvent.{HostEvent}
 use Rattle.ang_host.specs.Boxes.{members}
-use Rattle.ang_host.specs.Laws.{Meaning}
+use Rattle.ang_host.specs.Meanings.{Meanings}
 use Rattle.ang_view.specs.Registration.{RegistrationList}
 use Rattle.ang_typed.specs.View.{view_typed}
 use Rattle.ang_heap.specs.Stores.{world_of}
+use Rattle.ang_vm.specs.declared.machines.Machine.{Machine}
+use Rattle.ang_vm.specs.Machines.{lent}
 use Rattle.ang_engine_build.specs.Build.{Resolved}
 use Rattle.ang_engine_modules.specs.declared.modules.LoadedModule.{LoadedModule}
 use Rattle.ang_engine.specs.declared.engine.Engine.{Engine}
@@ -23,7 +26,13 @@ program_in l = record { view = l.view; names = l.names; tree = view_typed l.tree
 
 -- a module, with its program where it is built
 abbrev pub state_of : Module → Option LoadedModule → ModuleState
-state_of m l = record { name = m.name; mask = m.mask.0; built_mask = m.built_mask.0; sections = m.sections.items; program = option_map program_in l }
+state_of m l = record {
+  name = m.name;
+  mask = m.mask.0;
+  built_mask = m.built_mask.0;
+  sections = m.sections.items;
+  program = option_map program_in l;
+}
 
 -- each module, with what is built of it, by number
 abbrev pub module_states : List Module → List (Option LoadedModule) → List ModuleState
@@ -38,10 +47,16 @@ states_in x = module_states x.modules.items x.code
 abbrev pub registrations : {V : Type 0} {P : V → Type 0} → Engine V P → RegistrationList
 registrations e = e.registry.entries
 
--- Its modules, and beside them what their runs leave: the counts of host objects are those of the drivers themselves.
-abbrev pub world_in : {V : Type 0} {P : V → Type 0} → ((v : V) → Meaning (P v)) → Engine V P → World
+-- Its modules, and beside them what their runs leave: the counts of host objects are those of the
+-- drivers themselves.
+abbrev pub world_in : {V : Type 0} {P : V → Type 0} → Meanings P → Engine V P → World
 world_in m e = left_to (states_in e.modules) (world_of m e.machine.store)
 
 -- its boxed drivers, in their order
 abbrev pub drivers_in : {V : Type 0} {P : V → Type 0} → Engine V P → List (DynBox V Global P)
 drivers_in e = members e.machine.store.drivers
+
+-- the world in the midst of a command, which has listed these events
+abbrev pub world_during : {V : Type 0} {P : V → Type 0} → Meanings P → ModuleList → Machine V P
+    → Vec HostEvent Global → World
+world_during m list machine events = left_to (states_in list) (world_of m (lent machine events))

@@ -25,19 +25,40 @@ use Rattle.ang_engine.specs.declared.reply.Outcome.{Outcome}
 use Rattle.ang_engine.specs.declared.reply.Outcome.TheVariants.{Done, Failed, Refused}
 use Rattle.ang_engine.specs.declared.reply.Reply.{Reply}
 use Rattle.ang_engine.specs.declared.reply.Refusal.{Refusal}
-use Rattle.ang_engine.specs.declared.reply.Refusal.TheVariants.{Memory, Limit, BuildMemory, BuildErrors, InitFailed}
+use Rattle.ang_engine.specs.declared.reply.Refusal.TheVariants.{BadName, ModuleExists, Limit, NoModule, NotBuilt, BadBudget, BuildMemory, BuildErrors, InitFailed, NoFunction, NotCallable, BadArguments, Memory}
 use Rattle.ang_engine.specs.World.{Program, ModuleState, World, module_named, globals_ended}
 use Rattle.ang_engine.specs.Engines.{resolved_in}
 use Rattle.ang_engine.specs.Step.{Stepped, Leads, Choice, Chosen, Not, answered, refused, section_added, reply_of, globals_begun, on_module, build_within, call}
 
 -- Refused as the step says, or for want of memory, with the world as it was.
 abbrev pub IsRefused : Refusal → (List Input → Option Stepped) → World → World → Type 0
-IsRefused why go before after = ((why ≡ Memory) ⊎ ((rest : List Input) → go rest ≡ refused why before rest)) × (after ≡ before)
+IsRefused why go before after =
+    ((why ≡ Memory) ⊎ ((rest : List Input) → go rest ≡ refused why before rest)) × (after ≡ before)
+
+-- This holds where a command was refused before it did anything, as every refused command is but a
+-- build that was begun.
+abbrev pub IfRefusedAtOnce : Outcome → Type 0 → Type 0
+IfRefusedAtOnce (Done v) P = Unit {0}
+IfRefusedAtOnce (Failed f) P = Unit {0}
+IfRefusedAtOnce (Refused BuildMemory) P = Unit {0}
+IfRefusedAtOnce (Refused BuildErrors) P = Unit {0}
+IfRefusedAtOnce (Refused (InitFailed f)) P = Unit {0}
+IfRefusedAtOnce (Refused BadName) P = P
+IfRefusedAtOnce (Refused ModuleExists) P = P
+IfRefusedAtOnce (Refused Limit) P = P
+IfRefusedAtOnce (Refused NoModule) P = P
+IfRefusedAtOnce (Refused NotBuilt) P = P
+IfRefusedAtOnce (Refused BadBudget) P = P
+IfRefusedAtOnce (Refused NoFunction) P = P
+IfRefusedAtOnce (Refused NotCallable) P = P
+IfRefusedAtOnce (Refused BadArguments) P = P
+IfRefusedAtOnce (Refused Memory) P = P
 
 -- ---- commands that ask nothing
 
 -- done as the step says, or refused
-abbrev pub IsDone : {U : Type 0} → Result U Refusal → (List Input → Option Stepped) → World → World → Type 0
+abbrev pub IsDone :
+    {U : Type 0} → Result U Refusal → (List Input → Option Stepped) → World → World → Type 0
 IsDone (Ok u) go before after = (rest : List Input) → go rest ≡ answered (Done None) after rest
 IsDone (Err why) go before after = IsRefused why go before after
 
@@ -49,7 +70,8 @@ outcome_of (Err why) = Refused why
 -- One module that takes one more section.
 abbrev pub IsAdded : {U : Type 0} → Result U Refusal → List ℕ → ModuleState → ModuleState → Type 0
 IsAdded (Ok u) text before after = section_added text before ≡ Some after
-IsAdded (Err why) text before after = ((why ≡ Memory) ⊎ ((why ≡ Limit) × (section_added text before ≡ None))) × (after ≡ before)
+IsAdded (Err why) text before after =
+    ((why ≡ Memory) ⊎ ((why ≡ Limit) × (section_added text before ≡ None))) × (after ≡ before)
 
 -- ---- builds
 
@@ -64,15 +86,25 @@ abbrev pub refused_by : Unbuilt → BuildRefused
 refused_by (unbuilt.Errors es) = why.Errors es
 refused_by unbuilt.Memory = why.Memory
 
--- A program's globals have begun and its initializers have run, in module i among these; and where one has failed the globals have ended. Or memory was
--- refused before, and nothing was done.
-abbrev pub HasStarted : {U : Type 0} → List Module → ℕ → ℕ → Program → RunWorld → Result U BuildRefused → RunWorld → Type 0
-HasStarted ms i budget p before (Ok u) after = Ends (initialization_of ms budget i) (globals_begun i p before) (Ok (Bits 0)) after
+-- a build was begun that is refused so
+abbrev pub IsBegun : BuildRefused → Type 0
+IsBegun (why.Before refusal) = ⊥
+IsBegun why.Memory = Unit {0}
+IsBegun (why.Errors es) = Unit {0}
+IsBegun (why.Initializer f) = Unit {0}
+
+-- A program's globals have begun and its initializers have run, in module i among these; and where
+-- one has failed the globals have ended. Or memory was refused before, and nothing was done.
+abbrev pub HasStarted : {U : Type 0} → List Module → ℕ → ℕ → Program → RunWorld
+    → Result U BuildRefused → RunWorld → Type 0
+HasStarted ms i budget p before (Ok u) after =
+    Ends (initialization_of ms budget i) (globals_begun i p before) (Ok (Bits 0)) after
 HasStarted ms i budget p before (Err (why.Before refusal)) after = ⊥
 HasStarted ms i budget p before (Err why.Memory) after = after ≡ before
 HasStarted ms i budget p before (Err (why.Errors es)) after = ⊥
 HasStarted ms i budget p before (Err (why.Initializer f)) after =
-    (end : RunWorld) × Ends (initialization_of ms budget i) (globals_begun i p before) (Err f) end × ((rest : List Input) → globals_ended i (with_inputs rest end) ≡ with_inputs rest after)
+    (end : RunWorld) × Ends (initialization_of ms budget i) (globals_begun i p before) (Err f) end
+    × ((rest : List Input) → globals_ended i (with_inputs rest end) ≡ with_inputs rest after)
 
 -- the reply to a build that has listed these events
 abbrev pub reply_to_build : {U : Type 0} → Result U BuildRefused → List HostEvent → Reply
@@ -80,7 +112,8 @@ reply_to_build (Ok u) events = reply_of (Done None) events []
 reply_to_build (Err (why.Before refusal)) events = reply_of (Refused refusal) [] []
 reply_to_build (Err why.Memory) events = reply_of (Refused BuildMemory) events []
 reply_to_build (Err (why.Errors es)) events = reply_of (Refused BuildErrors) events es
-reply_to_build (Err (why.Initializer fault)) events = reply_of (Refused (InitFailed fault)) events []
+reply_to_build (Err (why.Initializer fault)) events =
+    reply_of (Refused (InitFailed fault)) events []
 
 -- a build of the module of a name
 abbrev pub building : RegistrationList → List ℕ → ℕ → World → List Input → Option Stepped
@@ -102,8 +135,10 @@ abbrev pub outcome_by : ScriptFunction → Result Slot Fault → Outcome
 outcome_by f (Ok v) = Done (result_of f v)
 outcome_by f (Err fault) = Failed fault
 
--- The call was run of that function of module m, among these, and ended so, within the budget and from one world to the other.
-pub record HasCalled (ms : List Module) (names : Names) (m budget : ℕ) (c : ChosenCall) (before : RunWorld) (outcome : Outcome) (after : RunWorld) : Type 0 where
+-- The call was run of that function of module m, among these, and ended so, within the budget and
+-- from one world to the other.
+pub record HasCalled (ms : List Module) (names : Names) (m budget : ℕ) (c : ChosenCall)
+    (before : RunWorld) (outcome : Outcome) (after : RunWorld) : Type 0 where
   pub function : ScriptFunction
   pub at : slice_get names.functions c.number ≡ Some function
   pub value : Result Slot Fault
@@ -111,7 +146,8 @@ pub record HasCalled (ms : List Module) (names : Names) (m budget : ℕ) (c : Ch
   pub ends : Ends (call_of ms budget m c.number c.args.items) before value after
 
 -- A call that was run and has listed these events; or refused.
-abbrev pub IsCalled : Result Outcome Refusal → List HostEvent → (List Input → Option Stepped) → World → World → Type 0
+abbrev pub IsCalled :
+    Result Outcome Refusal → List HostEvent → (List Input → Option Stepped) → World → World → Type 0
 IsCalled (Ok outcome) events go before after = Leads go (reply_of outcome events []) after
 IsCalled (Err why) events go before after = IsRefused why go before after
 
@@ -122,4 +158,5 @@ reply_to_call (Err why) events = reply_of (Refused why) [] []
 
 -- a call of a function of the module of a name
 abbrev pub calling : List ℕ → List ℕ → List Value → ℕ → World → List Input → Option Stepped
-calling name decl args budget w inputs = on_module (module_named name w) w inputs (call decl args budget w)
+calling name decl args budget w inputs =
+    on_module (module_named name w) w inputs (call decl args budget w)

@@ -1,7 +1,7 @@
 -- What an engine keeps between commands.
 use Rattle.std.specs.Prelude.{ℕ, ◌≡◌, ◌<◌, ◌≤◌, List, [], length, Option, Some, None}
 use Rattle.std.specs.List.{AllZip}
-use Rattle.ang_host.specs.Laws.{Meaning}
+use Rattle.ang_host.specs.Meanings.{Meanings}
 use Rattle.ang_view.specs.declared.entry.Entry.{Entry}
 use Rattle.ang_view.specs.Registration.{RegistrationList, entry_at, seen}
 use Rattle.ang_meaning.specs.Counting.{IsCounted}
@@ -14,7 +14,8 @@ use Rattle.ang_engine.specs.declared.module.ModuleList.{ModuleList}
 use Rattle.ang_engine.specs.Engines.{registrations, drivers_in, resolved_in}
 use Rattle.ang_engine.specs.Step.{most_modules}
 
--- What a module was built to, under its name and its built mask: some sections' program over what the mask sees.
+-- What a module was built to, under its name and its built mask: some sections' program over what
+-- the mask sees.
 pub record IsBuiltBy (R : RegistrationList) (m : Module) (l : LoadedModule) : Type 0 where
   pub name : l.name ≡ m.name
   pub view : l.view ≡ seen R m.built_mask.0
@@ -35,9 +36,9 @@ pub record AreSoundModules (R : RegistrationList) (x : ModuleList) : Type 0 wher
 abbrev pub HaveDrivers : RegistrationList → ℕ → Type 0
 HaveDrivers R n = (number : ℕ) (x : Entry) → entry_at R number ≡ Some x → x.driver < n
 
--- The modules are sound; each entry's driver is in the list; the machine keeps what it needs to give everything up; and nothing is held but by globals and
--- fields.
-pub record IsSound {V : Type 0} {P : V → Type 0} (m : (v : V) → Meaning (P v)) (e : Engine V P) : Type 0 where
+-- The modules are sound; each entry's driver is in the list; the machine keeps what it needs to
+-- give everything up; and nothing is held but by globals and fields.
+pub record IsSound {V : Type 0} {P : V → Type 0} (m : Meanings P) (e : Engine V P) : Type 0 where
   pub modules : AreSoundModules (registrations e) e.modules
   pub in_list : HaveDrivers (registrations e) (length (drivers_in e))
   pub kept : IsKept m e.machine.store

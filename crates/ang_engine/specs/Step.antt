@@ -45,11 +45,13 @@ pub record Stepped : Type 0 where
 
 -- a reply without denials, which no build gives yet
 abbrev pub reply_of : Outcome → List HostEvent → List Error → Reply
-reply_of outcome events errors = record { outcome = outcome; events = events; errors = errors; denials = [] }
+reply_of outcome events errors =
+    record { outcome = outcome; events = events; errors = errors; denials = [] }
 
 -- answered at once: nobody was asked
 abbrev pub answered : Outcome → World → List Input → Option Stepped
-answered outcome world left = Some (record { reply = reply_of outcome [] []; world = world; left = left })
+answered outcome world left =
+    Some (record { reply = reply_of outcome [] []; world = world; left = left })
 
 -- after a refusal the world is as it was
 abbrev pub refused : Refusal → World → List Input → Option Stepped
@@ -57,17 +59,20 @@ refused why = answered (Refused why)
 
 -- the reply lists what a run has listed, and what it left stands, beside these modules
 abbrev pub after_run : Outcome → List Error → List ModuleState → RunWorld → Stepped
-after_run outcome errors modules r = record { reply = reply_of outcome r.events errors; world = left_to modules r; left = r.inputs }
+after_run outcome errors modules r =
+    record { reply = reply_of outcome r.events errors; world = left_to modules r; left = r.inputs }
 
 -- ---- NewModule
 
 -- a module without sections, unbuilt, whose built mask is the mask that it was made with
 abbrev pub fresh_module : List ℕ → ℕ → ModuleState
-fresh_module name mask = record { name = name; mask = mask; built_mask = mask; sections = []; program = None }
+fresh_module name mask =
+    record { name = name; mask = mask; built_mask = mask; sections = []; program = None }
 
 -- the module stands last, without globals
 abbrev pub with_new_module : List ℕ → ℕ → World → World
-with_new_module name mask w = record w { modules = w.modules ++ fresh_module name mask ∷ []; globals = w.globals ++ [] ∷ [] }
+with_new_module name mask w =
+    record w { modules = w.modules ++ fresh_module name mask ∷ []; globals = w.globals ++ [] ∷ [] }
 
 -- the name is an identifier: it is to be free, and there is to be room for a module
 abbrev pub where_free : Option ℕ → List ℕ → ℕ → World → List Input → Option Stepped
@@ -87,7 +92,9 @@ added_module name mask w inputs =
 -- the module with one more section that waits, where there is room for it
 abbrev pub section_added : List ℕ → ModuleState → Option ModuleState
 section_added text m =
-    if nat_le most_sections (length m.sections) then None else Some (record m { sections = m.sections ++ text ∷ [] })
+    if nat_le most_sections (length m.sections)
+    then None
+    else Some (record m { sections = m.sections ++ text ∷ [] })
 
 -- one section too many is refused
 abbrev pub or_limit : Option ModuleState → World → ℕ → List Input → Option Stepped
@@ -99,7 +106,8 @@ add_section text w i m inputs = or_limit (section_added text m) w i inputs
 
 -- ---- Build
 
--- A build takes what the module had and the sections that waited, and its mask becomes the mask of the last build.
+-- A build takes what the module had and the sections that waited, and its mask becomes the mask of
+-- the last build.
 abbrev pub emptied : ModuleState → ModuleState
 emptied m = record m { built_mask = m.mask; sections = []; program = None }
 
@@ -114,36 +122,48 @@ with_program p m = record (emptied m) { program = Some p }
 abbrev pub globals_begun : ℕ → Program → RunWorld → RunWorld
 globals_begun i p r = record r { globals = slice_set r.globals i (first_globals p.tree) }
 
--- what the initializers of module i do, one after the other, within the budget, the module among the others as it is built now
+-- what the initializers of module i do, one after the other, within the budget, the module among
+-- the others as it is built now
 abbrev pub initializers_end : List ModuleState → ℕ → Program → ℕ → RunWorld → Ended
-initializers_end ms i p budget r = end_of (initialization_of (built_in ms) budget i (globals_begun i p r))
+initializers_end ms i p budget r =
+    end_of (initialization_of (built_in ms) budget i (globals_begun i p r))
 
 -- They have ended: the module is built; or their fault leaves it emptied, and its globals end.
 abbrev pub initialized : Result Slot Fault → RunWorld → World → ℕ → ModuleState → Program → Stepped
 initialized (Ok v) r w i m p = after_run (Done None) [] (placed w i (with_program p m)) r
-initialized (Err f) r w i m p = after_run (Refused (InitFailed f)) [] (placed w i (emptied m)) (globals_ended i r)
+initialized (Err f) r w i m p =
+    after_run (Refused (InitFailed f)) [] (placed w i (emptied m)) (globals_ended i r)
 
 -- what the end of its initializers leaves
 abbrev pub started : Ended → World → ℕ → ModuleState → Program → Stepped
 started e w i m p = initialized e.result e.world w i m p
 
--- over a view the sections have errors, which are listed, and the module is left emptied; or they are a program, whose initializers run
+-- over a view the sections have errors, which are listed, and the module is left emptied; or they
+-- are a program, whose initializers run
 abbrev pub after_build : RegistrationList → Built → World → ℕ → ModuleState → ℕ → RunWorld → Stepped
-after_build V (Errors es) w i m budget r = after_run (Refused BuildErrors) es (placed w i (emptied m)) r
+after_build V (Errors es) w i m budget r =
+    after_run (Refused BuildErrors) es (placed w i (emptied m)) r
 after_build V (Compiled q) w i m budget r =
     let p = program_over V q in
     started (initializers_end (placed w i (with_program p m)) i p budget r) w i m p
 
--- A build first ends the module's globals, and is over what the module's mask sees now. The first input says whether there is memory to build, the others
--- are those of the initializers. Without memory no initializer runs, and the module is left emptied.
+-- A build first ends the module's globals, and is over what the module's mask sees now. The first
+-- input says whether there is memory to build, the others are those of the initializers. Without
+-- memory no initializer runs, and the module is left emptied.
 abbrev pub build : RegistrationList → World → ℕ → ModuleState → ℕ → List Input → Option Stepped
-build R w i m budget (Room true ∷ inputs) = Some (after_build (seen R m.mask) (build_of (seen R m.mask) m.sections) w i m budget (globals_ended i (running w inputs)))
-build R w i m budget (Room false ∷ inputs) = Some (after_run (Refused BuildMemory) [] (placed w i (emptied m)) (globals_ended i (running w inputs)))
+build R w i m budget (Room true ∷ inputs) =
+    Some (after_build (seen R m.mask) (build_of (seen R m.mask) m.sections) w i m budget
+    (globals_ended i (running w inputs)))
+build R w i m budget (Room false ∷ inputs) =
+    Some (after_run (Refused BuildMemory) [] (placed w i (emptied m))
+    (globals_ended i (running w inputs)))
 build R w i m budget _ = None
 
 -- the budget is judged before anything is done
-abbrev pub build_within : ℕ → RegistrationList → World → ℕ → ModuleState → List Input → Option Stepped
-build_within budget R w i m inputs = if is_budget budget then build R w i m budget inputs else refused BadBudget w inputs
+abbrev pub build_within :
+    ℕ → RegistrationList → World → ℕ → ModuleState → List Input → Option Stepped
+build_within budget R w i m inputs =
+    if is_budget budget then build R w i m budget inputs else refused BadBudget w inputs
 
 -- ---- Call
 
@@ -160,7 +180,8 @@ with_arguments n f (Some slots) = Chosen n f slots
 -- there is to be such a function, and the host is to be able to call it
 abbrev pub of_function : ℕ → Option ScriptFunction → List Value → Choice
 of_function n None args = Not NoFunction
-of_function n (Some f) args = if is_callable f then with_arguments n f (arguments_of f args) else Not NotCallable
+of_function n (Some f) args =
+    if is_callable f then with_arguments n f (arguments_of f args) else Not NotCallable
 
 abbrev pub of_number : Option ℕ → List ScriptFunction → List Value → Choice
 of_number None fs args = Not NoFunction
@@ -170,7 +191,8 @@ of_number (Some n) fs args = of_function n (slice_get fs n) args
 abbrev pub choice_of : Program → List ℕ → List Value → Choice
 choice_of p decl args = of_number (function_named_by p.view p.names decl) p.names.functions args
 
--- The call has ended: with the function's value, or with a fault. What it changed stands either way.
+-- The call has ended: with the function's value, or with a fault. What it changed stands either
+-- way.
 abbrev pub called : Result Slot Fault → RunWorld → World → ScriptFunction → Stepped
 called (Ok v) r w f = after_run (Done (result_of f v)) [] w.modules r
 called (Err fault) r w f = after_run (Failed fault) [] w.modules r
@@ -181,18 +203,24 @@ call_ended e w f = called e.result e.world w f
 
 -- what function n of module i does within the budget, among all that are built
 abbrev pub call_end : World → ℕ → ℕ → ℕ → List Slot → List Input → Ended
-call_end w i budget n slots inputs = end_of (call_of (built_in w.modules) budget i n slots (running w inputs))
+call_end w i budget n slots inputs =
+    end_of (call_of (built_in w.modules) budget i n slots (running w inputs))
 
 -- a call of the function that was chosen, or the reason why none was
 abbrev pub call_chosen : Choice → World → ℕ → ℕ → List Input → Option Stepped
 call_chosen (Not why) w i budget inputs = refused why w inputs
-call_chosen (Chosen n f slots) w i budget inputs = Some (call_ended (call_end w i budget n slots inputs) w f)
+call_chosen (Chosen n f slots) w i budget inputs =
+    Some (call_ended (call_end w i budget n slots inputs) w f)
 
--- A call of a function of a module's program. That the module is built, that the budget is one, and the choice of the function are judged in this order.
-abbrev pub call_program : Option Program → List ℕ → List Value → ℕ → World → ℕ → List Input → Option Stepped
+-- A call of a function of a module's program. That the module is built, that the budget is one, and
+-- the choice of the function are judged in this order.
+abbrev pub call_program :
+    Option Program → List ℕ → List Value → ℕ → World → ℕ → List Input → Option Stepped
 call_program None decl args budget w i inputs = refused NotBuilt w inputs
 call_program (Some p) decl args budget w i inputs =
-    if is_budget budget then call_chosen (choice_of p decl args) w i budget inputs else refused BadBudget w inputs
+    if is_budget budget
+    then call_chosen (choice_of p decl args) w i budget inputs
+    else refused BadBudget w inputs
 
 -- a call of a module's function
 abbrev pub call : List ℕ → List Value → ℕ → World → ℕ → ModuleState → List Input → Option Stepped
@@ -201,16 +229,20 @@ call decl args budget w i m inputs = call_program m.program decl args budget w i
 -- ---- a command
 
 -- what is done with the module of a name, where there is one
-abbrev pub on_module : Option ℕ → World → List Input → (ℕ → ModuleState → List Input → Option Stepped) → Option Stepped
+abbrev pub on_module :
+    Option ℕ → World → List Input → (ℕ → ModuleState → List Input → Option Stepped) → Option Stepped
 on_module None w inputs go = refused NoModule w inputs
 on_module (Some i) w inputs go = go i (module_at w i) inputs
 
 -- a command, judged and done, where memory was there to begin
 abbrev pub judged : RegistrationList → World → Command → List Input → Option Stepped
 judged R w (NewModule name mask) inputs = added_module name mask.0 w inputs
-judged R w (AddSection name text) inputs = on_module (module_named name w) w inputs (add_section text w)
-judged R w (Build name budget) inputs = on_module (module_named name w) w inputs (build_within budget R w)
-judged R w (Call name decl args budget) inputs = on_module (module_named name w) w inputs (call decl args budget w)
+judged R w (AddSection name text) inputs =
+    on_module (module_named name w) w inputs (add_section text w)
+judged R w (Build name budget) inputs =
+    on_module (module_named name w) w inputs (build_within budget R w)
+judged R w (Call name decl args budget) inputs =
+    on_module (module_named name w) w inputs (call decl args budget w)
 
 -- whether a command may be refused for want of memory before it changes anything
 abbrev pub may_want_memory : Command → Bool
@@ -225,21 +257,25 @@ granted R w c (Room true ∷ inputs) = judged R w c inputs
 granted R w c (Room false ∷ inputs) = refused Memory w inputs
 granted R w c _ = None
 
--- One command over a registration list. There is no step with other inputs than those that are asked for.
+-- One command over a registration list. There is no step with other inputs than those that are
+-- asked for.
 abbrev pub step : RegistrationList → World → Command → List Input → Option Stepped
 step R w c inputs = if may_want_memory c then granted R w c inputs else judged R w c inputs
 
 -- ---- relations
 
--- Told these inputs, and whatever further ones it leaves, it gives this reply and leaves this world. There was memory and room each time, or the last
--- input alone refused it; and drivers answered just what the reply's events list.
+-- Told these inputs, and whatever further ones it leaves, it gives this reply and leaves this
+-- world. There was memory and room each time, or the last input alone refused it; and drivers
+-- answered just what the reply's events list.
 pub record Leads (go : List Input → Option Stepped) (reply : Reply) (after : World) : Type 0 where
   pub used : List Input
-  pub tells : (rest : List Input) → go (used ++ rest) ≡ Some (record { reply = reply; world = after; left = rest })
+  pub tells : (rest : List Input)
+      → go (used ++ rest) ≡ Some (record { reply = reply; world = after; left = rest })
   pub told : (has_room used ≡ true) ⊎ IsSome (stopped_by used)
   pub answers : answers_told used ≡ answers_listed reply.events
 
--- The command takes the world from `before` to `after` with this reply, told what it asked for and nothing else.
+-- The command takes the world from `before` to `after` with this reply, told what it asked for and
+-- nothing else.
 abbrev pub Takes : RegistrationList → World → Command → Reply → World → Type 0
 Takes R before c reply after = Leads (step R before c) reply after
 
@@ -253,5 +289,6 @@ Runs R w (c ∷ cs) (r ∷ rs) after = (m : World) × Takes R w c r m × Runs R 
 -- The entity of a host call is one that its caller saw when it was built.
 abbrev pub IsEntitled : RegistrationList → World → HostEvent → Type 0
 IsEntitled R w (Called caller entity driver object args reply) =
-    (i : ℕ) × (module_named caller w ≡ Some i) × IsSome (entry_at (seen R (module_at w i).built_mask) entity.0)
+    (i : ℕ) × (module_named caller w ≡ Some i)
+    × IsSome (entry_at (seen R (module_at w i).built_mask) entity.0)
 IsEntitled R w (ObjectEnded driver key) = Unit {0}

@@ -10,16 +10,17 @@ use Rattle.ang_meaning.specs.World.{Input, ScriptObjects, HostCounts, World as R
 use Rattle.ang_meaning.specs.Results.{give_back}
 use Rattle.ang_engine_modules.specs.Modules.{Module, unbuilt}
 
--- what a module is built to: what it sees of the host, the names that its scripts declare, their resolved tree, and by the number of an import the function
--- that it is bound to, if any
+-- what a module is built to: what it sees of the host, the names that its scripts declare, their
+-- resolved tree, and by the number of an import the function that it is bound to, if any
 pub record Program : Type 0 where
   pub view : RegistrationList
   pub names : Names
   pub tree : t.Program
   pub links : List (Option Routine)
 
--- a module: its name, the mask that acts at its next build, the mask of its last build, a failed one too (before the first build the mask that it was made
--- with), the sections that wait, and where it is built its program
+-- a module: its name, the mask that acts at its next build, the mask of its last build, a failed
+-- one too (before the first build the mask that it was made with), the sections that wait, and
+-- where it is built its program
 pub record ModuleState : Type 0 where
   pub name : List ℕ
   pub mask : ℕ
@@ -27,8 +28,9 @@ pub record ModuleState : Type 0 where
   pub sections : List (List ℕ)
   pub program : Option Program
 
--- The modules, in the order in which they were made, and beside them what their runs leave for one another: script objects, how many places hold each
--- host object, by driver, and the values of the globals, by module and number.
+-- The modules, in the order in which they were made, and beside them what their runs leave for one
+-- another: script objects, how many places hold each host object, by driver, and the values of the
+-- globals, by module and number.
 pub record World : Type 0 where
   pub modules : List ModuleState
   pub objects : ScriptObjects
@@ -72,23 +74,32 @@ built_in ms = list_map (λ m. built_of m.name m.program) ms
 
 -- the world of a run that begins, with nothing listed yet
 abbrev pub running : World → List Input → RunWorld
-running w inputs = record { objects = w.objects; hosts = w.hosts; globals = w.globals; events = []; inputs = inputs }
+running w inputs = record {
+  objects = w.objects;
+  hosts = w.hosts;
+  globals = w.globals;
+  events = [];
+  inputs = inputs;
+}
 
 -- what a run leaves, beside these modules
 abbrev pub left_to : List ModuleState → RunWorld → World
-left_to modules r = record { modules = modules; objects = r.objects; hosts = r.hosts; globals = r.globals }
+left_to modules r =
+    record { modules = modules; objects = r.objects; hosts = r.hosts; globals = r.globals }
 
 -- ---- globals that end
 
 -- A module's globals end: it has none any more, and their values are given up, the last one first.
 abbrev pub globals_ended : ℕ → RunWorld → RunWorld
-globals_ended i r = give_back (slice_index_or r.globals i []) (record r { globals = slice_set r.globals i [] })
+globals_ended i r =
+    give_back (slice_index_or r.globals i []) (record r { globals = slice_set r.globals i [] })
 
 -- those of the first n modules, of which the last one's end first
 abbrev pub all_ended : ℕ → RunWorld → RunWorld
 all_ended zero r = r
 all_ended (suc n) r = all_ended n (globals_ended n r)
 
--- The engine ends: so do the globals of all modules, those of the module last made first. There is one list of globals for each module.
+-- The engine ends: so do the globals of all modules, those of the module last made first. There is
+-- one list of globals for each module.
 abbrev pub engine_ended : World → RunWorld
 engine_ended w = all_ended (length w.globals) (running w [])

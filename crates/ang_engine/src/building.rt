@@ -1,5 +1,5 @@
 //! Builds.
-ghost use Rattle.std.specs.Prelude.{◌≡◌, ◌<◌, ◌≤◌, ◌^◌, [], Option, Some, None, length, IfOk, OnOk, OnErr, slice_set, slice_index_or};
+ghost use Rattle.std.specs.Prelude.{◌≡◌, ◌<◌, ◌≤◌, ◌^◌, [], Option, Some, None, length, IfOk, IfErr, OnOk, OnErr, slice_set, slice_index_or};
 ghost use Rattle.ang_host.specs.Boxes.{members};
 ghost use Rattle.ang_view.specs.Registration.{seen};
 ghost use Rattle.ang_source.specs.Sound.{SoundProgram};
@@ -14,8 +14,8 @@ ghost use Rattle.ang_engine_modules.specs.Loaded.{modules_of};
 ghost use Rattle.ang_engine_modules.specs.Modules.{module_at as built_module_at, AreDriversThere};
 ghost use Rattle.ang_engine_modules.specs.declared.modules.LoadedModule.{LoadedModule};
 ghost use Rattle.ang_engine.specs.Asked.{HasRunOn, HasAsked};
-ghost use Rattle.ang_engine.specs.Engines.{states_in, state_of, resolved_in, program_in};
-ghost use Rattle.ang_engine.specs.Outcomes.{IsCompiled, HasStarted, refused_by, building, reply_to_build};
+ghost use Rattle.ang_engine.specs.Engines.{states_in, state_of, resolved_in, program_in, world_during};
+ghost use Rattle.ang_engine.specs.Outcomes.{IfRefusedAtOnce, IsBegun, IsCompiled, HasStarted, refused_by, building, reply_to_build};
 ghost use Rattle.ang_engine.specs.Sound.{IsBuiltBy, HaveDrivers, AreSoundModules};
 ghost use Rattle.ang_engine.specs.Step.{Leads, emptied, build};
 ghost use Rattle.ang_engine.specs.World.{module_at, left_to};
@@ -51,6 +51,7 @@ pub enum BuildRefused {
 /// What a build is refused by that comes to no program.
 fn refused_by(unbuilt: Unbuilt) -> BuildRefused
     ensures exact { result ≡ refused_by unbuilt }
+    ensures begun { IsBegun result }
 {
     match unbuilt {
         Unbuilt::Errors(errors) => BuildRefused::Errors(errors),
@@ -62,7 +63,8 @@ fn refused_by(unbuilt: Unbuilt) -> BuildRefused
 fn take_sections(alloc: Global, from: &mut Module) -> Vec<List<u8>>
     ensures sections { result.items ≡ from.old.sections.items }
     ensures few { length result.items ≤ 64 }
-    ensures emptied { (l : Option LoadedModule) → state_of from.new None ≡ emptied (state_of from.old l) }
+    ensures emptied { (l : Option LoadedModule)
+        → state_of from.new None ≡ emptied (state_of from.old l) }
     ensures name { from.new.name ≡ from.old.name }
     ensures built_mask { from.new.built_mask ≡ from.old.mask }
 {
@@ -102,7 +104,8 @@ fn compile(
     sections: &[List<u8>],
 ) -> Result<LoadedModule, Unbuilt>
     requires few { length sections.now < 2 ^ 32 }
-    ensures compiled { IsCompiled result (build_of (seen registry.now.entries mask.0) sections.now) }
+    ensures compiled { IsCompiled result
+        (build_of (seen registry.now.entries mask.0) sections.now) }
     ensures name { IfOk result (λ l. l.name ≡ name.now) }
     ensures view { IfOk result (λ l. l.view ≡ seen registry.now.entries mask.0) }
     ensures unbound { IfOk result (λ l. l.links ≡ []) }
@@ -127,11 +130,13 @@ fn compile_waiting(
     registry: &Registry,
     from: &mut Module,
 ) -> Result<LoadedModule, Unbuilt>
-    ensures compiled { IsCompiled result (build_of (seen registry.now.entries from.old.mask.0) from.old.sections.items) }
+    ensures compiled { IsCompiled result
+        (build_of (seen registry.now.entries from.old.mask.0) from.old.sections.items) }
     ensures built { IfOk result (λ l. IsBuiltBy registry.now.entries from.new l) }
     ensures unbound { IfOk result (λ l. l.links ≡ []) }
     ensures sound { IfOk result (λ l. SoundProgram l.view (view_typed l.tree)) }
-    ensures emptied { (l : Option LoadedModule) → state_of from.new None ≡ emptied (state_of from.old l) }
+    ensures emptied { (l : Option LoadedModule)
+        → state_of from.new None ≡ emptied (state_of from.old l) }
     ensures name { from.new.name ≡ from.old.name }
     ensures built_mask { from.new.built_mask ≡ from.old.mask }
 {
@@ -158,7 +163,8 @@ fn load(
     requires sound { SoundProgram loaded.view (view_typed loaded.tree) }
     requires unbound { loaded.links ≡ [] }
     ensures loaded { OnOk result (code.new ≡ slice_set code.old home (Some loaded)) }
-    ensures values { IfOk result (λ values. values.items ≡ first_globals (built_module_at (modules_of code.new) home).tree) }
+    ensures values { IfOk result
+        (λ values. values.items ≡ first_globals (built_module_at (modules_of code.new) home).tree) }
     ensures cleared { slice_set code.new home None ≡ slice_set code.old home None }
 {
     code.load(alloc, home, loaded)?;
@@ -181,16 +187,22 @@ fn start(
 ) -> Result<(), BuildRefused>
     requires sound { SoundProgram loaded.view (view_typed loaded.tree) }
     requires unbound { loaded.links ≡ [] }
-    requires drivers { AreDriversThere (modules_of (slice_set code.old home (Some loaded))) (length (members machine.old.store.drivers)) }
-    requires ready { IsReady (λ v. (⟦<dyn Driver as Driver>⟧ v).meaning) (lent machine.old events.old) }
-    requires counted { IsCounted [] (world_of (λ v. (⟦<dyn Driver as Driver>⟧ v).meaning) (lent machine.old events.old)) }
+    requires drivers { AreDriversThere (modules_of (slice_set code.old home (Some loaded)))
+        (length (members machine.old.store.drivers)) }
+    requires ready { IsReady ⟦<dyn Driver as Driver>⟧ (lent machine.old events.old) }
+    requires counted { IsCounted []
+        (world_of ⟦<dyn Driver as Driver>⟧ (lent machine.old events.old)) }
     requires none { slice_index_or (values_in machine.old.store.globals) home [] ≡ [] }
     requires within { home < length code.old }
-    ensures started { HasStarted (modules_of (slice_set code.old home (Some loaded))) home budget (program_in loaded)
-        (world_of (λ v. (⟦<dyn Driver as Driver>⟧ v).meaning) (lent machine.old events.old)) result (world_of (λ v. (⟦<dyn Driver as Driver>⟧ v).meaning) (lent machine.new events.new)) }
-    ensures asked { HasRunOn (λ v. (⟦<dyn Driver as Driver>⟧ v).meaning) (modules_of (slice_set code.old home (Some loaded))) (lent machine.old events.old) (lent machine.new events.new) }
+    ensures started { HasStarted (modules_of (slice_set code.old home (Some loaded))) home budget
+        (program_in loaded) (world_of ⟦<dyn Driver as Driver>⟧ (lent machine.old events.old)) result
+        (world_of ⟦<dyn Driver as Driver>⟧ (lent machine.new events.new)) }
+    ensures asked { HasRunOn ⟦<dyn Driver as Driver>⟧
+        (modules_of (slice_set code.old home (Some loaded))) (lent machine.old events.old)
+        (lent machine.new events.new) }
     ensures built { OnOk result (code.new ≡ slice_set code.old home (Some loaded)) }
     ensures cleared { OnErr result (code.new ≡ slice_set code.old home None) }
+    ensures begun { IfErr result IsBegun }
 {
     match load(alloc, code, home, loaded) {
         Ok(values) => put_globals(&mut machine.store.globals, home, values),
@@ -221,16 +233,23 @@ fn build_module(
 ) -> Result<(), BuildRefused>
     requires within { home < length list.old.modules.items }
     requires modules { AreSoundModules registry.now.entries list.old }
-    requires drivers { HaveDrivers registry.now.entries (length (members machine.old.store.drivers)) }
-    requires ready { IsReady (λ v. (⟦<dyn Driver as Driver>⟧ v).meaning) (lent machine.old events.old) }
-    requires counted { IsCounted [] (world_of (λ v. (⟦<dyn Driver as Driver>⟧ v).meaning) (lent machine.old events.old)) }
+    requires drivers { HaveDrivers registry.now.entries
+        (length (members machine.old.store.drivers)) }
+    requires ready { IsReady ⟦<dyn Driver as Driver>⟧ (lent machine.old events.old) }
+    requires counted { IsCounted []
+        (world_of ⟦<dyn Driver as Driver>⟧ (lent machine.old events.old)) }
     requires first { events.old.items ≡ [] }
-    ensures done { Leads (build registry.now.entries (left_to (states_in list.old) (world_of (λ v. (⟦<dyn Driver as Driver>⟧ v).meaning) (lent machine.old events.old))) home
-        (module_at (left_to (states_in list.old) (world_of (λ v. (⟦<dyn Driver as Driver>⟧ v).meaning) (lent machine.old events.old))) home) budget)
-        (reply_to_build result events.new.items) (left_to (states_in list.new) (world_of (λ v. (⟦<dyn Driver as Driver>⟧ v).meaning) (lent machine.new events.new))) }
-    ensures asked { HasAsked (λ v. (⟦<dyn Driver as Driver>⟧ v).meaning) registry.now.entries (left_to (states_in list.new) (world_of (λ v. (⟦<dyn Driver as Driver>⟧ v).meaning) machine.new.store))
+    ensures done { Leads (build registry.now.entries
+        (world_during ⟦<dyn Driver as Driver>⟧ list.old machine.old events.old) home
+        (module_at (world_during ⟦<dyn Driver as Driver>⟧ list.old machine.old events.old) home)
+        budget)
+        (reply_to_build result events.new.items)
+        (world_during ⟦<dyn Driver as Driver>⟧ list.new machine.new events.new) }
+    ensures asked { HasAsked ⟦<dyn Driver as Driver>⟧ registry.now.entries
+        (left_to (states_in list.new) (world_of ⟦<dyn Driver as Driver>⟧ machine.new.store))
         (reply_to_build result events.new.items).events machine.old.store machine.new.store }
     ensures sound { AreSoundModules registry.now.entries list.new }
+    ensures begun { IfErr result IsBegun }
 {
     end_globals(alloc, machine, events, home as usize);
     list.code.clear(alloc, home);
@@ -251,15 +270,22 @@ pub fn build(
     budget: u64,
 ) -> Result<(), BuildRefused>
     requires modules { AreSoundModules registry.now.entries list.old }
-    requires drivers { HaveDrivers registry.now.entries (length (members machine.old.store.drivers)) }
-    requires ready { IsReady (λ v. (⟦<dyn Driver as Driver>⟧ v).meaning) (lent machine.old events.old) }
-    requires counted { IsCounted [] (world_of (λ v. (⟦<dyn Driver as Driver>⟧ v).meaning) (lent machine.old events.old)) }
+    requires drivers { HaveDrivers registry.now.entries
+        (length (members machine.old.store.drivers)) }
+    requires ready { IsReady ⟦<dyn Driver as Driver>⟧ (lent machine.old events.old) }
+    requires counted { IsCounted []
+        (world_of ⟦<dyn Driver as Driver>⟧ (lent machine.old events.old)) }
     requires first { events.old.items ≡ [] }
-    ensures done { Leads (building registry.now.entries name.now budget (left_to (states_in list.old) (world_of (λ v. (⟦<dyn Driver as Driver>⟧ v).meaning) (lent machine.old events.old))))
-        (reply_to_build result events.new.items) (left_to (states_in list.new) (world_of (λ v. (⟦<dyn Driver as Driver>⟧ v).meaning) (lent machine.new events.new))) }
-    ensures asked { HasAsked (λ v. (⟦<dyn Driver as Driver>⟧ v).meaning) registry.now.entries (left_to (states_in list.new) (world_of (λ v. (⟦<dyn Driver as Driver>⟧ v).meaning) machine.new.store))
+    ensures done { Leads (building registry.now.entries name.now budget
+        (world_during ⟦<dyn Driver as Driver>⟧ list.old machine.old events.old))
+        (reply_to_build result events.new.items)
+        (world_during ⟦<dyn Driver as Driver>⟧ list.new machine.new events.new) }
+    ensures asked { HasAsked ⟦<dyn Driver as Driver>⟧ registry.now.entries
+        (left_to (states_in list.new) (world_of ⟦<dyn Driver as Driver>⟧ machine.new.store))
         (reply_to_build result events.new.items).events machine.old.store machine.new.store }
     ensures sound { AreSoundModules registry.now.entries list.new }
+    ensures refused { IfRefusedAtOnce (reply_to_build result events.new.items).outcome
+        (members machine.new.store.drivers ≡ members machine.old.store.drivers) }
 {
     let Some(home) = find(&list.modules, name) else {
         return Err(BuildRefused::Before(Refusal::NoModule));

@@ -96,15 +96,20 @@ pub fn run_chosen(
     chosen: &ChosenCall,
     budget: u64,
 ) -> Outcome
-    requires drivers { AreDriversThere (modules_of code.now) (length (members machine.old.store.drivers)) }
-    requires ready { IsReady (λ v. (⟦<dyn Driver as Driver>⟧ v).meaning) (lent machine.old events.old) }
+    requires drivers { AreDriversThere (modules_of code.now)
+        (length (members machine.old.store.drivers)) }
+    requires ready { IsReady ⟦<dyn Driver as Driver>⟧ (lent machine.old events.old) }
     requires plain { NameNothing chosen.now.args.items }
-    requires counted { IsCounted [] (world_of (λ v. (⟦<dyn Driver as Driver>⟧ v).meaning) (lent machine.old events.old)) }
+    requires counted { IsCounted []
+        (world_of ⟦<dyn Driver as Driver>⟧ (lent machine.old events.old)) }
     requires within { chosen.now.number < length loaded.now.names.functions }
-    requires takes { TakesSoMany (modules_of code.now) home chosen.now.number (length chosen.now.args.items) }
-    ensures means { HasCalled (modules_of code.now) loaded.now.names home budget chosen.now (world_of (λ v. (⟦<dyn Driver as Driver>⟧ v).meaning) (lent machine.old events.old))
-        result (world_of (λ v. (⟦<dyn Driver as Driver>⟧ v).meaning) (lent machine.new events.new)) }
-    ensures asked { HasRunOn (λ v. (⟦<dyn Driver as Driver>⟧ v).meaning) (modules_of code.now) (lent machine.old events.old) (lent machine.new events.new) }
+    requires takes { TakesSoMany (modules_of code.now) home chosen.now.number
+        (length chosen.now.args.items) }
+    ensures means { HasCalled (modules_of code.now) loaded.now.names home budget chosen.now
+        (world_of ⟦<dyn Driver as Driver>⟧ (lent machine.old events.old)) result
+        (world_of ⟦<dyn Driver as Driver>⟧ (lent machine.new events.new)) }
+    ensures asked { HasRunOn ⟦<dyn Driver as Driver>⟧ (modules_of code.now)
+        (lent machine.old events.old) (lent machine.new events.new) }
 {
     let function = &loaded.names.functions.as_slice()[chosen.number];
     let ended = code.call(machine, home, chosen.number, &chosen.args, budget, events);

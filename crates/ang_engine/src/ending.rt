@@ -2,14 +2,13 @@
 ghost use Rattle.std.specs.Prelude.{◌≡◌, ◌+◌, ◌≤◌, List, [], length, slice_index_or, slice_set, vec_len, vec_capacity};
 ghost use Rattle.ang_host.specs.declared.event.Role.{Role};
 ghost use Rattle.ang_host.specs.Boxes.{members};
-ghost use Rattle.ang_host.specs.Members.{states_of};
-ghost use Rattle.ang_meaning.specs.World.{Input, with_inputs};
+ghost use Rattle.ang_meaning.specs.World.{Input};
 ghost use Rattle.ang_meaning.specs.Results.{give_back as given_back};
 ghost use Rattle.ang_meaning.specs.Counting.{EnoughIn, CountedIn, IsCounted};
 ghost use Rattle.ang_heap.specs.Globals.{values_in};
 ghost use Rattle.ang_heap.specs.Heaps.{objects_of};
-ghost use Rattle.ang_heap.specs.Parts.{counts_of, live_of, world_by, AreReady, PartsMove};
-ghost use Rattle.ang_heap.specs.Stores.{world_of, IsReady, StoreMoves};
+ghost use Rattle.ang_heap.specs.Parts.{world_by, AreReady, PartsMove, states_among, counts_among, live_among};
+ghost use Rattle.ang_heap.specs.Stores.{world_of, IsReady, HasMoved, StoreBecomes};
 ghost use Rattle.ang_vm.specs.Machines.{lent};
 ghost use Rattle.ang_engine.specs.World.{globals_ended, all_ended};
 
@@ -23,16 +22,25 @@ use std::mem;
 /// Values are given up, the last one first. The end of each host object that ends is listed, in the room
 /// that is kept for it.
 fn give_back(heap: &mut Heap, drivers: &mut Drivers, events: &mut Vec<HostEvent>, values: &[Slot])
-    requires ready { AreReady (states_of (λ v. (⟦<dyn Driver as Driver>⟧ v).meaning) (members drivers.old)) (vec_len events.old) (vec_capacity events.old) }
-    requires enough { EnoughIn values.now (objects_of heap.old) (counts_of (λ v. (⟦<dyn Driver as Driver>⟧ v).meaning) (members drivers.old)) }
+    requires ready { AreReady (states_among ⟦<dyn Driver as Driver>⟧ drivers.old)
+        (vec_len events.old) (vec_capacity events.old) }
+    requires enough { EnoughIn values.now (objects_of heap.old)
+        (counts_among ⟦<dyn Driver as Driver>⟧ drivers.old) }
     ensures gives { (gs : List (List Slot)) (is : List Input)
-        → given_back values.now (world_by (objects_of heap.old) (counts_of (λ v. (⟦<dyn Driver as Driver>⟧ v).meaning) (members drivers.old)) gs events.old.items is)
-        ≡ world_by (objects_of heap.new) (counts_of (λ v. (⟦<dyn Driver as Driver>⟧ v).meaning) (members drivers.new)) gs events.new.items is }
-    ensures ready { AreReady (states_of (λ v. (⟦<dyn Driver as Driver>⟧ v).meaning) (members drivers.new)) (vec_len events.new) (vec_capacity events.new) }
-    ensures level { vec_len events.new + live_of (λ v. (⟦<dyn Driver as Driver>⟧ v).meaning) (members drivers.new) ≡ vec_len events.old + live_of (λ v. (⟦<dyn Driver as Driver>⟧ v).meaning) (members drivers.old) }
-    ensures fewer { live_of (λ v. (⟦<dyn Driver as Driver>⟧ v).meaning) (members drivers.new) ≤ live_of (λ v. (⟦<dyn Driver as Driver>⟧ v).meaning) (members drivers.old) }
+        → given_back values.now (world_by (objects_of heap.old)
+        (counts_among ⟦<dyn Driver as Driver>⟧ drivers.old) gs events.old.items is)
+        ≡ world_by (objects_of heap.new) (counts_among ⟦<dyn Driver as Driver>⟧ drivers.new) gs
+        events.new.items is }
+    ensures ready { AreReady (states_among ⟦<dyn Driver as Driver>⟧ drivers.new)
+        (vec_len events.new) (vec_capacity events.new) }
+    ensures level { vec_len events.new + live_among ⟦<dyn Driver as Driver>⟧ drivers.new
+        ≡ vec_len events.old + live_among ⟦<dyn Driver as Driver>⟧ drivers.old }
+    ensures fewer { live_among ⟦<dyn Driver as Driver>⟧ drivers.new
+        ≤ live_among ⟦<dyn Driver as Driver>⟧ drivers.old }
     ensures capacity { vec_capacity events.new ≡ vec_capacity events.old }
-    ensures moves { (roles : List Role) → PartsMove (λ v. (⟦<dyn Driver as Driver>⟧ v).meaning) roles (members drivers.old) events.old.items (members drivers.new) events.new.items }
+    ensures moves { (roles : List Role)
+        → PartsMove ⟦<dyn Driver as Driver>⟧ roles (members drivers.old) events.old.items
+        (members drivers.new) events.new.items }
 {
     let mut left = values.len();
     while left > 0 {
@@ -61,16 +69,26 @@ fn end_module(
     events: &mut Vec<HostEvent>,
     home: usize,
 )
-    requires ready { AreReady (states_of (λ v. (⟦<dyn Driver as Driver>⟧ v).meaning) (members drivers.old)) (vec_len events.old) (vec_capacity events.old) }
-    requires counted { CountedIn [] (objects_of heap.old) (counts_of (λ v. (⟦<dyn Driver as Driver>⟧ v).meaning) (members drivers.old)) (values_in globals.old) }
+    requires ready { AreReady (states_among ⟦<dyn Driver as Driver>⟧ drivers.old)
+        (vec_len events.old) (vec_capacity events.old) }
+    requires counted { CountedIn [] (objects_of heap.old)
+        (counts_among ⟦<dyn Driver as Driver>⟧ drivers.old) (values_in globals.old) }
     ensures ended { (is : List Input)
-        → globals_ended home (world_by (objects_of heap.old) (counts_of (λ v. (⟦<dyn Driver as Driver>⟧ v).meaning) (members drivers.old)) (values_in globals.old) events.old.items is)
-        ≡ world_by (objects_of heap.new) (counts_of (λ v. (⟦<dyn Driver as Driver>⟧ v).meaning) (members drivers.new)) (values_in globals.new) events.new.items is }
-    ensures ready { AreReady (states_of (λ v. (⟦<dyn Driver as Driver>⟧ v).meaning) (members drivers.new)) (vec_len events.new) (vec_capacity events.new) }
-    ensures level { vec_len events.new + live_of (λ v. (⟦<dyn Driver as Driver>⟧ v).meaning) (members drivers.new) ≡ vec_len events.old + live_of (λ v. (⟦<dyn Driver as Driver>⟧ v).meaning) (members drivers.old) }
-    ensures fewer { live_of (λ v. (⟦<dyn Driver as Driver>⟧ v).meaning) (members drivers.new) ≤ live_of (λ v. (⟦<dyn Driver as Driver>⟧ v).meaning) (members drivers.old) }
+        → globals_ended home (world_by (objects_of heap.old)
+        (counts_among ⟦<dyn Driver as Driver>⟧ drivers.old) (values_in globals.old)
+        events.old.items is)
+        ≡ world_by (objects_of heap.new) (counts_among ⟦<dyn Driver as Driver>⟧ drivers.new)
+        (values_in globals.new) events.new.items is }
+    ensures ready { AreReady (states_among ⟦<dyn Driver as Driver>⟧ drivers.new)
+        (vec_len events.new) (vec_capacity events.new) }
+    ensures level { vec_len events.new + live_among ⟦<dyn Driver as Driver>⟧ drivers.new
+        ≡ vec_len events.old + live_among ⟦<dyn Driver as Driver>⟧ drivers.old }
+    ensures fewer { live_among ⟦<dyn Driver as Driver>⟧ drivers.new
+        ≤ live_among ⟦<dyn Driver as Driver>⟧ drivers.old }
     ensures capacity { vec_capacity events.new ≡ vec_capacity events.old }
-    ensures moves { (roles : List Role) → PartsMove (λ v. (⟦<dyn Driver as Driver>⟧ v).meaning) roles (members drivers.old) events.old.items (members drivers.new) events.new.items }
+    ensures moves { (roles : List Role)
+        → PartsMove ⟦<dyn Driver as Driver>⟧ roles (members drivers.old) events.old.items
+        (members drivers.new) events.new.items }
 {
     let values = take_globals(alloc, globals, home);
     give_back(heap, drivers, events, &values);
@@ -85,13 +103,21 @@ pub fn end_all(
     drivers: &mut Drivers,
     ends: &mut Vec<HostEvent>,
 )
-    requires ready { AreReady (states_of (λ v. (⟦<dyn Driver as Driver>⟧ v).meaning) (members drivers.old)) (vec_len ends.old) (vec_capacity ends.old) }
-    requires counted { CountedIn [] (objects_of heap.old) (counts_of (λ v. (⟦<dyn Driver as Driver>⟧ v).meaning) (members drivers.old)) (values_in globals.old) }
+    requires ready { AreReady (states_among ⟦<dyn Driver as Driver>⟧ drivers.old) (vec_len ends.old)
+        (vec_capacity ends.old) }
+    requires counted { CountedIn [] (objects_of heap.old)
+        (counts_among ⟦<dyn Driver as Driver>⟧ drivers.old) (values_in globals.old) }
     ensures ended { (is : List Input)
-        → all_ended (length (values_in globals.old)) (world_by (objects_of heap.old) (counts_of (λ v. (⟦<dyn Driver as Driver>⟧ v).meaning) (members drivers.old)) (values_in globals.old) ends.old.items is)
-        ≡ world_by (objects_of heap.new) (counts_of (λ v. (⟦<dyn Driver as Driver>⟧ v).meaning) (members drivers.new)) (values_in globals.new) ends.new.items is }
-    ensures ready { AreReady (states_of (λ v. (⟦<dyn Driver as Driver>⟧ v).meaning) (members drivers.new)) (vec_len ends.new) (vec_capacity ends.new) }
-    ensures moves { (roles : List Role) → PartsMove (λ v. (⟦<dyn Driver as Driver>⟧ v).meaning) roles (members drivers.old) ends.old.items (members drivers.new) ends.new.items }
+        → all_ended (length (values_in globals.old)) (world_by (objects_of heap.old)
+        (counts_among ⟦<dyn Driver as Driver>⟧ drivers.old) (values_in globals.old)
+        ends.old.items is)
+        ≡ world_by (objects_of heap.new) (counts_among ⟦<dyn Driver as Driver>⟧ drivers.new)
+        (values_in globals.new) ends.new.items is }
+    ensures ready { AreReady (states_among ⟦<dyn Driver as Driver>⟧ drivers.new) (vec_len ends.new)
+        (vec_capacity ends.new) }
+    ensures moves { (roles : List Role)
+        → PartsMove ⟦<dyn Driver as Driver>⟧ roles (members drivers.old) ends.old.items
+        (members drivers.new) ends.new.items }
 {
     let mut left = globals.modules.len();
     while left > 0 {
@@ -102,11 +128,13 @@ pub fn end_all(
 
 /// The globals of a module end in a command, which lists what ends.
 pub fn end_globals(alloc: Global, machine: &mut Machine, events: &mut Vec<HostEvent>, home: usize)
-    requires ready { IsReady (λ v. (⟦<dyn Driver as Driver>⟧ v).meaning) (lent machine.old events.old) }
-    requires counted { IsCounted [] (world_of (λ v. (⟦<dyn Driver as Driver>⟧ v).meaning) (lent machine.old events.old)) }
-    ensures ended { (is : List Input) → globals_ended home (with_inputs is (world_of (λ v. (⟦<dyn Driver as Driver>⟧ v).meaning) (lent machine.old events.old)))
-        ≡ with_inputs is (world_of (λ v. (⟦<dyn Driver as Driver>⟧ v).meaning) (lent machine.new events.new)) }
-    ensures moves { (roles : List Role) → StoreMoves (λ v. (⟦<dyn Driver as Driver>⟧ v).meaning) roles (lent machine.old events.old) (lent machine.new events.new) }
+    requires ready { IsReady ⟦<dyn Driver as Driver>⟧ (lent machine.old events.old) }
+    requires counted { IsCounted []
+        (world_of ⟦<dyn Driver as Driver>⟧ (lent machine.old events.old)) }
+    ensures ended { StoreBecomes ⟦<dyn Driver as Driver>⟧ (globals_ended home)
+        (lent machine.old events.old) (lent machine.new events.new) }
+    ensures moves { HasMoved ⟦<dyn Driver as Driver>⟧ (lent machine.old events.old)
+        (lent machine.new events.new) }
 {
     let store = &mut machine.store;
     let before = events.len();

@@ -2,7 +2,7 @@
 ghost use Rattle.std.specs.Prelude.{◌≡◌, ◌<◌, ◌≤◌, ◌↔◌, [], List, All, IsTrue, IfOk, IfErr, length};
 ghost use Rattle.ang_host.specs.declared.event.Role.{Role};
 ghost use Rattle.ang_host.specs.Boxes.{members};
-ghost use Rattle.ang_host.specs.Members.{state_at, states_of, AreFresh};
+ghost use Rattle.ang_host.specs.Members.{states_of, AreFresh};
 ghost use Rattle.ang_host.specs.Counts.{IsBalanced};
 ghost use Rattle.ang_host.specs.Events.{DriversFollow};
 ghost use Rattle.ang_registry.specs.Roles.{roles_of};
@@ -57,11 +57,11 @@ fn have_drivers(registry: &Registry, count: usize) -> bool
 
 /// A machine without script objects and globals. It takes no memory.
 fn machine_of(alloc: Global, drivers: Drivers) -> Machine
-    requires fresh { AreFresh (states_of (λ v. (⟦<dyn Driver as Driver>⟧ v).meaning) (members drivers)) }
+    requires fresh { AreFresh (states_of ⟦<dyn Driver as Driver>⟧ (members drivers)) }
     ensures drivers { members result.store.drivers ≡ members drivers }
-    ensures world { world_of (λ v. (⟦<dyn Driver as Driver>⟧ v).meaning) result.store ≡ running no_modules [] }
-    ensures kept { IsKept (λ v. (⟦<dyn Driver as Driver>⟧ v).meaning) result.store }
-    ensures counted { IsCounted [] (world_of (λ v. (⟦<dyn Driver as Driver>⟧ v).meaning) result.store) }
+    ensures world { world_of ⟦<dyn Driver as Driver>⟧ result.store ≡ running no_modules [] }
+    ensures kept { IsKept ⟦<dyn Driver as Driver>⟧ result.store }
+    ensures counted { IsCounted [] (world_of ⟦<dyn Driver as Driver>⟧ result.store) }
 {
     let heap = Heap::new(alloc);
     let modules = Vec::new(alloc);
@@ -83,17 +83,18 @@ fn machine_of(alloc: Global, drivers: Drivers) -> Machine
 /// # Errors
 /// Want of memory.
 fn room_for_ends(alloc: Global, machine: &Machine) -> Result<Vec<HostEvent>, AllocError>
-    requires kept { IsKept (λ v. (⟦<dyn Driver as Driver>⟧ v).meaning) machine.now.store }
+    requires kept { IsKept ⟦<dyn Driver as Driver>⟧ machine.now.store }
     ensures empty { IfOk result (λ events. events.items ≡ []) }
-    ensures ready { IfOk result (λ events. IsReady (λ v. (⟦<dyn Driver as Driver>⟧ v).meaning) (lent machine.now events)) }
+    ensures ready { IfOk result
+        (λ events. IsReady ⟦<dyn Driver as Driver>⟧ (lent machine.now events)) }
 {
     Vec::with_capacity(alloc, machine.store.live)
 }
 
 impl Engine {
-    ghost use Rattle.ang_engine.specs.Applied.{Applied};
+    ghost use Rattle.ang_engine.specs.Applied.{HasApplied};
     ghost use Rattle.ang_engine.specs.Asked.{HasAsked};
-    ghost use Rattle.ang_engine.specs.Outcomes.{IsCalled, calling, reply_to_call};
+    ghost use Rattle.ang_engine.specs.Outcomes.{IfRefusedAtOnce, IsCalled, calling, reply_to_call};
     ghost use Rattle.ang_engine.specs.Sound.{AreSoundModules};
     ghost use Rattle.ang_engine.specs.Engines.{registrations, world_in, drivers_in};
 
@@ -103,14 +104,15 @@ impl Engine {
     /// Gives back the registry and the drivers as they were, with `NoDriver` where an entry names a
     /// driver that is not in the list, or with `Memory` where a growth was refused.
     pub fn new(alloc: Global, registry: Registry, drivers: Drivers) -> Result<Engine, NewRefused>
-        requires fresh { AreFresh (states_of (λ v. (⟦<dyn Driver as Driver>⟧ v).meaning) (members drivers)) }
+        requires fresh { AreFresh (states_of ⟦<dyn Driver as Driver>⟧ (members drivers)) }
         ensures registrations { IfOk result (λ e. registrations e ≡ registry.entries) }
-        ensures world { IfOk result (λ e. world_in (λ v. (⟦<dyn Driver as Driver>⟧ v).meaning) e ≡ no_modules) }
+        ensures world { IfOk result (λ e. world_in ⟦<dyn Driver as Driver>⟧ e ≡ no_modules) }
         ensures drivers { IfOk result (λ e. drivers_in e ≡ members drivers) }
-        ensures sound { IfOk result (λ e. IsSound (λ v. (⟦<dyn Driver as Driver>⟧ v).meaning) e) }
+        ensures sound { IfOk result (λ e. IsSound ⟦<dyn Driver as Driver>⟧ e) }
         ensures registry_back { IfErr result (λ r. r.registry ≡ registry) }
         ensures drivers_back { IfErr result (λ r. members r.drivers ≡ members drivers) }
-        ensures why { IfErr result (λ r. r.why ≡ NewError.NoDriver ↔ (HaveDrivers registry.entries (length (members drivers)) → ⊥)) }
+        ensures why { IfErr result (λ r. r.why ≡ NewError.NoDriver
+            ↔ (HaveDrivers registry.entries (length (members drivers)) → ⊥)) }
     {
         if !have_drivers(&registry, drivers.len()) {
             return Err(NewRefused {
@@ -142,13 +144,20 @@ impl Engine {
     ///
     /// The reply and the modules after it are those of the source meaning, where each build sees what
     /// the module's mask meets, told what the drivers answered and whether there was memory. Each host
-    /// call is of an entity that its caller saw when it was built, and the drivers follow the events.
+    /// call is of an entity that its caller saw when it was built, and the drivers follow the events. After a
+    /// refusal other than `BuildMemory`, `BuildErrors` and `InitFailed` they are as they were.
     pub fn apply(&mut self, command: Command) -> Reply
-        requires sound { IsSound (λ v. (⟦<dyn Driver as Driver>⟧ v).meaning) self.old }
-        ensures takes { Takes (registrations self.old) (world_in (λ v. (⟦<dyn Driver as Driver>⟧ v).meaning) self.old) command result (world_in (λ v. (⟦<dyn Driver as Driver>⟧ v).meaning) self.new) }
-        ensures entitled { All (IsEntitled (registrations self.new) (world_in (λ v. (⟦<dyn Driver as Driver>⟧ v).meaning) self.new)) result.events }
-        ensures follow { DriversFollow (λ v. (⟦<dyn Driver as Driver>⟧ v).meaning) (roles_of (registrations self.old)) (drivers_in self.old) result.events (drivers_in self.new) }
-        ensures sound { IsSound (λ v. (⟦<dyn Driver as Driver>⟧ v).meaning) self.new }
+        requires sound { IsSound ⟦<dyn Driver as Driver>⟧ self.old }
+        ensures takes { Takes (registrations self.old) (world_in ⟦<dyn Driver as Driver>⟧ self.old)
+            command result (world_in ⟦<dyn Driver as Driver>⟧ self.new) }
+        ensures entitled { All
+            (IsEntitled (registrations self.new) (world_in ⟦<dyn Driver as Driver>⟧ self.new))
+            result.events }
+        ensures follow { DriversFollow ⟦<dyn Driver as Driver>⟧ (roles_of (registrations self.old))
+            (drivers_in self.old) result.events (drivers_in self.new) }
+        ensures refused { IfRefusedAtOnce result.outcome
+            (drivers_in self.new ≡ drivers_in self.old) }
+        ensures sound { IsSound ⟦<dyn Driver as Driver>⟧ self.new }
         ensures registrations { registrations self.new ≡ registrations self.old }
     {
         match command {
@@ -165,9 +174,10 @@ impl Engine {
     }
 
     fn new_module(&mut self, name: List<u8>, mask: Mask) -> Reply
-        requires sound { IsSound (λ v. (⟦<dyn Driver as Driver>⟧ v).meaning) self.old }
-        ensures applied { Applied (λ v. (⟦<dyn Driver as Driver>⟧ v).meaning) (registrations self.old) (world_in (λ v. (⟦<dyn Driver as Driver>⟧ v).meaning) self.old) (drivers_in self.old) (NewModule name mask) result (world_in (λ v. (⟦<dyn Driver as Driver>⟧ v).meaning) self.new) (drivers_in self.new) }
-        ensures sound { IsSound (λ v. (⟦<dyn Driver as Driver>⟧ v).meaning) self.new }
+        requires sound { IsSound ⟦<dyn Driver as Driver>⟧ self.old }
+        ensures applied { HasApplied ⟦<dyn Driver as Driver>⟧ self.old (NewModule name mask) result
+            self.new }
+        ensures sound { IsSound ⟦<dyn Driver as Driver>⟧ self.new }
         ensures registrations { registrations self.new ≡ registrations self.old }
     {
         let alloc = self.alloc;
@@ -177,9 +187,10 @@ impl Engine {
     }
 
     fn add_section(&mut self, name: List<u8>, text: List<u8>) -> Reply
-        requires sound { IsSound (λ v. (⟦<dyn Driver as Driver>⟧ v).meaning) self.old }
-        ensures applied { Applied (λ v. (⟦<dyn Driver as Driver>⟧ v).meaning) (registrations self.old) (world_in (λ v. (⟦<dyn Driver as Driver>⟧ v).meaning) self.old) (drivers_in self.old) (AddSection name text) result (world_in (λ v. (⟦<dyn Driver as Driver>⟧ v).meaning) self.new) (drivers_in self.new) }
-        ensures sound { IsSound (λ v. (⟦<dyn Driver as Driver>⟧ v).meaning) self.new }
+        requires sound { IsSound ⟦<dyn Driver as Driver>⟧ self.old }
+        ensures applied { HasApplied ⟦<dyn Driver as Driver>⟧ self.old (AddSection name text) result
+            self.new }
+        ensures sound { IsSound ⟦<dyn Driver as Driver>⟧ self.new }
         ensures registrations { registrations self.new ≡ registrations self.old }
     {
         let done = add_section(&mut self.modules, name, text);
@@ -187,9 +198,10 @@ impl Engine {
     }
 
     fn build(&mut self, name: List<u8>, budget: u64) -> Reply
-        requires sound { IsSound (λ v. (⟦<dyn Driver as Driver>⟧ v).meaning) self.old }
-        ensures applied { Applied (λ v. (⟦<dyn Driver as Driver>⟧ v).meaning) (registrations self.old) (world_in (λ v. (⟦<dyn Driver as Driver>⟧ v).meaning) self.old) (drivers_in self.old) (Build name budget) result (world_in (λ v. (⟦<dyn Driver as Driver>⟧ v).meaning) self.new) (drivers_in self.new) }
-        ensures sound { IsSound (λ v. (⟦<dyn Driver as Driver>⟧ v).meaning) self.new }
+        requires sound { IsSound ⟦<dyn Driver as Driver>⟧ self.old }
+        ensures applied { HasApplied ⟦<dyn Driver as Driver>⟧ self.old (Build name budget) result
+            self.new }
+        ensures sound { IsSound ⟦<dyn Driver as Driver>⟧ self.new }
         ensures registrations { registrations self.new ≡ registrations self.old }
     {
         let Ok(mut events) = room_for_ends(self.alloc, &self.machine) else {
@@ -216,13 +228,19 @@ impl Engine {
         args: &[Value],
         budget: u64,
     ) -> Result<Outcome, Refusal>
-        requires sound { IsSound (λ v. (⟦<dyn Driver as Driver>⟧ v).meaning) self.old }
-        requires ready { IsReady (λ v. (⟦<dyn Driver as Driver>⟧ v).meaning) (lent self.old.machine events.old) }
+        requires sound { IsSound ⟦<dyn Driver as Driver>⟧ self.old }
+        requires ready { IsReady ⟦<dyn Driver as Driver>⟧ (lent self.old.machine events.old) }
         requires first { events.old.items ≡ [] }
-        ensures done { IsCalled result events.new.items (calling name.now decl.now args.now budget (world_in (λ v. (⟦<dyn Driver as Driver>⟧ v).meaning) self.old))
-            (world_in (λ v. (⟦<dyn Driver as Driver>⟧ v).meaning) self.old) (world_in (λ v. (⟦<dyn Driver as Driver>⟧ v).meaning) self.new) }
-        ensures asked { HasAsked (λ v. (⟦<dyn Driver as Driver>⟧ v).meaning) (registrations self.old) (world_in (λ v. (⟦<dyn Driver as Driver>⟧ v).meaning) self.new)
-            (reply_to_call result events.new.items).events self.old.machine.store self.new.machine.store }
+        ensures done { IsCalled result events.new.items
+            (calling name.now decl.now args.now budget (world_in ⟦<dyn Driver as Driver>⟧ self.old))
+            (world_in ⟦<dyn Driver as Driver>⟧ self.old)
+            (world_in ⟦<dyn Driver as Driver>⟧ self.new) }
+        ensures asked { HasAsked ⟦<dyn Driver as Driver>⟧ (registrations self.old)
+            (world_in ⟦<dyn Driver as Driver>⟧ self.new)
+            (reply_to_call result events.new.items).events self.old.machine.store
+            self.new.machine.store }
+        ensures refused { IfRefusedAtOnce (reply_to_call result events.new.items).outcome
+            (drivers_in self.new ≡ drivers_in self.old) }
         ensures modules { self.new.modules ≡ self.old.modules }
         ensures registrations { registrations self.new ≡ registrations self.old }
     {
@@ -250,9 +268,10 @@ impl Engine {
     }
 
     fn call(&mut self, name: List<u8>, decl: List<u8>, args: List<Value>, budget: u64) -> Reply
-        requires sound { IsSound (λ v. (⟦<dyn Driver as Driver>⟧ v).meaning) self.old }
-        ensures applied { Applied (λ v. (⟦<dyn Driver as Driver>⟧ v).meaning) (registrations self.old) (world_in (λ v. (⟦<dyn Driver as Driver>⟧ v).meaning) self.old) (drivers_in self.old) (Call name decl args budget) result (world_in (λ v. (⟦<dyn Driver as Driver>⟧ v).meaning) self.new) (drivers_in self.new) }
-        ensures sound { IsSound (λ v. (⟦<dyn Driver as Driver>⟧ v).meaning) self.new }
+        requires sound { IsSound ⟦<dyn Driver as Driver>⟧ self.old }
+        ensures applied { HasApplied ⟦<dyn Driver as Driver>⟧ self.old (Call name decl args budget)
+            result self.new }
+        ensures sound { IsSound ⟦<dyn Driver as Driver>⟧ self.new }
         ensures registrations { registrations self.new ≡ registrations self.old }
     {
         let alloc = self.alloc;
@@ -273,10 +292,12 @@ impl Engine {
     /// engine can have them. The globals of its modules are given up, those of the module last made first. It
     /// takes no memory, asks no driver anything, and always succeeds.
     pub fn discard(self) -> Vec<Box<dyn Driver>>
-        requires sound { IsSound (λ v. (⟦<dyn Driver as Driver>⟧ v).meaning) self }
-        ensures ended { (roles : List Role) → DriversFollow (λ v. (⟦<dyn Driver as Driver>⟧ v).meaning) roles (drivers_in self) (engine_ended (world_in (λ v. (⟦<dyn Driver as Driver>⟧ v).meaning) self)).events result.items }
-        ensures balanced { All IsBalanced (states_of (λ v. (⟦<dyn Driver as Driver>⟧ v).meaning) result.items) }
-        ensures fresh { AreFresh (states_of (λ v. (⟦<dyn Driver as Driver>⟧ v).meaning) result.items) }
+        requires sound { IsSound ⟦<dyn Driver as Driver>⟧ self }
+        ensures ended { (roles : List Role)
+            → DriversFollow ⟦<dyn Driver as Driver>⟧ roles (drivers_in self)
+            (engine_ended (world_in ⟦<dyn Driver as Driver>⟧ self)).events result.items }
+        ensures balanced { All IsBalanced (states_of ⟦<dyn Driver as Driver>⟧ result.items) }
+        ensures fresh { AreFresh (states_of ⟦<dyn Driver as Driver>⟧ result.items) }
     {
         let Engine {
             alloc,

@@ -12,7 +12,8 @@ mod modules;
 mod replies;
 mod reply;
 
-pub use ang_host::HostEvent;
+pub use ang_host::{HostEvent, HostReply};
+pub use ang_kinds::{Denial, Error, ErrorKind};
 pub use ang_registry::Registry;
 pub use command::Command;
 pub use engine::Engine;

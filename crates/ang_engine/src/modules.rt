@@ -34,7 +34,8 @@ pub fn may_run(budget: u64) -> bool
 /// The number of the module of that name.
 pub fn find(modules: &[Module], name: &[u8]) -> Option<u32>
     requires few { length modules.now < 2 ^ 32 }
-    ensures exact { (code : List (Option LoadedModule)) → result ≡ index_from 0 name.now (module_states modules.now code) }
+    ensures exact { (code : List (Option LoadedModule))
+        → result ≡ index_from 0 name.now (module_states modules.now code) }
     ensures within { IfSome result (λ i. i < length modules.now) }
 {
     for (i, module) in modules.iter().enumerate() {
@@ -63,7 +64,8 @@ fn push_module(
     globals: &mut Globals,
     new_module: Module,
 ) -> Result<(), AllocError>
-    ensures modules { OnOk result (list.new.modules.items ≡ list.old.modules.items ++ new_module ∷ []) }
+    ensures modules { OnOk result
+        (list.new.modules.items ≡ list.old.modules.items ++ new_module ∷ []) }
     ensures code { OnOk result (list.new.code ≡ list.old.code ++ None ∷ []) }
     ensures globals { OnOk result (values_in globals.new ≡ values_in globals.old ++ [] ∷ []) }
     ensures no_module { OnErr result (list.new.modules.items ≡ list.old.modules.items) }
@@ -88,11 +90,15 @@ pub fn add_module(
 ) -> Result<(), Refusal>
     requires few { length list.old.modules.items < 2 ^ 32 }
     requires zipped { length list.old.code ≡ length list.old.modules.items }
-    ensures done { (r : RunWorld) → IsDone result
-        (added_module name mask.0 (left_to (states_in list.old) (record r { globals = values_in globals.old })))
-        (left_to (states_in list.old) (record r { globals = values_in globals.old })) (left_to (states_in list.new) (record r { globals = values_in globals.new })) }
-    ensures sound { (R : RegistrationList) → AreSoundModules R list.old → AreSoundModules R list.new }
-    ensures counted { (r : RunWorld) → IsCounted [] (record r { globals = values_in globals.old }) → IsCounted [] (record r { globals = values_in globals.new }) }
+    ensures done { (r : RunWorld)
+        → IsDone result (added_module name mask.0
+        (left_to (states_in list.old) (record r { globals = values_in globals.old })))
+        (left_to (states_in list.old) (record r { globals = values_in globals.old }))
+        (left_to (states_in list.new) (record r { globals = values_in globals.new })) }
+    ensures sound { (R : RegistrationList) → AreSoundModules R list.old
+        → AreSoundModules R list.new }
+    ensures counted { (r : RunWorld) → IsCounted [] (record r { globals = values_in globals.old })
+        → IsCounted [] (record r { globals = values_in globals.new }) }
 {
     if !is_name(name.as_slice()) {
         return Err(Refusal::BadName);
@@ -116,7 +122,8 @@ pub fn add_module(
 }
 
 fn push_section(into: &mut Module, text: List<u8>) -> Result<(), Refusal>
-    ensures added { (l : Option LoadedModule) → IsAdded result text (state_of into.old l) (state_of into.new l) }
+    ensures added { (l : Option LoadedModule)
+        → IsAdded result text (state_of into.old l) (state_of into.new l) }
     ensures name { into.new.name ≡ into.old.name }
     ensures built_mask { into.new.built_mask ≡ into.old.built_mask }
 {
@@ -133,9 +140,13 @@ fn push_section(into: &mut Module, text: List<u8>) -> Result<(), Refusal>
 fn add_text(modules: &mut [Module], name: &[u8], text: List<u8>) -> Result<(), Refusal>
     requires few { length modules.old < 2 ^ 32 }
     ensures done { (code : List (Option LoadedModule)) (r : RunWorld)
-        → IsDone result (λ inputs. on_module (module_named name.now (left_to (module_states modules.old code) r)) (left_to (module_states modules.old code) r) inputs
-        (spec.add_section text (left_to (module_states modules.old code) r))) (left_to (module_states modules.old code) r) (left_to (module_states modules.new code) r) }
-    ensures sound { (R : RegistrationList) (code : List (Option LoadedModule)) → AllZip (IsSoundModule R) modules.old code → AllZip (IsSoundModule R) modules.new code }
+        → IsDone result (λ inputs. on_module
+        (module_named name.now (left_to (module_states modules.old code) r))
+        (left_to (module_states modules.old code) r) inputs
+        (spec.add_section text (left_to (module_states modules.old code) r)))
+        (left_to (module_states modules.old code) r) (left_to (module_states modules.new code) r) }
+    ensures sound { (R : RegistrationList) (code : List (Option LoadedModule))
+        → AllZip (IsSoundModule R) modules.old code → AllZip (IsSoundModule R) modules.new code }
     ensures count { length modules.new ≡ length modules.old }
 {
     let Some(i) = find(modules, name) else {
@@ -147,9 +158,13 @@ fn add_text(modules: &mut [Module], name: &[u8], text: List<u8>) -> Result<(), R
 /// `Command::AddSection`.
 pub fn add_section(list: &mut ModuleList, name: List<u8>, text: List<u8>) -> Result<(), Refusal>
     requires few { length list.old.modules.items < 2 ^ 32 }
-    ensures done { (r : RunWorld) → IsDone result (λ inputs. on_module (module_named name (left_to (states_in list.old) r)) (left_to (states_in list.old) r) inputs
-        (spec.add_section text (left_to (states_in list.old) r))) (left_to (states_in list.old) r) (left_to (states_in list.new) r) }
-    ensures sound { (R : RegistrationList) → AreSoundModules R list.old → AreSoundModules R list.new }
+    ensures done { (r : RunWorld)
+        → IsDone result (λ inputs. on_module (module_named name (left_to (states_in list.old) r))
+        (left_to (states_in list.old) r) inputs
+        (spec.add_section text (left_to (states_in list.old) r)))
+        (left_to (states_in list.old) r) (left_to (states_in list.new) r) }
+    ensures sound { (R : RegistrationList) → AreSoundModules R list.old
+        → AreSoundModules R list.new }
 {
     add_text(&mut list.modules, name.as_slice(), text)
 }

@@ -1,6 +1,6 @@
 -- What holds of each program that a build gives.
-use Rattle.std.proofs.Common.{◌≡◌, refl, subst, ℕ, List, [], ◌∷◌}
-use Rattle.std.specs.Prelude.{map, Result, Ok, Err}
+use Rattle.std.proofs.Common.{◌≡◌, ◌≤◌, refl, subst, ℕ, List, [], ◌∷◌, length}
+use Rattle.std.specs.Prelude.{Result, Ok, Err}
 use Rattle.ang_kinds.specs.declared.error.Error.{Error}
 use Rattle.ang_view.specs.Registration.{RegistrationList}
 use Rattle.ang_view.specs.Values.{TakesValues}
@@ -9,16 +9,15 @@ use Rattle.ang_source.specs.Sound.{SoundProgram}
 use Rattle.ang_names_known.specs.Items.{list_or}
 use Rattle.ang_names_known.specs.Spaces.{AreFamilies}
 use Rattle.ang_names_written.specs.Sources.{Source}
-use Rattle.ang_names_written.specs.NotYet.{not_yet}
 use Rattle.ang_names_listed.specs.Declarations.{declarations_of}
-use Rattle.ang_names_listed.specs.Taken.{plain_refusal}
-use Rattle.ang_names.specs.Phases.{all_phases, errors_in, first_refusals, refusals_of}
+use Rattle.ang_names.specs.Phases.{errors_in, refusals_of}
 use Rattle.ang_names.specs.Resolved.{names_of}
 use Rattle.ang_names.proofs.Few.{accepted_families}
 use Rattle.ang_check_bodies.specs.Bodies.{body_refusals, program_of}
 use Rattle.ang_check.specs.Denials.{script_refusals}
 use Rattle.ang_check_sound.specs.Checked.{HasNames}
-use Rattle.ang_check_sound.proofs.Program.{has_names, program_is_sound}
+use Rattle.ang_check_sound.proofs.Program.{has_names}
+use Rattle.ang_check_sound.proofs.Soundness.{program_is_sound}
 use Rattle.ang_engine_build.specs.Script.{sources_of}
 use Rattle.ang_engine_build.specs.Build.{Resolved, Compiled, resolution_of, script_errors, unless_refused, build_of_scripts, after_reading, build_of}
 use Rattle.ang_engine_build.specs.Named.{HasNamesOf}
@@ -34,15 +33,6 @@ record IsResolution (V : RegistrationList) (ss : List Source) (r : Resolved) : T
 none_of_both : (first later : List Refused) → list_or first later ≡ [] → (first ≡ []) × (later ≡ [])
 none_of_both [] later h = (refl, h)
 none_of_both (x ∷ xs) later h = cc
-
-none_is_plain : (es : List Error) → map plain_refusal es ≡ [] → es ≡ []
-none_is_plain [] h = refl
-none_is_plain (e ∷ es) h = cc
-
-none_beyond : (V : RegistrationList) (ss : List Source) → refusals_of V ss ≡ [] → not_yet V ss ≡ []
-unfolding refusals_of
-none_beyond V ss h =
-    none_is_plain (not_yet V ss) (none_of_both (map plain_refusal (not_yet V ss)) (first_refusals V (declarations_of ss) all_phases) h).0
 
 none_refused : (rs : List Refused) → errors_in rs ≡ [] → rs ≡ []
 none_refused [] h = refl
@@ -61,10 +51,10 @@ scripts_resolve V ss r is =
 
 -- ---- the laws, of scripts
 
-sound_scripts : (V : RegistrationList) (ss : List Source) (r : Resolved) → TakesValues V → IsResolution V ss r → SoundProgram V r.tree
-sound_scripts V ss r values h =
+sound_scripts : (V : RegistrationList) (ss : List Source) (r : Resolved) → TakesValues V → length V ≤ 1024 → IsResolution V ss r → SoundProgram V r.tree
+sound_scripts V ss r values few h =
     let names = names_of V (declarations_of ss) in
-    let sound : SoundProgram V (program_of V names ss) = program_is_sound V names ss values refl (none_beyond V ss h.declared) h.accepted in
+    let sound : SoundProgram V (program_of V names ss) = program_is_sound V names ss values few refl h.accepted in
     subst (λ (q : Resolved). SoundProgram V q.tree) h.is sound
 
 named_scripts : (V : RegistrationList) (ss : List Source) (r : Resolved) → IsResolution V ss r → HasNames V r.names ss r.tree
@@ -76,10 +66,10 @@ few_scripts V ss r h = subst (λ (q : Resolved). AreFamilies q.names.families) h
 
 -- ---- the laws, of sections
 
-sound_read : (V : RegistrationList) (read : Result (List Source) Error) (r : Resolved) → TakesValues V → after_reading V read ≡ Compiled r
-    → SoundProgram V r.tree
-sound_read V (Ok ss) r values is = sound_scripts V ss r values (scripts_resolve V ss r is)
-sound_read V (Err e) r values is = cc
+sound_read : (V : RegistrationList) (read : Result (List Source) Error) (r : Resolved) → TakesValues V → length V ≤ 1024
+    → after_reading V read ≡ Compiled r → SoundProgram V r.tree
+sound_read V (Ok ss) r values few is = sound_scripts V ss r values few (scripts_resolve V ss r is)
+sound_read V (Err e) r values few is = cc
 
 named_read : (V : RegistrationList) (sections : List (List ℕ)) (read : Result (List Source) Error) (r : Resolved) → sources_of 0 sections ≡ read
     → after_reading V read ≡ Compiled r → HasNamesOf V sections r
@@ -91,9 +81,9 @@ few_read V (Ok ss) r is = few_scripts V ss r (scripts_resolve V ss r is)
 few_read V (Err e) r is = cc
 
 -- the tree is sound over the view
-pub program-sound : (V : RegistrationList) (sections : List (List ℕ)) (r : Resolved) → TakesValues V → build_of V sections ≡ Compiled r
-    → SoundProgram V r.tree
-program-sound V sections r values is = sound_read V (sources_of 0 sections) r values is
+pub program-sound : (V : RegistrationList) (sections : List (List ℕ)) (r : Resolved) → TakesValues V → length V ≤ 1024
+    → build_of V sections ≡ Compiled r → SoundProgram V r.tree
+program-sound V sections r values few is = sound_read V (sources_of 0 sections) r values few is
 
 -- the functions and globals of the tree are those of the names
 pub program-named : (V : RegistrationList) (sections : List (List ℕ)) (r : Resolved) → build_of V sections ≡ Compiled r → HasNamesOf V sections r

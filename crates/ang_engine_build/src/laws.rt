@@ -1,5 +1,5 @@
 //! What holds of each program that a build gives.
-ghost use Rattle.std.specs.Prelude.{◌≡◌, ℕ, List};
+ghost use Rattle.std.specs.Prelude.{◌≡◌, ℕ, ◌≤◌, List, length};
 ghost use Rattle.ang_view.specs.Registration.{RegistrationList};
 ghost use Rattle.ang_view.specs.Values.{TakesValues};
 ghost use Rattle.ang_source.specs.Sound.{SoundProgram};
@@ -8,12 +8,13 @@ ghost use Rattle.ang_engine_build.specs.Build.{Resolved, Compiled, build_of};
 ghost use Rattle.ang_engine_build.specs.Named.{HasNamesOf};
 
 /// The tree of a built program is sound over its view: its locals are alive, its functions and globals are
-/// there, each call has an argument for each parameter, and each host function and host property that it names
-/// is one of the view, asked for by its driver and number. What a registry shows takes values alone
-/// (`Registry::seen`).
+/// there, each call has an argument for each parameter, and each entity of the host that it names is one of the
+/// view, of its kind, asked for by its driver and number. What a registry shows takes values alone, in at most
+/// 1,024 entries (`Registry::seen`).
 pub fn programs_are_sound()
     ensures sound { (V : RegistrationList) (sections : List (List ℕ)) (r : Resolved)
         → TakesValues V
+        → length V ≤ 1024
         → build_of V sections ≡ Compiled r
         → SoundProgram V r.tree }
 {}

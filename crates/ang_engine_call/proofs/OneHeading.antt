@@ -159,7 +159,7 @@ pub one_heading : (V : RegistrationList) → length V ≤ 1024 → (ss : List So
 unfolding refusals_of names_of Differ
 one_heading V small ss e =
     let ds = declarations_of ss in
-    let phases = (none_refused (map plain_refusal (not_yet V ss)) (first_refusals V ds all_phases) e).1 in
+    let phases = (none_refused (map plain_refusal (not_yet ss)) (first_refusals V ds all_phases) e).1 in
     let later = phase.Types ∷ phase.Ancestors ∷ phase.Heirs ∷ phase.Cycles ∷ [] in
     let names = none_refused (refusals V ds phase.Names) (first_refusals V ds later) phases in
     let types = none_refused (refusals V ds phase.Types) (first_refusals V ds (phase.Ancestors ∷ phase.Heirs ∷ phase.Cycles ∷ [])) names.1 in

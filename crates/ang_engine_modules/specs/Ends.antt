@@ -12,21 +12,26 @@ pub record Ended : Type 0 where
   pub result : Result Slot Fault
   pub world : World
 
--- Nothing is held behind a command: nobody takes the `&out` values of its call, which are given up, and then its value is.
+-- Nothing is held behind a command: nobody takes the `&out` values of its call, which are given up,
+-- and then its value is.
 abbrev pub end_of : Reply → Ended
 end_of (Yields v outs t w) = record { result = Ok v; world = give v (give_all outs w) }
 end_of (Raises f w) = record { result = Err f; world = w }
 
--- there was memory and room each time, or a fault is that of the last input, the only one that refused
+-- there was memory and room each time, or a fault is that of the last input, the only one that
+-- refused
 abbrev pub IsTold : Result Slot Fault → List Input → Type 0
 IsTold (Ok v) used = has_room used ≡ true
 IsTold (Err f) used = (has_room used ≡ true) ⊎ (stopped_by used ≡ Some f)
 
--- Told these inputs, and whatever further ones it leaves, a run leads from one world to the other and ends with this result. Drivers answered just what
--- its events list.
-pub record Ends (go : World → Reply) (before : World) (result : Result Slot Fault) (after : World) : Type 0 where
+-- Told these inputs, and whatever further ones it leaves, a run leads from one world to the other
+-- and ends with this result. Drivers answered just what its events list.
+pub record Ends (go : World → Reply) (before : World) (result : Result Slot Fault)
+    (after : World) : Type 0 where
   pub used : List Input
-  pub ends : (rest : List Input) → end_of (go (with_inputs (used ++ rest) before)) ≡ record { result = result; world = with_inputs rest after }
+  pub ends : (rest : List Input)
+      → end_of (go (with_inputs (used ++ rest) before))
+      ≡ record { result = result; world = with_inputs rest after }
   pub told : IsTold result used
   pub answers : answers_listed after.events ≡ answers_listed before.events ++ answers_told used
 

@@ -1,4 +1,5 @@
--- What the runs of built modules mean: a call from outside, and a module's initializers in turn (docs/MEANING.md, "A run of a built module").
+-- What the runs of built modules mean: a call from outside, and a module's initializers in turn
+-- (docs/MEANING.md, "A run of a built module").
 use Rattle.std.specs.Prelude.{ℕ, suc, List, [], ◌∷◌, length, reverse, map, slice_get}
 use Rattle.std.specs.Option.{option_flatten}
 use Rattle.ang_typed.specs.Typed as t
@@ -13,8 +14,9 @@ use Rattle.ang_engine_modules.specs.Modules.{Module, module_at, trees_of}
 
 -- ---- what stays the same while they run
 
--- Modules run in a setting of their own: each has its name, may ask what its view has, and has its functions, its classes and its imports, each of which leads
--- where it is bound. At most `nesting` functions may stand one inside the other.
+-- Modules run in a setting of their own: each has its name, may ask what its view has, and has its
+-- functions, its classes and its imports, each of which leads where it is bound. At most `nesting`
+-- functions may stand one inside the other.
 abbrev pub setting_for : List Module → ℕ → Setting
 setting_for ms nesting =
     record {
@@ -33,7 +35,8 @@ setting_for ms nesting =
 
 -- A call of function n of module m, with a budget and arguments in their order.
 abbrev pub call_of : List Module → ℕ → ℕ → ℕ → List Slot → World → Reply
-call_of ms budget m n args w = called_with (setting_for ms 200) (codes_in (trees_of ms)) budget (routine m n) (reverse args) w
+call_of ms budget m n args w =
+    called_with (setting_for ms 200) (codes_in (trees_of ms)) budget (routine m n) (reverse args) w
 
 -- the routines of module m that begin with this number, one for each initializer
 abbrev pub routines_from : ℕ → ℕ → List Code → List Routine
@@ -44,13 +47,16 @@ routines_from m n (c ∷ cs) = routine m n ∷ routines_from m (suc n) cs
 abbrev pub initializers_of : ℕ → t.Program → List Routine
 initializers_of m p = routines_from m (length p.functions) (initializers_from 0 p.globals)
 
--- Initializers of modules in turn, with so many ticks left. An initializer is no function, so with it 201 may stand one inside the other.
+-- Initializers of modules in turn, with so many ticks left. An initializer is no function, so with
+-- it 201 may stand one inside the other.
 abbrev pub initialized_in : List Module → List Routine → ℕ → World → Reply
-initialized_in ms gs ticks w = initialized_all (setting_for ms 201) (codes_in (trees_of ms)) gs ticks w
+initialized_in ms gs ticks w =
+    initialized_all (setting_for ms 201) (codes_in (trees_of ms)) gs ticks w
 
 -- the initializers of module m in the order of declaration, on one budget
 abbrev pub initialization_of : List Module → ℕ → ℕ → World → Reply
-initialization_of ms budget m w = initialized_in ms (initializers_of m (module_at ms m).tree) budget w
+initialization_of ms budget m w =
+    initialized_in ms (initializers_of m (module_at ms m).tree) budget w
 
 -- ---- globals before their initializers
 

@@ -1,4 +1,5 @@
--- Built modules as an engine keeps them for the machine: what they resolve to, and the table of their code.
+-- Built modules as an engine keeps them for the machine: what they resolve to, and the table of
+-- their code.
 use Rattle.std.specs.Prelude.{◌≡◌, ◌<◌, ◌^◌, ℕ, List, [], length, slice_get, slice_index_or, Option, Some, None, map as list_map}
 use Rattle.std.specs.Option.{option_flatten}
 use Rattle.ang_view.specs.Registration.{RegistrationList}
@@ -24,7 +25,8 @@ loaded_at xs m = slice_index_or xs m None
 -- what runs know of a place that a built module has, or none
 abbrev pub module_of : Option LoadedModule → Module
 module_of None = unbuilt
-module_of (Some x) = record { name = x.name; view = x.view; tree = view_typed x.tree; links = x.links }
+module_of (Some x) =
+    record { name = x.name; view = x.view; tree = view_typed x.tree; links = x.links }
 
 abbrev pub modules_of : List (Option LoadedModule) → List Module
 modules_of xs = list_map module_of xs
@@ -41,16 +43,20 @@ class_of y = record { class = y.class; methods = y.methods.items }
 abbrev pub codes_of : Option ModuleCode → List RoutineCode
 codes_of c = list_in (λ y. y.bodies.items) c
 
--- Code in the place m of a table is that of a module: its name, its view, what its tree declares, and what its tree is compiled to, so many bodies that a
--- number has 32 bits; the tree is sound over the view. No import is bound yet.
+-- Code in the place m of a table is that of a module: its name, its view, what its tree declares,
+-- and what its tree is compiled to, so many bodies that a number has 32 bits; the tree is sound
+-- over the view. No import is bound yet.
 pub record IsCodeOf (m : ℕ) (c : Option ModuleCode) (x : Module) : Type 0 where
   pub name : list_in (λ y. y.name.items) c ≡ x.name
   pub entities : list_in (λ y. y.entities.items) c ≡ uses_of x.view
   pub passings : list_map (λ b. b.params.items) (codes_of c) ≡ passings_in x.tree
   pub compiled : IsCompiled x.tree (codes_of c)
   pub few : length (codes_of c) < 2 ^ 32
-  pub imports : list_map (λ y. y.params.items) (list_in (λ y. y.imports.items) c) ≡ headings_in x.tree.imports
-  pub links : (i : ℕ) → option_flatten (slice_get (list_map (λ y. y.bound) (list_in (λ y. y.imports.items) c)) i) ≡ option_flatten (slice_get x.links i)
+  pub imports :
+      list_map (λ y. y.params.items) (list_in (λ y. y.imports.items) c) ≡ headings_in x.tree.imports
+  pub links : (i : ℕ)
+      → option_flatten (slice_get (list_map (λ y. y.bound) (list_in (λ y. y.imports.items) c)) i)
+      ≡ option_flatten (slice_get x.links i)
   pub unbound : x.links ≡ []
   pub classes : list_map class_of (list_in (λ y. y.classes.items) c) ≡ classes_in m x.tree
   pub slots : list_map (λ y. y.items) (list_in (λ y. y.slots.items) c) ≡ headings_in x.tree.methods

@@ -1,4 +1,5 @@
--- The modules of an engine as their runs know them, by number (docs/MEANING.md, "A run of a built module").
+-- The modules of an engine as their runs know them, by number (docs/MEANING.md, "A run of a built
+-- module").
 use Rattle.std.specs.Prelude.{◌≡◌, ◌<◌, ℕ, List, [], Option, Some, IsSome, length, slice_get, slice_index_or, map}
 use Rattle.ang_host.specs.declared.event.HostEvent.{HostEvent}
 use Rattle.ang_host.specs.declared.event.HostEvent.TheVariants.{Called, Ended}
@@ -12,8 +13,9 @@ use Rattle.ang_meaning.specs.declared.host.HostUse.{HostUse}
 use Rattle.ang_meaning.specs.declared.routine.Routine.{Routine}
 use Rattle.ang_lower.specs.Hosts.{use_in}
 
--- a built module: its name, as events list it, what its built mask shows of the host (docs/MEANING.md, "Masks and views"), its resolved tree, and by the
--- number of an import the function that it is bound to, if any
+-- a built module: its name, as events list it, what its built mask shows of the host
+-- (docs/MEANING.md, "Masks and views"), its resolved tree, and by the number of an import the
+-- function that it is bound to, if any
 pub record Module : Type 0 where
   pub name : List ℕ
   pub view : RegistrationList
@@ -40,11 +42,13 @@ AreDriversThere ms count = (m e : ℕ) (x : Entry) → entry_in ms m e ≡ Some 
 
 -- each entry that some module may ask has the role by which it is asked
 pub record AgreesWith (roles : List Role) (ms : List Module) : Type 0 where
-  pub each : (m e : ℕ) (u : HostUse) → use_in (module_at ms m).view e ≡ Some u → role_at roles e ≡ u.role
+  pub each :
+      (m e : ℕ) (u : HostUse) → use_in (module_at ms m).view e ≡ Some u → role_at roles e ≡ u.role
 
 -- an asking by one of the modules, of an entry that this module sees; or an object's end
 abbrev pub IsAskedIn : List Module → HostEvent → Type 0
-IsAskedIn ms (Called caller entity driver object args reply) = (m : ℕ) × (caller ≡ (module_at ms m).name) × IsSome (entry_in ms m entity.0)
+IsAskedIn ms (Called caller entity driver object args reply) =
+    (m : ℕ) × (caller ≡ (module_at ms m).name) × IsSome (entry_in ms m entity.0)
 IsAskedIn ms (Ended driver key) = Unit {0}
 
 -- the function of that number in module m takes so many arguments

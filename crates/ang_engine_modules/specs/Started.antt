@@ -13,19 +13,24 @@ use Rattle.ang_engine_modules.specs.Ends.{Ends}
 use Rattle.ang_engine_modules.specs.Loaded.{IsTableOf}
 use Rattle.ang_engine_modules.specs.Numbers.{routines_at}
 
--- A run of these modules has ended as it means. It asked only what they may ask, and nothing is held behind it but by globals and fields.
-pub record HasEnded (ms : List Module) (go : World → Reply) (before : World) (result : Result Slot Fault) (after : World) : Type 0 where
+-- A run of these modules has ended as it means. It asked only what they may ask, and nothing is
+-- held behind it but by globals and fields.
+pub record HasEnded (ms : List Module) (go : World → Reply) (before : World)
+    (result : Result Slot Fault) (after : World) : Type 0 where
   pub means : Ends go before result after
-  pub asked : AllByRecursion (IsAskedIn ms) before.events → AllByRecursion (IsAskedIn ms) after.events
+  pub asked :
+      AllByRecursion (IsAskedIn ms) before.events → AllByRecursion (IsAskedIn ms) after.events
   pub counted : IsCounted [] after
 
 -- A call of function n of module m has ended so, whichever modules the table holds.
 abbrev pub HasCalled : Table → ℕ → ℕ → ℕ → List Slot → World → Result Slot Fault → World → Type 0
 HasCalled t budget m n args before result after =
-    (ms : List Module) → IsTableOf t ms → TakesSoMany ms m n (length args) → HasEnded ms (call_of ms budget m n args) before result after
+    (ms : List Module) → IsTableOf t ms → TakesSoMany ms m n (length args)
+    → HasEnded ms (call_of ms budget m n args) before result after
 
 -- The initializers of module m, of the numbers from the first one to the end, have ended so.
 abbrev pub HasBegun : Table → ℕ → ℕ → ℕ → ℕ → World → Result Slot Fault → World → Type 0
 HasBegun t budget m first end before result after =
-    (ms : List Module) → IsTableOf t ms → initializers_of m (module_at ms m).tree ≡ routines_at m first (end - first)
+    (ms : List Module) → IsTableOf t ms
+    → initializers_of m (module_at ms m).tree ≡ routines_at m first (end - first)
     → HasEnded ms (initialization_of ms budget m) before result after

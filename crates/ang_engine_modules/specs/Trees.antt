@@ -1,4 +1,5 @@
--- What a module's tree declares beside its bodies, as the machine's table has it: its imports, the methods of its slots, and its classes.
+-- What a module's tree declares beside its bodies, as the machine's table has it: its imports, the
+-- methods of its slots, and its classes.
 use Rattle.std.specs.Prelude.{ℕ, zero, suc, List, [], ◌∷◌, ◌++◌, length, map, Option, Some, None, option_and_then, slice_get}
 use Rattle.ang_typed.specs.declared.program.Class as families
 use Rattle.ang_typed.specs.declared.program.Heading.{Heading}
@@ -16,11 +17,13 @@ headings_in hs = map (λ (h : Heading). passings_of h.parameters) hs
 abbrev pub own_methods : ℕ → List (ℕ × ℕ) → List Method
 own_methods m rows = map (λ (r : ℕ × ℕ). record { slot = r.0; function = routine m r.1 }) rows
 
--- And behind them those of the classes above it, so that the nearest one of a slot is the first. The class and so many above it are asked.
+-- And behind them those of the classes above it, so that the nearest one of a slot is the first.
+-- The class and so many above it are asked.
 abbrev pub methods_by : ℕ → List families.Class → ℕ → Option families.Class → List Method
 methods_by m classes n None = []
 methods_by m classes zero (Some c) = own_methods m c.chosen
-methods_by m classes (suc n) (Some c) = own_methods m c.chosen ++ methods_by m classes n (option_and_then (slice_get classes) c.base)
+methods_by m classes (suc n) (Some c) =
+    own_methods m c.chosen ++ methods_by m classes n (option_and_then (slice_get classes) c.base)
 
 -- a class, and its methods
 pub record ScriptClass : Type 0 where
@@ -28,7 +31,8 @@ pub record ScriptClass : Type 0 where
   pub methods : List Method
 
 abbrev pub script_class : ℕ → List families.Class → ℕ → families.Class → ScriptClass
-script_class m classes n c = record { class = class_of n c; methods = methods_by m classes (length classes) (Some c) }
+script_class m classes n c =
+    record { class = class_of n c; methods = methods_by m classes (length classes) (Some c) }
 
 -- some of the classes of module m, counted from this number on
 abbrev pub classes_from : ℕ → List families.Class → ℕ → List families.Class → List ScriptClass

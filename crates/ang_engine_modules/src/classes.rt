@@ -96,7 +96,8 @@ fn add_methods(
 
 /// The base class of a class, where it has one that is there.
 fn base_of<'a>(classes: &'a [Class], class: &Class) -> Option<&'a Class>
-    ensures exact { MatchOption result (option_and_then (slice_get classes.now) class.now.base ≡ None)
+    ensures exact { MatchOption result
+        (option_and_then (slice_get classes.now) class.now.base ≡ None)
         (λ base. option_and_then (slice_get classes.now) class.now.base ≡ Some base.now) }
 {
     classes.get(class.base?)
@@ -110,7 +111,8 @@ fn add_chain(
     class: &Class,
     found: &mut Vec<Method>,
 ) -> Result<(), AllocError>
-    ensures added { OnOk result (found.new.items ≡ found.old.items ++ methods_by home classes.now left (Some class.now)) }
+    ensures added { OnOk result
+        (found.new.items ≡ found.old.items ++ methods_by home classes.now left (Some class.now)) }
 {
     add_methods(home, class.chosen.as_slice(), found)?;
     if left == 0 {
@@ -130,7 +132,8 @@ fn class_code(
     number: usize,
     class: &Class,
 ) -> Result<ClassCode, AllocError>
-    ensures exact { IfOk result (λ code. spec.class_of code ≡ script_class home classes.now number class.now) }
+    ensures exact { IfOk result
+        (λ code. spec.class_of code ≡ script_class home classes.now number class.now) }
 {
     let mut methods = Vec::new(alloc);
     add_chain(home, classes, classes.len(), class, &mut methods)?;
@@ -144,7 +147,8 @@ fn class_code(
 /// Want of memory. It is also answered where a number has more than 32 bits, as none of a
 /// checked module has.
 pub fn classes_of(alloc: Global, home: u32, classes: &[Class]) -> Result<Vec<ClassCode>, AllocError>
-    ensures exact { IfOk result (λ codes. list_map spec.class_of codes.items ≡ classes_from home classes.now 0 classes.now) }
+    ensures exact { IfOk result (λ codes.
+        list_map spec.class_of codes.items ≡ classes_from home classes.now 0 classes.now) }
 {
     let mut codes = Vec::with_capacity(alloc, classes.len())?;
     for (number, class) in classes.iter().enumerate() {

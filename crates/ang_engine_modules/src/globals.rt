@@ -25,7 +25,8 @@ fn default_in(ty: ArgType) -> Slot
 /// # Errors
 /// Want of memory.
 pub fn defaults(alloc: Global, globals: &[GlobalVariable]) -> Result<Vec<Slot>, AllocError>
-    ensures exact { IfOk result (λ values. values.items ≡ list_map (λ g. default_in g.ty) globals.now) }
+    ensures exact { IfOk result
+        (λ values. values.items ≡ list_map (λ g. default_in g.ty) globals.now) }
 {
     let mut values = Vec::with_capacity(alloc, globals.len())?;
     for global in globals {

@@ -17,15 +17,15 @@ ghost use Rattle.ang_engine_modules.specs.Modules.{module_at, TakesSoMany, AreDr
 use crate::globals::defaults;
 use crate::runs::{body_count, run_initializers};
 use crate::tables::{code_of, no_code};
-use ang_gen::compile;
+use ang_gen::generate;
 use ang_host::{Driver, HostEvent};
 use ang_kinds::{Fault, List};
 use ang_meaning::{Routine, Slot};
 use ang_names::Names;
 use ang_typed::Typed;
 use ang_view::View;
-use ang_vm::{Machine, run};
-use ang_vm_stack::table::{ModuleCode, Table};
+use ang_vm::{Machine, Table, run};
+use ang_vm_stack::table::ModuleCode;
 use std::alloc::{AllocError, Global};
 use std::marker::Model;
 
@@ -148,7 +148,7 @@ impl Modules {
         ensures placed { OnOk result (self.new ≡ slice_set self.old home (Some loaded)) }
         ensures unchanged { OnErr result (self.new ≡ self.old) }
     {
-        let codes = compile(alloc, &loaded.tree)?;
+        let codes = generate(alloc, &loaded.tree)?;
         let code = code_of(
             alloc,
             home,
@@ -182,7 +182,8 @@ impl Modules {
     /// # Errors
     /// Want of memory.
     pub fn first_globals(&self, alloc: Global, home: u32) -> Result<Vec<Slot>, AllocError>
-        ensures exact { IfOk result (λ values. values.items ≡ first_globals (module_at (modules_of self.now) home).tree) }
+        ensures exact { IfOk result
+            (λ values. values.items ≡ first_globals (module_at (modules_of self.now) home).tree) }
     {
         match self.loaded(home) {
             Some(loaded) => defaults(alloc, loaded.tree.globals.as_slice()),
@@ -213,17 +214,24 @@ impl Modules {
         budget: u64,
         events: &mut Vec<HostEvent>,
     ) -> Result<(), Fault>
-        requires drivers { AreDriversThere (modules_of self.now) (length (members machine.old.store.drivers)) }
-        requires ready { IsReady (λ v. (⟦<dyn Driver as Driver>⟧ v).meaning) (lent machine.old events.old) }
-        requires counted { IsCounted [] (world_of (λ v. (⟦<dyn Driver as Driver>⟧ v).meaning) (lent machine.old events.old)) }
-        ensures means { Ends (initialization_of (modules_of self.now) budget home) (world_of (λ v. (⟦<dyn Driver as Driver>⟧ v).meaning) (lent machine.old events.old))
-            (completed result) (world_of (λ v. (⟦<dyn Driver as Driver>⟧ v).meaning) (lent machine.new events.new)) }
-        ensures asked { AllByRecursion (IsAskedIn (modules_of self.now)) events.old.items → AllByRecursion (IsAskedIn (modules_of self.now)) events.new.items }
-        ensures counted { IsCounted [] (world_of (λ v. (⟦<dyn Driver as Driver>⟧ v).meaning) (lent machine.new events.new)) }
+        requires drivers { AreDriversThere (modules_of self.now)
+            (length (members machine.old.store.drivers)) }
+        requires ready { IsReady ⟦<dyn Driver as Driver>⟧ (lent machine.old events.old) }
+        requires counted { IsCounted []
+            (world_of ⟦<dyn Driver as Driver>⟧ (lent machine.old events.old)) }
+        ensures means { Ends (initialization_of (modules_of self.now) budget home)
+            (world_of ⟦<dyn Driver as Driver>⟧ (lent machine.old events.old)) (completed result)
+            (world_of ⟦<dyn Driver as Driver>⟧ (lent machine.new events.new)) }
+        ensures asked { AllByRecursion (IsAskedIn (modules_of self.now)) events.old.items
+            → AllByRecursion (IsAskedIn (modules_of self.now)) events.new.items }
+        ensures counted { IsCounted []
+            (world_of ⟦<dyn Driver as Driver>⟧ (lent machine.new events.new)) }
         ensures moves { (roles : ListOf Role) → AgreesWith roles (modules_of self.now)
-            → StoreMoves (λ v. (⟦<dyn Driver as Driver>⟧ v).meaning) roles (lent machine.old events.old) (lent machine.new events.new) }
-        ensures ready { IsReady (λ v. (⟦<dyn Driver as Driver>⟧ v).meaning) (lent machine.new events.new) }
-        ensures count { length (members machine.new.store.drivers) ≡ length (members machine.old.store.drivers) }
+            → StoreMoves ⟦<dyn Driver as Driver>⟧ roles (lent machine.old events.old)
+            (lent machine.new events.new) }
+        ensures ready { IsReady ⟦<dyn Driver as Driver>⟧ (lent machine.new events.new) }
+        ensures count { length (members machine.new.store.drivers)
+            ≡ length (members machine.old.store.drivers) }
     {
         let first = self.function_count(home);
         let end = body_count(&self.table, home);
@@ -246,18 +254,25 @@ impl Modules {
         budget: u64,
         events: &mut Vec<HostEvent>,
     ) -> Result<Slot, Fault>
-        requires drivers { AreDriversThere (modules_of self.now) (length (members machine.old.store.drivers)) }
+        requires drivers { AreDriversThere (modules_of self.now)
+            (length (members machine.old.store.drivers)) }
         requires takes { TakesSoMany (modules_of self.now) home number (length args.now) }
-        requires ready { IsReady (λ v. (⟦<dyn Driver as Driver>⟧ v).meaning) (lent machine.old events.old) }
-        requires counted { IsCounted (reverse args.now) (world_of (λ v. (⟦<dyn Driver as Driver>⟧ v).meaning) (lent machine.old events.old)) }
-        ensures means { Ends (call_of (modules_of self.now) budget home number args.now) (world_of (λ v. (⟦<dyn Driver as Driver>⟧ v).meaning) (lent machine.old events.old))
-            result (world_of (λ v. (⟦<dyn Driver as Driver>⟧ v).meaning) (lent machine.new events.new)) }
-        ensures asked { AllByRecursion (IsAskedIn (modules_of self.now)) events.old.items → AllByRecursion (IsAskedIn (modules_of self.now)) events.new.items }
-        ensures counted { IsCounted [] (world_of (λ v. (⟦<dyn Driver as Driver>⟧ v).meaning) (lent machine.new events.new)) }
+        requires ready { IsReady ⟦<dyn Driver as Driver>⟧ (lent machine.old events.old) }
+        requires counted { IsCounted (reverse args.now)
+            (world_of ⟦<dyn Driver as Driver>⟧ (lent machine.old events.old)) }
+        ensures means { Ends (call_of (modules_of self.now) budget home number args.now)
+            (world_of ⟦<dyn Driver as Driver>⟧ (lent machine.old events.old)) result
+            (world_of ⟦<dyn Driver as Driver>⟧ (lent machine.new events.new)) }
+        ensures asked { AllByRecursion (IsAskedIn (modules_of self.now)) events.old.items
+            → AllByRecursion (IsAskedIn (modules_of self.now)) events.new.items }
+        ensures counted { IsCounted []
+            (world_of ⟦<dyn Driver as Driver>⟧ (lent machine.new events.new)) }
         ensures moves { (roles : ListOf Role) → AgreesWith roles (modules_of self.now)
-            → StoreMoves (λ v. (⟦<dyn Driver as Driver>⟧ v).meaning) roles (lent machine.old events.old) (lent machine.new events.new) }
-        ensures ready { IsReady (λ v. (⟦<dyn Driver as Driver>⟧ v).meaning) (lent machine.new events.new) }
-        ensures count { length (members machine.new.store.drivers) ≡ length (members machine.old.store.drivers) }
+            → StoreMoves ⟦<dyn Driver as Driver>⟧ roles (lent machine.old events.old)
+            (lent machine.new events.new) }
+        ensures ready { IsReady ⟦<dyn Driver as Driver>⟧ (lent machine.new events.new) }
+        ensures count { length (members machine.new.store.drivers)
+            ≡ length (members machine.old.store.drivers) }
     {
         let table = &self.table;
         let entry = Routine {

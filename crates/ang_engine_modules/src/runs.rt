@@ -14,8 +14,7 @@ ghost use Rattle.ang_engine_modules.specs.Started.{HasBegun};
 use ang_host::{Driver, HostEvent};
 use ang_kinds::Fault;
 use ang_meaning::Routine;
-use ang_vm::{Machine, run_initializer};
-use ang_vm_stack::table::Table;
+use ang_vm::{Machine, Table, run_initializer};
 
 /// How many bodies a module has.
 pub fn body_count(table: &Table, home: u32) -> usize
@@ -41,14 +40,19 @@ pub fn run_initializers(
     events: &mut Vec<HostEvent>,
 ) -> Result<(), Fault>
     requires drivers { DriversThere table.now (length (members machine.old.store.drivers)) }
-    requires ready { IsReady (λ v. (⟦<dyn Driver as Driver>⟧ v).meaning) (lent machine.old events.old) }
-    requires counted { IsCounted [] (world_of (λ v. (⟦<dyn Driver as Driver>⟧ v).meaning) (lent machine.old events.old)) }
+    requires ready { IsReady ⟦<dyn Driver as Driver>⟧ (lent machine.old events.old) }
+    requires counted { IsCounted []
+        (world_of ⟦<dyn Driver as Driver>⟧ (lent machine.old events.old)) }
     requires few { end < 2 ^ 32 }
-    ensures begun { HasBegun table.now budget home first end (world_of (λ v. (⟦<dyn Driver as Driver>⟧ v).meaning) (lent machine.old events.old))
-        (completed result) (world_of (λ v. (⟦<dyn Driver as Driver>⟧ v).meaning) (lent machine.new events.new)) }
-    ensures moves { (roles : List Role) → HaveRoles table.now roles → StoreMoves (λ v. (⟦<dyn Driver as Driver>⟧ v).meaning) roles (lent machine.old events.old) (lent machine.new events.new) }
-    ensures ready { IsReady (λ v. (⟦<dyn Driver as Driver>⟧ v).meaning) (lent machine.new events.new) }
-    ensures count { length (members machine.new.store.drivers) ≡ length (members machine.old.store.drivers) }
+    ensures begun { HasBegun table.now budget home first end
+        (world_of ⟦<dyn Driver as Driver>⟧ (lent machine.old events.old)) (completed result)
+        (world_of ⟦<dyn Driver as Driver>⟧ (lent machine.new events.new)) }
+    ensures moves { (roles : List Role) → HaveRoles table.now roles
+        → StoreMoves ⟦<dyn Driver as Driver>⟧ roles (lent machine.old events.old)
+        (lent machine.new events.new) }
+    ensures ready { IsReady ⟦<dyn Driver as Driver>⟧ (lent machine.new events.new) }
+    ensures count { length (members machine.new.store.drivers)
+        ≡ length (members machine.old.store.drivers) }
 {
     let mut ticks = budget;
     let mut number = first;

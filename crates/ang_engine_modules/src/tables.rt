@@ -52,7 +52,8 @@ pub fn no_code(alloc: Global) -> ModuleCode
 /// # Errors
 /// Want of memory.
 fn slots_of(alloc: Global, headings: &[Heading]) -> Result<Vec<Vec<Passing>>, AllocError>
-    ensures exact { IfOk result (λ slots. list_map (λ y. y.items) slots.items ≡ headings_in headings.now) }
+    ensures exact { IfOk result
+        (λ slots. list_map (λ y. y.items) slots.items ≡ headings_in headings.now) }
 {
     let mut slots = Vec::with_capacity(alloc, headings.len())?;
     for heading in headings {
@@ -66,8 +67,10 @@ fn slots_of(alloc: Global, headings: &[Heading]) -> Result<Vec<Vec<Passing>>, Al
 /// # Errors
 /// Want of memory.
 fn imports_of(alloc: Global, headings: &[Heading]) -> Result<Vec<Import>, AllocError>
-    ensures params { IfOk result (λ imports. list_map (λ y. y.params.items) imports.items ≡ headings_in headings.now) }
-    ensures bound { IfOk result (λ imports. list_map (λ y. y.bound) imports.items ≡ list_map (λ h. None) headings.now) }
+    ensures params { IfOk result
+        (λ imports. list_map (λ y. y.params.items) imports.items ≡ headings_in headings.now) }
+    ensures bound { IfOk result
+        (λ imports. list_map (λ y. y.bound) imports.items ≡ list_map (λ h. None) headings.now) }
 {
     let mut imports = Vec::with_capacity(alloc, headings.len())?;
     for heading in headings {
@@ -97,11 +100,15 @@ pub fn code_of(
     ensures name { IfOk result (λ m. m.name.items ≡ name.now) }
     ensures bodies { IfOk result (λ m. m.bodies.items ≡ codes.items) }
     ensures few { IfOk result (λ m. length m.bodies.items < 2 ^ 32) }
-    ensures imports { IfOk result (λ m. list_map (λ y. y.params.items) m.imports.items ≡ headings_in tree.now.imports) }
-    ensures bound { IfOk result (λ m. list_map (λ y. y.bound) m.imports.items ≡ list_map (λ h. None) tree.now.imports) }
+    ensures imports { IfOk result
+        (λ m. list_map (λ y. y.params.items) m.imports.items ≡ headings_in tree.now.imports) }
+    ensures bound { IfOk result
+        (λ m. list_map (λ y. y.bound) m.imports.items ≡ list_map (λ h. None) tree.now.imports) }
     ensures entities { IfOk result (λ m. m.entities.items ≡ spec.uses_of view.now) }
-    ensures classes { IfOk result (λ m. list_map spec.class_of m.classes.items ≡ classes_from home tree.now.classes 0 tree.now.classes) }
-    ensures slots { IfOk result (λ m. list_map (λ y. y.items) m.slots.items ≡ headings_in tree.now.methods) }
+    ensures classes { IfOk result (λ m. list_map spec.class_of m.classes.items
+        ≡ classes_from home tree.now.classes 0 tree.now.classes) }
+    ensures slots { IfOk result
+        (λ m. list_map (λ y. y.items) m.slots.items ≡ headings_in tree.now.methods) }
 {
     if codes.len() > u32::MAX as usize {
         return Err(AllocError);

@@ -1,7 +1,8 @@
 -- Compiled modules behave as their sources: a code is that of its body, which means what its source means.
 use Rattle.std.proofs.Common.{◌≡◌, ◌≢◌, ℕ, zero, suc, ◌+◌, List, [], ◌∷◌, length, Some, None, refl, sym, ap, ◌∙◌, subst, map}
-use Rattle.std.specs.Prelude.{slice_get}
+use Rattle.std.specs.Prelude.{Bool, true, false, ◌==◌, slice_get}
 use Rattle.std.specs.List.{AllZip}
+use Rattle.std.proofs.lemmas.Bool.{eqb-true, eqb-false}
 use Rattle.std.specs.declared.vec.Vec.{Vec}
 use Rattle.std.specs.declared.alloc.Global.{Global}
 use Rattle.ang_view.specs.Registration.{RegistrationList}
@@ -28,7 +29,7 @@ use Rattle.ang_lower.proofs.Methods.{methods_fit}
 use Rattle.ang_lower.proofs.Modules.{params_are, lowers_program, keeps_sound, sound_together}
 use Rattle.ang_gen_body.specs.Programs.{IsBodyCode, items_in, statement_in, text_in, height_in, texts_of}
 use Rattle.ang_gen.specs.Compiled.{IsCompiled}
-use Rattle.ang_gen.specs.Behaves.{HasCodes, IsModule, sources_of, BehavesAsSource, NeverStuck}
+use Rattle.ang_gen.specs.Behaves.{HasCodes, IsModule, sources_of, BehavesAsSource, MeansProgram, NeverStuck}
 
 -- ---- the codes of one module
 
@@ -112,8 +113,8 @@ module _ (z : Setting) (V : ℕ → RegistrationList) (program : ℕ → tree.Pr
       (lowers_program (program m) x.compiled.bodies x.compiled.lowered).lowered (V m) z m bodies (sources_of program) x.sound x.program (are_bodies m)
       (record { each = λ k c there. ap code_or there })
 
-  means : (g : Routine) → MeansSame z bodies (sources_of program) g
-  means g = everywhere z (λ m. module_of (V m) (program m)) bodies (sources_of program) are_lowered links g
+  bodies_mean : (g : Routine) → MeansSame z bodies (sources_of program) g
+  bodies_mean g = everywhere z (λ m. module_of (V m) (program m)) bodies (sources_of program) are_lowered links g
 
   pub behaves_as_source : BehavesAsSource z (sources_of program) code
   behaves_as_source =
@@ -121,21 +122,34 @@ module _ (z : Setting) (V : ℕ → RegistrationList) (program : ℕ → tree.Pr
       record {
         calls = λ budget g ps vs w known count.
             let p = b.calls budget g ps vs w known count in
-            (p.0, p.1 ∙ ap (λ r. Over (outcome_of r)) ((means g).calls budget ps vs w known count));
+            (p.0, p.1 ∙ ap (λ r. Over (outcome_of r)) ((bodies_mean g).calls budget ps vs w known count));
         initializers = λ ticks g w known.
             let p = b.initializers ticks g w known in
-            (p.0, p.1 ∙ ap (λ r. Over (outcome_of r)) ((means g).initializers ticks w known));
+            (p.0, p.1 ∙ ap (λ r. Over (outcome_of r)) ((bodies_mean g).initializers ticks w known));
       }
 
--- ---- where no import is bound and no class has a method
+-- ---- one module among others
 
-pub unbound_fit : (z : Setting) → ((m i : ℕ) → z.linked m i ≡ None) → ((m c s : ℕ) → z.method m c s ≡ None) → LinksFit z
-unbound_fit z none bare = record {
-  same = λ m i g there. let e : None ≡ Some g = sym (none m i) ∙ there in absurd (cc);
-  methods = λ m c s g there. let e : None ≡ Some g = sym (bare m c s) ∙ there in absurd (cc);
-}
+module _ (p : tree.Program) (codes : List RoutineCode) (compiled : IsCompiled p codes) where
+  module _ (z : Setting) (V : ℕ → RegistrationList) (program : ℕ → tree.Program) (code : Texts) (m : ℕ) (same : program m ≡ p) (own : IsModule z m (V m) p code)
+      (others : (k : ℕ) → k ≢ m → IsModule z k (V k) (program k) code) where
+    module_by : (k : ℕ) (b : Bool) → (k == m) ≡ b → IsModule z k (V k) (program k) code
+    module_by k true e = subst (λ i. IsModule z i (V i) (program i) code) (sym (eqb-true k m e)) (subst (λ q. IsModule z m (V m) q code) (sym same) own)
+    module_by k false e = others k (eqb-false k m e)
 
--- and in compiled modules, where methods fit their slots
+    all_modules : (k : ℕ) → IsModule z k (V k) (program k) code
+    all_modules k = module_by k (k == m) refl
+
+  pub means : MeansProgram p codes
+  means = record {
+    behaves = λ z V program code m same sound view has texts others links.
+        behaves_as_source z V program code
+        (all_modules z V program code m same (record { sound = sound; view = view; program = has; codes = codes; compiled = compiled; texts = texts }) others) links;
+  }
+
+-- ---- where no import is bound
+
+-- methods fit their slots
 pub modules_fit : (z : Setting) (V : ℕ → RegistrationList) (program : ℕ → tree.Program) (code : Texts) → ((m : ℕ) → IsModule z m (V m) (program m) code)
     → ((m i : ℕ) → z.linked m i ≡ None) → LinksFit z
 modules_fit z V program code ms none = record {

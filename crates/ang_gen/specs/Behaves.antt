@@ -7,6 +7,7 @@ use Rattle.ang_meaning.specs.declared.routine.Routine.{Routine}
 use Rattle.ang_meaning.specs.declared.routine.Passing.{Passing}
 use Rattle.ang_meaning.specs.World.{World}
 use Rattle.ang_meaning.specs.Setting.{Setting}
+use Rattle.ang_core.specs.Sound.{LinksFit}
 use Rattle.ang_code.specs.declared.instruction.RoutineCode.{RoutineCode}
 use Rattle.ang_code.specs.Machine.{Texts, Over, Stuck, steps, call_begins, initializer_begins}
 use Rattle.ang_gen_body.specs.Behaves.{outcome_of}
@@ -45,6 +46,14 @@ pub record BehavesAsSource (z : Setting) (sources : Codes) (code : Texts) : Type
       (n : ℕ) × (steps z code n (call_begins z code budget g vs w) ≡ Over (outcome_of (called_with z sources budget g vs w)))
   pub initializers : (ticks : ℕ) (g : Routine) (w : World) → z.params g ≡ Some [] →
       (n : ℕ) × (steps z code n (initializer_begins z code ticks g w) ≡ Over (outcome_of (initialized z sources ticks g w)))
+
+-- Wherever a module of a run has this tree, which is sound over what the module sees of the host, and runs these codes, each other module runs its own
+-- compiled code, and imports and methods lead where they may, the machine ends as the trees mean.
+pub record MeansProgram (p : t.Program) (codes : List RoutineCode) : Type 0 where
+  pub behaves : (z : Setting) (view : ℕ → RegistrationList) (program : ℕ → t.Program) (code : Texts) (m : ℕ)
+      → program m ≡ p → SoundProgram (view m) p → HasView z m (view m) → HasProgram z m p → HasCodes m codes code
+      → ((k : ℕ) → k ≢ m → IsModule z k (view k) (program k) code) → LinksFit z
+      → BehavesAsSource z (sources_of program) code
 
 -- no number of steps leads to where an instruction finds less than it takes
 pub record NeverStuck (z : Setting) (code : Texts) : Type 0 where

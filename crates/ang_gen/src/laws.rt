@@ -33,16 +33,12 @@ pub fn texts_there()
         → HasCodes m codes.items (texts_of modules) }
 {}
 
-/// Where no import is bound and no class has a method, imports and methods lead where they may. So they do in
-/// compiled modules, whose classes have methods that fit their slots.
+/// In compiled modules of which no import is bound, imports and methods lead where they may: a class of a
+/// sound tree has methods that fit their slots.
 pub fn unbound_imports_fit()
-    ensures fit { (z : Setting)
-        → ((m i : ℕ) → z.linked m i ≡ None)
-        → ((m c s : ℕ) → z.method m c s ≡ None)
-        → LinksFit z }
     ensures of_modules { (z : Setting) (view : ℕ → RegistrationList) (program : ℕ → Program) (code : Texts)
         → ((m : ℕ) → IsModule z m (view m) (program m) code)
-        → ((home import : ℕ) → z.linked home import ≡ None)
+        → ((m i : ℕ) → z.linked m i ≡ None)
         → LinksFit z }
 {}
 

@@ -16,7 +16,8 @@ use Rattle.ang_host.specs.declared.answer.Answer.{Answer}
 use Rattle.ang_host.specs.declared.answer.Made.{Made}
 use Rattle.ang_host.specs.declared.answer.Made.TheVariants.{Key as MadeKey, Nothing as MadeNothing, Fault as MadeFault, Memory as MadeMemory, Full as MadeFull}
 use Rattle.ang_host.specs.State.{State, Ask, count_of, count_at}
-use Rattle.ang_host.specs.Laws.{Fits, Meaning, IsFull, IsSound, Adds, Makes, Releases, Answered, WasMade, WasAdded, WasReleased}
+use Rattle.ang_host.specs.Laws.{Fits, IsFull, IsSound, Adds, Makes, Releases, Answered, WasMade, WasAdded, WasReleased}
+use Rattle.ang_host.specs.Meanings.{Meanings, state_in}
 use Rattle.ang_host.specs.Members.{nothing, state_at, rule_at, OneMoved}
 use Rattle.ang_host.specs.Events.{ends}
 use Rattle.ang_host.proofs.Counts.{Answers-counts}
@@ -241,13 +242,13 @@ module _ {B V : Type 0} (st : B → State) (kind : B → V) (rule : V → Fits) 
 
 -- ---- events that are followed
 
-pub parts_none : {V : Type 0} {P : V → Type 0} (m : (v : V) → Meaning (P v)) (roles : List Role) (xs : List (DynBox V Global P)) (es : List HostEvent) → PartsMove m roles xs es xs es
-parts_none m roles xs es = record { more = []; events = sym (append-nil es); follow = AllFollow-none (λ b. (m b.vtable).state b.value) (λ b. b.vtable) (λ v. (m v).fits) roles xs }
+pub parts_none : {V : Type 0} {P : V → Type 0} (m : Meanings P) (roles : List Role) (xs : List (DynBox V Global P)) (es : List HostEvent) → PartsMove m roles xs es xs es
+parts_none m roles xs es = record { more = []; events = sym (append-nil es); follow = AllFollow-none (λ b. state_in m b) (λ b. b.vtable) (λ v. (m v).meaning.fits) roles xs }
 
-pub parts_join : {V : Type 0} {P : V → Type 0} (m : (v : V) → Meaning (P v)) (roles : List Role) (xs ys zs : List (DynBox V Global P)) (es fs gs : List HostEvent)
+pub parts_join : {V : Type 0} {P : V → Type 0} (m : Meanings P) (roles : List Role) (xs ys zs : List (DynBox V Global P)) (es fs gs : List HostEvent)
     → PartsMove m roles xs es ys fs → PartsMove m roles ys fs zs gs → PartsMove m roles xs es zs gs
 parts_join m roles xs ys zs es fs gs p q = record {
   more = p.more ++ q.more;
   events = q.events ∙ ap (λ l. l ++ q.more) p.events ∙ append_assoc es p.more q.more;
-  follow = AllFollow-join (λ b. (m b.vtable).state b.value) (λ b. b.vtable) (λ v. (m v).fits) roles xs ys zs p.more q.more p.follow q.follow;
+  follow = AllFollow-join (λ b. state_in m b) (λ b. b.vtable) (λ v. (m v).meaning.fits) roles xs ys zs p.more q.more p.follow q.follow;
 }

@@ -2,7 +2,7 @@
 use Rattle.std.proofs.Common.{◌≡◌, ℕ, List, [], ◌∷◌, Bool, true, false, refl, sym, ap, Some, None, cond, subst, Result, Ok, Err, is_ok, OnErr}
 use Rattle.ang_host.specs.declared.event.HostEvent.{HostEvent}
 use Rattle.ang_host.specs.declared.event.Role.{Role}
-use Rattle.ang_host.specs.Laws.{Meaning}
+use Rattle.ang_host.specs.Meanings.{Meanings}
 use Rattle.ang_host.specs.Boxes.{members}
 use Rattle.ang_meaning.specs.declared.slot.Slot.{Slot}
 use Rattle.ang_meaning.specs.declared.slot.Slot.TheVariants.{Bits, Script, Host}
@@ -65,10 +65,10 @@ on_false (Err e) h p = p
 
 -- ---- pieces of a run
 
-pub moves_none : {V : Type 0} {P : V → Type 0} (m : (v : V) → Meaning (P v)) (roles : List Role) (s : Store V P) → StoreMoves m roles s s
+pub moves_none : {V : Type 0} {P : V → Type 0} (m : Meanings P) (roles : List Role) (s : Store V P) → StoreMoves m roles s s
 moves_none m roles s = record { parts = parts_none m roles (members s.drivers) s.events.items; ready = λ r. r }
 
-pub moves_join : {V : Type 0} {P : V → Type 0} (m : (v : V) → Meaning (P v)) (roles : List Role) (s t u : Store V P) → StoreMoves m roles s t → StoreMoves m roles t u → StoreMoves m roles s u
+pub moves_join : {V : Type 0} {P : V → Type 0} (m : Meanings P) (roles : List Role) (s t u : Store V P) → StoreMoves m roles s t → StoreMoves m roles t u → StoreMoves m roles s u
 moves_join m roles s t u p q = record {
   parts = parts_join m roles (members s.drivers) (members t.drivers) (members u.drivers) s.events.items t.events.items u.events.items p.parts q.parts;
   ready = λ r. q.ready (p.ready r);

@@ -14,14 +14,17 @@ pub struct Globals {
 impl Globals {
     /// The value of a global, and `other` where there is none.
     pub fn get_or(&self, home: u32, number: u32, other: Slot) -> Slot
-        ensures exact { result ≡ slice_index_or (slice_index_or (values_in self.now) home []) number other }
+        ensures exact { result
+            ≡ slice_index_or (slice_index_or (values_in self.now) home []) number other }
     {
         value_or(values_of(self, home), number, other)
     }
 
     /// Puts a value into a global, where there is one.
     pub fn put(&mut self, home: u32, number: u32, value: Slot)
-        ensures put { values_in self.new ≡ slice_set (values_in self.old) home (slice_set (slice_index_or (values_in self.old) home []) number value) }
+        ensures put { values_in self.new
+            ≡ slice_set (values_in self.old) home
+            (slice_set (slice_index_or (values_in self.old) home []) number value) }
     {
         let home = home as usize;
         if home < self.modules.len() {

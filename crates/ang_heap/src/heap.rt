@@ -3,13 +3,12 @@ ghost use Rattle.std.specs.Prelude.{ℕ, ◌+◌, ◌-◌, ◌^◌, ◌≡◌, �
 ghost use Rattle.std.specs.FinMap as map;
 ghost use Rattle.ang_host.specs.declared.event.Role.{Role};
 ghost use Rattle.ang_host.specs.Events.{DriversFollow};
-ghost use Rattle.ang_host.specs.Members.{states_of};
 ghost use Rattle.ang_host.specs.Boxes.{members};
 ghost use Rattle.ang_meaning.specs.World.{Input, Gone, Kept, script_raised, script_lowered, hold as hold_in, give as give_in, if_told};
 ghost use Rattle.ang_meaning.specs.Told.{Told};
 ghost use Rattle.ang_meaning.specs.Counting.{EnoughIn, HasKey, count_of_object};
 ghost use Rattle.slab.specs.Slab.{get as slab_get, slab_len, with_value};
-ghost use Rattle.ang_heap.specs.Parts.{counts_of, live_of, world_by, AreReady, IsTallyFull, PartsMove};
+ghost use Rattle.ang_heap.specs.Parts.{world_by, AreReady, IsTallyFull, PartsMove, states_among, counts_among, live_among};
 ghost use Rattle.ang_heap.specs.Heaps.{objects_in, objects_of};
 
 use crate::hosts::{add, release};
@@ -48,17 +47,25 @@ impl Heap {
     /// # Errors
     /// The driver's tallies, or the script object's count, have run out, and then nothing changes.
     pub fn hold(&mut self, drivers: &mut Drivers, value: Slot) -> Result<(), Tally>
-        requires there { HasKey value (counts_of (λ v. (⟦<dyn Driver as Driver>⟧ v).meaning) (members drivers.old)) }
+        requires there { HasKey value (counts_among ⟦<dyn Driver as Driver>⟧ drivers.old) }
         ensures holds { (gs : List (List Slot)) (es : List HostEvent)
-            → Told (λ is. hold_in value (world_by (objects_of self.old) (counts_of (λ v. (⟦<dyn Driver as Driver>⟧ v).meaning) (members drivers.old)) gs es is))
-            (λ is. if_told (is_ok result) (world_by (objects_of self.new) (counts_of (λ v. (⟦<dyn Driver as Driver>⟧ v).meaning) (members drivers.new)) gs es is)) }
-        ensures full { OnErr result (IsTallyFull value (objects_of self.old) (states_of (λ v. (⟦<dyn Driver as Driver>⟧ v).meaning) (members drivers.old))) }
+            → Told (λ is. hold_in value (world_by (objects_of self.old)
+            (counts_among ⟦<dyn Driver as Driver>⟧ drivers.old) gs es is))
+            (λ is. if_told (is_ok result) (world_by (objects_of self.new)
+            (counts_among ⟦<dyn Driver as Driver>⟧ drivers.new) gs es is)) }
+        ensures full { OnErr result (IsTallyFull value (objects_of self.old)
+            (states_among ⟦<dyn Driver as Driver>⟧ drivers.old)) }
         ensures same_objects { OnErr result (objects_of self.new ≡ objects_of self.old) }
-        ensures same_drivers { OnErr result (states_of (λ v. (⟦<dyn Driver as Driver>⟧ v).meaning) (members drivers.new) ≡ states_of (λ v. (⟦<dyn Driver as Driver>⟧ v).meaning) (members drivers.old)) }
-        ensures live { live_of (λ v. (⟦<dyn Driver as Driver>⟧ v).meaning) (members drivers.new) ≡ live_of (λ v. (⟦<dyn Driver as Driver>⟧ v).meaning) (members drivers.old) }
-        ensures ready { (len capacity : ℕ) → AreReady (states_of (λ v. (⟦<dyn Driver as Driver>⟧ v).meaning) (members drivers.old)) len capacity
-            → AreReady (states_of (λ v. (⟦<dyn Driver as Driver>⟧ v).meaning) (members drivers.new)) len capacity }
-        ensures follow { (roles : List Role) → DriversFollow (λ v. (⟦<dyn Driver as Driver>⟧ v).meaning) roles (members drivers.old) [] (members drivers.new) }
+        ensures same_drivers { OnErr result (states_among ⟦<dyn Driver as Driver>⟧ drivers.new
+            ≡ states_among ⟦<dyn Driver as Driver>⟧ drivers.old) }
+        ensures live { live_among ⟦<dyn Driver as Driver>⟧ drivers.new
+            ≡ live_among ⟦<dyn Driver as Driver>⟧ drivers.old }
+        ensures ready { (len capacity : ℕ)
+            → AreReady (states_among ⟦<dyn Driver as Driver>⟧ drivers.old) len capacity
+            → AreReady (states_among ⟦<dyn Driver as Driver>⟧ drivers.new) len capacity }
+        ensures follow { (roles : List Role)
+            → DriversFollow ⟦<dyn Driver as Driver>⟧ roles (members drivers.old) []
+            (members drivers.new) }
     {
         if hold(&mut self.records, drivers, value) {
             return Ok(());
@@ -76,23 +83,33 @@ impl Heap {
     /// One place gives up its value, and each object that ends gives up its fields. It takes no memory and
     /// always succeeds: the end of each host object has its room in `events`.
     pub fn give_up(&mut self, drivers: &mut Drivers, events: &mut Vec<HostEvent>, value: Slot)
-        requires ready { AreReady (states_of (λ v. (⟦<dyn Driver as Driver>⟧ v).meaning) (members drivers.old)) (vec_len events.old) (vec_capacity events.old) }
-        requires enough { EnoughIn (value ∷ []) (objects_of self.old) (counts_of (λ v. (⟦<dyn Driver as Driver>⟧ v).meaning) (members drivers.old)) }
+        requires ready { AreReady (states_among ⟦<dyn Driver as Driver>⟧ drivers.old)
+            (vec_len events.old) (vec_capacity events.old) }
+        requires enough { EnoughIn (value ∷ []) (objects_of self.old)
+            (counts_among ⟦<dyn Driver as Driver>⟧ drivers.old) }
         ensures gives { (gs : List (List Slot)) (is : List Input)
-            → give_in value (world_by (objects_of self.old) (counts_of (λ v. (⟦<dyn Driver as Driver>⟧ v).meaning) (members drivers.old)) gs events.old.items is)
-            ≡ world_by (objects_of self.new) (counts_of (λ v. (⟦<dyn Driver as Driver>⟧ v).meaning) (members drivers.new)) gs events.new.items is }
-        ensures ready { AreReady (states_of (λ v. (⟦<dyn Driver as Driver>⟧ v).meaning) (members drivers.new)) (vec_len events.new) (vec_capacity events.new) }
-        ensures level { vec_len events.new + live_of (λ v. (⟦<dyn Driver as Driver>⟧ v).meaning) (members drivers.new) ≡ vec_len events.old + live_of (λ v. (⟦<dyn Driver as Driver>⟧ v).meaning) (members drivers.old) }
-        ensures fewer { live_of (λ v. (⟦<dyn Driver as Driver>⟧ v).meaning) (members drivers.new) ≤ live_of (λ v. (⟦<dyn Driver as Driver>⟧ v).meaning) (members drivers.old) }
+            → give_in value (world_by (objects_of self.old)
+            (counts_among ⟦<dyn Driver as Driver>⟧ drivers.old) gs events.old.items is)
+            ≡ world_by (objects_of self.new) (counts_among ⟦<dyn Driver as Driver>⟧ drivers.new) gs
+            events.new.items is }
+        ensures ready { AreReady (states_among ⟦<dyn Driver as Driver>⟧ drivers.new)
+            (vec_len events.new) (vec_capacity events.new) }
+        ensures level { vec_len events.new + live_among ⟦<dyn Driver as Driver>⟧ drivers.new
+            ≡ vec_len events.old + live_among ⟦<dyn Driver as Driver>⟧ drivers.old }
+        ensures fewer { live_among ⟦<dyn Driver as Driver>⟧ drivers.new
+            ≤ live_among ⟦<dyn Driver as Driver>⟧ drivers.old }
         ensures capacity { vec_capacity events.new ≡ vec_capacity events.old }
-        ensures moves { (roles : List Role) → PartsMove (λ v. (⟦<dyn Driver as Driver>⟧ v).meaning) roles (members drivers.old) events.old.items (members drivers.new) events.new.items }
+        ensures moves { (roles : List Role)
+            → PartsMove ⟦<dyn Driver as Driver>⟧ roles (members drivers.old) events.old.items
+            (members drivers.new) events.new.items }
     {
         give_up(&mut self.records, drivers, events, value);
     }
 }
 
 fn set_count(records: &mut Slab<ScriptObject>, key: usize, count: u64)
-    ensures set { (o : ScriptObject) → slab_get records.old key ≡ Some o → records.new ≡ with_value records.old key (record o { count = count }) }
+    ensures set { (o : ScriptObject) → slab_get records.old key ≡ Some o
+        → records.new ≡ with_value records.old key (record o { count = count }) }
 {
     if let Some(o) = records.get_mut(key) {
         o.count = count;
@@ -102,8 +119,10 @@ fn set_count(records: &mut Slab<ScriptObject>, key: usize, count: u64)
 /// One more place holds a script object. False where its count is full, and then nothing is done. True where
 /// there is no such object: its number then names nothing, and to hold that changes nothing.
 fn raise(records: &mut Slab<ScriptObject>, key: usize) -> bool
-    ensures raised { objects_in records.new ≡ (if result then script_raised key (objects_in records.old) else objects_in records.old) }
-    ensures full { result ≡ false → 2 ^ 64 - 1 ≤ count_of_object (map.get (objects_in records.old) key) }
+    ensures raised { objects_in records.new
+        ≡ (if result then script_raised key (objects_in records.old) else objects_in records.old) }
+    ensures full { result ≡ false
+        → 2 ^ 64 - 1 ≤ count_of_object (map.get (objects_in records.old) key) }
 {
     let count = match records.get(key) {
         Some(o) => o.count,
@@ -118,17 +137,27 @@ fn raise(records: &mut Slab<ScriptObject>, key: usize) -> bool
 
 /// One more place holds the value. False where a tally or a count has run out, and then nothing is done.
 fn hold(records: &mut Slab<ScriptObject>, drivers: &mut Drivers, value: Slot) -> bool
-    requires there { HasKey value (counts_of (λ v. (⟦<dyn Driver as Driver>⟧ v).meaning) (members drivers.old)) }
+    requires there { HasKey value (counts_among ⟦<dyn Driver as Driver>⟧ drivers.old) }
     ensures holds { (gs : List (List Slot)) (es : List HostEvent)
-        → Told (λ is. hold_in value (world_by (objects_in records.old) (counts_of (λ v. (⟦<dyn Driver as Driver>⟧ v).meaning) (members drivers.old)) gs es is))
-        (λ is. if_told result (world_by (objects_in records.new) (counts_of (λ v. (⟦<dyn Driver as Driver>⟧ v).meaning) (members drivers.new)) gs es is)) }
-    ensures full { result ≡ false → IsTallyFull value (objects_in records.old) (states_of (λ v. (⟦<dyn Driver as Driver>⟧ v).meaning) (members drivers.old)) }
+        → Told (λ is. hold_in value (world_by (objects_in records.old)
+        (counts_among ⟦<dyn Driver as Driver>⟧ drivers.old) gs es is))
+        (λ is. if_told result (world_by (objects_in records.new)
+        (counts_among ⟦<dyn Driver as Driver>⟧ drivers.new) gs es is)) }
+    ensures full { result ≡ false
+        → IsTallyFull value (objects_in records.old)
+        (states_among ⟦<dyn Driver as Driver>⟧ drivers.old) }
     ensures same_objects { result ≡ false → objects_in records.new ≡ objects_in records.old }
-    ensures same_drivers { result ≡ false → states_of (λ v. (⟦<dyn Driver as Driver>⟧ v).meaning) (members drivers.new) ≡ states_of (λ v. (⟦<dyn Driver as Driver>⟧ v).meaning) (members drivers.old) }
-    ensures live { live_of (λ v. (⟦<dyn Driver as Driver>⟧ v).meaning) (members drivers.new) ≡ live_of (λ v. (⟦<dyn Driver as Driver>⟧ v).meaning) (members drivers.old) }
-    ensures ready { (len capacity : ℕ) → AreReady (states_of (λ v. (⟦<dyn Driver as Driver>⟧ v).meaning) (members drivers.old)) len capacity
-        → AreReady (states_of (λ v. (⟦<dyn Driver as Driver>⟧ v).meaning) (members drivers.new)) len capacity }
-    ensures follow { (roles : List Role) → DriversFollow (λ v. (⟦<dyn Driver as Driver>⟧ v).meaning) roles (members drivers.old) [] (members drivers.new) }
+    ensures same_drivers { result ≡ false
+        → states_among ⟦<dyn Driver as Driver>⟧ drivers.new
+        ≡ states_among ⟦<dyn Driver as Driver>⟧ drivers.old }
+    ensures live { live_among ⟦<dyn Driver as Driver>⟧ drivers.new
+        ≡ live_among ⟦<dyn Driver as Driver>⟧ drivers.old }
+    ensures ready { (len capacity : ℕ)
+        → AreReady (states_among ⟦<dyn Driver as Driver>⟧ drivers.old) len capacity
+        → AreReady (states_among ⟦<dyn Driver as Driver>⟧ drivers.new) len capacity }
+    ensures follow { (roles : List Role)
+        → DriversFollow ⟦<dyn Driver as Driver>⟧ roles (members drivers.old) []
+        (members drivers.new) }
 {
     match value {
         Slot::Bits(_) => true,
@@ -145,9 +174,11 @@ fn hold(records: &mut Slab<ScriptObject>, drivers: &mut Drivers, value: Slot) ->
 
 /// One place less holds a script object: the object, where it was the last.
 fn lower(records: &mut Slab<ScriptObject>, key: usize) -> Option<ScriptObject>
-    ensures gone { IfSome result (λ o. script_lowered key (objects_in records.old) ≡ Gone o.fields.items (objects_in records.new)) }
+    ensures gone { IfSome result (λ o. script_lowered key (objects_in records.old)
+        ≡ Gone o.fields.items (objects_in records.new)) }
     ensures shorter { IfSome result (λ o. slab_len records.new < slab_len records.old) }
-    ensures kept { IfNone result (script_lowered key (objects_in records.old) ≡ Kept (objects_in records.new)) }
+    ensures kept { IfNone result
+        (script_lowered key (objects_in records.old) ≡ Kept (objects_in records.new)) }
     ensures same_length { IfNone result (slab_len records.new ≡ slab_len records.old) }
 {
     let count = match records.get(key) {
@@ -169,17 +200,26 @@ fn give_up(
     events: &mut Vec<HostEvent>,
     value: Slot,
 )
-    requires ready { AreReady (states_of (λ v. (⟦<dyn Driver as Driver>⟧ v).meaning) (members drivers.old)) (vec_len events.old) (vec_capacity events.old) }
-    requires enough { EnoughIn (value ∷ []) (objects_in records.old) (counts_of (λ v. (⟦<dyn Driver as Driver>⟧ v).meaning) (members drivers.old)) }
+    requires ready { AreReady (states_among ⟦<dyn Driver as Driver>⟧ drivers.old)
+        (vec_len events.old) (vec_capacity events.old) }
+    requires enough { EnoughIn (value ∷ []) (objects_in records.old)
+        (counts_among ⟦<dyn Driver as Driver>⟧ drivers.old) }
     ensures gives { (gs : List (List Slot)) (is : List Input)
-        → give_in value (world_by (objects_in records.old) (counts_of (λ v. (⟦<dyn Driver as Driver>⟧ v).meaning) (members drivers.old)) gs events.old.items is)
-        ≡ world_by (objects_in records.new) (counts_of (λ v. (⟦<dyn Driver as Driver>⟧ v).meaning) (members drivers.new)) gs events.new.items is }
-    ensures ready { AreReady (states_of (λ v. (⟦<dyn Driver as Driver>⟧ v).meaning) (members drivers.new)) (vec_len events.new) (vec_capacity events.new) }
-    ensures level { vec_len events.new + live_of (λ v. (⟦<dyn Driver as Driver>⟧ v).meaning) (members drivers.new) ≡ vec_len events.old + live_of (λ v. (⟦<dyn Driver as Driver>⟧ v).meaning) (members drivers.old) }
-    ensures fewer { live_of (λ v. (⟦<dyn Driver as Driver>⟧ v).meaning) (members drivers.new) ≤ live_of (λ v. (⟦<dyn Driver as Driver>⟧ v).meaning) (members drivers.old) }
+        → give_in value (world_by (objects_in records.old)
+        (counts_among ⟦<dyn Driver as Driver>⟧ drivers.old) gs events.old.items is)
+        ≡ world_by (objects_in records.new) (counts_among ⟦<dyn Driver as Driver>⟧ drivers.new) gs
+        events.new.items is }
+    ensures ready { AreReady (states_among ⟦<dyn Driver as Driver>⟧ drivers.new)
+        (vec_len events.new) (vec_capacity events.new) }
+    ensures level { vec_len events.new + live_among ⟦<dyn Driver as Driver>⟧ drivers.new
+        ≡ vec_len events.old + live_among ⟦<dyn Driver as Driver>⟧ drivers.old }
+    ensures fewer { live_among ⟦<dyn Driver as Driver>⟧ drivers.new
+        ≤ live_among ⟦<dyn Driver as Driver>⟧ drivers.old }
     ensures capacity { vec_capacity events.new ≡ vec_capacity events.old }
     ensures shorter { slab_len records.new ≤ slab_len records.old }
-    ensures moves { (roles : List Role) → PartsMove (λ v. (⟦<dyn Driver as Driver>⟧ v).meaning) roles (members drivers.old) events.old.items (members drivers.new) events.new.items }
+    ensures moves { (roles : List Role)
+        → PartsMove ⟦<dyn Driver as Driver>⟧ roles (members drivers.old) events.old.items
+        (members drivers.new) events.new.items }
 {
     match value {
         Slot::Bits(_) => {}

@@ -3,12 +3,12 @@ ghost use Rattle.std.specs.Prelude.{ℕ, ◌+◌, ◌≡◌, ◌<◌, ◌≤◌,
 ghost use Rattle.ang_host.specs.declared.event.Role.{Role};
 ghost use Rattle.ang_host.specs.State.{count_at};
 ghost use Rattle.ang_host.specs.Laws.{IsFull};
-ghost use Rattle.ang_host.specs.Members.{state_at, states_of};
+ghost use Rattle.ang_host.specs.Members.{state_at};
 ghost use Rattle.ang_host.specs.Boxes.{members};
 ghost use Rattle.ang_host.specs.Events.{DriversFollow};
 ghost use Rattle.ang_meaning.specs.declared.slot.Slot.TheVariants.{Host};
 ghost use Rattle.ang_meaning.specs.World.{ScriptObjects, Input, give, host_raised};
-ghost use Rattle.ang_heap.specs.Parts.{counts_of, live_of, world_by, AreReady, PartsMove};
+ghost use Rattle.ang_heap.specs.Parts.{world_by, AreReady, PartsMove, states_among, counts_among, live_among};
 
 use ang_host::{Driver, Drivers, HostEvent, release_listed};
 use ang_meaning::Slot;
@@ -16,31 +16,47 @@ use ang_meaning::Slot;
 /// One place gives up a host object. Where it was the last, the object's end is listed, in the room that
 /// is kept for it.
 pub fn release(drivers: &mut Drivers, events: &mut Vec<HostEvent>, driver: u32, key: u64)
-    requires ready { AreReady (states_of (λ v. (⟦<dyn Driver as Driver>⟧ v).meaning) (members drivers.old)) (vec_len events.old) (vec_capacity events.old) }
-    requires held { 0 < count_at (counts_of (λ v. (⟦<dyn Driver as Driver>⟧ v).meaning) (members drivers.old) driver) key }
+    requires ready { AreReady (states_among ⟦<dyn Driver as Driver>⟧ drivers.old)
+        (vec_len events.old) (vec_capacity events.old) }
+    requires held { 0 < count_at (counts_among ⟦<dyn Driver as Driver>⟧ drivers.old driver) key }
     ensures gives { (os : ScriptObjects) (gs : List (List Slot)) (is : List Input)
-        → give (Host driver (Some key)) (world_by os (counts_of (λ v. (⟦<dyn Driver as Driver>⟧ v).meaning) (members drivers.old)) gs events.old.items is)
-        ≡ world_by os (counts_of (λ v. (⟦<dyn Driver as Driver>⟧ v).meaning) (members drivers.new)) gs events.new.items is }
-    ensures ready { AreReady (states_of (λ v. (⟦<dyn Driver as Driver>⟧ v).meaning) (members drivers.new)) (vec_len events.new) (vec_capacity events.new) }
-    ensures level { vec_len events.new + live_of (λ v. (⟦<dyn Driver as Driver>⟧ v).meaning) (members drivers.new) ≡ vec_len events.old + live_of (λ v. (⟦<dyn Driver as Driver>⟧ v).meaning) (members drivers.old) }
-    ensures fewer { live_of (λ v. (⟦<dyn Driver as Driver>⟧ v).meaning) (members drivers.new) ≤ live_of (λ v. (⟦<dyn Driver as Driver>⟧ v).meaning) (members drivers.old) }
+        → give (Host driver (Some key))
+        (world_by os (counts_among ⟦<dyn Driver as Driver>⟧ drivers.old) gs events.old.items is)
+        ≡ world_by os (counts_among ⟦<dyn Driver as Driver>⟧ drivers.new) gs events.new.items is }
+    ensures ready { AreReady (states_among ⟦<dyn Driver as Driver>⟧ drivers.new)
+        (vec_len events.new) (vec_capacity events.new) }
+    ensures level { vec_len events.new + live_among ⟦<dyn Driver as Driver>⟧ drivers.new
+        ≡ vec_len events.old + live_among ⟦<dyn Driver as Driver>⟧ drivers.old }
+    ensures fewer { live_among ⟦<dyn Driver as Driver>⟧ drivers.new
+        ≤ live_among ⟦<dyn Driver as Driver>⟧ drivers.old }
     ensures capacity { vec_capacity events.new ≡ vec_capacity events.old }
-    ensures moves { (roles : List Role) → PartsMove (λ v. (⟦<dyn Driver as Driver>⟧ v).meaning) roles (members drivers.old) events.old.items (members drivers.new) events.new.items }
+    ensures moves { (roles : List Role)
+        → PartsMove ⟦<dyn Driver as Driver>⟧ roles (members drivers.old) events.old.items
+        (members drivers.new) events.new.items }
 {
     release_listed(drivers, events, driver, key);
 }
 
 /// One more place holds a host object. False where a tally is full, and then nothing is done.
 pub fn add(drivers: &mut Drivers, driver: u32, key: u64) -> bool
-    requires held { 0 < count_at (counts_of (λ v. (⟦<dyn Driver as Driver>⟧ v).meaning) (members drivers.old) driver) key }
-    ensures counts { counts_of (λ v. (⟦<dyn Driver as Driver>⟧ v).meaning) (members drivers.new)
-        ≡ (if result then host_raised driver key (counts_of (λ v. (⟦<dyn Driver as Driver>⟧ v).meaning) (members drivers.old)) else (counts_of (λ v. (⟦<dyn Driver as Driver>⟧ v).meaning) (members drivers.old))) }
-    ensures live { live_of (λ v. (⟦<dyn Driver as Driver>⟧ v).meaning) (members drivers.new) ≡ live_of (λ v. (⟦<dyn Driver as Driver>⟧ v).meaning) (members drivers.old) }
-    ensures ready { (len capacity : ℕ) → AreReady (states_of (λ v. (⟦<dyn Driver as Driver>⟧ v).meaning) (members drivers.old)) len capacity
-        → AreReady (states_of (λ v. (⟦<dyn Driver as Driver>⟧ v).meaning) (members drivers.new)) len capacity }
-    ensures full { result ≡ false → IsFull (state_at (states_of (λ v. (⟦<dyn Driver as Driver>⟧ v).meaning) (members drivers.old)) driver) }
-    ensures unchanged { result ≡ false → states_of (λ v. (⟦<dyn Driver as Driver>⟧ v).meaning) (members drivers.new) ≡ states_of (λ v. (⟦<dyn Driver as Driver>⟧ v).meaning) (members drivers.old) }
-    ensures follow { (roles : List Role) → DriversFollow (λ v. (⟦<dyn Driver as Driver>⟧ v).meaning) roles (members drivers.old) [] (members drivers.new) }
+    requires held { 0 < count_at (counts_among ⟦<dyn Driver as Driver>⟧ drivers.old driver) key }
+    ensures counts { counts_among ⟦<dyn Driver as Driver>⟧ drivers.new
+        ≡ (if result
+        then host_raised driver key (counts_among ⟦<dyn Driver as Driver>⟧ drivers.old)
+        else (counts_among ⟦<dyn Driver as Driver>⟧ drivers.old)) }
+    ensures live { live_among ⟦<dyn Driver as Driver>⟧ drivers.new
+        ≡ live_among ⟦<dyn Driver as Driver>⟧ drivers.old }
+    ensures ready { (len capacity : ℕ)
+        → AreReady (states_among ⟦<dyn Driver as Driver>⟧ drivers.old) len capacity
+        → AreReady (states_among ⟦<dyn Driver as Driver>⟧ drivers.new) len capacity }
+    ensures full { result ≡ false
+        → IsFull (state_at (states_among ⟦<dyn Driver as Driver>⟧ drivers.old) driver) }
+    ensures unchanged { result ≡ false
+        → states_among ⟦<dyn Driver as Driver>⟧ drivers.new
+        ≡ states_among ⟦<dyn Driver as Driver>⟧ drivers.old }
+    ensures follow { (roles : List Role)
+        → DriversFollow ⟦<dyn Driver as Driver>⟧ roles (members drivers.old) []
+        (members drivers.new) }
 {
     drivers.add_ref(driver, key)
 }

@@ -29,7 +29,8 @@ impl Heap {
     /// Want of memory, and then nothing changes.
     pub fn make(&mut self, class: &Class) -> Result<usize, AllocError>
         ensures free { IfOk result (λ n. map.get (objects_of self.old) n ≡ None) }
-        ensures made { IfOk result (λ n. objects_of self.new ≡ map.insert (objects_of self.old) n (new_object class.now)) }
+        ensures made { IfOk result
+            (λ n. objects_of self.new ≡ map.insert (objects_of self.old) n (new_object class.now)) }
         ensures unchanged { OnErr result (objects_of self.new ≡ objects_of self.old) }
     {
         let fields = defaults(self.alloc, class.fields.as_slice())?;
@@ -72,7 +73,9 @@ impl Heap {
     /// condition of this function, which does the same with any value.
     pub fn set_field(&mut self, number: usize, index: u32, value: Slot) -> Slot
         ensures old { result ≡ field_of (map.get (objects_of self.old) number) index value }
-        ensures put { objects_of self.new ≡ with_field number (map.get (objects_of self.old) number) index value (objects_of self.old) }
+        ensures put { objects_of self.new
+            ≡ with_field number (map.get (objects_of self.old) number) index value
+            (objects_of self.old) }
     {
         let old = self.field(number, index, value);
         store(&mut self.records, number, index, value);
@@ -109,7 +112,8 @@ fn new_record(class: &Class, fields: Vec<Slot>) -> ScriptObject
 
 fn insert(records: &mut Slab<ScriptObject>, object: ScriptObject) -> Result<usize, AllocError>
     ensures free { IfOk result (λ n. map.get (objects_in records.old) n ≡ None) }
-    ensures made { IfOk result (λ n. objects_in records.new ≡ map.insert (objects_in records.old) n (record_of object)) }
+    ensures made { IfOk result
+        (λ n. objects_in records.new ≡ map.insert (objects_in records.old) n (record_of object)) }
     ensures unchanged { OnErr result (objects_in records.new ≡ objects_in records.old) }
 {
     records.reserve(1)?;
@@ -128,7 +132,8 @@ fn value_or(values: &[Slot], index: u32, other: Slot) -> Slot
 
 /// Stores a value into a field, where there is such a field.
 fn put_field(object: &mut ScriptObject, index: u32, value: Slot)
-    ensures put { record_of object.new ≡ record (record_of object.old) { fields = slice_set object.old.fields.items index value } }
+    ensures put { record_of object.new
+        ≡ record (record_of object.old) { fields = slice_set object.old.fields.items index value } }
 {
     let index = index as usize;
     if index < object.fields.len() {
@@ -137,7 +142,8 @@ fn put_field(object: &mut ScriptObject, index: u32, value: Slot)
 }
 
 fn store(records: &mut Slab<ScriptObject>, number: usize, index: u32, value: Slot)
-    ensures stored { (o : ScriptObject) → slab_get records.old number ≡ Some o → (p : ScriptObject) × (records.new ≡ with_value records.old number p)
+    ensures stored { (o : ScriptObject) → slab_get records.old number ≡ Some o
+        → (p : ScriptObject) × (records.new ≡ with_value records.old number p)
         × (record_of p ≡ record (record_of o) { fields = slice_set o.fields.items index value }) }
     ensures missing { slab_get records.old number ≡ None → records.new ≡ records.old }
 {

@@ -1,14 +1,10 @@
 //! What lies outside the stack of a run, as one thing.
 ghost use Rattle.std.specs.Prelude.{◌≡◌, ◌∷◌, false, List, []};
-ghost use Rattle.ang_host.specs.declared.event.Role.{Role};
-ghost use Rattle.ang_meaning.specs.World.{Input, hold as hold_in, give as give_in, if_told, with_inputs};
-ghost use Rattle.ang_meaning.specs.Told.{Told};
+ghost use Rattle.ang_meaning.specs.World.{hold as hold_in, give as give_in, if_told};
 ghost use Rattle.ang_meaning.specs.Counting.{CanGive, HasKey};
-ghost use Rattle.ang_host.specs.Boxes.{members};
-ghost use Rattle.ang_host.specs.Members.{states_of};
 ghost use Rattle.ang_heap.specs.Heaps.{objects_of};
-ghost use Rattle.ang_heap.specs.Parts.{counts_of, IsTallyFull};
-ghost use Rattle.ang_heap.specs.Stores.{world_of, IsReady, StoreMoves};
+ghost use Rattle.ang_heap.specs.Parts.{IsTallyFull, states_among, counts_among};
+ghost use Rattle.ang_heap.specs.Stores.{world_of, IsReady, StoreTold, HasMoved, StoreBecomes};
 
 use crate::globals::Globals;
 use crate::heap::Heap;
@@ -37,12 +33,16 @@ pub struct Store {
 /// One more place holds the value. False where a tally is full, and then nothing is done.
 #[inline(always)]
 pub fn hold(store: &mut Store, value: Slot) -> bool
-    requires there { HasKey value (counts_of (λ v. (⟦<dyn Driver as Driver>⟧ v).meaning) (members store.old.drivers)) }
-    ensures told { Told (λ is. hold_in value (with_inputs is (world_of (λ v. (⟦<dyn Driver as Driver>⟧ v).meaning) store.old)))
-        (λ is. if_told result (with_inputs is (world_of (λ v. (⟦<dyn Driver as Driver>⟧ v).meaning) store.new))) }
-    ensures full { result ≡ false → IsTallyFull value (objects_of store.old.heap) (states_of (λ v. (⟦<dyn Driver as Driver>⟧ v).meaning) (members store.old.drivers)) }
-    ensures unchanged { result ≡ false → states_of (λ v. (⟦<dyn Driver as Driver>⟧ v).meaning) (members store.new.drivers) ≡ states_of (λ v. (⟦<dyn Driver as Driver>⟧ v).meaning) (members store.old.drivers) }
-    ensures moves { (roles : List Role) → StoreMoves (λ v. (⟦<dyn Driver as Driver>⟧ v).meaning) roles store.old store.new }
+    requires there { HasKey value (counts_among ⟦<dyn Driver as Driver>⟧ store.old.drivers) }
+    ensures told { StoreTold ⟦<dyn Driver as Driver>⟧ (hold_in value) store.old (if_told result)
+        store.new }
+    ensures full { result ≡ false
+        → IsTallyFull value (objects_of store.old.heap)
+        (states_among ⟦<dyn Driver as Driver>⟧ store.old.drivers) }
+    ensures unchanged { result ≡ false
+        → states_among ⟦<dyn Driver as Driver>⟧ store.new.drivers
+        ≡ states_among ⟦<dyn Driver as Driver>⟧ store.old.drivers }
+    ensures moves { HasMoved ⟦<dyn Driver as Driver>⟧ store.old store.new }
 {
     match value {
         Slot::Bits(_) => true,
@@ -53,12 +53,16 @@ pub fn hold(store: &mut Store, value: Slot) -> bool
 
 #[inline(never)]
 fn hold_object(store: &mut Store, value: Slot) -> bool
-    requires there { HasKey value (counts_of (λ v. (⟦<dyn Driver as Driver>⟧ v).meaning) (members store.old.drivers)) }
-    ensures told { Told (λ is. hold_in value (with_inputs is (world_of (λ v. (⟦<dyn Driver as Driver>⟧ v).meaning) store.old)))
-        (λ is. if_told result (with_inputs is (world_of (λ v. (⟦<dyn Driver as Driver>⟧ v).meaning) store.new))) }
-    ensures full { result ≡ false → IsTallyFull value (objects_of store.old.heap) (states_of (λ v. (⟦<dyn Driver as Driver>⟧ v).meaning) (members store.old.drivers)) }
-    ensures unchanged { result ≡ false → states_of (λ v. (⟦<dyn Driver as Driver>⟧ v).meaning) (members store.new.drivers) ≡ states_of (λ v. (⟦<dyn Driver as Driver>⟧ v).meaning) (members store.old.drivers) }
-    ensures moves { (roles : List Role) → StoreMoves (λ v. (⟦<dyn Driver as Driver>⟧ v).meaning) roles store.old store.new }
+    requires there { HasKey value (counts_among ⟦<dyn Driver as Driver>⟧ store.old.drivers) }
+    ensures told { StoreTold ⟦<dyn Driver as Driver>⟧ (hold_in value) store.old (if_told result)
+        store.new }
+    ensures full { result ≡ false
+        → IsTallyFull value (objects_of store.old.heap)
+        (states_among ⟦<dyn Driver as Driver>⟧ store.old.drivers) }
+    ensures unchanged { result ≡ false
+        → states_among ⟦<dyn Driver as Driver>⟧ store.new.drivers
+        ≡ states_among ⟦<dyn Driver as Driver>⟧ store.old.drivers }
+    ensures moves { HasMoved ⟦<dyn Driver as Driver>⟧ store.old store.new }
 {
     store.heap.hold(&mut store.drivers, value).is_ok()
 }
@@ -66,11 +70,10 @@ fn hold_object(store: &mut Store, value: Slot) -> bool
 /// One place gives up the value. It takes no memory and always succeeds.
 #[inline(always)]
 pub fn give(store: &mut Store, value: Slot)
-    requires ready { IsReady (λ v. (⟦<dyn Driver as Driver>⟧ v).meaning) store.old }
-    requires enough { CanGive (value ∷ []) (world_of (λ v. (⟦<dyn Driver as Driver>⟧ v).meaning) store.old) }
-    ensures given { (is : List Input) → give_in value (with_inputs is (world_of (λ v. (⟦<dyn Driver as Driver>⟧ v).meaning) store.old))
-        ≡ with_inputs is (world_of (λ v. (⟦<dyn Driver as Driver>⟧ v).meaning) store.new) }
-    ensures moves { (roles : List Role) → StoreMoves (λ v. (⟦<dyn Driver as Driver>⟧ v).meaning) roles store.old store.new }
+    requires ready { IsReady ⟦<dyn Driver as Driver>⟧ store.old }
+    requires enough { CanGive (value ∷ []) (world_of ⟦<dyn Driver as Driver>⟧ store.old) }
+    ensures given { StoreBecomes ⟦<dyn Driver as Driver>⟧ (give_in value) store.old store.new }
+    ensures moves { HasMoved ⟦<dyn Driver as Driver>⟧ store.old store.new }
 {
     match value {
         Slot::Bits(_) => {}
@@ -81,11 +84,10 @@ pub fn give(store: &mut Store, value: Slot)
 
 #[inline(never)]
 fn give_object(store: &mut Store, value: Slot)
-    requires ready { IsReady (λ v. (⟦<dyn Driver as Driver>⟧ v).meaning) store.old }
-    requires enough { CanGive (value ∷ []) (world_of (λ v. (⟦<dyn Driver as Driver>⟧ v).meaning) store.old) }
-    ensures given { (is : List Input) → give_in value (with_inputs is (world_of (λ v. (⟦<dyn Driver as Driver>⟧ v).meaning) store.old))
-        ≡ with_inputs is (world_of (λ v. (⟦<dyn Driver as Driver>⟧ v).meaning) store.new) }
-    ensures moves { (roles : List Role) → StoreMoves (λ v. (⟦<dyn Driver as Driver>⟧ v).meaning) roles store.old store.new }
+    requires ready { IsReady ⟦<dyn Driver as Driver>⟧ store.old }
+    requires enough { CanGive (value ∷ []) (world_of ⟦<dyn Driver as Driver>⟧ store.old) }
+    ensures given { StoreBecomes ⟦<dyn Driver as Driver>⟧ (give_in value) store.old store.new }
+    ensures moves { HasMoved ⟦<dyn Driver as Driver>⟧ store.old store.new }
 {
     let before = store.events.len();
     store

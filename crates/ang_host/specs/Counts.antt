@@ -9,10 +9,12 @@ use Rattle.ang_host.specs.Members.{state_at}
 abbrev pub holds : {P : Type 0} → (P → ℕ) → (P → ℕ) → ℕ → ℕ → P → Bool
 holds d key i k p = nat_eq (d p) i && nat_eq (key p) k
 
--- each driver is sound, its counts are the numbers of places that hold its keys, and no place holds a key of a driver that is not there
+-- each driver is sound, its counts are the numbers of places that hold its keys, and no place holds
+-- a key of a driver that is not there
 pub record Agrees {P : Type 0} (d key : P → ℕ) (places : List P) (ss : List State) : Type 0 where
   pub within : All (λ p. d p < length ss) places
-  pub counts : (i k : ℕ) → i < length ss → count_at (state_at ss i).counts k ≡ count_by (holds d key i k) places
+  pub counts : (i k : ℕ) → i < length ss
+      → count_at (state_at ss i).counts k ≡ count_by (holds d key i k) places
   pub sound : (i : ℕ) → i < length ss → IsSound (state_at ss i)
 
 -- nothing of the driver is alive

@@ -1,4 +1,5 @@
--- Host events, and that drivers follow them: nothing was asked that is not listed, and no answer is made up
+-- Host events, and that drivers follow them: nothing was asked that is not listed, and no answer is
+-- made up
 -- (docs/EMBEDDING.md).
 use Rattle.std.specs.Prelude.{ℕ, ◌+◌, ◌≡◌, ◌<◌, ◌≤◌, ◌⊎◌, Bool, true, false, cond, nat_eq, ◌||◌, List, [], ◌∷◌, Option, length, filter, map as list_map, slice_index_or}
 use Rattle.std.specs.FinMap as map
@@ -15,10 +16,12 @@ use Rattle.ang_host.specs.declared.event.HostEvent.TheVariants.{Called, Ended}
 use Rattle.ang_host.specs.declared.event.Role.{Role}
 use Rattle.ang_host.specs.declared.event.Role.TheVariants.{Making as MakingRole, Calling as CallingRole, Property as PropertyRole}
 use Rattle.ang_host.specs.State.{State, Tally, Ask, make, call, read, write, end, limit}
-use Rattle.ang_host.specs.Laws.{Fits, Meaning}
+use Rattle.ang_host.specs.Laws.{Fits}
+use Rattle.ang_host.specs.Meanings.{Meanings, state_in}
 use Rattle.ang_host.specs.Members.{state_at, rule_at}
 
--- what an event asked, where the entity has the role; a property is written where there is an argument
+-- what an event asked, where the entity has the role; a property is written where there is an
+-- argument
 abbrev pub ask_of : Role → Option ℕ → List Value → Ask
 ask_of (MakingRole f) o args = make f args
 ask_of (CallingRole f) o args = call f o args
@@ -65,7 +68,8 @@ CoreStep roles fits c (Ended driver key) d = fits c (end key) (Asking Void) d
 -- the events move the core, one after the other
 abbrev pub CoreMoves : List Role → Fits → List ℕ → List HostEvent → List ℕ → Type 0
 CoreMoves roles fits c [] d = c ≡ d
-CoreMoves roles fits c (e ∷ es) d = (m : List ℕ) × CoreStep roles fits c e m × CoreMoves roles fits m es d
+CoreMoves roles fits c (e ∷ es) d =
+    (m : List ℕ) × CoreStep roles fits c e m × CoreMoves roles fits m es d
 
 -- whether k is live after an event, where b says whether it was before
 abbrev pub live_after : ℕ → Bool → HostEvent → Bool
@@ -100,7 +104,8 @@ abbrev pub HasRunOut : Tally → Type 0
 HasRunOut t = (limit ≤ t.asked) ⊎ ((limit ≤ t.made) ⊎ (limit ≤ t.added))
 
 -- one driver, over its own events
-pub record Follows (roles : List Role) (fits : Fits) (s : State) (es : List HostEvent) (t : State) : Type 0 where
+pub record Follows (roles : List Role) (fits : Fits) (s : State) (es : List HostEvent) (t : State)
+    : Type 0 where
   pub core : CoreMoves roles fits s.core es t.core
   pub live : (k : ℕ) → map.contains_key t.counts k ≡ live_along k (map.contains_key s.counts k) es
   pub asked : t.tally.asked ≡ s.tally.asked + asked_in es
@@ -122,16 +127,23 @@ abbrev pub events_of : ℕ → List HostEvent → List HostEvent
 events_of i = filter (λ e. nat_eq (driver_of e) i)
 
 -- each driver of a list, over the events of all, which name no other driver
-pub record EachFollows (roles : List Role) (rules : List Fits) (ss : List State) (es : List HostEvent) (ts : List State) : Type 0 where
+pub record EachFollows (roles : List Role) (rules : List Fits) (ss : List State)
+    (es : List HostEvent) (ts : List State) : Type 0 where
   pub same_length : length ts ≡ length ss
   pub within : All (λ e. driver_of e < length ss) es
-  pub each : (i : ℕ) → i < length ss → Follows roles (rule_at rules i) (state_at ss i) (events_of i es) (state_at ts i)
+  pub each : (i : ℕ) → i < length ss
+      → Follows roles (rule_at rules i) (state_at ss i) (events_of i es) (state_at ts i)
 
 -- the same of members, of which each has a state and a kind, and each kind a relation
-pub record AllFollow {B V : Type 0} (st : B → State) (kind : B → V) (rule : V → Fits) (roles : List Role) (xs : List B) (es : List HostEvent) (ys : List B) : Type 0 where
+pub record AllFollow {B V : Type 0} (st : B → State) (kind : B → V) (rule : V → Fits)
+    (roles : List Role) (xs : List B) (es : List HostEvent) (ys : List B) : Type 0 where
   pub kinds : list_map kind ys ≡ list_map kind xs
-  pub follow : EachFollows roles (list_map rule (list_map kind xs)) (list_map st xs) es (list_map st ys)
+  pub follow : EachFollows roles (list_map rule (list_map kind xs)) (list_map st xs) es
+      (list_map st ys)
 
--- boxed drivers follow the events, where m is the meaning of what is behind each vtable
-abbrev pub DriversFollow : {V : Type 0} {P : V → Type 0} → ((v : V) → Meaning (P v)) → List Role → List (DynBox V Global P) → List HostEvent → List (DynBox V Global P) → Type 0
-DriversFollow m roles xs es ys = AllFollow (λ b. (m b.vtable).state b.value) (λ b. b.vtable) (λ v. (m v).fits) roles xs es ys
+-- boxed drivers follow the events
+abbrev pub DriversFollow :
+    {V : Type 0} {P : V → Type 0} → Meanings P → List Role → List (DynBox V Global P)
+    → List HostEvent → List (DynBox V Global P) → Type 0
+DriversFollow m roles xs es ys =
+    AllFollow (λ b. state_in m b) (λ b. b.vtable) (λ v. (m v).meaning.fits) roles xs es ys

@@ -1,4 +1,5 @@
--- The laws of a driver, as relations between its states before and after a call (docs/EMBEDDING.md).
+-- The laws of a driver, as relations between its states before and after a call
+-- (docs/EMBEDDING.md).
 use Rattle.std.specs.Prelude.{ℕ, ◌+◌, ◌≡◌, ◌<◌, ◌⊎◌, ◌↔◌, List, [], ◌∷◌, Option, Some, None, Bool, true, false, IsTrue}
 use Rattle.std.specs.FinMap as map
 use Rattle.ang_kinds.specs.declared.value.Value.{Value}
@@ -82,7 +83,8 @@ Makes fits s a MadeMemory t = IsAsked fits s a (Making MadeMemory) t
 -- one more reference to the key k, or a full tally
 abbrev pub Adds : State → ℕ → Bool → State → Type 0
 Adds s k true t =
-    (n : ℕ) × (map.get s.counts k ≡ Some n) × (t.counts ≡ map.insert s.counts k (n + 1)) × (t.core ≡ s.core)
+    (n : ℕ) × (map.get s.counts k ≡ Some n) × (t.counts ≡ map.insert s.counts k (n + 1))
+    × (t.core ≡ s.core)
     × (t.tally ≡ record s.tally { added = s.tally.added + 1 })
 Adds s k false t = (t ≡ s) × IsFull s
 
@@ -90,9 +92,11 @@ Adds s k false t = (t ≡ s) × IsFull s
 abbrev pub Releases : Fits → State → ℕ → Bool → State → Type 0
 Releases fits s k true t =
     (map.get s.counts k ≡ Some 1) × (t.counts ≡ map.remove s.counts k)
-    × (t.tally ≡ record s.tally { released = s.tally.released + 1 }) × fits s.core (end k) (Asking Void) t.core
+    × (t.tally ≡ record s.tally { released = s.tally.released + 1 })
+    × fits s.core (end k) (Asking Void) t.core
 Releases fits s k false t =
-    (n : ℕ) × (map.get s.counts k ≡ Some (n + 2)) × (t.counts ≡ map.insert s.counts k (n + 1)) × (t.core ≡ s.core)
+    (n : ℕ) × (map.get s.counts k ≡ Some (n + 2)) × (t.counts ≡ map.insert s.counts k (n + 1))
+    × (t.core ≡ s.core)
     × (t.tally ≡ record s.tally { released = s.tally.released + 1 })
 
 -- what each call ensures

@@ -1,5 +1,6 @@
 pub mod State
 pub mod Laws
+pub mod Meanings
 pub mod Members
 pub mod Boxes
 pub mod Refusal

@@ -4,7 +4,8 @@ use Rattle.std.specs.Ordering.{nat_cmp}
 use Rattle.std.specs.FinMap as map
 use Rattle.ang_kinds.specs.declared.value.Value.{Value}
 
--- how often a driver was asked (with another answer than `Full`), made a key, added a reference and released one
+-- how often a driver was asked (with another answer than `Full`), made a key, added a reference and
+-- released one
 pub record Tally : Type 0 where
   pub asked : ℕ
   pub made : ℕ

@@ -66,5 +66,6 @@ pub trait Driver: Drop {
     /// live. It always succeeds and takes no memory.
     fn release(&mut self, key: u64) -> bool
         requires key_live { IsLive (meaning.state self.old) key }
-        ensures law { WasReleased meaning.fits (meaning.state self.old) key result (meaning.state self.new) };
+        ensures law { WasReleased meaning.fits (meaning.state self.old) key result
+            (meaning.state self.new) };
 }

@@ -30,8 +30,8 @@ pub enum DriversError {
 }
 
 fn all_idle(boxes: &[Box<dyn Driver>]) -> bool
-    ensures idle { IsTrue result → AreFresh (states_of (λ v. (⟦<dyn Driver as Driver>⟧ v).meaning) boxes.now) }
-    ensures busy { result ≡ false → IsBusy (states_of (λ v. (⟦<dyn Driver as Driver>⟧ v).meaning) boxes.now) }
+    ensures idle { IsTrue result → AreFresh (states_of ⟦<dyn Driver as Driver>⟧ boxes.now) }
+    ensures busy { result ≡ false → IsBusy (states_of ⟦<dyn Driver as Driver>⟧ boxes.now) }
 {
     for b in boxes {
         if !one::idle_at(b) {
@@ -53,9 +53,11 @@ impl Drivers {
     pub fn new(boxes: Vec<Box<dyn Driver>>) -> Result<Drivers, (DriversError, Vec<Box<dyn Driver>>)>
         ensures kept { IfOk result (λ d. members d ≡ boxes.items) }
         ensures few { IfOk result (λ _. length boxes.items ≤ 64) }
-        ensures fresh { IfOk result (λ _. AreFresh (states_of (λ v. (⟦<dyn Driver as Driver>⟧ v).meaning) boxes.items)) }
+        ensures fresh { IfOk result
+            (λ _. AreFresh (states_of ⟦<dyn Driver as Driver>⟧ boxes.items)) }
         ensures given_back { IfErr result (λ e. e.1.items ≡ boxes.items) }
-        ensures why { IfErr result (λ e. IsRefusal e.0 (states_of (λ v. (⟦<dyn Driver as Driver>⟧ v).meaning) boxes.items)) }
+        ensures why { IfErr result
+            (λ e. IsRefusal e.0 (states_of ⟦<dyn Driver as Driver>⟧ boxes.items)) }
     {
         if boxes.len() > 64 {
             return Err((DriversError::TooMany, boxes));
@@ -86,7 +88,7 @@ impl Drivers {
     pub fn idle(&self, driver: u32) -> bool
         requires in_list { driver < length (members self.now) }
         ensures law { IsIdleTest
-            (state_at (states_of (λ v. (⟦<dyn Driver as Driver>⟧ v).meaning) (members self.now)) driver)
+            (state_at (states_of ⟦<dyn Driver as Driver>⟧ (members self.now)) driver)
             result }
     {
         one::idle_at(&self.boxes[driver as usize])
@@ -96,9 +98,9 @@ impl Drivers {
     pub fn make(&mut self, driver: u32, f: u32, args: &[Value]) -> Made
         requires in_list { driver < length (members self.old) }
         requires args_live { AreLive
-            (state_at (states_of (λ v. (⟦<dyn Driver as Driver>⟧ v).meaning) (members self.old)) driver)
+            (state_at (states_of ⟦<dyn Driver as Driver>⟧ (members self.old)) driver)
             args.now }
-        ensures moved { DriverMoved (λ v. (⟦<dyn Driver as Driver>⟧ v).meaning) (members self.old) driver
+        ensures moved { DriverMoved ⟦<dyn Driver as Driver>⟧ (members self.old) driver
             (λ r s t. WasMade r s (make f args.now) result t) (members self.new) }
     {
         let b = &mut self.boxes[driver as usize];
@@ -109,12 +111,12 @@ impl Drivers {
     pub fn call(&mut self, driver: u32, f: u32, object: Option<u64>, args: &[Value]) -> Answer
         requires in_list { driver < length (members self.old) }
         requires object_live { IsLiveOption
-            (state_at (states_of (λ v. (⟦<dyn Driver as Driver>⟧ v).meaning) (members self.old)) driver)
+            (state_at (states_of ⟦<dyn Driver as Driver>⟧ (members self.old)) driver)
             object }
         requires args_live { AreLive
-            (state_at (states_of (λ v. (⟦<dyn Driver as Driver>⟧ v).meaning) (members self.old)) driver)
+            (state_at (states_of ⟦<dyn Driver as Driver>⟧ (members self.old)) driver)
             args.now }
-        ensures moved { DriverMoved (λ v. (⟦<dyn Driver as Driver>⟧ v).meaning) (members self.old) driver
+        ensures moved { DriverMoved ⟦<dyn Driver as Driver>⟧ (members self.old) driver
             (λ r s t. Answered r s (call f object args.now) result t) (members self.new) }
     {
         let b = &mut self.boxes[driver as usize];
@@ -125,9 +127,9 @@ impl Drivers {
     pub fn read(&mut self, driver: u32, f: u32, object: Option<u64>) -> Answer
         requires in_list { driver < length (members self.old) }
         requires object_live { IsLiveOption
-            (state_at (states_of (λ v. (⟦<dyn Driver as Driver>⟧ v).meaning) (members self.old)) driver)
+            (state_at (states_of ⟦<dyn Driver as Driver>⟧ (members self.old)) driver)
             object }
-        ensures moved { DriverMoved (λ v. (⟦<dyn Driver as Driver>⟧ v).meaning) (members self.old) driver
+        ensures moved { DriverMoved ⟦<dyn Driver as Driver>⟧ (members self.old) driver
             (λ r s t. Answered r s (read f object) result t) (members self.new) }
     {
         let b = &mut self.boxes[driver as usize];
@@ -138,12 +140,12 @@ impl Drivers {
     pub fn write(&mut self, driver: u32, f: u32, object: Option<u64>, value: Value) -> Answer
         requires in_list { driver < length (members self.old) }
         requires object_live { IsLiveOption
-            (state_at (states_of (λ v. (⟦<dyn Driver as Driver>⟧ v).meaning) (members self.old)) driver)
+            (state_at (states_of ⟦<dyn Driver as Driver>⟧ (members self.old)) driver)
             object }
         requires value_live { IsLiveValue
-            (state_at (states_of (λ v. (⟦<dyn Driver as Driver>⟧ v).meaning) (members self.old)) driver)
+            (state_at (states_of ⟦<dyn Driver as Driver>⟧ (members self.old)) driver)
             value }
-        ensures moved { DriverMoved (λ v. (⟦<dyn Driver as Driver>⟧ v).meaning) (members self.old) driver
+        ensures moved { DriverMoved ⟦<dyn Driver as Driver>⟧ (members self.old) driver
             (λ r s t. Answered r s (write f object value) result t) (members self.new) }
     {
         let b = &mut self.boxes[driver as usize];
@@ -155,9 +157,9 @@ impl Drivers {
     pub fn add_ref(&mut self, driver: u32, key: u64) -> bool
         requires in_list { driver < length (members self.old) }
         requires key_live { IsLive
-            (state_at (states_of (λ v. (⟦<dyn Driver as Driver>⟧ v).meaning) (members self.old)) driver)
+            (state_at (states_of ⟦<dyn Driver as Driver>⟧ (members self.old)) driver)
             key }
-        ensures moved { DriverMoved (λ v. (⟦<dyn Driver as Driver>⟧ v).meaning) (members self.old) driver
+        ensures moved { DriverMoved ⟦<dyn Driver as Driver>⟧ (members self.old) driver
             (λ r s t. WasAdded s key result t) (members self.new) }
     {
         let b = &mut self.boxes[driver as usize];
@@ -169,9 +171,9 @@ impl Drivers {
     pub fn release(&mut self, driver: u32, key: u64) -> bool
         requires in_list { driver < length (members self.old) }
         requires key_live { IsLive
-            (state_at (states_of (λ v. (⟦<dyn Driver as Driver>⟧ v).meaning) (members self.old)) driver)
+            (state_at (states_of ⟦<dyn Driver as Driver>⟧ (members self.old)) driver)
             key }
-        ensures moved { DriverMoved (λ v. (⟦<dyn Driver as Driver>⟧ v).meaning) (members self.old) driver
+        ensures moved { DriverMoved ⟦<dyn Driver as Driver>⟧ (members self.old) driver
             (λ r s t. WasReleased r s key result t) (members self.new) }
     {
         let b = &mut self.boxes[driver as usize];

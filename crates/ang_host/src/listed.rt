@@ -34,15 +34,16 @@ pub fn make_listed(
     requires in_list { driver < length (members drivers.old) }
     requires room { vec_len events.old < vec_capacity events.old }
     requires args_live { AreLive
-        (state_at (states_of (λ v. (⟦<dyn Driver as Driver>⟧ v).meaning) (members drivers.old)) driver)
+        (state_at (states_of ⟦<dyn Driver as Driver>⟧ (members drivers.old)) driver)
         args }
-    ensures listed { events.new.items ≡ events.old.items ++ Called caller entity driver None args (Making result) ∷ [] }
+    ensures listed { events.new.items ≡ events.old.items
+        ++ Called caller entity driver None args (Making result) ∷ [] }
     ensures len { vec_len events.new ≡ vec_len events.old + 1 }
     ensures capacity { vec_capacity events.new ≡ vec_capacity events.old }
-    ensures moved { DriverMoved (λ v. (⟦<dyn Driver as Driver>⟧ v).meaning) (members drivers.old) driver
+    ensures moved { DriverMoved ⟦<dyn Driver as Driver>⟧ (members drivers.old) driver
         (λ r s t. WasMade r s (make f args) result t) (members drivers.new) }
     ensures follow { (roles : List Role) → role_at roles entity.0 ≡ MakingRole f
-        → DriversFollow (λ v. (⟦<dyn Driver as Driver>⟧ v).meaning) roles (members drivers.old)
+        → DriversFollow ⟦<dyn Driver as Driver>⟧ roles (members drivers.old)
         (Called caller entity driver None args (Making result) ∷ []) (members drivers.new) }
 {
     let answer = drivers.make(driver, f, args.as_slice());
@@ -72,18 +73,19 @@ pub fn call_listed(
     requires in_list { driver < length (members drivers.old) }
     requires room { vec_len events.old < vec_capacity events.old }
     requires object_live { IsLiveOption
-        (state_at (states_of (λ v. (⟦<dyn Driver as Driver>⟧ v).meaning) (members drivers.old)) driver)
+        (state_at (states_of ⟦<dyn Driver as Driver>⟧ (members drivers.old)) driver)
         object }
     requires args_live { AreLive
-        (state_at (states_of (λ v. (⟦<dyn Driver as Driver>⟧ v).meaning) (members drivers.old)) driver)
+        (state_at (states_of ⟦<dyn Driver as Driver>⟧ (members drivers.old)) driver)
         args }
-    ensures listed { events.new.items ≡ events.old.items ++ Called caller entity driver object args (Asking result) ∷ [] }
+    ensures listed { events.new.items ≡ events.old.items
+        ++ Called caller entity driver object args (Asking result) ∷ [] }
     ensures len { vec_len events.new ≡ vec_len events.old + 1 }
     ensures capacity { vec_capacity events.new ≡ vec_capacity events.old }
-    ensures moved { DriverMoved (λ v. (⟦<dyn Driver as Driver>⟧ v).meaning) (members drivers.old) driver
+    ensures moved { DriverMoved ⟦<dyn Driver as Driver>⟧ (members drivers.old) driver
         (λ r s t. Answered r s (call f object args) result t) (members drivers.new) }
     ensures follow { (roles : List Role) → role_at roles entity.0 ≡ CallingRole f
-        → DriversFollow (λ v. (⟦<dyn Driver as Driver>⟧ v).meaning) roles (members drivers.old)
+        → DriversFollow ⟦<dyn Driver as Driver>⟧ roles (members drivers.old)
         (Called caller entity driver object args (Asking result) ∷ []) (members drivers.new) }
 {
     let answer = drivers.call(driver, f, object, args.as_slice());
@@ -114,15 +116,16 @@ pub fn read_listed(
     requires room { vec_len events.old < vec_capacity events.old }
     requires no_args { args ≡ [] }
     requires object_live { IsLiveOption
-        (state_at (states_of (λ v. (⟦<dyn Driver as Driver>⟧ v).meaning) (members drivers.old)) driver)
+        (state_at (states_of ⟦<dyn Driver as Driver>⟧ (members drivers.old)) driver)
         object }
-    ensures listed { events.new.items ≡ events.old.items ++ Called caller entity driver object args (Asking result) ∷ [] }
+    ensures listed { events.new.items ≡ events.old.items
+        ++ Called caller entity driver object args (Asking result) ∷ [] }
     ensures len { vec_len events.new ≡ vec_len events.old + 1 }
     ensures capacity { vec_capacity events.new ≡ vec_capacity events.old }
-    ensures moved { DriverMoved (λ v. (⟦<dyn Driver as Driver>⟧ v).meaning) (members drivers.old) driver
+    ensures moved { DriverMoved ⟦<dyn Driver as Driver>⟧ (members drivers.old) driver
         (λ r s t. Answered r s (read f object) result t) (members drivers.new) }
     ensures follow { (roles : List Role) → role_at roles entity.0 ≡ PropertyRole f
-        → DriversFollow (λ v. (⟦<dyn Driver as Driver>⟧ v).meaning) roles (members drivers.old)
+        → DriversFollow ⟦<dyn Driver as Driver>⟧ roles (members drivers.old)
         (Called caller entity driver object args (Asking result) ∷ []) (members drivers.new) }
 {
     let answer = drivers.read(driver, f, object);
@@ -153,18 +156,20 @@ pub fn write_listed(
     requires room { vec_len events.old < vec_capacity events.old }
     requires one_arg { length args ≡ 1 }
     requires object_live { IsLiveOption
-        (state_at (states_of (λ v. (⟦<dyn Driver as Driver>⟧ v).meaning) (members drivers.old)) driver)
+        (state_at (states_of ⟦<dyn Driver as Driver>⟧ (members drivers.old)) driver)
         object }
     requires args_live { AreLive
-        (state_at (states_of (λ v. (⟦<dyn Driver as Driver>⟧ v).meaning) (members drivers.old)) driver)
+        (state_at (states_of ⟦<dyn Driver as Driver>⟧ (members drivers.old)) driver)
         args }
-    ensures listed { events.new.items ≡ events.old.items ++ Called caller entity driver object args (Asking result) ∷ [] }
+    ensures listed { events.new.items ≡ events.old.items
+        ++ Called caller entity driver object args (Asking result) ∷ [] }
     ensures len { vec_len events.new ≡ vec_len events.old + 1 }
     ensures capacity { vec_capacity events.new ≡ vec_capacity events.old }
-    ensures moved { DriverMoved (λ v. (⟦<dyn Driver as Driver>⟧ v).meaning) (members drivers.old) driver
-        (λ r s t. Answered r s (ask_of (PropertyRole f) object args) result t) (members drivers.new) }
+    ensures moved { DriverMoved ⟦<dyn Driver as Driver>⟧ (members drivers.old) driver
+        (λ r s t. Answered r s (ask_of (PropertyRole f) object args) result t)
+        (members drivers.new) }
     ensures follow { (roles : List Role) → role_at roles entity.0 ≡ PropertyRole f
-        → DriversFollow (λ v. (⟦<dyn Driver as Driver>⟧ v).meaning) roles (members drivers.old)
+        → DriversFollow ⟦<dyn Driver as Driver>⟧ roles (members drivers.old)
         (Called caller entity driver object args (Asking result) ∷ []) (members drivers.new) }
 {
     let value = args.as_slice()[0];
@@ -190,15 +195,15 @@ pub fn release_listed(
     requires in_list { driver < length (members drivers.old) }
     requires room { vec_len events.old < vec_capacity events.old }
     requires key_live { IsLive
-        (state_at (states_of (λ v. (⟦<dyn Driver as Driver>⟧ v).meaning) (members drivers.old)) driver)
+        (state_at (states_of ⟦<dyn Driver as Driver>⟧ (members drivers.old)) driver)
         key }
     ensures listed { events.new.items ≡ events.old.items ++ ends driver key result }
     ensures len { vec_len events.new ≡ vec_len events.old + length (ends driver key result) }
     ensures capacity { vec_capacity events.new ≡ vec_capacity events.old }
-    ensures moved { DriverMoved (λ v. (⟦<dyn Driver as Driver>⟧ v).meaning) (members drivers.old) driver
+    ensures moved { DriverMoved ⟦<dyn Driver as Driver>⟧ (members drivers.old) driver
         (λ r s t. WasReleased r s key result t) (members drivers.new) }
     ensures follow { (roles : List Role)
-        → DriversFollow (λ v. (⟦<dyn Driver as Driver>⟧ v).meaning) roles (members drivers.old)
+        → DriversFollow ⟦<dyn Driver as Driver>⟧ roles (members drivers.old)
         (ends driver key result) (members drivers.new) }
 {
     let ended = drivers.release(driver, key);

@@ -2,29 +2,31 @@
 ghost use Rattle.std.specs.Prelude.{◌≡◌};
 ghost use Rattle.ang_host.specs.State.{make, call, read, write, end};
 ghost use Rattle.ang_host.specs.Laws.{IsLive, IsLiveOption, IsLiveValue, AreLive, Answered, WasMade, WasAdded, WasReleased, IsIdleTest};
+ghost use Rattle.ang_host.specs.Meanings.{state_in, fits_in, state_behind, fits_behind};
 
 use crate::answer::{Answer, Made};
 use crate::driver::Driver;
 use ang_kinds::Value;
 
 fn idle_in(d: &dyn Driver) -> bool
-    ensures idle { IsIdleTest ((⟦<dyn Driver as Driver>⟧ d.now.0).meaning.state d.now.1) result }
+    ensures idle { IsIdleTest (state_behind ⟦<dyn Driver as Driver>⟧ d.now) result }
 {
     d.idle()
 }
 
 /// Whether no key of the driver in this box is live. It takes no memory.
 pub fn idle_at(b: &Box<dyn Driver>) -> bool
-    ensures idle { IsIdleTest ((⟦<dyn Driver as Driver>⟧ b.now.vtable).meaning.state b.now.value) result }
+    ensures idle { IsIdleTest (state_in ⟦<dyn Driver as Driver>⟧ b.now) result }
 {
     let d: &dyn Driver = b.as_ref();
     idle_in(d)
 }
 
 fn make_in(d: &mut dyn Driver, f: u32, args: &[Value]) -> Made
-    requires args_live { AreLive ((⟦<dyn Driver as Driver>⟧ d.old.0).meaning.state d.old.1) args.now }
-    ensures law { WasMade (⟦<dyn Driver as Driver>⟧ d.old.0).meaning.fits ((⟦<dyn Driver as Driver>⟧ d.old.0).meaning.state d.old.1)
-        (make f args.now) result ((⟦<dyn Driver as Driver>⟧ d.new.0).meaning.state d.new.1) }
+    requires args_live { AreLive (state_behind ⟦<dyn Driver as Driver>⟧ d.old) args.now }
+    ensures law { WasMade (fits_behind ⟦<dyn Driver as Driver>⟧ d.old)
+        (state_behind ⟦<dyn Driver as Driver>⟧ d.old) (make f args.now) result
+        (state_behind ⟦<dyn Driver as Driver>⟧ d.new) }
     ensures kind { d.new.0 ≡ d.old.0 }
 {
     d.make(f, args)
@@ -33,9 +35,10 @@ fn make_in(d: &mut dyn Driver, f: u32, args: &[Value]) -> Made
 /// Asks the driver in this box for a new object from the factory of the function number `f`. All keys in `args`
 /// have to be live.
 pub fn make_at(b: &mut Box<dyn Driver>, f: u32, args: &[Value]) -> Made
-    requires args_live { AreLive ((⟦<dyn Driver as Driver>⟧ b.old.vtable).meaning.state b.old.value) args.now }
-    ensures law { WasMade (⟦<dyn Driver as Driver>⟧ b.old.vtable).meaning.fits ((⟦<dyn Driver as Driver>⟧ b.old.vtable).meaning.state b.old.value)
-        (make f args.now) result ((⟦<dyn Driver as Driver>⟧ b.new.vtable).meaning.state b.new.value) }
+    requires args_live { AreLive (state_in ⟦<dyn Driver as Driver>⟧ b.old) args.now }
+    ensures law { WasMade (fits_in ⟦<dyn Driver as Driver>⟧ b.old)
+        (state_in ⟦<dyn Driver as Driver>⟧ b.old) (make f args.now) result
+        (state_in ⟦<dyn Driver as Driver>⟧ b.new) }
     ensures kind { b.new.vtable ≡ b.old.vtable }
 {
     let d: &mut dyn Driver = b.as_mut();
@@ -43,10 +46,11 @@ pub fn make_at(b: &mut Box<dyn Driver>, f: u32, args: &[Value]) -> Made
 }
 
 fn call_in(d: &mut dyn Driver, f: u32, object: Option<u64>, args: &[Value]) -> Answer
-    requires object_live { IsLiveOption ((⟦<dyn Driver as Driver>⟧ d.old.0).meaning.state d.old.1) object }
-    requires args_live { AreLive ((⟦<dyn Driver as Driver>⟧ d.old.0).meaning.state d.old.1) args.now }
-    ensures law { Answered (⟦<dyn Driver as Driver>⟧ d.old.0).meaning.fits ((⟦<dyn Driver as Driver>⟧ d.old.0).meaning.state d.old.1)
-        (call f object args.now) result ((⟦<dyn Driver as Driver>⟧ d.new.0).meaning.state d.new.1) }
+    requires object_live { IsLiveOption (state_behind ⟦<dyn Driver as Driver>⟧ d.old) object }
+    requires args_live { AreLive (state_behind ⟦<dyn Driver as Driver>⟧ d.old) args.now }
+    ensures law { Answered (fits_behind ⟦<dyn Driver as Driver>⟧ d.old)
+        (state_behind ⟦<dyn Driver as Driver>⟧ d.old) (call f object args.now) result
+        (state_behind ⟦<dyn Driver as Driver>⟧ d.new) }
     ensures kind { d.new.0 ≡ d.old.0 }
 {
     d.call(f, object, args)
@@ -55,10 +59,11 @@ fn call_in(d: &mut dyn Driver, f: u32, object: Option<u64>, args: &[Value]) -> A
 /// Calls the function of the number `f` of the driver in this box, as a method where there is an object. All keys
 /// that are handed in have to be live.
 pub fn call_at(b: &mut Box<dyn Driver>, f: u32, object: Option<u64>, args: &[Value]) -> Answer
-    requires object_live { IsLiveOption ((⟦<dyn Driver as Driver>⟧ b.old.vtable).meaning.state b.old.value) object }
-    requires args_live { AreLive ((⟦<dyn Driver as Driver>⟧ b.old.vtable).meaning.state b.old.value) args.now }
-    ensures law { Answered (⟦<dyn Driver as Driver>⟧ b.old.vtable).meaning.fits ((⟦<dyn Driver as Driver>⟧ b.old.vtable).meaning.state b.old.value)
-        (call f object args.now) result ((⟦<dyn Driver as Driver>⟧ b.new.vtable).meaning.state b.new.value) }
+    requires object_live { IsLiveOption (state_in ⟦<dyn Driver as Driver>⟧ b.old) object }
+    requires args_live { AreLive (state_in ⟦<dyn Driver as Driver>⟧ b.old) args.now }
+    ensures law { Answered (fits_in ⟦<dyn Driver as Driver>⟧ b.old)
+        (state_in ⟦<dyn Driver as Driver>⟧ b.old) (call f object args.now) result
+        (state_in ⟦<dyn Driver as Driver>⟧ b.new) }
     ensures kind { b.new.vtable ≡ b.old.vtable }
 {
     let d: &mut dyn Driver = b.as_mut();
@@ -66,9 +71,10 @@ pub fn call_at(b: &mut Box<dyn Driver>, f: u32, object: Option<u64>, args: &[Val
 }
 
 fn read_in(d: &mut dyn Driver, f: u32, object: Option<u64>) -> Answer
-    requires object_live { IsLiveOption ((⟦<dyn Driver as Driver>⟧ d.old.0).meaning.state d.old.1) object }
-    ensures law { Answered (⟦<dyn Driver as Driver>⟧ d.old.0).meaning.fits ((⟦<dyn Driver as Driver>⟧ d.old.0).meaning.state d.old.1)
-        (read f object) result ((⟦<dyn Driver as Driver>⟧ d.new.0).meaning.state d.new.1) }
+    requires object_live { IsLiveOption (state_behind ⟦<dyn Driver as Driver>⟧ d.old) object }
+    ensures law { Answered (fits_behind ⟦<dyn Driver as Driver>⟧ d.old)
+        (state_behind ⟦<dyn Driver as Driver>⟧ d.old) (read f object) result
+        (state_behind ⟦<dyn Driver as Driver>⟧ d.new) }
     ensures kind { d.new.0 ≡ d.old.0 }
 {
     d.read(f, object)
@@ -77,9 +83,10 @@ fn read_in(d: &mut dyn Driver, f: u32, object: Option<u64>) -> Answer
 /// Reads the property of the number `f` of the driver in this box, of the object where there is one, whose key has
 /// to be live.
 pub fn read_at(b: &mut Box<dyn Driver>, f: u32, object: Option<u64>) -> Answer
-    requires object_live { IsLiveOption ((⟦<dyn Driver as Driver>⟧ b.old.vtable).meaning.state b.old.value) object }
-    ensures law { Answered (⟦<dyn Driver as Driver>⟧ b.old.vtable).meaning.fits ((⟦<dyn Driver as Driver>⟧ b.old.vtable).meaning.state b.old.value)
-        (read f object) result ((⟦<dyn Driver as Driver>⟧ b.new.vtable).meaning.state b.new.value) }
+    requires object_live { IsLiveOption (state_in ⟦<dyn Driver as Driver>⟧ b.old) object }
+    ensures law { Answered (fits_in ⟦<dyn Driver as Driver>⟧ b.old)
+        (state_in ⟦<dyn Driver as Driver>⟧ b.old) (read f object) result
+        (state_in ⟦<dyn Driver as Driver>⟧ b.new) }
     ensures kind { b.new.vtable ≡ b.old.vtable }
 {
     let d: &mut dyn Driver = b.as_mut();
@@ -87,10 +94,11 @@ pub fn read_at(b: &mut Box<dyn Driver>, f: u32, object: Option<u64>) -> Answer
 }
 
 fn write_in(d: &mut dyn Driver, f: u32, object: Option<u64>, value: Value) -> Answer
-    requires object_live { IsLiveOption ((⟦<dyn Driver as Driver>⟧ d.old.0).meaning.state d.old.1) object }
-    requires value_live { IsLiveValue ((⟦<dyn Driver as Driver>⟧ d.old.0).meaning.state d.old.1) value }
-    ensures law { Answered (⟦<dyn Driver as Driver>⟧ d.old.0).meaning.fits ((⟦<dyn Driver as Driver>⟧ d.old.0).meaning.state d.old.1)
-        (write f object value) result ((⟦<dyn Driver as Driver>⟧ d.new.0).meaning.state d.new.1) }
+    requires object_live { IsLiveOption (state_behind ⟦<dyn Driver as Driver>⟧ d.old) object }
+    requires value_live { IsLiveValue (state_behind ⟦<dyn Driver as Driver>⟧ d.old) value }
+    ensures law { Answered (fits_behind ⟦<dyn Driver as Driver>⟧ d.old)
+        (state_behind ⟦<dyn Driver as Driver>⟧ d.old) (write f object value) result
+        (state_behind ⟦<dyn Driver as Driver>⟧ d.new) }
     ensures kind { d.new.0 ≡ d.old.0 }
 {
     d.write(f, object, value)
@@ -99,10 +107,11 @@ fn write_in(d: &mut dyn Driver, f: u32, object: Option<u64>, value: Value) -> An
 /// Writes the property of the number `f` of the driver in this box, of the object where there is one. All keys that
 /// are handed in have to be live.
 pub fn write_at(b: &mut Box<dyn Driver>, f: u32, object: Option<u64>, value: Value) -> Answer
-    requires object_live { IsLiveOption ((⟦<dyn Driver as Driver>⟧ b.old.vtable).meaning.state b.old.value) object }
-    requires value_live { IsLiveValue ((⟦<dyn Driver as Driver>⟧ b.old.vtable).meaning.state b.old.value) value }
-    ensures law { Answered (⟦<dyn Driver as Driver>⟧ b.old.vtable).meaning.fits ((⟦<dyn Driver as Driver>⟧ b.old.vtable).meaning.state b.old.value)
-        (write f object value) result ((⟦<dyn Driver as Driver>⟧ b.new.vtable).meaning.state b.new.value) }
+    requires object_live { IsLiveOption (state_in ⟦<dyn Driver as Driver>⟧ b.old) object }
+    requires value_live { IsLiveValue (state_in ⟦<dyn Driver as Driver>⟧ b.old) value }
+    ensures law { Answered (fits_in ⟦<dyn Driver as Driver>⟧ b.old)
+        (state_in ⟦<dyn Driver as Driver>⟧ b.old) (write f object value) result
+        (state_in ⟦<dyn Driver as Driver>⟧ b.new) }
     ensures kind { b.new.vtable ≡ b.old.vtable }
 {
     let d: &mut dyn Driver = b.as_mut();
@@ -110,8 +119,9 @@ pub fn write_at(b: &mut Box<dyn Driver>, f: u32, object: Option<u64>, value: Val
 }
 
 fn add_ref_in(d: &mut dyn Driver, key: u64) -> bool
-    requires key_live { IsLive ((⟦<dyn Driver as Driver>⟧ d.old.0).meaning.state d.old.1) key }
-    ensures law { WasAdded ((⟦<dyn Driver as Driver>⟧ d.old.0).meaning.state d.old.1) key result ((⟦<dyn Driver as Driver>⟧ d.new.0).meaning.state d.new.1) }
+    requires key_live { IsLive (state_behind ⟦<dyn Driver as Driver>⟧ d.old) key }
+    ensures law { WasAdded (state_behind ⟦<dyn Driver as Driver>⟧ d.old) key result
+        (state_behind ⟦<dyn Driver as Driver>⟧ d.new) }
     ensures kind { d.new.0 ≡ d.old.0 }
 {
     d.add_ref(key)
@@ -120,8 +130,9 @@ fn add_ref_in(d: &mut dyn Driver, key: u64) -> bool
 /// Adds a reference to a live key of the driver in this box. False, with nothing done, only where a tally is full.
 /// It takes no memory.
 pub fn add_ref_at(b: &mut Box<dyn Driver>, key: u64) -> bool
-    requires key_live { IsLive ((⟦<dyn Driver as Driver>⟧ b.old.vtable).meaning.state b.old.value) key }
-    ensures law { WasAdded ((⟦<dyn Driver as Driver>⟧ b.old.vtable).meaning.state b.old.value) key result ((⟦<dyn Driver as Driver>⟧ b.new.vtable).meaning.state b.new.value) }
+    requires key_live { IsLive (state_in ⟦<dyn Driver as Driver>⟧ b.old) key }
+    ensures law { WasAdded (state_in ⟦<dyn Driver as Driver>⟧ b.old) key result
+        (state_in ⟦<dyn Driver as Driver>⟧ b.new) }
     ensures kind { b.new.vtable ≡ b.old.vtable }
 {
     let d: &mut dyn Driver = b.as_mut();
@@ -129,8 +140,10 @@ pub fn add_ref_at(b: &mut Box<dyn Driver>, key: u64) -> bool
 }
 
 fn release_in(d: &mut dyn Driver, key: u64) -> bool
-    requires key_live { IsLive ((⟦<dyn Driver as Driver>⟧ d.old.0).meaning.state d.old.1) key }
-    ensures law { WasReleased (⟦<dyn Driver as Driver>⟧ d.old.0).meaning.fits ((⟦<dyn Driver as Driver>⟧ d.old.0).meaning.state d.old.1) key result ((⟦<dyn Driver as Driver>⟧ d.new.0).meaning.state d.new.1) }
+    requires key_live { IsLive (state_behind ⟦<dyn Driver as Driver>⟧ d.old) key }
+    ensures law { WasReleased (fits_behind ⟦<dyn Driver as Driver>⟧ d.old)
+        (state_behind ⟦<dyn Driver as Driver>⟧ d.old) key result
+        (state_behind ⟦<dyn Driver as Driver>⟧ d.new) }
     ensures kind { d.new.0 ≡ d.old.0 }
 {
     d.release(key)
@@ -139,8 +152,10 @@ fn release_in(d: &mut dyn Driver, key: u64) -> bool
 /// Releases a reference to a live key of the driver in this box, and tells whether it was the last: then the key is
 /// no longer live. It always succeeds and takes no memory.
 pub fn release_at(b: &mut Box<dyn Driver>, key: u64) -> bool
-    requires key_live { IsLive ((⟦<dyn Driver as Driver>⟧ b.old.vtable).meaning.state b.old.value) key }
-    ensures law { WasReleased (⟦<dyn Driver as Driver>⟧ b.old.vtable).meaning.fits ((⟦<dyn Driver as Driver>⟧ b.old.vtable).meaning.state b.old.value) key result ((⟦<dyn Driver as Driver>⟧ b.new.vtable).meaning.state b.new.value) }
+    requires key_live { IsLive (state_in ⟦<dyn Driver as Driver>⟧ b.old) key }
+    ensures law { WasReleased (fits_in ⟦<dyn Driver as Driver>⟧ b.old)
+        (state_in ⟦<dyn Driver as Driver>⟧ b.old) key result
+        (state_in ⟦<dyn Driver as Driver>⟧ b.new) }
     ensures kind { b.new.vtable ≡ b.old.vtable }
 {
     let d: &mut dyn Driver = b.as_mut();

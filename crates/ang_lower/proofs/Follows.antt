@@ -17,7 +17,8 @@ use Rattle.ang_core.specs.Sound.{LinksFit}
 use Rattle.ang_source.specs.Meaning.{Code, of_function, of_global, Codes, Callees, callee_of, evaluate, run_code, passing_of, passings_of}
 use Rattle.ang_source.specs.Meaning as source
 use Rattle.ang_source.specs.Sound.{Module, declared_by}
-use Rattle.ang_lower.specs.Lowered as low
+use Rattle.ang_lower_expr.specs.Lowered as low
+use Rattle.ang_lower.specs.Lowered.{lowered_all, lowered_code}
 use Rattle.ang_lower.specs.Same.{SoundCode, AreLowered, MeansSame, AllMeanSame, TakeNothing}
 use Rattle.ang_lower.proofs.PlainMeaning as plain
 use Rattle.ang_lower.proofs.PlainMeaning.{run, plain_of, body_is}
@@ -39,9 +40,9 @@ entered_same z b b' d g vs t w h =
 
 -- a whole body
 code_same : (z : Setting) (m : ℕ) (M : Module) (k k' : Callees) (callees : CalleesAgree M k k') (p : plain.Passes) (p' : source.Passes) (passes : PassesAgree M p p')
-    (x : Code) (n : ℕ) (ls : List Slot) (t : ℕ) (w : World) → length ls ≡ n → SoundCode M n x → run z m k p (low.lowered_code n x) ls t w ≡ run_code z m k' p' x ls t w
+    (x : Code) (n : ℕ) (ls : List Slot) (t : ℕ) (w : World) → length ls ≡ n → SoundCode M n x → run z m k p (lowered_code n x) ls t w ≡ run_code z m k' p' x ls t w
 code_same z m M k k' callees p p' passes (of_function ss) n ls t w l h =
-    (block_same z m M k k' callees p p' passes n (declared_by ss + n) (low.lowered_all n ss) (source.run_all z m k' p' ss) ls t w l (omega arith)
+    (block_same z m M k k' callees p p' passes n (declared_by ss + n) (lowered_all n ss) (source.run_all z m k' p' ss) ls t w l (omega arith)
     (statements_same z m M k k' callees p p' passes ss false n ls t w l h)).same
 code_same z m M k k' callees p p' passes (of_global g e) n ls t w l h =
     ap (λ y. with_value y (λ v ls' t' w'. Went ls' t' (give v w')))

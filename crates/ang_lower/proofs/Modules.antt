@@ -11,7 +11,7 @@ use Rattle.ang_core.specs.Meaning.{Bodies}
 use Rattle.ang_core.specs.Sound.{LinksFit, AreSound}
 use Rattle.ang_source.specs.Meaning.{Code, of_function, Codes, passings_of, codes_of, codes_in, code_or, passings_in, initializer_of, initializers_from, nothing, routine}
 use Rattle.ang_source.specs.Sound.{Module, module_of, SoundOption, SoundStatements, SoundFunctions, SoundGlobals, SoundProgram}
-use Rattle.ang_lower.specs.Tree as c
+use Rattle.ang_lower.specs.Tree as stmt
 use Rattle.ang_lower.specs.Plain.{plain_stmt, plain_body}
 use Rattle.ang_lower.specs.Lowered.{lowered_code, lowered_function, lowered_initializer, lowered_globals, lowered_module}
 use Rattle.ang_lower.specs.Hosts.{HasView}
@@ -22,7 +22,7 @@ use Rattle.ang_lower.proofs.Follows.{passings_count}
 use Rattle.ang_lower.proofs.Sounds.{code_sound}
 
 -- each body with its code and how its parameters take their arguments
-abbrev pub AllFit : Module → List (List Passing) → List Code → List c.Whole → Type 0
+abbrev pub AllFit : Module → List (List Passing) → List Code → List stmt.Whole → Type 0
 AllFit M [] [] [] = Unit {0}
 AllFit M [] [] (b ∷ bs) = ⊥
 AllFit M [] (x ∷ xs) bs = ⊥
@@ -30,14 +30,14 @@ AllFit M (ps ∷ pss) [] bs = ⊥
 AllFit M (ps ∷ pss) (x ∷ xs) [] = ⊥
 AllFit M (ps ∷ pss) (x ∷ xs) (b ∷ bs) = (b.statement ≡ lowered_code (length ps) x) × SoundCode M (length ps) x × AllFit M pss xs bs
 
-functions_fit : (M : Module) (fs : List tree.Function) (pss : List (List Passing)) (xs : List Code) (bs : List c.Whole) → SoundFunctions M fs → AllFit M pss xs bs
+functions_fit : (M : Module) (fs : List tree.Function) (pss : List (List Passing)) (xs : List Code) (bs : List stmt.Whole) → SoundFunctions M fs → AllFit M pss xs bs
     → AllFit M (map (λ f. passings_of f.parameters) fs ++ pss) (map (λ f. of_function f.body) fs ++ xs) (map lowered_function fs ++ bs)
 functions_fit M [] pss xs bs h k = k
 functions_fit M (f ∷ fs) pss xs bs h k =
     let e = passings_count f.parameters in
     (ap (λ n. lowered_code n (of_function f.body)) (sym e), subst (λ n. SoundStatements M false n f.body) (sym e) h.0, functions_fit M fs pss xs bs h.1 k)
 
-one_fits : (M : Module) (g : ℕ) (i : Option tree.Expr) (xs : List Code) (bs : List c.Whole) → SoundOption M 0 i → g < M.globals → AllFit M (map (λ x. []) xs) xs bs
+one_fits : (M : Module) (g : ℕ) (i : Option tree.Expr) (xs : List Code) (bs : List stmt.Whole) → SoundOption M 0 i → g < M.globals → AllFit M (map (λ x. []) xs) xs bs
     → AllFit M (map (λ x. []) (initializer_of g i ++ xs)) (initializer_of g i ++ xs) (lowered_initializer g i ++ bs)
 one_fits M g None xs bs h lt k = k
 one_fits M g (Some e) xs bs h lt k = (refl, (lt, h), k)
@@ -54,15 +54,15 @@ module_fits V p h =
 
 -- ---- a body by its number
 
-record FitAt (M : Module) (xs : List Code) (bs : List c.Whole) (k : ℕ) (ps : List Passing) : Type 0 where
+record FitAt (M : Module) (xs : List Code) (bs : List stmt.Whole) (k : ℕ) (ps : List Passing) : Type 0 where
   code : Code
   code_at : slice_get xs k ≡ Some code
-  body : c.Whole
+  body : stmt.Whole
   body_at : slice_get bs k ≡ Some body
   same : body.statement ≡ lowered_code (length ps) code
   sound : SoundCode M (length ps) code
 
-fit_at : (M : Module) (pss : List (List Passing)) (xs : List Code) (bs : List c.Whole) (k : ℕ) (ps : List Passing) → AllFit M pss xs bs → slice_get pss k ≡ Some ps → FitAt M xs bs k ps
+fit_at : (M : Module) (pss : List (List Passing)) (xs : List Code) (bs : List stmt.Whole) (k : ℕ) (ps : List Passing) → AllFit M pss xs bs → slice_get pss k ≡ Some ps → FitAt M xs bs k ps
 fit_at M [] [] [] k ps h e = absurd (cc)
 fit_at M [] [] (b ∷ bs) k ps h e = absurd h
 fit_at M [] (x ∷ xs) bs k ps h e = absurd h
@@ -75,12 +75,12 @@ fit_at M (q ∷ pss) (x ∷ xs) (b ∷ bs) (suc k) ps h e =
     let r = fit_at M pss xs bs k ps h.2 e in
     record { code = r.code; code_at = r.code_at; body = r.body; body_at = r.body_at; same = r.same; sound = r.sound }
 
-record PlainAt (bs : List Body) (k : ℕ) (x : c.Whole) : Type 0 where
+record PlainAt (bs : List Body) (k : ℕ) (x : stmt.Whole) : Type 0 where
   body : Body
   body_at : slice_get bs k ≡ Some body
   same : plain_body body ≡ x
 
-plain_at : (bs : List Body) (k : ℕ) (x : c.Whole) → slice_get (map plain_body bs) k ≡ Some x → PlainAt bs k x
+plain_at : (bs : List Body) (k : ℕ) (x : stmt.Whole) → slice_get (map plain_body bs) k ≡ Some x → PlainAt bs k x
 plain_at [] k x e = absurd (cc)
 plain_at (b ∷ bs) zero x e = record { body = b; body_at = refl; same = let s : plain_body b ≡ x = cc in s }
 plain_at (b ∷ bs) (suc k) x e = let r = plain_at bs k x e in record { body = r.body; body_at = r.body_at; same = r.same }
@@ -134,7 +134,7 @@ codes_there ps m p there = record { each = λ k x at. ap (λ q. code_or (slice_g
 
 -- ---- parameters
 
-one_takes_none : (g : ℕ) (i : Option tree.Expr) (bs : List c.Whole) (xs : List Code) → map (λ b. b.params) bs ≡ map (λ x. []) xs
+one_takes_none : (g : ℕ) (i : Option tree.Expr) (bs : List stmt.Whole) (xs : List Code) → map (λ b. b.params) bs ≡ map (λ x. []) xs
     → map (λ b. b.params) (lowered_initializer g i ++ bs) ≡ map (λ x. []) (initializer_of g i ++ xs)
 one_takes_none g None bs xs e = e
 one_takes_none g (Some i) bs xs e = ap (λ l. [] ∷ l) e
@@ -143,7 +143,7 @@ globals_take_none : (gs : List tree.Global) (g : ℕ) → map (λ b. b.params) (
 globals_take_none [] g = refl
 globals_take_none (x ∷ gs) g = one_takes_none g x.initializer (lowered_globals (suc g) gs) (initializers_from (suc g) gs) (globals_take_none gs (suc g))
 
-functions_take : (fs : List tree.Function) (bs : List c.Whole) (rest : List (List Passing)) → map (λ b. b.params) bs ≡ rest
+functions_take : (fs : List tree.Function) (bs : List stmt.Whole) (rest : List (List Passing)) → map (λ b. b.params) bs ≡ rest
     → map (λ b. b.params) (map lowered_function fs ++ bs) ≡ map (λ f. passings_of f.parameters) fs ++ rest
 functions_take [] bs rest e = e
 functions_take (f ∷ fs) bs rest e = ap (λ l. passings_of f.parameters ∷ l) (functions_take fs bs rest e)

@@ -14,8 +14,10 @@ use Rattle.ang_core.specs.declared.tree.Statement.{Statement, Row_of-Statement, 
 use Rattle.ang_core.specs.declared.tree.Statement.TheVariants.{Skip, Evaluate, Declare, Block', If', While', DoWhile', Return, Break, Continue}
 use Rattle.ang_core.specs.Meaning.{Callees, Bodies, turned}
 use Rattle.ang_core.specs.Meaning as core
-use Rattle.ang_lower.specs.Tree as c
-use Rattle.ang_lower.specs.Plain.{plain_expr, plain_row, plain_stmt, plain_stmts}
+use Rattle.ang_lower_expr.specs.Tree as c
+use Rattle.ang_lower.specs.Tree as stmt
+use Rattle.ang_lower_expr.specs.Plain.{plain_expr, plain_row}
+use Rattle.ang_lower.specs.Plain.{plain_stmt, plain_stmts}
 
 abbrev mutual
   pub eval : Setting → ℕ → Callees → c.Expr → List Slot → ℕ → World → Evaluated
@@ -33,27 +35,27 @@ abbrev mutual
   eval_all z m k (c.more e rest) vs ls t w = then_rest vs (eval z m k e ls t w) (λ v ls' t' w'. eval_all z m k rest (v ∷ vs) ls' t' w')
 
 abbrev pub Passes : Type 0
-Passes = c.Expr → c.Stmt → c.Stmt → List Slot → ℕ → World → Ran
+Passes = c.Expr → stmt.Stmt → stmt.Stmt → List Slot → ℕ → World → Ran
 
 abbrev mutual
-  pub run : Setting → ℕ → Callees → Passes → c.Stmt → List Slot → ℕ → World → Ran
-  run z m k p c.skip ls t w = Went ls t w
-  run z m k p (c.evaluate e) ls t w = with_value (eval z m k e ls t w) (λ v ls' t' w'. Went ls' t' (give v w'))
-  run z m k p (c.declare e) ls t w = with_value (eval z m k e ls t w) (λ v ls' t' w'. Went (v ∷ ls') t' w')
-  run z m k p (c.block ss) ls t w = leave (length ls) (run_all z m k p ss ls t w)
-  run z m k p (c.either e a b) ls t w =
+  pub run : Setting → ℕ → Callees → Passes → stmt.Stmt → List Slot → ℕ → World → Ran
+  run z m k p stmt.skip ls t w = Went ls t w
+  run z m k p (stmt.evaluate e) ls t w = with_value (eval z m k e ls t w) (λ v ls' t' w'. Went ls' t' (give v w'))
+  run z m k p (stmt.declare e) ls t w = with_value (eval z m k e ls t w) (λ v ls' t' w'. Went (v ∷ ls') t' w')
+  run z m k p (stmt.block ss) ls t w = leave (length ls) (run_all z m k p ss ls t w)
+  run z m k p (stmt.either e a b) ls t w =
       with_value (eval z m k e ls t w)
       (λ v ls' t' w'. on_test v (Halted Null ls' (give v w')) (leave (length ls') (run z m k p b ls' t' w')) (leave (length ls') (run z m k p a ls' t' w')))
-  run z m k p (c.while e s step) ls t w = ticked t (Halted Budget ls w) (λ t'. p e s step ls t' w)
-  run z m k p (c.do_while e s) ls t w =
-      turned (length ls) (run z m k p s ls t w) (λ ls' t' w'. Went ls' t' w') (λ ls' t' w'. p e s c.skip ls' t' w')
-  run z m k p (c.return e) ls t w = with_value (eval z m k e ls t w) (λ v ls' t' w'. Returned v ls' t' w')
-  run z m k p c.break ls t w = Broken ls t w
-  run z m k p c.continue ls t w = Continued ls t w
+  run z m k p (stmt.while e s step) ls t w = ticked t (Halted Budget ls w) (λ t'. p e s step ls t' w)
+  run z m k p (stmt.do_while e s) ls t w =
+      turned (length ls) (run z m k p s ls t w) (λ ls' t' w'. Went ls' t' w') (λ ls' t' w'. p e s stmt.skip ls' t' w')
+  run z m k p (stmt.return e) ls t w = with_value (eval z m k e ls t w) (λ v ls' t' w'. Returned v ls' t' w')
+  run z m k p stmt.break ls t w = Broken ls t w
+  run z m k p stmt.continue ls t w = Continued ls t w
 
-  pub run_all : Setting → ℕ → Callees → Passes → c.Stmts → List Slot → ℕ → World → Ran
-  run_all z m k p c.end ls t w = Went ls t w
-  run_all z m k p (c.«then» s rest) ls t w = then_run (run z m k p s ls t w) (λ ls' t' w'. run_all z m k p rest ls' t' w')
+  pub run_all : Setting → ℕ → Callees → Passes → stmt.Stmts → List Slot → ℕ → World → Ran
+  run_all z m k p stmt.end ls t w = Went ls t w
+  run_all z m k p (stmt.«then» s rest) ls t w = then_run (run z m k p s ls t w) (λ ls' t' w'. run_all z m k p rest ls' t' w')
 
 abbrev pub pass : Setting → ℕ → Callees → Passes → Passes
 pass z m k p e s step ls t w =
@@ -62,7 +64,7 @@ pass z m k p e s step ls t w =
     (turned (length ls') (run z m k p s ls' t' w') (run z m k p step) (λ ls2 t2 w2. p e s step ls2 t2 w2)))
 
 abbrev pub PlainBodies : Type 0
-PlainBodies = Routine → c.Stmt
+PlainBodies = Routine → stmt.Stmt
 
 abbrev mutual
   pub body_at : Setting → PlainBodies → ℕ → ℕ → Calls

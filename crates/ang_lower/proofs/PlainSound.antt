@@ -8,8 +8,10 @@ use Rattle.ang_core.specs.declared.tree.Expression.TheVariants.{Number, Null as 
 use Rattle.ang_core.specs.declared.tree.Statement.{Statement, Row_of-Statement, end_of-Statement, more_of-Statement}
 use Rattle.ang_core.specs.declared.tree.Statement.TheVariants.{Skip, Evaluate, Declare, Block', If', While', DoWhile', Return, Break, Continue}
 use Rattle.ang_core.specs.Sound.{row_count, Fits, AreSpots, Sound, SoundArgs, declared, SoundStatement, SoundRow}
-use Rattle.ang_lower.specs.Tree as c
-use Rattle.ang_lower.specs.Plain.{plain_expr, plain_row, plain_stmt, plain_stmts}
+use Rattle.ang_lower_expr.specs.Tree as c
+use Rattle.ang_lower.specs.Tree as stmt
+use Rattle.ang_lower_expr.specs.Plain.{plain_expr, plain_row}
+use Rattle.ang_lower.specs.Plain.{plain_stmt, plain_stmts}
 
 abbrev pub operand_count : c.Exprs → ℕ
 operand_count c.none = 0
@@ -30,38 +32,38 @@ abbrev mutual
   AreSoundArgs z m n c.none = Unit {0}
   AreSoundArgs z m n (c.more e es) = IsSound z m n e × AreSoundArgs z m n es
 
-abbrev pub leaves : c.Stmt → ℕ
-leaves c.skip = 0
-leaves (c.evaluate e) = 0
-leaves (c.declare e) = 1
-leaves (c.block ss) = 0
-leaves (c.either e a b) = 0
-leaves (c.while e s step) = 0
-leaves (c.do_while e s) = 0
-leaves (c.return e) = 0
-leaves c.break = 0
-leaves c.continue = 0
+abbrev pub leaves : stmt.Stmt → ℕ
+leaves stmt.skip = 0
+leaves (stmt.evaluate e) = 0
+leaves (stmt.declare e) = 1
+leaves (stmt.block ss) = 0
+leaves (stmt.either e a b) = 0
+leaves (stmt.while e s step) = 0
+leaves (stmt.do_while e s) = 0
+leaves (stmt.return e) = 0
+leaves stmt.break = 0
+leaves stmt.continue = 0
 
-abbrev pub leaves_all : c.Stmts → ℕ
-leaves_all c.end = 0
-leaves_all (c.«then» s ss) = leaves_all ss + leaves s
+abbrev pub leaves_all : stmt.Stmts → ℕ
+leaves_all stmt.end = 0
+leaves_all (stmt.«then» s ss) = leaves_all ss + leaves s
 
 abbrev mutual
-  pub IsSoundStmt : Setting → ℕ → Bool → ℕ → c.Stmt → Type 0
-  IsSoundStmt z m loop n c.skip = Unit {0}
-  IsSoundStmt z m loop n (c.evaluate e) = IsSound z m n e
-  IsSoundStmt z m loop n (c.declare e) = IsSound z m n e
-  IsSoundStmt z m loop n (c.block ss) = AreSoundStmts z m loop n ss
-  IsSoundStmt z m loop n (c.either e a b) = IsSound z m n e × IsSoundStmt z m loop n a × IsSoundStmt z m loop n b
-  IsSoundStmt z m loop n (c.while e s step) = IsSound z m n e × IsSoundStmt z m true n s × IsSoundStmt z m false n step
-  IsSoundStmt z m loop n (c.do_while e s) = IsSound z m n e × IsSoundStmt z m true n s
-  IsSoundStmt z m loop n (c.return e) = IsSound z m n e
-  IsSoundStmt z m loop n c.break = IsTrue loop
-  IsSoundStmt z m loop n c.continue = IsTrue loop
+  pub IsSoundStmt : Setting → ℕ → Bool → ℕ → stmt.Stmt → Type 0
+  IsSoundStmt z m loop n stmt.skip = Unit {0}
+  IsSoundStmt z m loop n (stmt.evaluate e) = IsSound z m n e
+  IsSoundStmt z m loop n (stmt.declare e) = IsSound z m n e
+  IsSoundStmt z m loop n (stmt.block ss) = AreSoundStmts z m loop n ss
+  IsSoundStmt z m loop n (stmt.either e a b) = IsSound z m n e × IsSoundStmt z m loop n a × IsSoundStmt z m loop n b
+  IsSoundStmt z m loop n (stmt.while e s step) = IsSound z m n e × IsSoundStmt z m true n s × IsSoundStmt z m false n step
+  IsSoundStmt z m loop n (stmt.do_while e s) = IsSound z m n e × IsSoundStmt z m true n s
+  IsSoundStmt z m loop n (stmt.return e) = IsSound z m n e
+  IsSoundStmt z m loop n stmt.break = IsTrue loop
+  IsSoundStmt z m loop n stmt.continue = IsTrue loop
 
-  pub AreSoundStmts : Setting → ℕ → Bool → ℕ → c.Stmts → Type 0
-  AreSoundStmts z m loop n c.end = Unit {0}
-  AreSoundStmts z m loop n (c.«then» s ss) = IsSoundStmt z m loop n s × AreSoundStmts z m loop (leaves s + n) ss
+  pub AreSoundStmts : Setting → ℕ → Bool → ℕ → stmt.Stmts → Type 0
+  AreSoundStmts z m loop n stmt.end = Unit {0}
+  AreSoundStmts z m loop n (stmt.«then» s ss) = IsSoundStmt z m loop n s × AreSoundStmts z m loop (leaves s + n) ss
 
 -- ---- of a core tree
 

@@ -1,37 +1,17 @@
--- A row of children in a core tree, and the list of its items.
+-- A row of statements in a core tree, and the list of its items.
 use Rattle.std.proofs.Common.{◌≡◌, refl, ap, ◌∙◌, map as list_map}
 use Rattle.std.specs.declared.vec.Vec.{Vec}
 use Rattle.std.specs.declared.alloc.Global.{Global}
-use Rattle.ang_meaning.specs.declared.operation.Operation.{Operation}
-use Rattle.ang_meaning.specs.declared.routine.Callee.{Callee}
-use Rattle.ang_meaning.specs.declared.routine.Target.{Target}
-use Rattle.ang_core.specs.declared.tree.Expression.{Expression, Row_of-Expression, end_of-Expression, more_of-Expression, items-the_row-Expression, items_hidden-the_row-Expression-0}
-use Rattle.ang_core.specs.declared.tree.Expression.TheVariants.{Apply, Call}
 use Rattle.ang_core.specs.declared.tree.Statement.{Statement, Row_of-Statement, end_of-Statement, more_of-Statement, items-the_row-Statement, items_hidden-the_row-Statement-0}
 use Rattle.ang_core.specs.declared.tree.Statement.TheVariants.{Block}
-use Rattle.ang_lower.specs.Tree as c
-use Rattle.ang_lower.specs.Plain.{plain_expr, plain_row, plain_stmt, plain_stmts}
+use Rattle.ang_lower.specs.Tree as stmt
+use Rattle.ang_lower.specs.Plain.{plain_stmt, plain_stmts}
 
-row_is : {r : _} → (k : Row_of-Expression r) → plain_row k ≡ c.exprs (list_map plain_expr (items-the_row-Expression r k))
-row_is end_of-Expression = refl
-row_is (more_of-Expression e rest) = ap (c.more (plain_expr e)) (row_is rest)
-
-operands_are : (v : Vec Expression Global) → plain_row (Rattle.ang_core.specs.declared.tree.Expression.TheBlock.hidden-the_row-Expression-0 v) ≡ c.exprs (list_map plain_expr v.items)
-operands_are v =
-    row_is (Rattle.ang_core.specs.declared.tree.Expression.TheBlock.hidden-the_row-Expression-0 v)
-    ∙ ap (λ l. c.exprs (list_map plain_expr l)) (items_hidden-the_row-Expression-0 v)
-
-pub applied : (o : Operation) (v : Vec Expression Global) → plain_expr (Apply o v) ≡ c.apply o (c.exprs (list_map plain_expr v.items))
-applied o v = ap (λ es. c.apply o es) (operands_are v)
-
-pub called : (f : Callee) (v : Vec Expression Global) (xs : Vec Target Global) → plain_expr (Call f v xs) ≡ c.call f (c.exprs (list_map plain_expr v.items)) xs.items
-called f v xs = ap (λ es. c.call f es xs.items) (operands_are v)
-
-stmts_are : {r : _} → (k : Row_of-Statement r) → plain_stmts k ≡ c.stmts (list_map plain_stmt (items-the_row-Statement r k))
+stmts_are : {r : _} → (k : Row_of-Statement r) → plain_stmts k ≡ stmt.stmts (list_map plain_stmt (items-the_row-Statement r k))
 stmts_are end_of-Statement = refl
-stmts_are (more_of-Statement s rest) = ap (c.«then» (plain_stmt s)) (stmts_are rest)
+stmts_are (more_of-Statement s rest) = ap (stmt.«then» (plain_stmt s)) (stmts_are rest)
 
-pub in_block : (v : Vec Statement Global) → plain_stmt (Block v) ≡ c.block (c.stmts (list_map plain_stmt v.items))
+pub in_block : (v : Vec Statement Global) → plain_stmt (Block v) ≡ stmt.block (stmt.stmts (list_map plain_stmt v.items))
 in_block v =
     let row = Rattle.ang_core.specs.declared.tree.Statement.TheBlock.hidden-the_row-Statement-0 v in
-    ap (λ ss. c.block ss) (stmts_are row ∙ ap (λ l. c.stmts (list_map plain_stmt l)) (items_hidden-the_row-Statement-0 v))
+    ap (λ ss. stmt.block ss) (stmts_are row ∙ ap (λ l. stmt.stmts (list_map plain_stmt l)) (items_hidden-the_row-Statement-0 v))

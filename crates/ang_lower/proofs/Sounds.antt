@@ -33,9 +33,11 @@ use Rattle.ang_meaning.specs.Setting.{Setting, host_in, is_fit, is_called_by, is
 use Rattle.ang_meaning.specs.Perform.{operands, member_count}
 use Rattle.ang_core.specs.Sound.{out_count, Fits, AreSpots}
 use Rattle.ang_source.specs.Meaning.{Code, of_function, of_global, callee_of, referred, passing_by, passing_of, passings_of, kind_of, work_of, test_of, compound_of, step_of}
-use Rattle.ang_source.specs.Sound.{Module, GivesNoObject, IsEntity, IsHostCallee, IsWritable, argument_number, IsVariable, IsStored, IsMember, IsStoredMember, parameters_of, Sound, SoundArguments, SoundOption, SoundEach, SoundLocals, SoundStatement, SoundStatements, argument_count, declared, declared_by}
-use Rattle.ang_lower.specs.Tree as c
-use Rattle.ang_lower.specs.Lowered as low
+use Rattle.ang_source.specs.Sound.{Module, IsEntity, IsHostCallee, IsWritable, argument_number, IsVariable, IsStored, IsMember, IsStoredMember, parameters_of, Sound, SoundArguments, SoundOption, SoundEach, SoundLocals, SoundStatement, SoundStatements, argument_count, declared, declared_by}
+use Rattle.ang_lower_expr.specs.Tree as c
+use Rattle.ang_lower.specs.Tree as stmt
+use Rattle.ang_lower_expr.specs.Lowered as low
+use Rattle.ang_lower.specs.Lowered.{lowered_all, lowered_code, lowered_each, lowered_locals, lowered_loop, lowered_simple, lowered_steps, lowered_stmt}
 use Rattle.ang_lower.specs.Hosts.{host_type_of, is_member, role_in, is_constant, use_of, asked_as, HasView}
 use Rattle.ang_lower.specs.Same.{SoundCode, HasCallees}
 use Rattle.ang_lower.proofs.PlainSound.{operand_count, IsSound, AreSoundArgs, leaves, leaves_all, IsSoundStmt, AreSoundStmts}
@@ -171,16 +173,20 @@ module _ (z : Setting) (m : ℕ) (M : Module) (callees : HasCallees z m M) (view
       ap (λ o. length (host_in o).params) (found k h e no_type) ∙ length-map x.signature.params (λ p. host_type_of p.ty)
 
   may_be_called : (k : EntryKind) (h : HostEntity) (e : IsEntity M.view k h) → is_type k ≡ false
-      → may_call (z.host m h.entity.0) ≡ is_called_by (role_in k e.entry.f) (is_member k) (host_type_of e.entry.signature.result)
+      → may_call (z.host m h.entity.0) ≡ is_called_by (role_in k e.entry.f) (is_member k)
   may_be_called k h e no_type =
       let x = e.entry in
-      ap may_call (found k h e no_type) ∙ ap (λ kd. is_called_by (role_in kd x.f) (is_member kd) (host_type_of x.signature.result)) e.same_kind
+      ap may_call (found k h e no_type) ∙ ap (λ kd. is_called_by (role_in kd x.f) (is_member kd)) e.same_kind
 
   asked_fits : (k : EntryKind) (h : HostEntity) (count : ℕ) (e : IsEntity M.view k h) → argument_number k (length e.entry.signature.params) ≡ Some count
       → (count ≡ operands z m (Ask h.entity)) × (is_fit z m (Ask h.entity) ≡ true)
   unfolding operands is_fit
   asked_fits kind.HostType h count e same = absurd (cc)
-  asked_fits kind.Factory h count e same = absurd (subst (λ kd. GivesNoObject kd e.entry.signature.result) e.same_kind e.no_object.result)
+  asked_fits kind.Factory h count e same =
+      let alone = receiver_count kind.Factory h e refl in
+      let many = param_count kind.Factory h e refl in
+      let is : length e.entry.signature.params ≡ count = cc in
+      (omega (arith, alone, many, is), may_be_called kind.Factory h e refl)
   asked_fits kind.Method h count e same =
       let one = receiver_count kind.Method h e refl in
       let many = param_count kind.Method h e refl in
@@ -351,26 +357,26 @@ module _ (z : Setting) (m : ℕ) (M : Module) (callees : HasCallees z m M) (view
 
   -- ---- statements
 
-  append_sound : (loop : Bool) (n : ℕ) (a b : List c.Stmt) → AreSoundStmts z m loop n (c.stmts a) → AreSoundStmts z m loop (leaves_all (c.stmts a) + n) (c.stmts b) → AreSoundStmts z m loop n (c.stmts (a ++ b))
-  append_sound loop n [] b h i = let e : 0 + n ≡ n = omega arith in subst (λ j. AreSoundStmts z m loop j (c.stmts b)) e i
+  append_sound : (loop : Bool) (n : ℕ) (a b : List stmt.Stmt) → AreSoundStmts z m loop n (stmt.stmts a) → AreSoundStmts z m loop (leaves_all (stmt.stmts a) + n) (stmt.stmts b) → AreSoundStmts z m loop n (stmt.stmts (a ++ b))
+  append_sound loop n [] b h i = let e : 0 + n ≡ n = omega arith in subst (λ j. AreSoundStmts z m loop j (stmt.stmts b)) e i
   append_sound loop n (s ∷ a) b h i =
-      let e : leaves_all (c.stmts a) + leaves s + n ≡ leaves_all (c.stmts a) + (leaves s + n) = omega arith in
-      (h.0, append_sound loop (leaves s + n) a b h.1 (subst (λ j. AreSoundStmts z m loop j (c.stmts b)) e i))
+      let e : leaves_all (stmt.stmts a) + leaves s + n ≡ leaves_all (stmt.stmts a) + (leaves s + n) = omega arith in
+      (h.0, append_sound loop (leaves s + n) a b h.1 (subst (λ j. AreSoundStmts z m loop j (stmt.stmts b)) e i))
 
-  leaves_append : (a b : List c.Stmt) → leaves_all (c.stmts (a ++ b)) ≡ leaves_all (c.stmts b) + leaves_all (c.stmts a)
+  leaves_append : (a b : List stmt.Stmt) → leaves_all (stmt.stmts (a ++ b)) ≡ leaves_all (stmt.stmts b) + leaves_all (stmt.stmts a)
   leaves_append [] b = omega arith
   leaves_append (s ∷ a) b = let rest = leaves_append a b in omega (arith, rest)
 
-  locals_leave : (xs : List tree.Local) (n : ℕ) → leaves_all (c.stmts (low.lowered_locals n xs)) ≡ length xs
+  locals_leave : (xs : List tree.Local) (n : ℕ) → leaves_all (stmt.stmts (lowered_locals n xs)) ≡ length xs
   locals_leave [] n = refl
   locals_leave (x ∷ xs) n = let rest = locals_leave xs (suc n) in omega (arith, rest)
 
-  simple_leaves : (e : Option tree.Expr) (n : ℕ) → leaves (low.lowered_simple n e) ≡ 0
+  simple_leaves : (e : Option tree.Expr) (n : ℕ) → leaves (lowered_simple n e) ≡ 0
   simple_leaves None n = refl
   simple_leaves (Some e) n = refl
 
   mutual
-    statement_leaves : (s : tree.Stmt) (n : ℕ) → leaves_all (c.stmts (low.lowered_stmt n s)) ≡ declared s
+    statement_leaves : (s : tree.Stmt) (n : ℕ) → leaves_all (stmt.stmts (lowered_stmt n s)) ≡ declared s
     statement_leaves (tree.block ss) n = refl
     statement_leaves (tree.locals xs) n = locals_leave xs n
     statement_leaves (tree.expression e) n = let z0 = simple_leaves e n in omega (arith, z0)
@@ -382,36 +388,36 @@ module _ (z : Setting) (m : ℕ) (M : Module) (callees : HasCallees z m M) (view
     statement_leaves (tree.do_while ss e) n = refl
     statement_leaves (tree.for start e steps ss) n = refl
 
-    statements_leave : (ss : tree.Stmts) (n : ℕ) → leaves_all (c.stmts (low.lowered_all n ss)) ≡ declared_by ss
+    statements_leave : (ss : tree.Stmts) (n : ℕ) → leaves_all (stmt.stmts (lowered_all n ss)) ≡ declared_by ss
     statements_leave tree.end n = refl
     statements_leave (tree.«then» s ss) n =
-        let both = leaves_append (low.lowered_stmt n s) (low.lowered_all (declared s + n) ss) in
+        let both = leaves_append (lowered_stmt n s) (lowered_all (declared s + n) ss) in
         let one = statement_leaves s n in
         let rest = statements_leave ss (declared s + n) in
         omega (arith, both, one, rest)
 
-  locals_sound : (loop : Bool) (xs : List tree.Local) (n : ℕ) → SoundLocals M n xs → AreSoundStmts z m loop n (c.stmts (low.lowered_locals n xs))
+  locals_sound : (loop : Bool) (xs : List tree.Local) (n : ℕ) → SoundLocals M n xs → AreSoundStmts z m loop n (stmt.stmts (lowered_locals n xs))
   locals_sound loop [] n h = tt
   locals_sound loop (x ∷ xs) n h =
       let e : suc n ≡ 1 + n = omega arith in
-      (begin_sound x.initializer x.ty n h.0, subst (λ i. AreSoundStmts z m loop i (c.stmts (low.lowered_locals (suc n) xs))) e (locals_sound loop xs (suc n) h.1))
+      (begin_sound x.initializer x.ty n h.0, subst (λ i. AreSoundStmts z m loop i (stmt.stmts (lowered_locals (suc n) xs))) e (locals_sound loop xs (suc n) h.1))
 
-  simple_sound : (loop : Bool) (e : Option tree.Expr) (n : ℕ) → SoundOption M n e → IsSoundStmt z m loop n (low.lowered_simple n e)
+  simple_sound : (loop : Bool) (e : Option tree.Expr) (n : ℕ) → SoundOption M n e → IsSoundStmt z m loop n (lowered_simple n e)
   simple_sound loop None n h = tt
   simple_sound loop (Some e) n h = lowered_sound e n h
 
-  each_sound : (loop : Bool) (es : List tree.Expr) (n : ℕ) → SoundEach M n es → AreSoundStmts z m loop n (c.stmts (low.lowered_each n es))
+  each_sound : (loop : Bool) (es : List tree.Expr) (n : ℕ) → SoundEach M n es → AreSoundStmts z m loop n (stmt.stmts (lowered_each n es))
   each_sound loop [] n h = tt
   each_sound loop (e ∷ es) n h =
       let i : n ≡ 0 + n = omega arith in
-      (lowered_sound e n h.0, subst (λ j. AreSoundStmts z m loop j (c.stmts (low.lowered_each n es))) i (each_sound loop es n h.1))
+      (lowered_sound e n h.0, subst (λ j. AreSoundStmts z m loop j (stmt.stmts (lowered_each n es))) i (each_sound loop es n h.1))
 
-  steps_sound : (loop : Bool) (es : List tree.Expr) (n : ℕ) → SoundEach M n es → IsSoundStmt z m loop n (low.lowered_steps n es)
+  steps_sound : (loop : Bool) (es : List tree.Expr) (n : ℕ) → SoundEach M n es → IsSoundStmt z m loop n (lowered_steps n es)
   steps_sound loop [] n h = tt
   steps_sound loop (e ∷ es) n h = each_sound loop (e ∷ es) n h
 
   mutual
-    pub statement_sound : (s : tree.Stmt) (loop : Bool) (n : ℕ) → SoundStatement M loop n s → AreSoundStmts z m loop n (c.stmts (low.lowered_stmt n s))
+    pub statement_sound : (s : tree.Stmt) (loop : Bool) (n : ℕ) → SoundStatement M loop n s → AreSoundStmts z m loop n (stmt.stmts (lowered_stmt n s))
     statement_sound (tree.block ss) loop n h = (statements_sound ss loop n h, tt)
     statement_sound (tree.locals xs) loop n h = locals_sound loop xs n h
     statement_sound (tree.expression e) loop n h = (simple_sound loop e n h, tt)
@@ -423,21 +429,21 @@ module _ (z : Setting) (m : ℕ) (M : Module) (callees : HasCallees z m M) (view
     statement_sound (tree.do_while ss e) loop n h = ((lowered_sound e n h.1, statements_sound ss true n h.0), tt)
     statement_sound (tree.for start e steps ss) loop n h =
         let n1 = declared_by start + n in
-        let a = low.lowered_all n start in
-        let b = low.lowered_loop n1 e steps (low.lowered_all n1 ss) in
-        let i : declared_by start + n ≡ leaves_all (c.stmts a) + n = ap (λ j. j + n) (sym (statements_leave start n)) in
-        let whole : AreSoundStmts z m loop n1 (c.stmts (b ∷ [])) = ((or_sound e 1 n1 h.1, statements_sound ss true n1 h.3, steps_sound false steps n1 h.2), tt) in
-        (append_sound loop n a (b ∷ []) (statements_sound start loop n h.0) (subst (λ j. AreSoundStmts z m loop j (c.stmts (b ∷ []))) i whole), tt)
+        let a = lowered_all n start in
+        let b = lowered_loop n1 e steps (lowered_all n1 ss) in
+        let i : declared_by start + n ≡ leaves_all (stmt.stmts a) + n = ap (λ j. j + n) (sym (statements_leave start n)) in
+        let whole : AreSoundStmts z m loop n1 (stmt.stmts (b ∷ [])) = ((or_sound e 1 n1 h.1, statements_sound ss true n1 h.3, steps_sound false steps n1 h.2), tt) in
+        (append_sound loop n a (b ∷ []) (statements_sound start loop n h.0) (subst (λ j. AreSoundStmts z m loop j (stmt.stmts (b ∷ []))) i whole), tt)
 
-    pub statements_sound : (ss : tree.Stmts) (loop : Bool) (n : ℕ) → SoundStatements M loop n ss → AreSoundStmts z m loop n (c.stmts (low.lowered_all n ss))
+    pub statements_sound : (ss : tree.Stmts) (loop : Bool) (n : ℕ) → SoundStatements M loop n ss → AreSoundStmts z m loop n (stmt.stmts (lowered_all n ss))
     statements_sound tree.end loop n h = tt
     statements_sound (tree.«then» s ss) loop n h =
         let n1 = declared s + n in
-        let a = low.lowered_stmt n s in
-        let b = low.lowered_all n1 ss in
-        let i : declared s + n ≡ leaves_all (c.stmts a) + n = ap (λ j. j + n) (sym (statement_leaves s n)) in
-        append_sound loop n a b (statement_sound s loop n h.0) (subst (λ j. AreSoundStmts z m loop j (c.stmts b)) i (statements_sound ss loop n1 h.1))
+        let a = lowered_stmt n s in
+        let b = lowered_all n1 ss in
+        let i : declared s + n ≡ leaves_all (stmt.stmts a) + n = ap (λ j. j + n) (sym (statement_leaves s n)) in
+        append_sound loop n a b (statement_sound s loop n h.0) (subst (λ j. AreSoundStmts z m loop j (stmt.stmts b)) i (statements_sound ss loop n1 h.1))
 
-  pub code_sound : (x : Code) (n : ℕ) → SoundCode M n x → IsSoundStmt z m false n (low.lowered_code n x)
+  pub code_sound : (x : Code) (n : ℕ) → SoundCode M n x → IsSoundStmt z m false n (lowered_code n x)
   code_sound (of_function ss) n h = statements_sound ss false n h
   code_sound (of_global g e) n h = stored_sound n (variable.Global g) (low.lowered n e) h.0 (lowered_sound e n h.1)

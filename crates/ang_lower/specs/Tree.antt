@@ -1,30 +1,7 @@
--- The core tree without where it lies in memory (docs/MEANING.md, "What a body does").
-use Rattle.std.specs.Prelude.{ℕ, List, [], ◌∷◌}
-use Rattle.ang_meaning.specs.declared.operation.Change.{Change}
-use Rattle.ang_meaning.specs.declared.operation.Operation.{Operation}
-use Rattle.ang_meaning.specs.declared.routine.Callee.{Callee}
+-- The core tree of statements and bodies without where it lies in memory (docs/MEANING.md, "What a body does").
+use Rattle.std.specs.Prelude.{List, [], ◌∷◌}
 use Rattle.ang_meaning.specs.declared.routine.Passing.{Passing}
-use Rattle.ang_meaning.specs.declared.routine.Target.{Target}
-
-mutual
-  pub data Expr : Type 0 where
-    number : ℕ → Expr
-    null : Expr
-    local : ℕ → Expr
-    assign : ℕ → Expr → Expr
-    change : ℕ → Change → Expr → Expr
-    apply : Operation → Exprs → Expr
-    call : Callee → Exprs → List Target → Expr
-    choose : Expr → Expr → Expr → Expr
-
-  -- operands
-  pub data Exprs : Type 0 where
-    none : Exprs
-    more : Expr → Exprs → Exprs
-
-abbrev pub exprs : List Expr → Exprs
-exprs [] = none
-exprs (e ∷ es) = more e (exprs es)
+use Rattle.ang_lower_expr.specs.Tree.{Expr}
 
 mutual
   pub data Stmt : Type 0 where

@@ -6,11 +6,10 @@ ghost use Rattle.ang_lower.specs.Plain.{plain_body, plain_stmt};
 ghost use Rattle.ang_lower.specs.Lowered as spec;
 ghost use Rattle.ang_lower.specs.Same.{LowersProgram, KeepsSound};
 
-use crate::expressions::lower_expression;
 use crate::statements::lower_block;
-use crate::variables::store;
 use ang_core::{Body, Statement};
 use ang_kinds::Pass;
+use ang_lower_expr::{lower_expression, store};
 use ang_meaning::Passing;
 use ang_typed::{Expression, Function, Global as GlobalVariable, Parameter, Typed, Variable};
 use ang_types::ArgType;

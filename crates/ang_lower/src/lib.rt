@@ -7,13 +7,9 @@
 
 mod bodies;
 mod build;
-mod expressions;
-mod folding;
 mod hosts;
 pub mod laws;
-mod operators;
 mod statements;
-mod variables;
 
 pub use bodies::{lower, passings};
 pub use hosts::host_use;

@@ -2,8 +2,10 @@
 ghost use Rattle.std.specs.Prelude.{◌≡◌, ◌+◌, ◌++◌, ◌∷◌, [], suc, length, IfOk, OnOk, true, map as list_map};
 ghost use Rattle.ang_typed.specs.View.{view_block, view_choice, view_expr, view_for, view_local, view_loop, view_option, view_stmt, view_stmts};
 ghost use Rattle.ang_source.specs.Sound.{declared, declared_by};
+ghost use Rattle.ang_lower_expr.specs.Lowered.{lowered, lowered_or};
+ghost use Rattle.ang_lower_expr.specs.Plain.{plain_tree};
 ghost use Rattle.ang_lower.specs.Tree as tree;
-ghost use Rattle.ang_lower.specs.Plain.{plain_stmt, plain_tree};
+ghost use Rattle.ang_lower.specs.Plain.{plain_stmt};
 ghost use Rattle.ang_lower.specs.Kinds.{is_single};
 ghost use Rattle.ang_lower.specs.Lowered as spec;
 
@@ -11,8 +13,8 @@ use crate::build::{
     LoopHead, Tested, add, block, block_with, either, late_loop_of, let_go_of_head, let_go_of_list,
     let_go_of_test, let_go_of_tested, loop_of, make_tested,
 };
-use crate::expressions::{lower_begin, lower_boxed, lower_or};
 use ang_core::Statement;
+use ang_lower_expr::{lower_begin, lower_boxed, lower_or};
 use ang_typed as typed;
 use ang_typed::{Block, Choice, Expression, For, Local, Loop};
 use std::alloc::{AllocError, Global};
@@ -94,7 +96,7 @@ fn loop_head(
     items: &[Expression],
 ) -> Result<Box<LoopHead>, AllocError>
     ensures test { IfOk result (λ h. plain_tree h.value.test
-        ≡ spec.lowered_or alive 1 (view_option condition.now)) }
+        ≡ lowered_or alive 1 (view_option condition.now)) }
     ensures step { IfOk result (λ h. plain_stmt h.value.step
         ≡ spec.lowered_steps alive (list_map view_expr items.now)) }
 {
@@ -107,7 +109,7 @@ fn loop_head(
 #[inline(never)]
 fn head_of(alloc: Global, alive: usize, test: &Expression) -> Result<Box<LoopHead>, AllocError>
     ensures test { IfOk result (λ h. plain_tree h.value.test
-        ≡ spec.lowered alive (view_expr test.now)) }
+        ≡ lowered alive (view_expr test.now)) }
     ensures step { IfOk result (λ h. plain_stmt h.value.step ≡ tree.skip) }
 {
     let test = lower_boxed(alloc, alive, test)?;
@@ -123,7 +125,7 @@ fn returned(
     e: &Option<Box<Expression>>,
 ) -> Result<Statement, AllocError>
     ensures exact { IfOk result (λ s. plain_stmt s
-        ≡ tree.return (spec.lowered_or alive 0 (view_option e.now))) }
+        ≡ tree.return (lowered_or alive 0 (view_option e.now))) }
 {
     let value = lower_or(alloc, alive, 0, e)?;
     Ok(Statement::Return(value))
@@ -189,7 +191,7 @@ fn lower_tested(
     condition: &Expression,
 ) -> Result<Box<Tested>, AllocError>
     ensures test { IfOk result (λ x. plain_tree x.value.test
-        ≡ spec.lowered alive (view_expr condition.now)) }
+        ≡ lowered alive (view_expr condition.now)) }
     ensures inside { IfOk result (λ x. plain_stmt x.value.«then»
         ≡ spec.lowered_block (spec.lowered_all alive (view_block «then».now))) }
 {

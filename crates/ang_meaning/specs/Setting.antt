@@ -11,8 +11,7 @@ use Rattle.ang_host.specs.declared.event.Role.{Role}
 use Rattle.ang_meaning.specs.declared.class.Class.{Class}
 use Rattle.ang_meaning.specs.declared.class.ValueKind.{ValueKind}
 use Rattle.ang_meaning.specs.declared.class.ValueKind.TheVariants.{Number as NumberField, Handle as HandleField}
-use Rattle.ang_meaning.specs.declared.host.HostType.{HostType}
-use Rattle.ang_meaning.specs.declared.host.HostType.TheVariants.{Nothing, Plain, Handle}
+use Rattle.ang_meaning.specs.declared.host.HostType.TheVariants.{Nothing}
 use Rattle.ang_meaning.specs.declared.operation.Operation.{Operation}
 use Rattle.ang_meaning.specs.declared.operation.Operation.TheVariants.{Work, Compare, Convert, Negate, Complement, Not, Same, GlobalGet, GlobalSet, GlobalChange, Ask, Read, Write, Alter, Make, FieldGet, FieldSet, FieldChange, Cast}
 use Rattle.ang_meaning.specs.declared.host.HostUse.{HostUse}
@@ -123,17 +122,11 @@ has_objects (Object ∷ ps) (v ∷ vs) = not (is_null v) && has_objects ps vs
 abbrev pub params_of : Setting → Routine → List Passing
 params_of z g = params_in (z.params g)
 
--- an object or null
-abbrev pub is_handle : HostType → Bool
-is_handle Nothing = false
-is_handle (Plain p) = false
-is_handle Handle = true
-
 -- whether an entity is asked by a call: a function or method, or a factory, which makes an object and has no receiver
-abbrev pub is_called_by : Role → Bool → HostType → Bool
-is_called_by (MakingRole f) member result = not member && is_handle result
-is_called_by (CallingRole f) member result = true
-is_called_by (PropertyRole f) member result = false
+abbrev pub is_called_by : Role → Bool → Bool
+is_called_by (MakingRole f) member = not member
+is_called_by (CallingRole f) member = true
+is_called_by (PropertyRole f) member = false
 
 abbrev pub is_property : Role → Bool
 is_property (MakingRole f) = false
@@ -142,7 +135,7 @@ is_property (PropertyRole f) = true
 
 abbrev pub may_call : Option HostUse → Bool
 may_call None = false
-may_call (Some u) = is_called_by u.role u.member u.result
+may_call (Some u) = is_called_by u.role u.member
 
 abbrev pub may_access : Option HostUse → Bool
 may_access None = false

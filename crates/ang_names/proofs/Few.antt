@@ -89,7 +89,7 @@ pub few_where_none : (V : RegistrationList) (all : List Declared) (found : List 
 few_where_none V all found e empty = listed.few_families V all (sym e ∙ empty)
 
 -- where nothing is beyond what is built, the phases decide
-pub nothing_beyond : (V : RegistrationList) (ss : List Source) (all : List Declared) (found : List Refused) → found ≡ map plain_refusal (not_yet V ss)
+pub nothing_beyond : (V : RegistrationList) (ss : List Source) (all : List Declared) (found : List Refused) → found ≡ map plain_refusal (not_yet ss)
     → found ≡ [] → all ≡ declarations_of ss → first_refusals V all all_phases ≡ refusals_of V ss
 unfolding refusals_of
 nothing_beyond V ss all found e empty l =
@@ -98,7 +98,7 @@ nothing_beyond V ss all found e empty l =
 pub accepted_few : (V : RegistrationList) (ss : List Source) → refusals_of V ss ≡ [] → length (families_of (declarations_of ss)) ≤ 256
 unfolding refusals_of name_refusals
 accepted_few V ss e =
-    let phases = later_empty (map plain_refusal (not_yet V ss)) (first_refusals V (declarations_of ss) all_phases) e in
+    let phases = later_empty (map plain_refusal (not_yet ss)) (first_refusals V (declarations_of ss) all_phases) e in
     let names : name_refusals V (declarations_of ss) ≡ [] = first_empty (name_refusals V (declarations_of ss)) _ phases in
     listed.few_families V (declarations_of ss) names
 
@@ -151,10 +151,10 @@ pub asked_families : (V : RegistrationList) (ss : List Source) (r : Refused) →
 unfolding refusals_of name_refusals
 asked_families V ss r c asks =
     let ds = declarations_of ss in
-    let early = map plain_refusal (not_yet V ss) in
+    let early = map plain_refusal (not_yet ss) in
     let later = first_refusals V ds all_phases in
     elim (either_list early later) [
-      | inl e ↦ absurd (silent_in early r (plain_silent (not_yet V ss)) (subst (λ rs. Contains rs r) e c) asks)
+      | inl e ↦ absurd (silent_in early r (plain_silent (not_yet ss)) (subst (λ rs. Contains rs r) e c) asks)
       | inr none ↦
           let c' : Contains later r = subst (λ rs. Contains rs r) none.1 c in
           elim (either_list (name_refusals V ds) (later_phases V ds)) [

@@ -63,7 +63,7 @@ all_phases = phase.Names ∷ phase.Types ∷ phase.Ancestors ∷ phase.Heirs ∷
 -- What is refused of the declarations of these sections over what the module sees, those beyond what is built first: none where each
 -- phase accepts each of them.
 unfoldable pub refusals_of : RegistrationList → List Source → List Refused
-refusals_of V ss = list_or (map plain_refusal (not_yet V ss)) (first_refusals V (declarations_of ss) all_phases)
+refusals_of V ss = list_or (map plain_refusal (not_yet ss)) (first_refusals V (declarations_of ss) all_phases)
 
 abbrev pub errors_in : List Refused → List Error
 errors_in rs = map (λ (r : Refused). r.error) rs

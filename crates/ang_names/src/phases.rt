@@ -157,15 +157,11 @@ fn plain_refusals(alloc: Global, errors: &[Error]) -> Result<Vec<Refused>, Alloc
 }
 
 /// What is beyond what is built.
-fn not_yet_refusals(
-    alloc: Global,
-    view: &View,
-    scripts: &[Script],
-) -> Result<Vec<Refused>, AllocError>
+fn not_yet_refusals(alloc: Global, scripts: &[Script]) -> Result<Vec<Refused>, AllocError>
     ensures exact { IfOk result (λ rs. rs.items
-        ≡ list_map taken.plain_refusal (not_yet view.now (list_map source_of scripts.now))) }
+        ≡ list_map taken.plain_refusal (not_yet (list_map source_of scripts.now))) }
 {
-    let errors = not_yet_errors(alloc, view, scripts)?;
+    let errors = not_yet_errors(alloc, scripts)?;
     plain_refusals(alloc, errors.as_slice())
 }
 
@@ -181,7 +177,7 @@ pub fn refusals_over<'a>(
     ensures exact { IfOk result (λ found. found.items
         ≡ spec.refusals_of view.now (list_map source_of scripts.now)) }
 {
-    let found = not_yet_refusals(alloc, view, scripts)?;
+    let found = not_yet_refusals(alloc, scripts)?;
     if !found.is_empty() {
         return Ok(found);
     }

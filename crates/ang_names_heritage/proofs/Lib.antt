@@ -1,3 +1,4 @@
+pub mod Begun
 pub mod Closure
 pub mod Rings
 pub mod Rows

@@ -28,7 +28,7 @@ numbers_agree p q (suc n) h =
     let b : p n ≡ q n = h n (omega arith) in
     ap (λ xs. xs ++ (if p n then n ∷ [] else [])) a ∙ ap (λ c. numbers_below q n ++ (if c then n ∷ [] else [])) b
 
-some_agree : (p q : ℕ → Bool) (n : ℕ) → ((j : ℕ) → j < n → p j ≡ q j) → some_below p n ≡ some_below q n
+pub some_agree : (p q : ℕ → Bool) (n : ℕ) → ((j : ℕ) → j < n → p j ≡ q j) → some_below p n ≡ some_below q n
 some_agree p q zero h = refl
 some_agree p q (suc n) h =
     let a : some_below p n ≡ some_below q n = some_agree p q n (λ j lt. h j (omega arith)) in
@@ -56,7 +56,7 @@ or_false false = refl
 below_last : (j n : ℕ) → j < suc n → (j < n) ⊎ (j ≡ n)
 below_last j n lt = grind arith
 
-some_in : (p : ℕ → Bool) (n j : ℕ) → j < n → p j ≡ true → some_below p n ≡ true
+pub some_in : (p : ℕ → Bool) (n j : ℕ) → j < n → p j ≡ true → some_below p n ≡ true
 some_in p zero j lt h = absurd (omega arith)
 some_in p (suc n) j lt h =
     elim (below_last j n lt) [
@@ -69,7 +69,7 @@ any_last f true n = or_false (f n)
 any_last f false n = refl
 
 -- some of the numbers that pass p does f
-any_numbers : (f p : ℕ → Bool) (n : ℕ) → list_any f (numbers_below p n) ≡ some_below (λ k. p k && f k) n
+pub any_numbers : (f p : ℕ → Bool) (n : ℕ) → list_any f (numbers_below p n) ≡ some_below (λ k. p k && f k) n
 any_numbers f p zero = refl
 any_numbers f p (suc n) =
     list_any-append f (numbers_below p n) (if p n then n ∷ [] else [])
@@ -85,7 +85,7 @@ differ i n lt = search arith
 differ_up : (i n : ℕ) → i < n → (i == n) ≡ false
 differ_up i n lt = search arith
 
-none_equal : (f : ℕ → Bool) (n i : ℕ) → n ≤ i → some_below (λ k. (i == k) && f k) n ≡ false
+pub none_equal : (f : ℕ → Bool) (n i : ℕ) → n ≤ i → some_below (λ k. (i == k) && f k) n ≡ false
 none_equal f zero i le = refl
 none_equal f (suc n) i le =
     ap (λ b. (b && f n) || some_below (λ k. (i == k) && f k) n) (differ i n (omega arith)) ∙ none_equal f n i (omega arith)
@@ -93,7 +93,7 @@ none_equal f (suc n) i le =
 same_number : (i : ℕ) → (i == i) ≡ true
 same_number i = search arith
 
-some_equal : (f : ℕ → Bool) (n i : ℕ) → i < n → some_below (λ k. (i == k) && f k) n ≡ f i
+pub some_equal : (f : ℕ → Bool) (n i : ℕ) → i < n → some_below (λ k. (i == k) && f k) n ≡ f i
 some_equal f zero i lt = absurd (omega arith)
 some_equal f (suc n) i lt =
     elim (below_last i n lt) [
@@ -107,7 +107,7 @@ some_equal f (suc n) i lt =
 
 -- ---- rings
 
-edge_shown : (t : List Bool) (n : ℕ) (e : ℕ → ℕ → Bool) → Shows t n e → (k j : ℕ) → k < n → j < n → edges_of t n k j ≡ e k j
+pub edge_shown : (t : List Bool) (n : ℕ) (e : ℕ → ℕ → Bool) → Shows t n e → (k j : ℕ) → k < n → j < n → edges_of t n k j ≡ e k j
 edge_shown t n e s k j lt jn =
     sym (first_entry (nat_lt k n) (nat_lt j n) (at t n k j) (lt_true k n lt) (lt_true j n jn)) ∙ s.entries k j lt jn
 

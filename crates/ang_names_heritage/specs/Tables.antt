@@ -1,6 +1,7 @@
 -- Relations as tables: row by row, n entries each.
-use Rattle.std.specs.Prelude.{ℕ, Bool, false, not, List, length, ◌≡◌, ◌+◌, ◌*◌, ◌<◌, ◌&&◌, nat_lt, slice_index_or}
-use Rattle.std.specs.List.{list_any}
+use Rattle.std.specs.Prelude.{ℕ, Bool, false, not, List, length, map, ◌≡◌, ◌+◌, ◌*◌, ◌<◌, ◌==◌, ◌&&◌, ◌||◌, nat_lt, slice_index_or}
+use Rattle.std.specs.List.{list_any, range_with_len}
+use Rattle.ang_names_heritage.specs.Graphs.{some_below}
 
 abbrev pub at : List Bool → ℕ → ℕ → ℕ → Bool
 at t n i j = slice_index_or t (i * n + j) false
@@ -21,3 +22,18 @@ is_reached t n places j = list_any (λ k. edges_of t n k j) places
 -- j is not marked, and an edge leads to it from one of these places
 abbrev pub is_next : List Bool → ℕ → List Bool → List ℕ → ℕ → Bool
 is_next t n near places j = not (slice_index_or near j false) && is_reached t n places j
+
+-- ---- row by row
+
+-- a row of n entries
+abbrev pub row_below : (ℕ → Bool) → ℕ → List Bool
+row_below p n = map p (range_with_len 0 n)
+
+-- the table shows the relation as far as row i
+pub record IsBegun (t : List Bool) (n i : ℕ) (f : ℕ → ℕ → Bool) : Type 0 where
+  pub size : length t ≡ i * n
+  pub entries : (a j : ℕ) → a < i → j < n → at t n a j ≡ f a j
+
+-- j is marked in row i of one table, or leads to a place that is, by another one
+abbrev pub is_spread : List Bool → List Bool → ℕ → ℕ → ℕ → Bool
+is_spread marks closed n i j = some_below (λ d. edges_of marks n i d && (j == d || edges_of closed n j d)) n

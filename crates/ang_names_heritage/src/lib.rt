@@ -10,9 +10,11 @@ ghost use Rattle.ang_names_heritage.specs.Graphs.{leads, through, IsWithin, Way,
 ghost use Rattle.ang_names_heritage.specs.Tables.{Shows, at, edges_of};
 
 pub mod laws;
+mod making;
 mod orders;
 
-pub use orders::{above_of, order_of, reach_of};
+pub use making::{closed, first_of, push_joined_row, push_row, push_spread_row};
+pub use orders::{above_of, has_edge, order_of, reach_of};
 
 /// Closes a table of `n` rows and columns, 256 at most: entry (i, j) then says whether some way of one edge or
 /// more leads from i to j. It takes no memory, and some `n`³ steps.

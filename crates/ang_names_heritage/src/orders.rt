@@ -107,7 +107,7 @@ fn next_ring(
 }
 
 /// Whether an edge leads from one of these places to place `j`.
-fn is_reached(edges: &[bool], n: usize, ring: &[usize], j: usize) -> bool
+pub(crate) fn is_reached(edges: &[bool], n: usize, ring: &[usize], j: usize) -> bool
     requires small { n ≤ 256 }
     requires size { length edges.now ≡ n * n }
     ensures exact { result ≡ tables.is_reached edges.now n ring.now j }
@@ -115,8 +115,8 @@ fn is_reached(edges: &[bool], n: usize, ring: &[usize], j: usize) -> bool
     ring.iter().any(|k| has_edge(edges, n, *k, j))
 }
 
-/// Whether an edge leads from `i` to `j`.
-fn has_edge(edges: &[bool], n: usize, i: usize, j: usize) -> bool
+/// Whether an edge leads from `i` to `j`, by a table of `n` rows. It takes no memory.
+pub fn has_edge(edges: &[bool], n: usize, i: usize, j: usize) -> bool
     requires small { n ≤ 256 }
     requires size { length edges.now ≡ n * n }
     ensures exact { result ≡ edges_of edges.now n i j }

@@ -11,14 +11,14 @@ use std::marker::Model;
 
 /// A class or an interface of a script.
 #[derive(Drop)]
-pub struct Declaring<'a> {
+pub struct Declaring<'l, 'a> {
     origin: Origin,
     text: &'a [u8],
     name: Token,
-    shape: &'a Shape<'a>,
+    shape: &'l Shape<'a>,
 }
 
-impl<'a> Model for Declaring<'a> {
+impl<'l, 'a> Model for Declaring<'l, 'a> {
     ghost use Rattle.ang_names_listed.specs.Declarations as spec;
 
     ghost Value = { spec.Declaring };
@@ -26,7 +26,7 @@ impl<'a> Model for Declaring<'a> {
     ghost view = { λ d. record { origin = d.origin; text = d.text.now; name = d.name; shape = d.shape.now } };
 }
 
-impl<'a> Declaring<'a> {
+impl<'l, 'a> Declaring<'l, 'a> {
     /// Where it stands.
     pub fn origin(&self) -> Origin
         ensures same { result ≡ self.now.origin }
@@ -49,7 +49,7 @@ impl<'a> Declaring<'a> {
     }
 
     /// What it declares.
-    pub fn shape(&self) -> &'a Shape<'a>
+    pub fn shape(&self) -> &'l Shape<'a>
         ensures same { result.now ≡ self.now.shape }
     {
         self.shape
@@ -64,7 +64,7 @@ impl<'a> Declaring<'a> {
 }
 
 /// The class or interface that a declaration declares, if it declares one.
-fn declaring_of<'a>(declared: &'a Declared<'a>) -> Option<Declaring<'a>>
+fn declaring_of<'l, 'a>(declared: &'l Declared<'a>) -> Option<Declaring<'l, 'a>>
     ensures exact { result ≡ spec.declaring_of declared.now }
 {
     match &declared.part {
@@ -84,10 +84,10 @@ fn declaring_of<'a>(declared: &'a Declared<'a>) -> Option<Declaring<'a>>
 ///
 /// The only error is want of memory.
 #[tactic(auto, unfolding(crate::specs::Declarations::families_of))]
-pub fn families_of<'a>(
+pub fn families_of<'l, 'a>(
     alloc: Global,
-    all: &'a [Declared<'a>],
-) -> Result<Vec<Declaring<'a>>, AllocError>
+    all: &'l [Declared<'a>],
+) -> Result<Vec<Declaring<'l, 'a>>, AllocError>
     ensures exact { IfOk result (λ found. found.items ≡ spec.families_of all.now) }
 {
     let mut found = Vec::new(alloc);

@@ -1,6 +1,6 @@
 //! What is written in scripts: the text of a token, what a written type means where it stands, how a parameter is
-//! spelled, and which declarations use what is not built yet (docs/LANGUAGE.md, "Names of a build"). Nothing here looks from
-//! one declaration to another: that is `ang_names`.
+//! spelled, and which declarations are not built yet (docs/LANGUAGE.md, "Names of a build"). Nothing here looks from one
+//! declaration to another: that is `ang_names`.
 #![tactic(auto)]
 
 mod borrowed;

@@ -1,6 +1,7 @@
 -- Lists that registrations made take values alone, and so does what a mask sees of them.
-use Rattle.std.specs.Prelude.{◌≡◌, ℕ, Bool, true, false, not, ◌&&◌, is_none, if◌then◌else◌, List, [], ◌∷◌, ◌++◌, map, Option, Some, None, Result, Ok, Err, IfOk}
-use Rattle.std.proofs.Common.{refl, sym, subst}
+use Rattle.std.specs.Prelude.{◌≡◌, ℕ, ◌≤◌, Bool, true, false, not, ◌&&◌, is_none, if◌then◌else◌, length, List, [], ◌∷◌, ◌++◌, map, Option, Some, None, Result, Ok, Err, IfOk}
+use Rattle.std.proofs.Common.{refl, ap, sym, ◌∙◌, subst}
+use Rattle.std.proofs.lemmas.List.{length-map}
 use Rattle.ang_kinds.specs.declared.types.Signature.{Signature}
 use Rattle.ang_lex.specs.declared.token.Token.{Token}
 use Rattle.ang_lex.specs.declared.token.TokenKind.{TokenKind}
@@ -141,3 +142,9 @@ pub view_values : {E : Type 0} (list : RegistrationList) (m : ℕ) (r : Result R
     → IfOk r (λ view. view ≡ seen list m) → IfOk r (λ view. TakesValues view)
 view_values list m (Ok view) h e = subst TakesValues (sym e) (seen_takes list m h)
 view_values list m (Err why) h e = tt
+
+pub view_few : {E : Type 0} (list : RegistrationList) (m : ℕ) (r : Result RegistrationList E) → length list ≤ 1024
+    → IfOk r (λ view. view ≡ seen list m) → IfOk r (λ view. length view ≤ 1024)
+unfolding seen
+view_few list m (Ok view) h e = subst (λ n. n ≤ 1024) (sym (ap length e ∙ length-map list (seen_entry list m))) h
+view_few list m (Err why) h e = tt

@@ -362,8 +362,8 @@ impl Registry {
         Ok(number)
     }
 
-    /// What a module of the mask sees of the list. No declaration in it has an `&out` parameter, and each property
-    /// is of a primitive type.
+    /// What a module of the mask sees of the list, which has at most 1,024 entries. No declaration in it has an
+    /// `&out` parameter, and each property is of a primitive type.
     ///
     /// # Errors
     ///
@@ -371,6 +371,7 @@ impl Registry {
     pub fn seen(&self, alloc: Global, mask: Mask) -> Result<View, AllocError>
         ensures exact { IfOk result (λ view. view ≡ seen self.now.entries mask.0) }
         ensures values { IfOk result (λ view. TakesValues view) }
+        ensures few { IfOk result (λ view. length view ≤ 1024) }
     {
         view_of(alloc, &self.entries, mask)
     }

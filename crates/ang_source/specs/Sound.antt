@@ -1,19 +1,15 @@
 -- What a checker promises of a resolved tree (docs/MEANING.md, "What a script means"): each local is alive, each global, function, class, slot and import is
--- there, each call has an argument for each parameter, each asking is of an entity that the view has and by which no object passes, no property that is
--- declared `const` is written, and `break` and `continue` stand in a loop. It says nothing else of types: operations are total, a field of no object and a
+-- there, each call has an argument for each parameter, each asking is of an entity that the view has, no property that is declared `const` is written, and
+-- `break` and `continue` stand in a loop. It says nothing else of types: operations are total, a field of no object and a
 -- slot that a class has not fault.
 use Rattle.std.specs.List.{list_any}
 use Rattle.std.specs.Prelude.{◌≡◌, ◌≢◌, ℕ, suc, ◌+◌, ◌<◌, ◌==◌, Bool, true, false, IsTrue, List, [], ◌∷◌, length, map, Option, Some, None, IfSome, slice_get}
-use Rattle.ang_kinds.specs.declared.types.Param.{Param}
 use Rattle.ang_kinds.specs.declared.types.Pass.{Pass}
 use Rattle.ang_kinds.specs.declared.types.Pass.TheVariants.{RefOut}
-use Rattle.ang_kinds.specs.declared.types.TypeRef.{TypeRef}
-use Rattle.ang_kinds.specs.declared.types.TypeRef.TheVariants as ref
 use Rattle.ang_view.specs.declared.entry.Entry.{Entry}
 use Rattle.ang_view.specs.declared.entry.EntryKind.{EntryKind}
 use Rattle.ang_view.specs.declared.entry.EntryKind.TheVariants.{HostType, Factory, Method, Property, Function, Global}
 use Rattle.ang_view.specs.Registration.{RegistrationList, entry_at}
-use Rattle.ang_view.specs.Values.{IsPrimitive}
 use Rattle.ang_typed.specs.declared.expression.HostEntity.{HostEntity}
 use Rattle.ang_typed.specs.declared.expression.Callee.{Callee}
 use Rattle.ang_typed.specs.declared.expression.Callee.TheVariants as callee
@@ -28,38 +24,13 @@ use Rattle.ang_source.specs.Meaning.{passings_of}
 
 -- ---- the host's entities
 
--- a primitive type or `void`
-abbrev pub IsNoObject : TypeRef → Type 0
-IsNoObject ref.Void = Unit {0}
-IsNoObject (ref.Plain p) = Unit {0}
-IsNoObject (ref.Object name shape const_object const_handle) = ⊥
-
-abbrev pub AreNoObjects : List Param → Type 0
-AreNoObjects [] = Unit {0}
-AreNoObjects (p ∷ ps) = IsNoObject p.ty × AreNoObjects ps
-
--- a function of the host gives no object, and a global property is of a primitive type
-abbrev pub GivesNoObject : EntryKind → TypeRef → Type 0
-GivesNoObject HostType result = ⊥
-GivesNoObject Factory result = ⊥
-GivesNoObject Method result = ⊥
-GivesNoObject Property result = ⊥
-GivesNoObject Function result = IsNoObject result
-GivesNoObject Global result = IsPrimitive result
-
--- a function or a global property by which no object passes
-pub record PassesNoObject (x : Entry) : Type 0 where
-  pub params : AreNoObjects x.signature.params
-  pub result : GivesNoObject x.kind x.signature.result
-
--- the view has an entity of this kind under its number, with its driver and the driver's number for it, and no object passes by it
+-- the view has an entity of this kind under its number, with its driver and the driver's number for it
 pub record IsEntity (V : RegistrationList) (kind : EntryKind) (h : HostEntity) : Type 0 where
   pub entry : Entry
   pub in_view : entry_at V h.entity.0 ≡ Some entry
   pub same_kind : entry.kind ≡ kind
   pub driver : h.driver ≡ entry.driver
   pub number : h.f ≡ entry.f
-  pub no_object : PassesNoObject entry
 
 -- a property of the host that may be written: one that is not declared `const` (the AngelScript manual, "Registering global properties" and
 -- "Registering object properties")

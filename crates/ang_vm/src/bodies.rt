@@ -1,20 +1,18 @@
 //! From body to body, to a run's end.
 ghost use Rattle.std.specs.Prelude.{◌≡◌, ℕ, ◌≤◌, List, length, reverse, Err, Some, None, IfOk, MatchOption};
-ghost use Rattle.ang_host.specs.declared.event.Role.{Role};
 ghost use Rattle.ang_code.specs.declared.instruction.Frame.{Frame};
 ghost use Rattle.ang_code.specs.declared.instruction.Instruction.TheVariants.{Return};
 ghost use Rattle.ang_meaning.specs.declared.routine.Routine.{Routine};
-ghost use Rattle.ang_meaning.specs.World.{with_inputs};
-ghost use Rattle.ang_meaning.specs.Counting.{IsCounted, CanGive};
-ghost use Rattle.ang_meaning.specs.Told.{Told};
+ghost use Rattle.ang_meaning.specs.Counting.{CanGive};
 ghost use Rattle.ang_code.specs.Machine.{Over, act, fault as faulted};
-ghost use Rattle.ang_heap.specs.Stores.{world_of, IsReady, StoreMoves};
+ghost use Rattle.ang_heap.specs.Stores.{world_of, IsReady, StoreTold, HasMoved};
 ghost use Rattle.ang_vm_stack.specs.Stacks.{values};
 ghost use Rattle.ang_vm_stack.specs.Tables.{body_of, setting_of, texts_of};
-ghost use Rattle.ang_vm_steps.specs.Turns.{Reaches, IfFaults, paused};
+ghost use Rattle.ang_vm_steps.specs.Turns.{IfFaults, paused};
 ghost use Rattle.ang_vm.specs.Legs.{Fits, Led, begun, left, outcome, standing, standing_in};
 ghost use Rattle.ang_vm.specs.Crossings.{Comes, pause_by};
-ghost use Rattle.ang_vm.specs.Running.{MayRun, RunMoves};
+ghost use Rattle.ang_vm.specs.Running.{MayRun, RunMoves, RunReaches};
+ghost use Rattle.ang_vm_steps.specs.Arms.{AreCounted};
 
 use crate::calls::enter;
 use crate::crossing::{Crossing, Interruption};
@@ -34,10 +32,12 @@ use ang_vm_steps::many::give_all_in_use;
 /// The run faults: all values in use are given up, the top one first.
 pub fn fail(stack: &Vec<Slot>, store: &mut Store, top: usize, fault: Fault) -> Ending
     requires within { top ≤ length stack.now.items }
-    requires ready { IsReady (λ v. (⟦<dyn Driver as Driver>⟧ v).meaning) store.old }
-    requires held { CanGive (values stack.now.items top) (world_of (λ v. (⟦<dyn Driver as Driver>⟧ v).meaning) store.old) }
-    ensures told { Told (λ is. faulted fault (values stack.now.items top) (with_inputs is (world_of (λ v. (⟦<dyn Driver as Driver>⟧ v).meaning) store.old))) (λ is. Over (outcome result (with_inputs is (world_of (λ v. (⟦<dyn Driver as Driver>⟧ v).meaning) store.new)))) }
-    ensures moves { (roles : List Role) → StoreMoves (λ v. (⟦<dyn Driver as Driver>⟧ v).meaning) roles store.old store.new }
+    requires ready { IsReady ⟦<dyn Driver as Driver>⟧ store.old }
+    requires held { CanGive (values stack.now.items top)
+        (world_of ⟦<dyn Driver as Driver>⟧ store.old) }
+    ensures told { StoreTold ⟦<dyn Driver as Driver>⟧ (faulted fault (values stack.now.items top))
+        store.old (λ w. Over (outcome result w)) store.new }
+    ensures moves { HasMoved ⟦<dyn Driver as Driver>⟧ store.old store.new }
 {
     give_all_in_use(stack.as_slice(), store, top);
     Ending::Stops(fault)
@@ -46,10 +46,13 @@ pub fn fail(stack: &Vec<Slot>, store: &mut Store, top: usize, fault: Fault) -> E
 /// The end of a run whose next body does not begin, while so many values are in use.
 pub fn give_up(stack: &Vec<Slot>, store: &mut Store, top: usize, stop: Stop) -> Ending
     requires within { top ≤ length stack.now.items }
-    requires ready { IsReady (λ v. (⟦<dyn Driver as Driver>⟧ v).meaning) store.old }
-    requires held { CanGive (values stack.now.items top) (world_of (λ v. (⟦<dyn Driver as Driver>⟧ v).meaning) store.old) }
-    ensures told { (frames : List Frame) → Told (λ is. begun (Err stop) top stack.now.items frames (with_inputs is (world_of (λ v. (⟦<dyn Driver as Driver>⟧ v).meaning) store.old))) (λ is. Over (outcome result (with_inputs is (world_of (λ v. (⟦<dyn Driver as Driver>⟧ v).meaning) store.new)))) }
-    ensures moves { (roles : List Role) → StoreMoves (λ v. (⟦<dyn Driver as Driver>⟧ v).meaning) roles store.old store.new }
+    requires ready { IsReady ⟦<dyn Driver as Driver>⟧ store.old }
+    requires held { CanGive (values stack.now.items top)
+        (world_of ⟦<dyn Driver as Driver>⟧ store.old) }
+    ensures told { (frames : List Frame)
+        → StoreTold ⟦<dyn Driver as Driver>⟧ (begun (Err stop) top stack.now.items frames) store.old
+        (λ w. Over (outcome result w)) store.new }
+    ensures moves { HasMoved ⟦<dyn Driver as Driver>⟧ store.old store.new }
 {
     match stop {
         Stop::Fails(fault) => fail(stack, store, top, fault),
@@ -59,11 +62,14 @@ pub fn give_up(stack: &Vec<Slot>, store: &mut Store, top: usize, stop: Stop) -> 
 
 /// The end of a run whose body is interrupted.
 fn interrupt(stack: &Vec<Slot>, store: &mut Store, interruption: Interruption) -> Ending
-    requires ready { IsReady (λ v. (⟦<dyn Driver as Driver>⟧ v).meaning) store.old }
-    requires held { IfFaults (pause_by interruption) (λ top. (top ≤ length stack.now.items) × CanGive (values stack.now.items top) (world_of (λ v. (⟦<dyn Driver as Driver>⟧ v).meaning) store.old)) }
-    ensures told { (f : Routine) (room : ℕ) (frames : List Frame) → Told (λ is. paused (pause_by interruption) f room stack.now.items frames (with_inputs is (world_of (λ v. (⟦<dyn Driver as Driver>⟧ v).meaning) store.old)))
-        (λ is. Over (outcome result (with_inputs is (world_of (λ v. (⟦<dyn Driver as Driver>⟧ v).meaning) store.new)))) }
-    ensures moves { (roles : List Role) → StoreMoves (λ v. (⟦<dyn Driver as Driver>⟧ v).meaning) roles store.old store.new }
+    requires ready { IsReady ⟦<dyn Driver as Driver>⟧ store.old }
+    requires held { IfFaults (pause_by interruption) (λ top. (top ≤ length stack.now.items)
+        × CanGive (values stack.now.items top) (world_of ⟦<dyn Driver as Driver>⟧ store.old)) }
+    ensures told { (f : Routine) (room : ℕ) (frames : List Frame)
+        → StoreTold ⟦<dyn Driver as Driver>⟧
+        (paused (pause_by interruption) f room stack.now.items frames) store.old
+        (λ w. Over (outcome result w)) store.new }
+    ensures moves { HasMoved ⟦<dyn Driver as Driver>⟧ store.old store.new }
 {
     match interruption {
         Interruption::Faults(top, fault) => fail(stack, store, top, fault),
@@ -83,10 +89,13 @@ fn run_within(
     requires there { body_of table.now from.body ≡ Some code.now }
     requires in_room { from.place.top ≤ from.room }
     requires within { from.room ≤ length stack.old.items }
-    requires may_run { MayRun (λ v. (⟦<dyn Driver as Driver>⟧ v).meaning) table.now (values stack.old.items from.place.top) store.old }
-    ensures comes { Comes table.now from.body from.room from.place stack.old.items (world_of (λ v. (⟦<dyn Driver as Driver>⟧ v).meaning) store.old) result stack.new.items (world_of (λ v. (⟦<dyn Driver as Driver>⟧ v).meaning) store.new) }
+    requires may_run { MayRun ⟦<dyn Driver as Driver>⟧ table.now
+        (values stack.old.items from.place.top) store.old }
+    ensures comes { Comes table.now from.body from.room from.place stack.old.items
+        (world_of ⟦<dyn Driver as Driver>⟧ store.old) result stack.new.items
+        (world_of ⟦<dyn Driver as Driver>⟧ store.new) }
     ensures same { length stack.new.items ≡ length stack.old.items }
-    ensures moves { RunMoves (λ v. (⟦<dyn Driver as Driver>⟧ v).meaning) table.now store.old store.new }
+    ensures moves { RunMoves ⟦<dyn Driver as Driver>⟧ table.now store.old store.new }
 {
     run_body(
         table,
@@ -112,13 +121,16 @@ fn leave_within(
 ) -> Result<Standing, Ending>
     requires there { body_of table.now from.body ≡ Some code.now }
     requires fits { Fits from stack.old.items frames.old.items }
-    requires ready { IsReady (λ v. (⟦<dyn Driver as Driver>⟧ v).meaning) store.old }
-    requires counted { IsCounted (values stack.old.items from.place.top) (world_of (λ v. (⟦<dyn Driver as Driver>⟧ v).meaning) store.old) }
-    ensures told { (nesting : ℕ) → Told (λ is. act (setting_of table.now nesting) (texts_of table.now) (Some (Return count)) from.body from.place.at
-        from.room (values stack.old.items from.place.top) (reverse frames.old.items) from.place.ticks (with_inputs is (world_of (λ v. (⟦<dyn Driver as Driver>⟧ v).meaning) store.old)))
-        (λ is. left result stack.new.items (reverse frames.new.items) (with_inputs is (world_of (λ v. (⟦<dyn Driver as Driver>⟧ v).meaning) store.new))) }
+    requires ready { IsReady ⟦<dyn Driver as Driver>⟧ store.old }
+    requires counted { AreCounted ⟦<dyn Driver as Driver>⟧ stack.old.items from.place.top
+        store.old }
+    ensures told { (nesting : ℕ)
+        → StoreTold ⟦<dyn Driver as Driver>⟧ (act (setting_of table.now nesting)
+        (texts_of table.now) (Some (Return count)) from.body from.place.at from.room
+        (values stack.old.items from.place.top) (reverse frames.old.items) from.place.ticks)
+        store.old (left result stack.new.items (reverse frames.new.items)) store.new }
     ensures fits { IfOk result (λ s. Fits s stack.new.items frames.new.items) }
-    ensures moves { (roles : List Role) → StoreMoves (λ v. (⟦<dyn Driver as Driver>⟧ v).meaning) roles store.old store.new }
+    ensures moves { HasMoved ⟦<dyn Driver as Driver>⟧ store.old store.new }
 {
     leave_body(
         table,
@@ -138,7 +150,8 @@ fn with_code<'t>(
     next: Result<Standing, Ending>,
 ) -> Result<(Standing, Option<&'t Body>), Ending>
     ensures exact { standing_in result ≡ next }
-    ensures code { IfOk result (λ r. MatchOption r.1 (body_of table.now r.0.body ≡ None) (λ code. body_of table.now r.0.body ≡ Some code.now)) }
+    ensures code { IfOk result (λ r. MatchOption r.1 (body_of table.now r.0.body ≡ None)
+        (λ code. body_of table.now r.0.body ≡ Some code.now)) }
 {
     match next {
         Ok(standing) => Ok((standing, body_at(table, standing.body))),
@@ -159,10 +172,14 @@ fn leg<'t>(
 ) -> Result<(Standing, Option<&'t Body>), Ending>
     requires there { body_of table.now from.body ≡ Some code.now }
     requires fits { Fits from stack.old.items frames.old.items }
-    requires may_run { MayRun (λ v. (⟦<dyn Driver as Driver>⟧ v).meaning) table.now (values stack.old.items from.place.top) store.old }
-    ensures led { Led table.now nesting from stack.old.items frames.old.items (world_of (λ v. (⟦<dyn Driver as Driver>⟧ v).meaning) store.old) (standing_in result) stack.new.items frames.new.items (world_of (λ v. (⟦<dyn Driver as Driver>⟧ v).meaning) store.new) }
-    ensures code { IfOk result (λ r. MatchOption r.1 (body_of table.now r.0.body ≡ None) (λ code. body_of table.now r.0.body ≡ Some code.now)) }
-    ensures moves { RunMoves (λ v. (⟦<dyn Driver as Driver>⟧ v).meaning) table.now store.old store.new }
+    requires may_run { MayRun ⟦<dyn Driver as Driver>⟧ table.now
+        (values stack.old.items from.place.top) store.old }
+    ensures led { Led table.now nesting from stack.old.items frames.old.items
+        (world_of ⟦<dyn Driver as Driver>⟧ store.old) (standing_in result) stack.new.items
+        frames.new.items (world_of ⟦<dyn Driver as Driver>⟧ store.new) }
+    ensures code { IfOk result (λ r. MatchOption r.1 (body_of table.now r.0.body ≡ None)
+        (λ code. body_of table.now r.0.body ≡ Some code.now)) }
+    ensures moves { RunMoves ⟦<dyn Driver as Driver>⟧ table.now store.old store.new }
 {
     match run_within(table, code, stack, store, from) {
         Ok((place, crossing)) => {
@@ -194,11 +211,12 @@ pub fn run_from(
     from: Standing,
 ) -> Ending
     requires fits { Fits from stack.old.items frames.old.items }
-    requires may_run { MayRun (λ v. (⟦<dyn Driver as Driver>⟧ v).meaning) table.now (values stack.old.items from.place.top) store.old }
-    ensures ends { Reaches (setting_of table.now nesting) (texts_of table.now)
-        (λ is. standing from stack.old.items (reverse frames.old.items) (with_inputs is (world_of (λ v. (⟦<dyn Driver as Driver>⟧ v).meaning) store.old)))
-        (λ is. Over (outcome result (with_inputs is (world_of (λ v. (⟦<dyn Driver as Driver>⟧ v).meaning) store.new)))) }
-    ensures moves { RunMoves (λ v. (⟦<dyn Driver as Driver>⟧ v).meaning) table.now store.old store.new }
+    requires may_run { MayRun ⟦<dyn Driver as Driver>⟧ table.now
+        (values stack.old.items from.place.top) store.old }
+    ensures ends { RunReaches ⟦<dyn Driver as Driver>⟧ table.now nesting
+        (standing from stack.old.items (reverse frames.old.items)) store.old
+        (λ w. Over (outcome result w)) store.new }
+    ensures moves { RunMoves ⟦<dyn Driver as Driver>⟧ table.now store.old store.new }
 {
     let mut here = from;
     let mut code = body_at(table, from.body);

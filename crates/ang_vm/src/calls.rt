@@ -70,7 +70,8 @@ fn objects_there(by_value: bool, params: &[Passing], stack: &[Slot], top: usize)
 #[inline(always)]
 fn reserve(stack: &mut Vec<Slot>, top: usize, height: usize) -> Option<usize>
     requires within { top ≤ length stack.old.items }
-    ensures exact { IfSome result (λ room. (room ≡ top + height) × (room ≤ length stack.new.items)) }
+    ensures exact { IfSome result
+        (λ room. (room ≡ top + height) × (room ≤ length stack.new.items)) }
     ensures same { values stack.new.items top ≡ values stack.old.items top }
     ensures grows { length stack.old.items ≤ length stack.new.items }
 {
@@ -100,7 +101,8 @@ fn begin_above(
     ensures told { (code : Texts) (frames : List Frame) (w : World) → height ≡ code.height body
         → Told (λ is. begins code body (values stack.old.items top) frames ticks (with_inputs is w))
         (λ is. begun result top stack.new.items frames (with_inputs is w)) }
-    ensures in_room { IfOk result (λ s. (s.place.top ≤ s.room) × (s.room ≤ length stack.new.items)) }
+    ensures in_room { IfOk result
+        (λ s. (s.place.top ≤ s.room) × (s.room ≤ length stack.new.items)) }
     ensures body { IfOk result (λ s. s.body ≡ body) }
     ensures same { values stack.new.items top ≡ values stack.old.items top }
     ensures grows { length stack.old.items ≤ length stack.new.items }
@@ -128,9 +130,11 @@ pub fn begin(
 ) -> Result<Standing, Stop>
     requires within { top ≤ length stack.old.items }
     ensures told { (frames : List Frame) (w : World)
-        → Told (λ is. begins (texts_of table.now) body (values stack.old.items top) frames ticks (with_inputs is w))
+        → Told (λ is. begins (texts_of table.now) body (values stack.old.items top) frames ticks
+        (with_inputs is w))
         (λ is. begun result top stack.new.items frames (with_inputs is w)) }
-    ensures in_room { IfOk result (λ s. (s.place.top ≤ s.room) × (s.room ≤ length stack.new.items)) }
+    ensures in_room { IfOk result
+        (λ s. (s.place.top ≤ s.room) × (s.room ≤ length stack.new.items)) }
     ensures same { values stack.new.items top ≡ values stack.old.items top }
     ensures grows { length stack.old.items ≤ length stack.new.items }
 {
@@ -154,9 +158,11 @@ pub fn enter_body(
     requires fits { Fits from stack.old.items frames.old.items }
     requires inside { from.place.at + 1 < 2 ^ 64 }
     ensures told { (w : World)
-        → Told (λ is. enters (setting_of table.now nesting) (texts_of table.now) body (values stack.old.items from.place.top)
-        (reverse frames.old.items) (caller_at from) from.place.ticks (with_inputs is w))
-        (λ is. begun result from.place.top stack.new.items (reverse frames.new.items) (with_inputs is w)) }
+        → Told (λ is. enters (setting_of table.now nesting) (texts_of table.now) body
+        (values stack.old.items from.place.top) (reverse frames.old.items) (caller_at from)
+        from.place.ticks (with_inputs is w))
+        (λ is. begun result from.place.top stack.new.items (reverse frames.new.items)
+        (with_inputs is w)) }
     ensures fits { IfOk result (λ s. Fits s stack.new.items frames.new.items) }
     ensures body { IfOk result (λ s. s.body ≡ body) }
     ensures same { values stack.new.items from.place.top ≡ values stack.old.items from.place.top }
@@ -204,11 +210,16 @@ pub fn enter<'t>(
     requires fits { Fits from stack.old.items frames.old.items }
     requires inside { from.place.at + 1 < 2 ^ 64 }
     ensures told { Told (λ is. found_enters (setting_of table.now nesting) (texts_of table.now)
-        (target (setting_of table.now nesting) from.body.home callee (values stack.old.items from.place.top) (with_inputs is (world_of (λ v. (⟦<dyn Driver as Driver>⟧ v).meaning) store.now)))
-        (values stack.old.items from.place.top) (reverse frames.old.items) (caller_at from) from.place.ticks (with_inputs is (world_of (λ v. (⟦<dyn Driver as Driver>⟧ v).meaning) store.now)))
-        (λ is. begun (standing_in result) from.place.top stack.new.items (reverse frames.new.items) (with_inputs is (world_of (λ v. (⟦<dyn Driver as Driver>⟧ v).meaning) store.now))) }
+        (target (setting_of table.now nesting) from.body.home callee
+        (values stack.old.items from.place.top)
+        (with_inputs is (world_of ⟦<dyn Driver as Driver>⟧ store.now)))
+        (values stack.old.items from.place.top) (reverse frames.old.items) (caller_at from)
+        from.place.ticks (with_inputs is (world_of ⟦<dyn Driver as Driver>⟧ store.now)))
+        (λ is. begun (standing_in result) from.place.top stack.new.items (reverse frames.new.items)
+        (with_inputs is (world_of ⟦<dyn Driver as Driver>⟧ store.now))) }
     ensures fits { IfOk result (λ r. Fits r.0 stack.new.items frames.new.items) }
-    ensures code { IfOk result (λ r. MatchOption r.1 (body_of table.now r.0.body ≡ None) (λ code. body_of table.now r.0.body ≡ Some code.now)) }
+    ensures code { IfOk result (λ r. MatchOption r.1 (body_of table.now r.0.body ≡ None)
+        (λ code. body_of table.now r.0.body ≡ Some code.now)) }
     ensures same { values stack.new.items from.place.top ≡ values stack.old.items from.place.top }
     ensures grows { length stack.old.items ≤ length stack.new.items }
 {

@@ -15,4 +15,5 @@ mod returns;
 mod start;
 mod turns;
 
+pub use ang_vm_stack::table::Table;
 pub use machines::{Machine, run, run_initializer};

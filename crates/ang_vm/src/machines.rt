@@ -1,19 +1,19 @@
 //! The machine.
 ghost use Rattle.std.specs.Prelude.{◌≡◌, ◌<◌, ℕ, List, [], length, reverse};
 ghost use Rattle.ang_kinds.specs.declared.fault.Fault.TheVariants.{Budget as BudgetFault, Memory as MemoryFault};
-ghost use Rattle.ang_host.specs.declared.event.Role.{Role};
 ghost use Rattle.ang_host.specs.Boxes.{members};
 ghost use Rattle.ang_meaning.specs.World.{with_inputs};
 ghost use Rattle.ang_meaning.specs.declared.routine.Routine.{Routine};
 ghost use Rattle.ang_meaning.specs.Setting.{Setting};
 ghost use Rattle.ang_meaning.specs.Counting.{IsCounted, CanGive};
-ghost use Rattle.ang_code.specs.Machine.{Texts, call_begins, initializer_begins};
-ghost use Rattle.ang_heap.specs.Stores.{world_of, IsReady, StoreMoves};
+ghost use Rattle.ang_code.specs.Machine.{Texts, call_begins};
+ghost use Rattle.ang_heap.specs.Stores.{world_of, IsReady, HasMoved};
 ghost use Rattle.ang_vm_stack.specs.Tables.{setting_of, texts_of};
-ghost use Rattle.ang_vm_ask.specs.Entities.{DriversThere, HaveRoles};
+ghost use Rattle.ang_vm_ask.specs.Entities.{DriversThere};
 ghost use Rattle.ang_vm.specs.Legs.{Ends};
 ghost use Rattle.ang_vm.specs.Running.{MayRun, RunMoves, HeldAt, IsSettled};
-ghost use Rattle.ang_vm.specs.Machines.{lent, IsLost, HasRun, HasInitialized};
+ghost use Rattle.ang_vm.specs.Machines.{lent, IsLost, HasRun, HasInitialized, call_in, initializer_in};
+ghost use Rattle.ang_vm_ask.specs.Askings.{HasMovedOver};
 
 use crate::bodies::run_from;
 use crate::start::{start_call, start_initializer};
@@ -59,11 +59,13 @@ fn no_room(budget: u64) -> Fault
 
 /// A call ends for whose arguments there is no memory: they are given up.
 fn refuse(store: &mut Store, args: &[Slot], budget: u64) -> Ending
-    requires ready { IsReady (λ v. (⟦<dyn Driver as Driver>⟧ v).meaning) store.old }
-    requires held { CanGive (reverse args.now) (world_of (λ v. (⟦<dyn Driver as Driver>⟧ v).meaning) store.old) }
+    requires ready { IsReady ⟦<dyn Driver as Driver>⟧ store.old }
+    requires held { CanGive (reverse args.now) (world_of ⟦<dyn Driver as Driver>⟧ store.old) }
     ensures ends { (z : Setting) (code : Texts) (entry : Routine)
-        → Ends z code (λ is. call_begins z code budget entry (reverse args.now) (with_inputs is (world_of (λ v. (⟦<dyn Driver as Driver>⟧ v).meaning) store.old))) result (world_of (λ v. (⟦<dyn Driver as Driver>⟧ v).meaning) store.new) }
-    ensures moves { (roles : List Role) → StoreMoves (λ v. (⟦<dyn Driver as Driver>⟧ v).meaning) roles store.old store.new }
+        → Ends z code (λ is. call_begins z code budget entry (reverse args.now)
+        (with_inputs is (world_of ⟦<dyn Driver as Driver>⟧ store.old))) result
+        (world_of ⟦<dyn Driver as Driver>⟧ store.new) }
+    ensures moves { HasMoved ⟦<dyn Driver as Driver>⟧ store.old store.new }
 {
     let count = args.len();
     give_all_in_use(args, store, count);
@@ -79,10 +81,11 @@ fn run_call(
     args: &[Slot],
     budget: u64,
 ) -> Ending
-    requires may_run { MayRun (λ v. (⟦<dyn Driver as Driver>⟧ v).meaning) table.now (reverse args.now) store.old }
+    requires may_run { MayRun ⟦<dyn Driver as Driver>⟧ table.now (reverse args.now) store.old }
     ensures ends { Ends (setting_of table.now 200) (texts_of table.now)
-        (λ is. call_begins (setting_of table.now 200) (texts_of table.now) budget entry (reverse args.now) (with_inputs is (world_of (λ v. (⟦<dyn Driver as Driver>⟧ v).meaning) store.old))) result (world_of (λ v. (⟦<dyn Driver as Driver>⟧ v).meaning) store.new) }
-    ensures moves { RunMoves (λ v. (⟦<dyn Driver as Driver>⟧ v).meaning) table.now store.old store.new }
+        (call_in ⟦<dyn Driver as Driver>⟧ table.now budget entry (reverse args.now) store.old)
+        result (world_of ⟦<dyn Driver as Driver>⟧ store.new) }
+    ensures moves { RunMoves ⟦<dyn Driver as Driver>⟧ table.now store.old store.new }
 {
     let Ok(mut stack) = Vec::from_slice(alloc, args) else {
         return refuse(store, args, budget);
@@ -96,10 +99,11 @@ fn run_call(
 
 /// An initializer, from its beginning to its end.
 fn initialize(alloc: Global, table: &Table, store: &mut Store, entry: Routine, ticks: u64) -> Ending
-    requires may_run { MayRun (λ v. (⟦<dyn Driver as Driver>⟧ v).meaning) table.now [] store.old }
+    requires may_run { MayRun ⟦<dyn Driver as Driver>⟧ table.now [] store.old }
     ensures ends { Ends (setting_of table.now 201) (texts_of table.now)
-        (λ is. initializer_begins (setting_of table.now 201) (texts_of table.now) ticks entry (with_inputs is (world_of (λ v. (⟦<dyn Driver as Driver>⟧ v).meaning) store.old))) result (world_of (λ v. (⟦<dyn Driver as Driver>⟧ v).meaning) store.new) }
-    ensures moves { RunMoves (λ v. (⟦<dyn Driver as Driver>⟧ v).meaning) table.now store.old store.new }
+        (initializer_in ⟦<dyn Driver as Driver>⟧ table.now ticks entry store.old) result
+        (world_of ⟦<dyn Driver as Driver>⟧ store.new) }
+    ensures moves { RunMoves ⟦<dyn Driver as Driver>⟧ table.now store.old store.new }
 {
     let mut stack = Vec::new(alloc);
     let mut frames = Vec::new(alloc);
@@ -121,10 +125,11 @@ fn initialize(alloc: Global, table: &Table, store: &mut Store, entry: Routine, t
 /// # Errors
 /// The fault of the run. Lost code is `Null`.
 fn settle(store: &mut Store, ending: Ending) -> Result<(Slot, u64), Fault>
-    requires ready { IsReady (λ v. (⟦<dyn Driver as Driver>⟧ v).meaning) store.old }
-    requires held { HeldAt ending (world_of (λ v. (⟦<dyn Driver as Driver>⟧ v).meaning) store.old) }
-    ensures settled { IsSettled ending result (world_of (λ v. (⟦<dyn Driver as Driver>⟧ v).meaning) store.old) (world_of (λ v. (⟦<dyn Driver as Driver>⟧ v).meaning) store.new) }
-    ensures moves { (roles : List Role) → StoreMoves (λ v. (⟦<dyn Driver as Driver>⟧ v).meaning) roles store.old store.new }
+    requires ready { IsReady ⟦<dyn Driver as Driver>⟧ store.old }
+    requires held { HeldAt ending (world_of ⟦<dyn Driver as Driver>⟧ store.old) }
+    ensures settled { IsSettled ending result (world_of ⟦<dyn Driver as Driver>⟧ store.old)
+        (world_of ⟦<dyn Driver as Driver>⟧ store.new) }
+    ensures moves { HasMoved ⟦<dyn Driver as Driver>⟧ store.old store.new }
 {
     match ending {
         Ending::Gives(value, ticks) => {
@@ -148,12 +153,14 @@ fn call_told(
     args: &[Slot],
     budget: u64,
 ) -> Result<Slot, Fault>
-    requires may_run { MayRun (λ v. (⟦<dyn Driver as Driver>⟧ v).meaning) table.now (reverse args.now) store.old }
+    requires may_run { MayRun ⟦<dyn Driver as Driver>⟧ table.now (reverse args.now) store.old }
     ensures told { HasRun (setting_of table.now 200) (texts_of table.now)
-        (λ is. call_begins (setting_of table.now 200) (texts_of table.now) budget entry (reverse args.now) (with_inputs is (world_of (λ v. (⟦<dyn Driver as Driver>⟧ v).meaning) store.old))) result (world_of (λ v. (⟦<dyn Driver as Driver>⟧ v).meaning) store.new) }
-    ensures moves { RunMoves (λ v. (⟦<dyn Driver as Driver>⟧ v).meaning) table.now store.old store.new }
-    ensures counted { (IsLost (setting_of table.now 200) (texts_of table.now) (λ is. call_begins (setting_of table.now 200) (texts_of table.now) budget entry (reverse args.now) (with_inputs is (world_of (λ v. (⟦<dyn Driver as Driver>⟧ v).meaning) store.old))) → ⊥)
-        → IsCounted [] (world_of (λ v. (⟦<dyn Driver as Driver>⟧ v).meaning) store.new) }
+        (call_in ⟦<dyn Driver as Driver>⟧ table.now budget entry (reverse args.now) store.old)
+        result (world_of ⟦<dyn Driver as Driver>⟧ store.new) }
+    ensures moves { RunMoves ⟦<dyn Driver as Driver>⟧ table.now store.old store.new }
+    ensures counted { (IsLost (setting_of table.now 200) (texts_of table.now)
+        (call_in ⟦<dyn Driver as Driver>⟧ table.now budget entry (reverse args.now) store.old)
+        → ⊥) → IsCounted [] (world_of ⟦<dyn Driver as Driver>⟧ store.new) }
 {
     let ending = run_call(alloc, table, store, entry, args, budget);
     match settle(store, ending) {
@@ -173,12 +180,14 @@ fn initializer_told(
     entry: Routine,
     ticks: u64,
 ) -> Result<u64, Fault>
-    requires may_run { MayRun (λ v. (⟦<dyn Driver as Driver>⟧ v).meaning) table.now [] store.old }
+    requires may_run { MayRun ⟦<dyn Driver as Driver>⟧ table.now [] store.old }
     ensures told { HasInitialized (setting_of table.now 201) (texts_of table.now)
-        (λ is. initializer_begins (setting_of table.now 201) (texts_of table.now) ticks entry (with_inputs is (world_of (λ v. (⟦<dyn Driver as Driver>⟧ v).meaning) store.old))) result (world_of (λ v. (⟦<dyn Driver as Driver>⟧ v).meaning) store.new) }
-    ensures moves { RunMoves (λ v. (⟦<dyn Driver as Driver>⟧ v).meaning) table.now store.old store.new }
-    ensures counted { (IsLost (setting_of table.now 201) (texts_of table.now) (λ is. initializer_begins (setting_of table.now 201) (texts_of table.now) ticks entry (with_inputs is (world_of (λ v. (⟦<dyn Driver as Driver>⟧ v).meaning) store.old))) → ⊥)
-        → IsCounted [] (world_of (λ v. (⟦<dyn Driver as Driver>⟧ v).meaning) store.new) }
+        (initializer_in ⟦<dyn Driver as Driver>⟧ table.now ticks entry store.old) result
+        (world_of ⟦<dyn Driver as Driver>⟧ store.new) }
+    ensures moves { RunMoves ⟦<dyn Driver as Driver>⟧ table.now store.old store.new }
+    ensures counted { (IsLost (setting_of table.now 201) (texts_of table.now)
+        (initializer_in ⟦<dyn Driver as Driver>⟧ table.now ticks entry store.old) → ⊥)
+        → IsCounted [] (world_of ⟦<dyn Driver as Driver>⟧ store.new) }
 {
     let ending = initialize(alloc, table, store, entry, ticks);
     match settle(store, ending) {
@@ -223,16 +232,22 @@ pub fn run(
     events: &mut Vec<HostEvent>,
 ) -> Result<Slot, Fault>
     requires drivers { DriversThere table.now (length (members machine.old.store.drivers)) }
-    requires ready { IsReady (λ v. (⟦<dyn Driver as Driver>⟧ v).meaning) (lent machine.old events.old) }
-    requires counted { IsCounted (reverse args.now) (world_of (λ v. (⟦<dyn Driver as Driver>⟧ v).meaning) (lent machine.old events.old)) }
+    requires ready { IsReady ⟦<dyn Driver as Driver>⟧ (lent machine.old events.old) }
+    requires counted { IsCounted (reverse args.now)
+        (world_of ⟦<dyn Driver as Driver>⟧ (lent machine.old events.old)) }
     ensures told { HasRun (setting_of table.now 200) (texts_of table.now)
-        (λ is. call_begins (setting_of table.now 200) (texts_of table.now) budget entry (reverse args.now) (with_inputs is (world_of (λ v. (⟦<dyn Driver as Driver>⟧ v).meaning) (lent machine.old events.old))))
-        result (world_of (λ v. (⟦<dyn Driver as Driver>⟧ v).meaning) (lent machine.new events.new)) }
-    ensures moves { (roles : List Role) → HaveRoles table.now roles → StoreMoves (λ v. (⟦<dyn Driver as Driver>⟧ v).meaning) roles (lent machine.old events.old) (lent machine.new events.new) }
-    ensures ready { IsReady (λ v. (⟦<dyn Driver as Driver>⟧ v).meaning) (lent machine.new events.new) }
-    ensures count { length (members machine.new.store.drivers) ≡ length (members machine.old.store.drivers) }
-    ensures counted { (IsLost (setting_of table.now 200) (texts_of table.now) (λ is. call_begins (setting_of table.now 200) (texts_of table.now) budget entry (reverse args.now) (with_inputs is (world_of (λ v. (⟦<dyn Driver as Driver>⟧ v).meaning) (lent machine.old events.old)))) → ⊥)
-        → IsCounted [] (world_of (λ v. (⟦<dyn Driver as Driver>⟧ v).meaning) (lent machine.new events.new)) }
+        (call_in ⟦<dyn Driver as Driver>⟧ table.now budget entry (reverse args.now)
+        (lent machine.old events.old)) result
+        (world_of ⟦<dyn Driver as Driver>⟧ (lent machine.new events.new)) }
+    ensures moves { HasMovedOver ⟦<dyn Driver as Driver>⟧ table.now (lent machine.old events.old)
+        (lent machine.new events.new) }
+    ensures ready { IsReady ⟦<dyn Driver as Driver>⟧ (lent machine.new events.new) }
+    ensures count { length (members machine.new.store.drivers)
+        ≡ length (members machine.old.store.drivers) }
+    ensures counted { (IsLost (setting_of table.now 200) (texts_of table.now)
+        (call_in ⟦<dyn Driver as Driver>⟧ table.now budget entry (reverse args.now)
+        (lent machine.old events.old)) → ⊥)
+        → IsCounted [] (world_of ⟦<dyn Driver as Driver>⟧ (lent machine.new events.new)) }
 {
     let alloc = *events.allocator();
     lend(machine, events);
@@ -254,16 +269,22 @@ pub fn run_initializer(
     events: &mut Vec<HostEvent>,
 ) -> Result<u64, Fault>
     requires drivers { DriversThere table.now (length (members machine.old.store.drivers)) }
-    requires ready { IsReady (λ v. (⟦<dyn Driver as Driver>⟧ v).meaning) (lent machine.old events.old) }
-    requires counted { IsCounted [] (world_of (λ v. (⟦<dyn Driver as Driver>⟧ v).meaning) (lent machine.old events.old)) }
+    requires ready { IsReady ⟦<dyn Driver as Driver>⟧ (lent machine.old events.old) }
+    requires counted { IsCounted []
+        (world_of ⟦<dyn Driver as Driver>⟧ (lent machine.old events.old)) }
     ensures told { HasInitialized (setting_of table.now 201) (texts_of table.now)
-        (λ is. initializer_begins (setting_of table.now 201) (texts_of table.now) ticks entry (with_inputs is (world_of (λ v. (⟦<dyn Driver as Driver>⟧ v).meaning) (lent machine.old events.old))))
-        result (world_of (λ v. (⟦<dyn Driver as Driver>⟧ v).meaning) (lent machine.new events.new)) }
-    ensures moves { (roles : List Role) → HaveRoles table.now roles → StoreMoves (λ v. (⟦<dyn Driver as Driver>⟧ v).meaning) roles (lent machine.old events.old) (lent machine.new events.new) }
-    ensures ready { IsReady (λ v. (⟦<dyn Driver as Driver>⟧ v).meaning) (lent machine.new events.new) }
-    ensures count { length (members machine.new.store.drivers) ≡ length (members machine.old.store.drivers) }
-    ensures counted { (IsLost (setting_of table.now 201) (texts_of table.now) (λ is. initializer_begins (setting_of table.now 201) (texts_of table.now) ticks entry (with_inputs is (world_of (λ v. (⟦<dyn Driver as Driver>⟧ v).meaning) (lent machine.old events.old)))) → ⊥)
-        → IsCounted [] (world_of (λ v. (⟦<dyn Driver as Driver>⟧ v).meaning) (lent machine.new events.new)) }
+        (initializer_in ⟦<dyn Driver as Driver>⟧ table.now ticks entry
+        (lent machine.old events.old)) result
+        (world_of ⟦<dyn Driver as Driver>⟧ (lent machine.new events.new)) }
+    ensures moves { HasMovedOver ⟦<dyn Driver as Driver>⟧ table.now (lent machine.old events.old)
+        (lent machine.new events.new) }
+    ensures ready { IsReady ⟦<dyn Driver as Driver>⟧ (lent machine.new events.new) }
+    ensures count { length (members machine.new.store.drivers)
+        ≡ length (members machine.old.store.drivers) }
+    ensures counted { (IsLost (setting_of table.now 201) (texts_of table.now)
+        (initializer_in ⟦<dyn Driver as Driver>⟧ table.now ticks entry
+        (lent machine.old events.old)) → ⊥)
+        → IsCounted [] (world_of ⟦<dyn Driver as Driver>⟧ (lent machine.new events.new)) }
 {
     let alloc = *events.allocator();
     lend(machine, events);

@@ -1,18 +1,16 @@
 //! Where a body is left.
 ghost use Rattle.std.specs.Prelude.{◌≡◌, ℕ, ◌+◌, ◌-◌, ◌<◌, ◌≤◌, ◌∷◌, ◌++◌, List, [], length, reverse, Some, IfOk};
-ghost use Rattle.ang_host.specs.declared.event.Role.{Role};
 ghost use Rattle.ang_meaning.specs.declared.slot.Slot.{Slot};
-ghost use Rattle.ang_meaning.specs.World.{Input, with_inputs};
-ghost use Rattle.ang_meaning.specs.Counting.{IsCounted, CanGive};
+ghost use Rattle.ang_meaning.specs.Counting.{CanGive};
 ghost use Rattle.ang_meaning.specs.Results.{give_others as others_given, outs_of};
-ghost use Rattle.ang_meaning.specs.Told.{Told};
 ghost use Rattle.ang_code.specs.declared.instruction.Instruction.TheVariants.{Return};
 ghost use Rattle.ang_code.specs.Machine.{act, back};
-ghost use Rattle.ang_heap.specs.Stores.{world_of, IsReady, StoreMoves};
+ghost use Rattle.ang_heap.specs.Stores.{world_of, IsReady, StoreTold, HasMoved, StoreBecomes};
 ghost use Rattle.ang_vm_fuse.specs.Parameters.{by_value as are_by_value};
 ghost use Rattle.ang_vm_stack.specs.Stacks.{values};
 ghost use Rattle.ang_vm_stack.specs.Tables.{body_of, setting_of, texts_of};
 ghost use Rattle.ang_vm.specs.Legs.{Fits, AllFit, given_by, with_out, Unmoved, left};
+ghost use Rattle.ang_vm_steps.specs.Arms.{AreCounted};
 
 use ang_code::Frame;
 use ang_heap::{Store, give};
@@ -27,10 +25,11 @@ use ang_vm_steps::many::{give_top, nothing_lives};
 /// A parameter's value at its body's end: that of an `&out` parameter stays, and any other is given up.
 #[inline(always)]
 fn give_unless_out(passing: Passing, value: Slot, store: &mut Store)
-    requires ready { IsReady (λ v. (⟦<dyn Driver as Driver>⟧ v).meaning) store.old }
-    requires held { CanGive (value ∷ []) (world_of (λ v. (⟦<dyn Driver as Driver>⟧ v).meaning) store.old) }
-    ensures given { (is : List Input) → given_by passing value (with_inputs is (world_of (λ v. (⟦<dyn Driver as Driver>⟧ v).meaning) store.old)) ≡ with_inputs is (world_of (λ v. (⟦<dyn Driver as Driver>⟧ v).meaning) store.new) }
-    ensures moves { (roles : List Role) → StoreMoves (λ v. (⟦<dyn Driver as Driver>⟧ v).meaning) roles store.old store.new }
+    requires ready { IsReady ⟦<dyn Driver as Driver>⟧ store.old }
+    requires held { CanGive (value ∷ []) (world_of ⟦<dyn Driver as Driver>⟧ store.old) }
+    ensures given { StoreBecomes ⟦<dyn Driver as Driver>⟧ (given_by passing value) store.old
+        store.new }
+    ensures moves { HasMoved ⟦<dyn Driver as Driver>⟧ store.old store.new }
 {
     match passing {
         Passing::In => give(store, value),
@@ -43,10 +42,11 @@ fn give_unless_out(passing: Passing, value: Slot, store: &mut Store)
 pub fn give_others(params: &[Passing], stack: &[Slot], store: &mut Store, top: usize)
     requires enough { length params.now ≤ top }
     requires within { top ≤ length stack.now }
-    requires ready { IsReady (λ v. (⟦<dyn Driver as Driver>⟧ v).meaning) store.old }
-    requires held { CanGive (values stack.now top) (world_of (λ v. (⟦<dyn Driver as Driver>⟧ v).meaning) store.old) }
-    ensures given { (is : List Input) → others_given params.now (values stack.now top) (with_inputs is (world_of (λ v. (⟦<dyn Driver as Driver>⟧ v).meaning) store.old)) ≡ with_inputs is (world_of (λ v. (⟦<dyn Driver as Driver>⟧ v).meaning) store.new) }
-    ensures moves { (roles : List Role) → StoreMoves (λ v. (⟦<dyn Driver as Driver>⟧ v).meaning) roles store.old store.new }
+    requires ready { IsReady ⟦<dyn Driver as Driver>⟧ store.old }
+    requires held { CanGive (values stack.now top) (world_of ⟦<dyn Driver as Driver>⟧ store.old) }
+    ensures given { StoreBecomes ⟦<dyn Driver as Driver>⟧
+        (others_given params.now (values stack.now top)) store.old store.new }
+    ensures moves { HasMoved ⟦<dyn Driver as Driver>⟧ store.old store.new }
 {
     if nothing_lives(store) {
         return;
@@ -81,7 +81,8 @@ fn keep_if_out(passing: Passing, stack: &mut [Slot], kept: usize, value: Slot) -
 pub fn keep_outs(params: &[Passing], stack: &mut [Slot], top: usize) -> usize
     requires enough { length params.now ≤ top }
     requires within { top ≤ length stack.old }
-    ensures kept { values stack.new result ≡ outs_of params.now (values stack.old top) ++ values stack.old (top - length params.now) }
+    ensures kept { values stack.new result
+        ≡ outs_of params.now (values stack.old top) ++ values stack.old (top - length params.now) }
     ensures fewer { result ≤ top }
 {
     let count = params.len();
@@ -107,13 +108,13 @@ fn hand_back(
 ) -> Result<Standing, Ending>
     requires below { kept < length stack.old }
     requires callers { AllFit (length stack.old) (reverse frames.old.items) }
-    requires ready { IsReady (λ v. (⟦<dyn Driver as Driver>⟧ v).meaning) store.old }
-    requires held { CanGive (values stack.old kept) (world_of (λ v. (⟦<dyn Driver as Driver>⟧ v).meaning) store.old) }
+    requires ready { IsReady ⟦<dyn Driver as Driver>⟧ store.old }
+    requires held { CanGive (values stack.old kept) (world_of ⟦<dyn Driver as Driver>⟧ store.old) }
     ensures told { (outs rest : List Slot) → values stack.old kept ≡ outs ++ rest
-        → Told (λ is. back (reverse frames.old.items) value outs rest ticks (with_inputs is (world_of (λ v. (⟦<dyn Driver as Driver>⟧ v).meaning) store.old)))
-        (λ is. left result stack.new (reverse frames.new.items) (with_inputs is (world_of (λ v. (⟦<dyn Driver as Driver>⟧ v).meaning) store.new))) }
+        → StoreTold ⟦<dyn Driver as Driver>⟧ (back (reverse frames.old.items) value outs rest ticks)
+        store.old (left result stack.new (reverse frames.new.items)) store.new }
     ensures fits { IfOk result (λ s. Fits s stack.new frames.new.items) }
-    ensures moves { (roles : List Role) → StoreMoves (λ v. (⟦<dyn Driver as Driver>⟧ v).meaning) roles store.old store.new }
+    ensures moves { HasMoved ⟦<dyn Driver as Driver>⟧ store.old store.new }
 {
     match frames.pop() {
         None => {
@@ -151,13 +152,15 @@ fn leave_params(
     requires enough { length params.now ≤ top }
     requires within { top ≤ length stack.old }
     requires known { by_value ≡ are_by_value params.now }
-    requires ready { IsReady (λ v. (⟦<dyn Driver as Driver>⟧ v).meaning) store.old }
-    requires held { CanGive (values stack.old top) (world_of (λ v. (⟦<dyn Driver as Driver>⟧ v).meaning) store.old) }
-    ensures given { (is : List Input) → others_given params.now (values stack.old top) (with_inputs is (world_of (λ v. (⟦<dyn Driver as Driver>⟧ v).meaning) store.old)) ≡ with_inputs is (world_of (λ v. (⟦<dyn Driver as Driver>⟧ v).meaning) store.new) }
-    ensures held { CanGive (values stack.new result) (world_of (λ v. (⟦<dyn Driver as Driver>⟧ v).meaning) store.new) }
-    ensures kept { values stack.new result ≡ outs_of params.now (values stack.old top) ++ values stack.old (top - length params.now) }
+    requires ready { IsReady ⟦<dyn Driver as Driver>⟧ store.old }
+    requires held { CanGive (values stack.old top) (world_of ⟦<dyn Driver as Driver>⟧ store.old) }
+    ensures given { StoreBecomes ⟦<dyn Driver as Driver>⟧
+        (others_given params.now (values stack.old top)) store.old store.new }
+    ensures held { CanGive (values stack.new result) (world_of ⟦<dyn Driver as Driver>⟧ store.new) }
+    ensures kept { values stack.new result
+        ≡ outs_of params.now (values stack.old top) ++ values stack.old (top - length params.now) }
     ensures fewer { result ≤ top }
-    ensures moves { (roles : List Role) → StoreMoves (λ v. (⟦<dyn Driver as Driver>⟧ v).meaning) roles store.old store.new }
+    ensures moves { HasMoved ⟦<dyn Driver as Driver>⟧ store.old store.new }
 {
     if by_value {
         give_top(stack, store, top, params.len());
@@ -181,13 +184,15 @@ pub fn leave_body(
 ) -> Result<Standing, Ending>
     requires there { body_of table.now from.body ≡ Some code.now }
     requires fits { Fits from stack.old frames.old.items }
-    requires ready { IsReady (λ v. (⟦<dyn Driver as Driver>⟧ v).meaning) store.old }
-    requires counted { IsCounted (values stack.old from.place.top) (world_of (λ v. (⟦<dyn Driver as Driver>⟧ v).meaning) store.old) }
-    ensures told { (nesting : ℕ) → Told (λ is. act (setting_of table.now nesting) (texts_of table.now) (Some (Return count)) from.body from.place.at
-        from.room (values stack.old from.place.top) (reverse frames.old.items) from.place.ticks (with_inputs is (world_of (λ v. (⟦<dyn Driver as Driver>⟧ v).meaning) store.old)))
-        (λ is. left result stack.new (reverse frames.new.items) (with_inputs is (world_of (λ v. (⟦<dyn Driver as Driver>⟧ v).meaning) store.new))) }
+    requires ready { IsReady ⟦<dyn Driver as Driver>⟧ store.old }
+    requires counted { AreCounted ⟦<dyn Driver as Driver>⟧ stack.old from.place.top store.old }
+    ensures told { (nesting : ℕ)
+        → StoreTold ⟦<dyn Driver as Driver>⟧ (act (setting_of table.now nesting)
+        (texts_of table.now) (Some (Return count)) from.body from.place.at from.room
+        (values stack.old from.place.top) (reverse frames.old.items) from.place.ticks) store.old
+        (left result stack.new (reverse frames.new.items)) store.new }
     ensures fits { IfOk result (λ s. Fits s stack.new frames.new.items) }
-    ensures moves { (roles : List Role) → StoreMoves (λ v. (⟦<dyn Driver as Driver>⟧ v).meaning) roles store.old store.new }
+    ensures moves { HasMoved ⟦<dyn Driver as Driver>⟧ store.old store.new }
 {
     let top = from.place.top;
     if top == 0 {

@@ -1,13 +1,11 @@
 //! How a run begins.
 ghost use Rattle.std.specs.Prelude.{◌≡◌, ℕ, List, [], reverse, IfOk};
-ghost use Rattle.ang_host.specs.declared.event.Role.{Role};
-ghost use Rattle.ang_meaning.specs.World.{with_inputs};
 ghost use Rattle.ang_meaning.specs.Counting.{IsCounted};
 ghost use Rattle.ang_code.specs.Machine.{begins, call_begins, initializer_begins};
-ghost use Rattle.ang_heap.specs.Stores.{world_of, IsReady, StoreMoves};
+ghost use Rattle.ang_heap.specs.Stores.{world_of, IsReady, HasMoved};
 ghost use Rattle.ang_vm_stack.specs.Tables.{setting_of, texts_of};
-ghost use Rattle.ang_vm_steps.specs.Turns.{Reaches};
 ghost use Rattle.ang_vm.specs.Legs.{Fits, left};
+ghost use Rattle.ang_vm.specs.Running.{RunReaches};
 
 use crate::bodies::{fail, give_up};
 use crate::calls::begin;
@@ -28,13 +26,15 @@ fn start(
     entry: Routine,
     ticks: u64,
 ) -> Result<Standing, Ending>
-    requires ready { IsReady (λ v. (⟦<dyn Driver as Driver>⟧ v).meaning) store.old }
-    requires counted { IsCounted (reverse stack.old.items) (world_of (λ v. (⟦<dyn Driver as Driver>⟧ v).meaning) store.old) }
-    ensures starts { (nesting : ℕ) → Reaches (setting_of table.now nesting) (texts_of table.now)
-        (λ is. begins (texts_of table.now) entry (reverse stack.old.items) [] ticks (with_inputs is (world_of (λ v. (⟦<dyn Driver as Driver>⟧ v).meaning) store.old)))
-        (λ is. left result stack.new.items (reverse frames.new.items) (with_inputs is (world_of (λ v. (⟦<dyn Driver as Driver>⟧ v).meaning) store.new))) }
+    requires ready { IsReady ⟦<dyn Driver as Driver>⟧ store.old }
+    requires counted { IsCounted (reverse stack.old.items)
+        (world_of ⟦<dyn Driver as Driver>⟧ store.old) }
+    ensures starts { (nesting : ℕ)
+        → RunReaches ⟦<dyn Driver as Driver>⟧ table.now nesting
+        (begins (texts_of table.now) entry (reverse stack.old.items) [] ticks) store.old
+        (left result stack.new.items (reverse frames.new.items)) store.new }
     ensures fits { IfOk result (λ s. Fits s stack.new.items frames.new.items) }
-    ensures moves { (roles : List Role) → StoreMoves (λ v. (⟦<dyn Driver as Driver>⟧ v).meaning) roles store.old store.new }
+    ensures moves { HasMoved ⟦<dyn Driver as Driver>⟧ store.old store.new }
 {
     frames.clear();
     let top = stack.len();
@@ -57,13 +57,16 @@ pub fn start_call(
     entry: Routine,
     budget: u64,
 ) -> Result<Standing, Ending>
-    requires ready { IsReady (λ v. (⟦<dyn Driver as Driver>⟧ v).meaning) store.old }
-    requires counted { IsCounted (reverse stack.old.items) (world_of (λ v. (⟦<dyn Driver as Driver>⟧ v).meaning) store.old) }
-    ensures starts { (nesting : ℕ) → Reaches (setting_of table.now nesting) (texts_of table.now)
-        (λ is. call_begins (setting_of table.now nesting) (texts_of table.now) budget entry (reverse stack.old.items) (with_inputs is (world_of (λ v. (⟦<dyn Driver as Driver>⟧ v).meaning) store.old)))
-        (λ is. left result stack.new.items (reverse frames.new.items) (with_inputs is (world_of (λ v. (⟦<dyn Driver as Driver>⟧ v).meaning) store.new))) }
+    requires ready { IsReady ⟦<dyn Driver as Driver>⟧ store.old }
+    requires counted { IsCounted (reverse stack.old.items)
+        (world_of ⟦<dyn Driver as Driver>⟧ store.old) }
+    ensures starts { (nesting : ℕ)
+        → RunReaches ⟦<dyn Driver as Driver>⟧ table.now nesting (call_begins
+        (setting_of table.now nesting) (texts_of table.now) budget entry
+        (reverse stack.old.items)) store.old
+        (left result stack.new.items (reverse frames.new.items)) store.new }
     ensures fits { IfOk result (λ s. Fits s stack.new.items frames.new.items) }
-    ensures moves { (roles : List Role) → StoreMoves (λ v. (⟦<dyn Driver as Driver>⟧ v).meaning) roles store.old store.new }
+    ensures moves { HasMoved ⟦<dyn Driver as Driver>⟧ store.old store.new }
 {
     if budget == 0 {
         let held = stack.len();
@@ -85,13 +88,14 @@ pub fn start_initializer(
     ticks: u64,
 ) -> Result<Standing, Ending>
     requires empty { stack.old.items ≡ [] }
-    requires ready { IsReady (λ v. (⟦<dyn Driver as Driver>⟧ v).meaning) store.old }
-    requires counted { IsCounted [] (world_of (λ v. (⟦<dyn Driver as Driver>⟧ v).meaning) store.old) }
-    ensures starts { (nesting : ℕ) → Reaches (setting_of table.now nesting) (texts_of table.now)
-        (λ is. initializer_begins (setting_of table.now nesting) (texts_of table.now) ticks entry (with_inputs is (world_of (λ v. (⟦<dyn Driver as Driver>⟧ v).meaning) store.old)))
-        (λ is. left result stack.new.items (reverse frames.new.items) (with_inputs is (world_of (λ v. (⟦<dyn Driver as Driver>⟧ v).meaning) store.new))) }
+    requires ready { IsReady ⟦<dyn Driver as Driver>⟧ store.old }
+    requires counted { IsCounted [] (world_of ⟦<dyn Driver as Driver>⟧ store.old) }
+    ensures starts { (nesting : ℕ)
+        → RunReaches ⟦<dyn Driver as Driver>⟧ table.now nesting
+        (initializer_begins (setting_of table.now nesting) (texts_of table.now) ticks entry)
+        store.old (left result stack.new.items (reverse frames.new.items)) store.new }
     ensures fits { IfOk result (λ s. Fits s stack.new.items frames.new.items) }
-    ensures moves { (roles : List Role) → StoreMoves (λ v. (⟦<dyn Driver as Driver>⟧ v).meaning) roles store.old store.new }
+    ensures moves { HasMoved ⟦<dyn Driver as Driver>⟧ store.old store.new }
 {
     start(table, stack, frames, store, entry, ticks)
 }

@@ -12,7 +12,8 @@ use Rattle.ang_host.specs.declared.drivers.Drivers.{Drivers}
 use Rattle.ang_host.specs.declared.event.HostEvent.{HostEvent}
 use Rattle.ang_host.specs.declared.event.Role.{Role}
 use Rattle.ang_host.specs.State.{State, Ask}
-use Rattle.ang_host.specs.Laws.{Fits, Meaning, Answered, WasMade}
+use Rattle.ang_host.specs.Laws.{Fits, Answered, WasMade}
+use Rattle.ang_host.specs.Meanings.{Meanings, state_in}
 use Rattle.ang_host.specs.Members.{OneMoved, DriverMoved}
 use Rattle.ang_host.specs.Boxes.{members}
 use Rattle.ang_host.specs.Events.{role_at, DriversFollow}
@@ -42,9 +43,9 @@ made_length : {B W : Type 0} (st : B → State) (kind : B → W) (rule : W → F
     → length ys ≡ length xs
 made_length st kind rule xs ys d r one = sym (length-map ys kind) ∙ ap length one.kinds ∙ length-map xs kind
 
-module _ {V : Type 0} {P : V → Type 0} (m : (v : V) → Meaning (P v)) where
+module _ {V : Type 0} {P : V → Type 0} (m : Meanings P) where
   pub moves_length : (roles : List Role) (s t : Store V P) → StoreMoves m roles s t → length (members t.drivers) ≡ length (members s.drivers)
-  moves_length roles s t p = AllFollow-length (λ b. (m b.vtable).state b.value) (λ b. b.vtable) (λ v. (m v).fits) roles (members s.drivers) (members t.drivers) p.parts.more p.parts.follow
+  moves_length roles s t p = AllFollow-length (λ b. state_in m b) (λ b. b.vtable) (λ v. (m v).meaning.fits) roles (members s.drivers) (members t.drivers) p.parts.more p.parts.follow
 
   module _ (e : EntityNo) (role : Role) where
     pub asked_then : (s t u : Store V P) → StoreAsked m e role s t → StoreAsked m e role t u → StoreAsked m e role s u
@@ -67,7 +68,7 @@ module _ {V : Type 0} {P : V → Type 0} (m : (v : V) → Meaning (P v)) where
           → fs.items ≡ s.ends.items → vec_len fs ≡ vec_len s.ends → vec_capacity s.ends ≤ vec_capacity fs → StoreAsked m e role s (record s { events = es; ends = fs })
       refused_asked es fs items len capacity items' len' capacity' =
           moved_asked s (record s { events = es; ends = fs }) (λ roles. record {
-            parts = record { more = []; events = items ∙ sym (append-nil s.events.items); follow = AllFollow-none (λ b. (m b.vtable).state b.value) (λ b. b.vtable) (λ v. (m v).fits) roles (members s.drivers) };
+            parts = record { more = []; events = items ∙ sym (append-nil s.events.items); follow = AllFollow-none (λ b. state_in m b) (λ b. b.vtable) (λ v. (m v).meaning.fits) roles (members s.drivers) };
             ready = λ r. record {
               kept = record {
                 drivers = record { sound = r.kept.drivers.sound; room = omega (arith, r.kept.drivers.room, len', capacity') };

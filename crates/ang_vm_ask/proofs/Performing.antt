@@ -9,7 +9,6 @@ use Rattle.ang_host.specs.declared.event.Role.{Role}
 use Rattle.ang_host.specs.declared.event.Role.TheVariants.{Making as MakingRole, Calling as CallingRole, Property as PropertyRole}
 use Rattle.ang_meaning.specs.declared.slot.Slot.{Slot}
 use Rattle.ang_meaning.specs.declared.slot.Slot.TheVariants.{Bits}
-use Rattle.ang_meaning.specs.declared.host.HostType.{HostType}
 use Rattle.ang_meaning.specs.declared.host.HostType.TheVariants.{Nothing}
 use Rattle.ang_meaning.specs.declared.host.HostUse.{HostUse}
 use Rattle.ang_meaning.specs.declared.operation.Change.{Change}
@@ -137,7 +136,7 @@ module _ (z : Setting) (m : ℕ) (caller : List ℕ) (e : EntityNo) (u : HostUse
   alter_is by (x ∷ (o ∷ (p ∷ ps))) v w f h = absurd (omega (arith, h))
 
   -- the operation is fit by the entity's role
-  call_fit : is_fit z m (Ask e) ≡ true → is_called_by u.role u.member u.result ≡ true
+  call_fit : is_fit z m (Ask e) ≡ true → is_called_by u.role u.member ≡ true
   unfolding is_fit
   call_fit h = sym (ap may_call sees.host) ∙ h
 
@@ -160,9 +159,9 @@ not_property (MakingRole f) other h = let x : ⊥ = cc in x
 not_property (CallingRole f) other h = let x : ⊥ = cc in x
 not_property (PropertyRole f) other h = other f refl
 
-made_alone : (f : ℕ) (role : Role) (member : Bool) (result : HostType) → role ≡ MakingRole f → is_called_by role member result ≡ true → member ≡ false
-made_alone f role true result e h = absurd (let x : false ≡ true = sym (ap (λ r. is_called_by r true result) e) ∙ h in let y : ⊥ = cc in y)
-made_alone f role false result e h = refl
+made_alone : (f : ℕ) (role : Role) (member : Bool) → role ≡ MakingRole f → is_called_by role member ≡ true → member ≡ false
+made_alone f role true e h = absurd (let x : false ≡ true = sym (ap (λ r. is_called_by r true) e) ∙ h in let y : ⊥ = cc in y)
+made_alone f role false e h = refl
 
 no_receiver : (b : Bool) (d : ℕ) (ops : List Slot) (object : Option ℕ) → b ≡ false → object_in (cond b (key_at d ops) NoReceiver) ≡ Ok object → object ≡ None
 no_receiver true d ops object e h = absurd (let x : ⊥ = cc in x)
@@ -197,7 +196,7 @@ module _ (caller : List ℕ) (e : EntityNo) (u : HostUse) (ops : List Slot) (w w
       → AskedSo None args r → Performed caller e u (Ask e) ops w r w'
   make_performed f object args r role is same t = record {
     told = λ z m sees fit count.
-        let alone = made_alone f u.role u.member u.result role (call_fit z m caller e u sees fit) in
+        let alone = made_alone f u.role u.member role (call_fit z m caller e u sees fit) in
         let none = no_receiver u.member u.driver ops object alone is in
         told_then
         (told_same (λ ins. ask_is z m caller e u sees ops (with_inputs ins w) ∙ ap (λ l. called_of z m e (receiver_of u ops) l (with_inputs ins w)) (sym same)
@@ -264,7 +263,7 @@ module _ (caller : List ℕ) (e : EntityNo) (u : HostUse) (ops : List Slot) (w :
     -- no code that is fit comes here
     pub ask_property : (f : ℕ) → u.role ≡ PropertyRole f → Performed caller e u (Ask e) ops w r w'
     ask_property f role = record {
-      told = λ z m sees fit count. absurd (let x : false ≡ true = sym (ap (λ y. is_called_by y u.member u.result) role) ∙ call_fit z m caller e u sees fit in let y : ⊥ = cc in y);
+      told = λ z m sees fit count. absurd (let x : false ≡ true = sym (ap (λ y. is_called_by y u.member) role) ∙ call_fit z m caller e u sees fit in let y : ⊥ = cc in y);
     }
 
     pub read_other : ((f : ℕ) → u.role ≡ PropertyRole f → ⊥) → Performed caller e u (Read e) ops w r w'

@@ -7,15 +7,12 @@ ghost use Rattle.std.specs.Prelude.{◌≡◌, ℕ, ◌+◌, ◌^◌, ◌<◌, [
 ghost use Rattle.ang_host.specs.declared.event.Role.TheVariants.{Making as MakingRole, Calling as CallingRole, Property as PropertyRole};
 ghost use Rattle.ang_host.specs.Boxes.{members};
 ghost use Rattle.ang_host.specs.Laws.{IsLiveOption, IsLiveValue, AreLive};
-ghost use Rattle.ang_host.specs.Members.{state_at, states_of};
 ghost use Rattle.ang_meaning.specs.declared.host.HostType.TheVariants.{Nothing};
 ghost use Rattle.ang_meaning.specs.Counting.{CanGive};
 ghost use Rattle.ang_meaning.specs.Hosts.{value_of, values_of, asked};
 ghost use Rattle.ang_meaning.specs.Setting.{Setting};
-ghost use Rattle.ang_meaning.specs.Told.{Told};
-ghost use Rattle.ang_meaning.specs.World.{with_inputs};
-ghost use Rattle.ang_heap.specs.Stores.{world_of, IsReady};
-ghost use Rattle.ang_vm_ask.specs.Askings.{Sees, StoreAsked};
+ghost use Rattle.ang_heap.specs.Stores.{world_of, IsReady, StoreTold};
+ghost use Rattle.ang_vm_ask.specs.Askings.{Sees, StoreAsked, driver_state};
 ghost use Rattle.ang_vm_stack.specs.Arms.{done};
 ghost use Rattle.ang_vm_ask.specs.Replies.{with_result, made_as, objects_made};
 
@@ -41,15 +38,18 @@ pub(crate) fn call(
 ) -> Result<Slot, Fault>
     requires role { host.now.role ≡ CallingRole number }
     requires in_list { host.now.driver < length (members store.old.drivers) }
-    requires ready { IsReady (λ v. (⟦<dyn Driver as Driver>⟧ v).meaning) store.old }
-    requires object_live { IsLiveOption (state_at (states_of (λ v. (⟦<dyn Driver as Driver>⟧ v).meaning) (members store.old.drivers)) host.now.driver) object }
-    requires args_live { AreLive (state_at (states_of (λ v. (⟦<dyn Driver as Driver>⟧ v).meaning) (members store.old.drivers)) host.now.driver) (values_of host.now.driver host.now.params args.now) }
+    requires ready { IsReady ⟦<dyn Driver as Driver>⟧ store.old }
+    requires object_live { IsLiveOption
+        (driver_state ⟦<dyn Driver as Driver>⟧ store.old host.now.driver) object }
+    requires args_live { AreLive (driver_state ⟦<dyn Driver as Driver>⟧ store.old host.now.driver)
+        (values_of host.now.driver host.now.params args.now) }
     ensures told { (z : Setting) (m : ℕ) → Sees z m caller.now entity host.now
-        → Told (λ is. asked z m entity object (values_of host.now.driver host.now.params args.now) host.now.result (with_inputs is (world_of (λ v. (⟦<dyn Driver as Driver>⟧ v).meaning) store.old)))
-        (λ is. done result (with_inputs is (world_of (λ v. (⟦<dyn Driver as Driver>⟧ v).meaning) store.new))) }
-    ensures enough { (vs : List Slot) → CanGive vs (world_of (λ v. (⟦<dyn Driver as Driver>⟧ v).meaning) store.old)
-        → CanGive (with_result result vs) (world_of (λ v. (⟦<dyn Driver as Driver>⟧ v).meaning) store.new) }
-    ensures asked { StoreAsked (λ v. (⟦<dyn Driver as Driver>⟧ v).meaning) entity host.now.role store.old store.new }
+        → StoreTold ⟦<dyn Driver as Driver>⟧ (asked z m entity object
+        (values_of host.now.driver host.now.params args.now) host.now.result) store.old
+        (done result) store.new }
+    ensures enough { (vs : List Slot) → CanGive vs (world_of ⟦<dyn Driver as Driver>⟧ store.old)
+        → CanGive (with_result result vs) (world_of ⟦<dyn Driver as Driver>⟧ store.new) }
+    ensures asked { StoreAsked ⟦<dyn Driver as Driver>⟧ entity host.now.role store.old store.new }
 {
     let Some(more) = store.live.checked_add(1) else {
         return Err(Fault::Memory);
@@ -82,14 +82,15 @@ pub(crate) fn read(
 ) -> Result<Slot, Fault>
     requires role { host.now.role ≡ PropertyRole number }
     requires in_list { host.now.driver < length (members store.old.drivers) }
-    requires ready { IsReady (λ v. (⟦<dyn Driver as Driver>⟧ v).meaning) store.old }
-    requires object_live { IsLiveOption (state_at (states_of (λ v. (⟦<dyn Driver as Driver>⟧ v).meaning) (members store.old.drivers)) host.now.driver) object }
+    requires ready { IsReady ⟦<dyn Driver as Driver>⟧ store.old }
+    requires object_live { IsLiveOption
+        (driver_state ⟦<dyn Driver as Driver>⟧ store.old host.now.driver) object }
     ensures told { (z : Setting) (m : ℕ) → Sees z m caller.now entity host.now
-        → Told (λ is. asked z m entity object [] host.now.result (with_inputs is (world_of (λ v. (⟦<dyn Driver as Driver>⟧ v).meaning) store.old)))
-        (λ is. done result (with_inputs is (world_of (λ v. (⟦<dyn Driver as Driver>⟧ v).meaning) store.new))) }
-    ensures enough { (vs : List Slot) → CanGive vs (world_of (λ v. (⟦<dyn Driver as Driver>⟧ v).meaning) store.old)
-        → CanGive (with_result result vs) (world_of (λ v. (⟦<dyn Driver as Driver>⟧ v).meaning) store.new) }
-    ensures asked { StoreAsked (λ v. (⟦<dyn Driver as Driver>⟧ v).meaning) entity host.now.role store.old store.new }
+        → StoreTold ⟦<dyn Driver as Driver>⟧ (asked z m entity object [] host.now.result) store.old
+        (done result) store.new }
+    ensures enough { (vs : List Slot) → CanGive vs (world_of ⟦<dyn Driver as Driver>⟧ store.old)
+        → CanGive (with_result result vs) (world_of ⟦<dyn Driver as Driver>⟧ store.new) }
+    ensures asked { StoreAsked ⟦<dyn Driver as Driver>⟧ entity host.now.role store.old store.new }
 {
     let Some(more) = store.live.checked_add(1) else {
         return Err(Fault::Memory);
@@ -124,15 +125,19 @@ pub(crate) fn write(
 ) -> Result<Slot, Fault>
     requires role { host.now.role ≡ PropertyRole number }
     requires in_list { host.now.driver < length (members store.old.drivers) }
-    requires ready { IsReady (λ v. (⟦<dyn Driver as Driver>⟧ v).meaning) store.old }
-    requires object_live { IsLiveOption (state_at (states_of (λ v. (⟦<dyn Driver as Driver>⟧ v).meaning) (members store.old.drivers)) host.now.driver) object }
-    requires value_live { IsLiveValue (state_at (states_of (λ v. (⟦<dyn Driver as Driver>⟧ v).meaning) (members store.old.drivers)) host.now.driver) (value_of host.now.driver host.now.result value) }
+    requires ready { IsReady ⟦<dyn Driver as Driver>⟧ store.old }
+    requires object_live { IsLiveOption
+        (driver_state ⟦<dyn Driver as Driver>⟧ store.old host.now.driver) object }
+    requires value_live { IsLiveValue
+        (driver_state ⟦<dyn Driver as Driver>⟧ store.old host.now.driver)
+        (value_of host.now.driver host.now.result value) }
     ensures told { (z : Setting) (m : ℕ) → Sees z m caller.now entity host.now
-        → Told (λ is. asked z m entity object (value_of host.now.driver host.now.result value ∷ []) Nothing (with_inputs is (world_of (λ v. (⟦<dyn Driver as Driver>⟧ v).meaning) store.old)))
-        (λ is. done result (with_inputs is (world_of (λ v. (⟦<dyn Driver as Driver>⟧ v).meaning) store.new))) }
-    ensures enough { (vs : List Slot) → CanGive vs (world_of (λ v. (⟦<dyn Driver as Driver>⟧ v).meaning) store.old)
-        → CanGive (with_result result vs) (world_of (λ v. (⟦<dyn Driver as Driver>⟧ v).meaning) store.new) }
-    ensures asked { StoreAsked (λ v. (⟦<dyn Driver as Driver>⟧ v).meaning) entity host.now.role store.old store.new }
+        → StoreTold ⟦<dyn Driver as Driver>⟧
+        (asked z m entity object (value_of host.now.driver host.now.result value ∷ []) Nothing)
+        store.old (done result) store.new }
+    ensures enough { (vs : List Slot) → CanGive vs (world_of ⟦<dyn Driver as Driver>⟧ store.old)
+        → CanGive (with_result result vs) (world_of ⟦<dyn Driver as Driver>⟧ store.new) }
+    ensures asked { StoreAsked ⟦<dyn Driver as Driver>⟧ entity host.now.role store.old store.new }
 {
     let Some(more) = store.live.checked_add(1) else {
         return Err(Fault::Memory);
@@ -197,14 +202,16 @@ pub(crate) fn make(
 ) -> Result<Slot, Fault>
     requires role { host.now.role ≡ MakingRole number }
     requires in_list { host.now.driver < length (members store.old.drivers) }
-    requires ready { IsReady (λ v. (⟦<dyn Driver as Driver>⟧ v).meaning) store.old }
-    requires args_live { AreLive (state_at (states_of (λ v. (⟦<dyn Driver as Driver>⟧ v).meaning) (members store.old.drivers)) host.now.driver) (values_of host.now.driver host.now.params args.now) }
+    requires ready { IsReady ⟦<dyn Driver as Driver>⟧ store.old }
+    requires args_live { AreLive (driver_state ⟦<dyn Driver as Driver>⟧ store.old host.now.driver)
+        (values_of host.now.driver host.now.params args.now) }
     ensures told { (z : Setting) (m : ℕ) → Sees z m caller.now entity host.now
-        → Told (λ is. asked z m entity None (values_of host.now.driver host.now.params args.now) host.now.result (with_inputs is (world_of (λ v. (⟦<dyn Driver as Driver>⟧ v).meaning) store.old)))
-        (λ is. done result (with_inputs is (world_of (λ v. (⟦<dyn Driver as Driver>⟧ v).meaning) store.new))) }
-    ensures enough { (vs : List Slot) → CanGive vs (world_of (λ v. (⟦<dyn Driver as Driver>⟧ v).meaning) store.old)
-        → CanGive (with_result result vs) (world_of (λ v. (⟦<dyn Driver as Driver>⟧ v).meaning) store.new) }
-    ensures asked { StoreAsked (λ v. (⟦<dyn Driver as Driver>⟧ v).meaning) entity host.now.role store.old store.new }
+        → StoreTold ⟦<dyn Driver as Driver>⟧
+        (asked z m entity None (values_of host.now.driver host.now.params args.now) host.now.result)
+        store.old (done result) store.new }
+    ensures enough { (vs : List Slot) → CanGive vs (world_of ⟦<dyn Driver as Driver>⟧ store.old)
+        → CanGive (with_result result vs) (world_of ⟦<dyn Driver as Driver>⟧ store.new) }
+    ensures asked { StoreAsked ⟦<dyn Driver as Driver>⟧ entity host.now.role store.old store.new }
 {
     let Some(more) = store.live.checked_add(2) else {
         return Err(Fault::Memory);

@@ -5,7 +5,6 @@ ghost use Rattle.ang_host.specs.declared.event.Role.{Role};
 ghost use Rattle.ang_host.specs.declared.event.Role.TheVariants.{Property as PropertyRole};
 ghost use Rattle.ang_host.specs.Boxes.{members};
 ghost use Rattle.ang_host.specs.Laws.{IsLiveOption, IsLiveValue};
-ghost use Rattle.ang_host.specs.Members.{state_at, states_of};
 ghost use Rattle.ang_code.specs.Machine.{take_some};
 ghost use Rattle.ang_meaning.specs.declared.operation.Operation.TheVariants.{Ask, Read, Write, Alter};
 ghost use Rattle.ang_meaning.specs.declared.host.HostType.TheVariants.{Nothing};
@@ -14,16 +13,14 @@ ghost use Rattle.ang_meaning.specs.Hosts.{value_of, asked};
 ghost use Rattle.ang_meaning.specs.Numbers.{Changed};
 ghost use Rattle.ang_meaning.specs.Perform.{Receiver, in_place_of, altered_to, operands as operand_count};
 ghost use Rattle.ang_meaning.specs.Setting.{Setting, is_fit};
-ghost use Rattle.ang_meaning.specs.Told.{Told};
-ghost use Rattle.ang_meaning.specs.World.{with_inputs};
-ghost use Rattle.ang_heap.specs.Stores.{world_of, IsReady, StoreMoves};
+ghost use Rattle.ang_heap.specs.Stores.{world_of, IsReady, StoreTold};
 ghost use Rattle.ang_vm_numbers.specs.Answers.{altered_of};
 ghost use Rattle.ang_vm_stack.specs.Arms.{done};
 ghost use Rattle.ang_vm_stack.specs.Stacks.{values};
 ghost use Rattle.ang_vm_stack.specs.Tables.{setting_of};
 ghost use Rattle.ang_vm_ask.specs.Asks.{asked_by, asks_host, asks};
-ghost use Rattle.ang_vm_ask.specs.Askings.{Sees, Performed, StoreAsked};
-ghost use Rattle.ang_vm_ask.specs.Entities.{DriversThere, HaveRoles};
+ghost use Rattle.ang_vm_ask.specs.Askings.{Sees, Performed, StoreAsked, StillGives, driver_state, HasMovedOver};
+ghost use Rattle.ang_vm_ask.specs.Entities.{DriversThere};
 ghost use Rattle.ang_vm_ask.specs.Handing.{object_in};
 
 use crate::asking::{call, make, read, write};
@@ -51,14 +48,18 @@ fn put(
 ) -> Result<Slot, Fault>
     requires role { host.now.role ≡ PropertyRole number }
     requires in_list { host.now.driver < length (members store.old.drivers) }
-    requires ready { IsReady (λ v. (⟦<dyn Driver as Driver>⟧ v).meaning) store.old }
-    requires object_live { IsLiveOption (state_at (states_of (λ v. (⟦<dyn Driver as Driver>⟧ v).meaning) (members store.old.drivers)) host.now.driver) object }
-    requires value_live { IsLiveValue (state_at (states_of (λ v. (⟦<dyn Driver as Driver>⟧ v).meaning) (members store.old.drivers)) host.now.driver) (value_of host.now.driver host.now.result stored) }
+    requires ready { IsReady ⟦<dyn Driver as Driver>⟧ store.old }
+    requires object_live { IsLiveOption
+        (driver_state ⟦<dyn Driver as Driver>⟧ store.old host.now.driver) object }
+    requires value_live { IsLiveValue
+        (driver_state ⟦<dyn Driver as Driver>⟧ store.old host.now.driver)
+        (value_of host.now.driver host.now.result stored) }
     ensures told { (z : Setting) (m : ℕ) → Sees z m caller.now entity host.now
-        → Told (λ is. in_place_of given (asked z m entity object (value_of host.now.driver host.now.result stored ∷ []) Nothing (with_inputs is (world_of (λ v. (⟦<dyn Driver as Driver>⟧ v).meaning) store.old))))
-        (λ is. done result (with_inputs is (world_of (λ v. (⟦<dyn Driver as Driver>⟧ v).meaning) store.new))) }
-    ensures enough { (vs : List Slot) → CanGive vs (world_of (λ v. (⟦<dyn Driver as Driver>⟧ v).meaning) store.old) → CanGive vs (world_of (λ v. (⟦<dyn Driver as Driver>⟧ v).meaning) store.new) }
-    ensures asked { StoreAsked (λ v. (⟦<dyn Driver as Driver>⟧ v).meaning) entity host.now.role store.old store.new }
+        → StoreTold ⟦<dyn Driver as Driver>⟧ (λ w. in_place_of given (asked z m entity object
+        (value_of host.now.driver host.now.result stored ∷ []) Nothing w)) store.old
+        (done result) store.new }
+    ensures enough { StillGives ⟦<dyn Driver as Driver>⟧ store.old store.new }
+    ensures asked { StoreAsked ⟦<dyn Driver as Driver>⟧ entity host.now.role store.old store.new }
 {
     match write(alloc, store, caller, entity, host, number, object, stored) {
         Ok(_) => Ok(given),
@@ -81,14 +82,18 @@ fn put_changed(
 ) -> Result<Slot, Fault>
     requires role { host.now.role ≡ PropertyRole number }
     requires in_list { host.now.driver < length (members store.old.drivers) }
-    requires ready { IsReady (λ v. (⟦<dyn Driver as Driver>⟧ v).meaning) store.old }
-    requires object_live { IsLiveOption (state_at (states_of (λ v. (⟦<dyn Driver as Driver>⟧ v).meaning) (members store.old.drivers)) host.now.driver) object }
-    requires held { CanGive (old ∷ []) (world_of (λ v. (⟦<dyn Driver as Driver>⟧ v).meaning) store.old) }
-    ensures told { (z : Setting) (m : ℕ) (r : Receiver) (to : Changed) → Sees z m caller.now entity host.now → object_in r ≡ Ok object → altered ≡ altered_of to
-        → Told (λ is. altered_to z m entity r old to (with_inputs is (world_of (λ v. (⟦<dyn Driver as Driver>⟧ v).meaning) store.old)))
-        (λ is. done result (with_inputs is (world_of (λ v. (⟦<dyn Driver as Driver>⟧ v).meaning) store.new))) }
-    ensures enough { (vs : List Slot) → CanGive (old ∷ vs) (world_of (λ v. (⟦<dyn Driver as Driver>⟧ v).meaning) store.old) → CanGive vs (world_of (λ v. (⟦<dyn Driver as Driver>⟧ v).meaning) store.new) }
-    ensures asked { StoreAsked (λ v. (⟦<dyn Driver as Driver>⟧ v).meaning) entity host.now.role store.old store.new }
+    requires ready { IsReady ⟦<dyn Driver as Driver>⟧ store.old }
+    requires object_live { IsLiveOption
+        (driver_state ⟦<dyn Driver as Driver>⟧ store.old host.now.driver) object }
+    requires held { CanGive (old ∷ []) (world_of ⟦<dyn Driver as Driver>⟧ store.old) }
+    ensures told { (z : Setting) (m : ℕ) (r : Receiver) (to : Changed)
+        → Sees z m caller.now entity host.now → object_in r ≡ Ok object → altered ≡ altered_of to
+        → StoreTold ⟦<dyn Driver as Driver>⟧ (altered_to z m entity r old to) store.old
+        (done result) store.new }
+    ensures enough { (vs : List Slot)
+        → CanGive (old ∷ vs) (world_of ⟦<dyn Driver as Driver>⟧ store.old)
+        → CanGive vs (world_of ⟦<dyn Driver as Driver>⟧ store.new) }
+    ensures asked { StoreAsked ⟦<dyn Driver as Driver>⟧ entity host.now.role store.old store.new }
 {
     match altered {
         Ok(altered) => {
@@ -116,12 +121,13 @@ fn perform_ask(
     operands: &[Slot],
 ) -> Result<Slot, Fault>
     requires in_list { host.now.driver < length (members store.old.drivers) }
-    requires ready { IsReady (λ v. (⟦<dyn Driver as Driver>⟧ v).meaning) store.old }
-    requires enough { CanGive operands.now (world_of (λ v. (⟦<dyn Driver as Driver>⟧ v).meaning) store.old) }
+    requires ready { IsReady ⟦<dyn Driver as Driver>⟧ store.old }
+    requires enough { CanGive operands.now (world_of ⟦<dyn Driver as Driver>⟧ store.old) }
     ensures performed { Performed caller.now entity host.now (Ask entity) operands.now
-        (world_of (λ v. (⟦<dyn Driver as Driver>⟧ v).meaning) store.old) result (world_of (λ v. (⟦<dyn Driver as Driver>⟧ v).meaning) store.new) }
-    ensures enough { (vs : List Slot) → CanGive vs (world_of (λ v. (⟦<dyn Driver as Driver>⟧ v).meaning) store.old) → CanGive vs (world_of (λ v. (⟦<dyn Driver as Driver>⟧ v).meaning) store.new) }
-    ensures asked { StoreAsked (λ v. (⟦<dyn Driver as Driver>⟧ v).meaning) entity host.now.role store.old store.new }
+        (world_of ⟦<dyn Driver as Driver>⟧ store.old) result
+        (world_of ⟦<dyn Driver as Driver>⟧ store.new) }
+    ensures enough { StillGives ⟦<dyn Driver as Driver>⟧ store.old store.new }
+    ensures asked { StoreAsked ⟦<dyn Driver as Driver>⟧ entity host.now.role store.old store.new }
 {
     let object = match object_of(host, operands) {
         Ok(object) => object,
@@ -145,12 +151,13 @@ fn perform_read(
     operands: &[Slot],
 ) -> Result<Slot, Fault>
     requires in_list { host.now.driver < length (members store.old.drivers) }
-    requires ready { IsReady (λ v. (⟦<dyn Driver as Driver>⟧ v).meaning) store.old }
-    requires enough { CanGive operands.now (world_of (λ v. (⟦<dyn Driver as Driver>⟧ v).meaning) store.old) }
+    requires ready { IsReady ⟦<dyn Driver as Driver>⟧ store.old }
+    requires enough { CanGive operands.now (world_of ⟦<dyn Driver as Driver>⟧ store.old) }
     ensures performed { Performed caller.now entity host.now (Read entity) operands.now
-        (world_of (λ v. (⟦<dyn Driver as Driver>⟧ v).meaning) store.old) result (world_of (λ v. (⟦<dyn Driver as Driver>⟧ v).meaning) store.new) }
-    ensures enough { (vs : List Slot) → CanGive vs (world_of (λ v. (⟦<dyn Driver as Driver>⟧ v).meaning) store.old) → CanGive vs (world_of (λ v. (⟦<dyn Driver as Driver>⟧ v).meaning) store.new) }
-    ensures asked { StoreAsked (λ v. (⟦<dyn Driver as Driver>⟧ v).meaning) entity host.now.role store.old store.new }
+        (world_of ⟦<dyn Driver as Driver>⟧ store.old) result
+        (world_of ⟦<dyn Driver as Driver>⟧ store.new) }
+    ensures enough { StillGives ⟦<dyn Driver as Driver>⟧ store.old store.new }
+    ensures asked { StoreAsked ⟦<dyn Driver as Driver>⟧ entity host.now.role store.old store.new }
 {
     let Role::Property(number) = host.role else {
         return Err(Fault::Null);
@@ -172,12 +179,13 @@ fn perform_write(
     operands: &[Slot],
 ) -> Result<Slot, Fault>
     requires in_list { host.now.driver < length (members store.old.drivers) }
-    requires ready { IsReady (λ v. (⟦<dyn Driver as Driver>⟧ v).meaning) store.old }
-    requires enough { CanGive operands.now (world_of (λ v. (⟦<dyn Driver as Driver>⟧ v).meaning) store.old) }
+    requires ready { IsReady ⟦<dyn Driver as Driver>⟧ store.old }
+    requires enough { CanGive operands.now (world_of ⟦<dyn Driver as Driver>⟧ store.old) }
     ensures performed { Performed caller.now entity host.now (Write entity) operands.now
-        (world_of (λ v. (⟦<dyn Driver as Driver>⟧ v).meaning) store.old) result (world_of (λ v. (⟦<dyn Driver as Driver>⟧ v).meaning) store.new) }
-    ensures enough { (vs : List Slot) → CanGive vs (world_of (λ v. (⟦<dyn Driver as Driver>⟧ v).meaning) store.old) → CanGive vs (world_of (λ v. (⟦<dyn Driver as Driver>⟧ v).meaning) store.new) }
-    ensures asked { StoreAsked (λ v. (⟦<dyn Driver as Driver>⟧ v).meaning) entity host.now.role store.old store.new }
+        (world_of ⟦<dyn Driver as Driver>⟧ store.old) result
+        (world_of ⟦<dyn Driver as Driver>⟧ store.new) }
+    ensures enough { StillGives ⟦<dyn Driver as Driver>⟧ store.old store.new }
+    ensures asked { StoreAsked ⟦<dyn Driver as Driver>⟧ entity host.now.role store.old store.new }
 {
     let Role::Property(number) = host.role else {
         return Err(Fault::Null);
@@ -205,12 +213,13 @@ fn perform_alter(
     operands: &[Slot],
 ) -> Result<Slot, Fault>
     requires in_list { host.now.driver < length (members store.old.drivers) }
-    requires ready { IsReady (λ v. (⟦<dyn Driver as Driver>⟧ v).meaning) store.old }
-    requires enough { CanGive operands.now (world_of (λ v. (⟦<dyn Driver as Driver>⟧ v).meaning) store.old) }
+    requires ready { IsReady ⟦<dyn Driver as Driver>⟧ store.old }
+    requires enough { CanGive operands.now (world_of ⟦<dyn Driver as Driver>⟧ store.old) }
     ensures performed { Performed caller.now entity host.now (Alter entity by) operands.now
-        (world_of (λ v. (⟦<dyn Driver as Driver>⟧ v).meaning) store.old) result (world_of (λ v. (⟦<dyn Driver as Driver>⟧ v).meaning) store.new) }
-    ensures enough { (vs : List Slot) → CanGive vs (world_of (λ v. (⟦<dyn Driver as Driver>⟧ v).meaning) store.old) → CanGive vs (world_of (λ v. (⟦<dyn Driver as Driver>⟧ v).meaning) store.new) }
-    ensures asked { StoreAsked (λ v. (⟦<dyn Driver as Driver>⟧ v).meaning) entity host.now.role store.old store.new }
+        (world_of ⟦<dyn Driver as Driver>⟧ store.old) result
+        (world_of ⟦<dyn Driver as Driver>⟧ store.new) }
+    ensures enough { StillGives ⟦<dyn Driver as Driver>⟧ store.old store.new }
+    ensures asked { StoreAsked ⟦<dyn Driver as Driver>⟧ entity host.now.role store.old store.new }
 {
     let Role::Property(number) = host.role else {
         return Err(Fault::Null);
@@ -243,12 +252,15 @@ fn perform(
     operands: &[Slot],
 ) -> Result<Slot, Fault>
     requires in_list { host.now.driver < length (members store.old.drivers) }
-    requires ready { IsReady (λ v. (⟦<dyn Driver as Driver>⟧ v).meaning) store.old }
-    requires enough { CanGive operands.now (world_of (λ v. (⟦<dyn Driver as Driver>⟧ v).meaning) store.old) }
-    ensures performed { (e : EntityNo) → asked_by operation ≡ Some e → Performed caller.now e host.now operation operands.now
-        (world_of (λ v. (⟦<dyn Driver as Driver>⟧ v).meaning) store.old) result (world_of (λ v. (⟦<dyn Driver as Driver>⟧ v).meaning) store.new) }
-    ensures enough { (vs : List Slot) → CanGive vs (world_of (λ v. (⟦<dyn Driver as Driver>⟧ v).meaning) store.old) → CanGive vs (world_of (λ v. (⟦<dyn Driver as Driver>⟧ v).meaning) store.new) }
-    ensures asked { (e : EntityNo) → asked_by operation ≡ Some e → StoreAsked (λ v. (⟦<dyn Driver as Driver>⟧ v).meaning) e host.now.role store.old store.new }
+    requires ready { IsReady ⟦<dyn Driver as Driver>⟧ store.old }
+    requires enough { CanGive operands.now (world_of ⟦<dyn Driver as Driver>⟧ store.old) }
+    ensures performed { (e : EntityNo) → asked_by operation ≡ Some e
+        → Performed caller.now e host.now operation operands.now
+        (world_of ⟦<dyn Driver as Driver>⟧ store.old) result
+        (world_of ⟦<dyn Driver as Driver>⟧ store.new) }
+    ensures enough { StillGives ⟦<dyn Driver as Driver>⟧ store.old store.new }
+    ensures asked { (e : EntityNo) → asked_by operation ≡ Some e
+        → StoreAsked ⟦<dyn Driver as Driver>⟧ e host.now.role store.old store.new }
 {
     match operation {
         Operation::Ask(entity) => perform_ask(alloc, store, caller, entity, host, operands),
@@ -307,16 +319,18 @@ pub fn ask(
     requires in_use { count ≤ top }
     requires within { top ≤ length stack.now }
     requires drivers { DriversThere table.now (length (members store.old.drivers)) }
-    requires ready { IsReady (λ v. (⟦<dyn Driver as Driver>⟧ v).meaning) store.old }
-    requires counted { IsCounted (values stack.now top) (world_of (λ v. (⟦<dyn Driver as Driver>⟧ v).meaning) store.old) }
-    ensures told { (nesting : ℕ) → asks_host operation ≡ true → is_fit (setting_of table.now nesting) home operation ≡ true
+    requires ready { IsReady ⟦<dyn Driver as Driver>⟧ store.old }
+    requires counted { IsCounted (values stack.now top)
+        (world_of ⟦<dyn Driver as Driver>⟧ store.old) }
+    ensures told { (nesting : ℕ) → asks_host operation ≡ true
+        → is_fit (setting_of table.now nesting) home operation ≡ true
         → count ≡ operand_count (setting_of table.now nesting) home operation
-        → Told (λ is. asks (setting_of table.now nesting) home operation (take_some count (values stack.now top)) (with_inputs is (world_of (λ v. (⟦<dyn Driver as Driver>⟧ v).meaning) store.old)))
-        (λ is. done result (with_inputs is (world_of (λ v. (⟦<dyn Driver as Driver>⟧ v).meaning) store.new))) }
-    ensures enough { (vs : List Slot) → CanGive vs (world_of (λ v. (⟦<dyn Driver as Driver>⟧ v).meaning) store.old) → CanGive vs (world_of (λ v. (⟦<dyn Driver as Driver>⟧ v).meaning) store.new) }
-    ensures ready { IsReady (λ v. (⟦<dyn Driver as Driver>⟧ v).meaning) store.new }
+        → StoreTold ⟦<dyn Driver as Driver>⟧ (asks (setting_of table.now nesting) home operation
+        (take_some count (values stack.now top))) store.old (done result) store.new }
+    ensures enough { StillGives ⟦<dyn Driver as Driver>⟧ store.old store.new }
+    ensures ready { IsReady ⟦<dyn Driver as Driver>⟧ store.new }
     ensures same { length (members store.new.drivers) ≡ length (members store.old.drivers) }
-    ensures moves { (roles : List Role) → HaveRoles table.now roles → StoreMoves (λ v. (⟦<dyn Driver as Driver>⟧ v).meaning) roles store.old store.new }
+    ensures moves { HasMovedOver ⟦<dyn Driver as Driver>⟧ table.now store.old store.new }
 {
     let Some(entity) = asked_by(operation) else {
         return Err(Fault::Null);

@@ -1,18 +1,14 @@
 //! What a driver's answer gives to the script.
 ghost use Rattle.std.specs.Prelude.{◌≡◌, List, IfSome, Some};
 ghost use Rattle.ang_host.specs.declared.answer.HostReply.TheVariants.{Asking};
-ghost use Rattle.ang_host.specs.declared.event.Role.{Role};
-ghost use Rattle.ang_host.specs.Boxes.{members};
 ghost use Rattle.ang_host.specs.Laws.{IsSound, IsLiveAnswer};
-ghost use Rattle.ang_host.specs.Members.{state_at, states_of};
 ghost use Rattle.ang_meaning.specs.Counting.{CanGive, HasKey};
 ghost use Rattle.ang_meaning.specs.Hosts.{is_void, accepted, replied_by};
-ghost use Rattle.ang_meaning.specs.Told.{Told};
-ghost use Rattle.ang_meaning.specs.World.{with_inputs};
-ghost use Rattle.ang_heap.specs.Parts.{counts_of};
-ghost use Rattle.ang_heap.specs.Stores.{world_of, StoreMoves};
+ghost use Rattle.ang_heap.specs.Parts.{counts_among};
+ghost use Rattle.ang_heap.specs.Stores.{world_of, StoreTold, HasMoved};
 ghost use Rattle.ang_vm_stack.specs.Arms.{done};
 ghost use Rattle.ang_vm_ask.specs.Replies.{with_result};
+ghost use Rattle.ang_vm_ask.specs.Askings.{driver_state};
 
 use ang_heap::{Store, hold};
 use ang_host::{Answer, Driver};
@@ -35,12 +31,13 @@ fn is_void(of: HostType) -> bool
 /// # Errors
 /// `BadAnswer` where there is none of the declared type, and `Tally` where a tally has run out.
 fn accept(store: &mut Store, value: Option<Slot>) -> Result<Slot, Fault>
-    requires there { IfSome value (λ v. HasKey v (counts_of (λ v. (⟦<dyn Driver as Driver>⟧ v).meaning) (members store.old.drivers))) }
-    ensures told { Told (λ is. accepted value (with_inputs is (world_of (λ v. (⟦<dyn Driver as Driver>⟧ v).meaning) store.old)))
-        (λ is. done result (with_inputs is (world_of (λ v. (⟦<dyn Driver as Driver>⟧ v).meaning) store.new))) }
-    ensures enough { (vs : List Slot) → CanGive vs (world_of (λ v. (⟦<dyn Driver as Driver>⟧ v).meaning) store.old)
-        → CanGive (with_result result vs) (world_of (λ v. (⟦<dyn Driver as Driver>⟧ v).meaning) store.new) }
-    ensures moves { (roles : List Role) → StoreMoves (λ v. (⟦<dyn Driver as Driver>⟧ v).meaning) roles store.old store.new }
+    requires there { IfSome value
+        (λ v. HasKey v (counts_among ⟦<dyn Driver as Driver>⟧ store.old.drivers)) }
+    ensures told { StoreTold ⟦<dyn Driver as Driver>⟧ (accepted value) store.old (done result)
+        store.new }
+    ensures enough { (vs : List Slot) → CanGive vs (world_of ⟦<dyn Driver as Driver>⟧ store.old)
+        → CanGive (with_result result vs) (world_of ⟦<dyn Driver as Driver>⟧ store.new) }
+    ensures moves { HasMoved ⟦<dyn Driver as Driver>⟧ store.old store.new }
 {
     let Some(value) = value else {
         return Err(Fault::BadAnswer);
@@ -63,13 +60,13 @@ pub(crate) fn take_answer(
     of: HostType,
     answer: Answer,
 ) -> Result<Slot, Fault>
-    requires live { IsLiveAnswer (state_at (states_of (λ v. (⟦<dyn Driver as Driver>⟧ v).meaning) (members store.old.drivers)) driver) answer }
-    requires sound { IsSound (state_at (states_of (λ v. (⟦<dyn Driver as Driver>⟧ v).meaning) (members store.old.drivers)) driver) }
-    ensures told { Told (λ is. replied_by driver of (Asking answer) (with_inputs is (world_of (λ v. (⟦<dyn Driver as Driver>⟧ v).meaning) store.old)))
-        (λ is. done result (with_inputs is (world_of (λ v. (⟦<dyn Driver as Driver>⟧ v).meaning) store.new))) }
-    ensures enough { (vs : List Slot) → CanGive vs (world_of (λ v. (⟦<dyn Driver as Driver>⟧ v).meaning) store.old)
-        → CanGive (with_result result vs) (world_of (λ v. (⟦<dyn Driver as Driver>⟧ v).meaning) store.new) }
-    ensures moves { (roles : List Role) → StoreMoves (λ v. (⟦<dyn Driver as Driver>⟧ v).meaning) roles store.old store.new }
+    requires live { IsLiveAnswer (driver_state ⟦<dyn Driver as Driver>⟧ store.old driver) answer }
+    requires sound { IsSound (driver_state ⟦<dyn Driver as Driver>⟧ store.old driver) }
+    ensures told { StoreTold ⟦<dyn Driver as Driver>⟧ (replied_by driver of (Asking answer))
+        store.old (done result) store.new }
+    ensures enough { (vs : List Slot) → CanGive vs (world_of ⟦<dyn Driver as Driver>⟧ store.old)
+        → CanGive (with_result result vs) (world_of ⟦<dyn Driver as Driver>⟧ store.new) }
+    ensures moves { HasMoved ⟦<dyn Driver as Driver>⟧ store.old store.new }
 {
     match answer {
         Answer::Void => {

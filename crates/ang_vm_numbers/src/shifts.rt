@@ -46,7 +46,8 @@ pub(crate) fn shift_right(at: Prim, x: u64, y: u64) -> u64
 /// `>>>` in the type, which copies the sign.
 #[inline(always)]
 pub(crate) fn shift_signed(at: Prim, x: u64, y: u64) -> u64
-    ensures exact { result ≡ bits_of at (int_div_euclid (number_of at x) (pos (2 ^ (y % width_of at)))) }
+    ensures exact { result
+        ≡ bits_of at (int_div_euclid (number_of at x) (pos (2 ^ (y % width_of at)))) }
 {
     let count = count_in(at, y);
     if is_signed(at) {

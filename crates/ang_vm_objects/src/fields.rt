@@ -2,15 +2,13 @@
 ghost use Rattle.std.specs.Prelude.{◌≡◌, ℕ, ◌∷◌, nat_eq, List, []};
 ghost use Rattle.std.specs.List.{list_any};
 ghost use Rattle.ang_host.specs.declared.event.HostEvent.{HostEvent};
-ghost use Rattle.ang_host.specs.declared.event.Role.{Role};
 ghost use Rattle.ang_meaning.specs.declared.operation.Operation.TheVariants.{Make, FieldGet, FieldSet, FieldChange, Cast};
-ghost use Rattle.ang_meaning.specs.World.{HostCounts, Input, with_inputs};
+ghost use Rattle.ang_meaning.specs.World.{HostCounts, Input};
 ghost use Rattle.ang_meaning.specs.Setting.{Setting, class_at as class_of_number};
 ghost use Rattle.ang_meaning.specs.Perform.{perform, may_take as may_take_in, member_or, member_put};
-ghost use Rattle.ang_meaning.specs.Told.{Told};
 ghost use Rattle.ang_heap.specs.Heaps.{objects_of};
 ghost use Rattle.ang_heap.specs.Parts.{world_by};
-ghost use Rattle.ang_heap.specs.Stores.{world_of, IsReady, StoreMoves};
+ghost use Rattle.ang_heap.specs.Stores.{world_of, IsReady, StoreTold, HasMoved, StoreBecomes};
 ghost use Rattle.ang_vm_stack.specs.Tables.{setting_of};
 ghost use Rattle.ang_vm_stack.specs.Arms.{done};
 ghost use Rattle.ang_vm_objects.specs.Counts.{StandCounted};
@@ -49,7 +47,8 @@ fn is_lower(first: Option<u32>, second: Option<u32>) -> bool
 
 /// Whether a field of an object may take a value: a script object has to be of a lower rank than its holder.
 fn may_take(heap: &Heap, number: usize, value: Slot) -> bool
-    ensures exact { (hs : HostCounts) (gs : List (List Slot)) (es : List HostEvent) (is : List Input)
+    ensures exact { (hs : HostCounts) (gs : List (List Slot)) (es : List HostEvent)
+        (is : List Input)
         → result ≡ may_take_in number value (world_by (objects_of heap.now) hs gs es is) }
 {
     match value {
@@ -65,10 +64,12 @@ fn may_take(heap: &Heap, number: usize, value: Slot) -> bool
 /// A value and a field of an object change places, where the value names an object whose field may take it;
 /// else the value comes back. Nothing is held or given up.
 pub fn trade_member(store: &mut Store, object: Slot, index: u32, value: Slot) -> Slot
-    requires ready { IsReady (λ v. (⟦<dyn Driver as Driver>⟧ v).meaning) store.old }
-    ensures old { result ≡ member_or index object value (world_of (λ v. (⟦<dyn Driver as Driver>⟧ v).meaning) store.old) }
-    ensures put { (is : List Input) → member_put index object value (with_inputs is (world_of (λ v. (⟦<dyn Driver as Driver>⟧ v).meaning) store.old)) ≡ with_inputs is (world_of (λ v. (⟦<dyn Driver as Driver>⟧ v).meaning) store.new) }
-    ensures moves { (roles : List Role) → StoreMoves (λ v. (⟦<dyn Driver as Driver>⟧ v).meaning) roles store.old store.new }
+    requires ready { IsReady ⟦<dyn Driver as Driver>⟧ store.old }
+    ensures old { result
+        ≡ member_or index object value (world_of ⟦<dyn Driver as Driver>⟧ store.old) }
+    ensures put { StoreBecomes ⟦<dyn Driver as Driver>⟧ (member_put index object value) store.old
+        store.new }
+    ensures moves { HasMoved ⟦<dyn Driver as Driver>⟧ store.old store.new }
 {
     let number = match number_of(object) {
         Some(number) => number,
@@ -85,10 +86,11 @@ pub fn trade_member(store: &mut Store, object: Slot, index: u32, value: Slot) ->
 /// # Errors
 /// `Memory` where there is none for it.
 pub fn make(store: &mut Store, class: &Class) -> Result<Slot, Fault>
-    requires ready { IsReady (λ v. (⟦<dyn Driver as Driver>⟧ v).meaning) store.old }
+    requires ready { IsReady ⟦<dyn Driver as Driver>⟧ store.old }
     ensures told { (z : Setting) (home number : ℕ) → class_of_number z home number ≡ class.now
-        → Told (λ is. perform z home (Make number) [] (with_inputs is (world_of (λ v. (⟦<dyn Driver as Driver>⟧ v).meaning) store.old))) (λ is. done result (with_inputs is (world_of (λ v. (⟦<dyn Driver as Driver>⟧ v).meaning) store.new))) }
-    ensures moves { (roles : List Role) → StoreMoves (λ v. (⟦<dyn Driver as Driver>⟧ v).meaning) roles store.old store.new }
+        → StoreTold ⟦<dyn Driver as Driver>⟧ (perform z home (Make number) []) store.old
+        (done result) store.new }
+    ensures moves { HasMoved ⟦<dyn Driver as Driver>⟧ store.old store.new }
 {
     match store.heap.make(class) {
         Ok(number) => Ok(Slot::Script(Some(number))),
@@ -101,10 +103,12 @@ pub fn make(store: &mut Store, class: &Class) -> Result<Slot, Fault>
 /// # Errors
 /// `Null` where the value names no script object, `Tally` where a tally is full.
 pub fn get(store: &mut Store, object: Slot, index: u32) -> Result<Slot, Fault>
-    requires ready { IsReady (λ v. (⟦<dyn Driver as Driver>⟧ v).meaning) store.old }
-    requires counted { StandCounted (object ∷ []) (world_of (λ v. (⟦<dyn Driver as Driver>⟧ v).meaning) store.old) }
-    ensures told { (z : Setting) (home : ℕ) → Told (λ is. perform z home (FieldGet index) (object ∷ []) (with_inputs is (world_of (λ v. (⟦<dyn Driver as Driver>⟧ v).meaning) store.old))) (λ is. done result (with_inputs is (world_of (λ v. (⟦<dyn Driver as Driver>⟧ v).meaning) store.new))) }
-    ensures moves { (roles : List Role) → StoreMoves (λ v. (⟦<dyn Driver as Driver>⟧ v).meaning) roles store.old store.new }
+    requires ready { IsReady ⟦<dyn Driver as Driver>⟧ store.old }
+    requires counted { StandCounted (object ∷ []) (world_of ⟦<dyn Driver as Driver>⟧ store.old) }
+    ensures told { (z : Setting) (home : ℕ)
+        → StoreTold ⟦<dyn Driver as Driver>⟧ (perform z home (FieldGet index) (object ∷ []))
+        store.old (done result) store.new }
+    ensures moves { HasMoved ⟦<dyn Driver as Driver>⟧ store.old store.new }
 {
     let number = match number_of(object) {
         Some(number) => number,
@@ -124,10 +128,13 @@ pub fn get(store: &mut Store, object: Slot, index: u32) -> Result<Slot, Fault>
 /// # Errors
 /// `Null` where the object is none or its field can't take the value, `Tally` where a tally is full.
 pub fn set(store: &mut Store, object: Slot, index: u32, value: Slot) -> Result<Slot, Fault>
-    requires ready { IsReady (λ v. (⟦<dyn Driver as Driver>⟧ v).meaning) store.old }
-    requires counted { StandCounted (object ∷ value ∷ []) (world_of (λ v. (⟦<dyn Driver as Driver>⟧ v).meaning) store.old) }
-    ensures told { (z : Setting) (home : ℕ) → Told (λ is. perform z home (FieldSet index) (object ∷ value ∷ []) (with_inputs is (world_of (λ v. (⟦<dyn Driver as Driver>⟧ v).meaning) store.old))) (λ is. done result (with_inputs is (world_of (λ v. (⟦<dyn Driver as Driver>⟧ v).meaning) store.new))) }
-    ensures moves { (roles : List Role) → StoreMoves (λ v. (⟦<dyn Driver as Driver>⟧ v).meaning) roles store.old store.new }
+    requires ready { IsReady ⟦<dyn Driver as Driver>⟧ store.old }
+    requires counted { StandCounted (object ∷ value ∷ [])
+        (world_of ⟦<dyn Driver as Driver>⟧ store.old) }
+    ensures told { (z : Setting) (home : ℕ)
+        → StoreTold ⟦<dyn Driver as Driver>⟧ (perform z home (FieldSet index) (object ∷ value ∷ []))
+        store.old (done result) store.new }
+    ensures moves { HasMoved ⟦<dyn Driver as Driver>⟧ store.old store.new }
 {
     let number = match number_of(object) {
         Some(number) => number,
@@ -156,10 +163,14 @@ pub fn alter(
     by: Change,
     operand: Slot,
 ) -> Result<Slot, Fault>
-    requires ready { IsReady (λ v. (⟦<dyn Driver as Driver>⟧ v).meaning) store.old }
-    requires counted { StandCounted (object ∷ operand ∷ []) (world_of (λ v. (⟦<dyn Driver as Driver>⟧ v).meaning) store.old) }
-    ensures told { (z : Setting) (home : ℕ) → Told (λ is. perform z home (FieldChange index by) (object ∷ operand ∷ []) (with_inputs is (world_of (λ v. (⟦<dyn Driver as Driver>⟧ v).meaning) store.old))) (λ is. done result (with_inputs is (world_of (λ v. (⟦<dyn Driver as Driver>⟧ v).meaning) store.new))) }
-    ensures moves { (roles : List Role) → StoreMoves (λ v. (⟦<dyn Driver as Driver>⟧ v).meaning) roles store.old store.new }
+    requires ready { IsReady ⟦<dyn Driver as Driver>⟧ store.old }
+    requires counted { StandCounted (object ∷ operand ∷ [])
+        (world_of ⟦<dyn Driver as Driver>⟧ store.old) }
+    ensures told { (z : Setting) (home : ℕ)
+        → StoreTold ⟦<dyn Driver as Driver>⟧
+        (perform z home (FieldChange index by) (object ∷ operand ∷ [])) store.old (done result)
+        store.new }
+    ensures moves { HasMoved ⟦<dyn Driver as Driver>⟧ store.old store.new }
 {
     let number = match number_of(object) {
         Some(number) => number,
@@ -187,7 +198,8 @@ fn stands_under(class: &Class, number: u32) -> bool
 
 /// Whether the class of an object, where there is an object, is or stands under that class or interface.
 fn is_under(table: &Table, home: u32, number: u32, class: Option<u32>) -> bool
-    ensures exact { (nesting : ℕ) → result ≡ is_class_under (setting_of table.now nesting) home number class }
+    ensures exact { (nesting : ℕ)
+        → result ≡ is_class_under (setting_of table.now nesting) home number class }
 {
     match class {
         Some(own) => match class_at(table, home, own) {
@@ -209,10 +221,13 @@ pub fn cast_value(
     class: u32,
     value: Slot,
 ) -> Result<Slot, Fault>
-    requires ready { IsReady (λ v. (⟦<dyn Driver as Driver>⟧ v).meaning) store.old }
-    requires counted { StandCounted (value ∷ []) (world_of (λ v. (⟦<dyn Driver as Driver>⟧ v).meaning) store.old) }
-    ensures told { (nesting : ℕ) → Told (λ is. perform (setting_of table.now nesting) home (Cast class) (value ∷ []) (with_inputs is (world_of (λ v. (⟦<dyn Driver as Driver>⟧ v).meaning) store.old))) (λ is. done result (with_inputs is (world_of (λ v. (⟦<dyn Driver as Driver>⟧ v).meaning) store.new))) }
-    ensures moves { (roles : List Role) → StoreMoves (λ v. (⟦<dyn Driver as Driver>⟧ v).meaning) roles store.old store.new }
+    requires ready { IsReady ⟦<dyn Driver as Driver>⟧ store.old }
+    requires counted { StandCounted (value ∷ []) (world_of ⟦<dyn Driver as Driver>⟧ store.old) }
+    ensures told { (nesting : ℕ)
+        → StoreTold ⟦<dyn Driver as Driver>⟧
+        (perform (setting_of table.now nesting) home (Cast class) (value ∷ [])) store.old
+        (done result) store.new }
+    ensures moves { HasMoved ⟦<dyn Driver as Driver>⟧ store.old store.new }
 {
     let handle = match value {
         Slot::Bits(_) => return Err(Fault::Null),

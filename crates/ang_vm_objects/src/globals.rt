@@ -1,12 +1,9 @@
 //! Operations on the globals of a module.
 ghost use Rattle.std.specs.Prelude.{◌≡◌, ◌∷◌, List, []};
-ghost use Rattle.ang_host.specs.declared.event.Role.{Role};
 ghost use Rattle.ang_meaning.specs.declared.operation.Operation.TheVariants.{GlobalGet, GlobalSet, GlobalChange};
-ghost use Rattle.ang_meaning.specs.World.{Input, with_inputs};
 ghost use Rattle.ang_meaning.specs.Setting.{Setting};
 ghost use Rattle.ang_meaning.specs.Perform.{perform, global_or, global_put};
-ghost use Rattle.ang_meaning.specs.Told.{Told};
-ghost use Rattle.ang_heap.specs.Stores.{world_of, IsReady, StoreMoves};
+ghost use Rattle.ang_heap.specs.Stores.{world_of, IsReady, StoreTold, HasMoved, StoreBecomes};
 ghost use Rattle.ang_vm_stack.specs.Arms.{done};
 ghost use Rattle.ang_vm_objects.specs.Counts.{StandCounted};
 
@@ -19,10 +16,12 @@ use ang_vm_numbers::change_slot;
 /// Puts a value into a global of a module, and answers its old one; the value itself where there is no such
 /// global. Nothing is held or given up.
 pub fn trade_global(store: &mut Store, home: u32, number: u32, value: Slot) -> Slot
-    requires ready { IsReady (λ v. (⟦<dyn Driver as Driver>⟧ v).meaning) store.old }
-    ensures old { result ≡ global_or home number value (world_of (λ v. (⟦<dyn Driver as Driver>⟧ v).meaning) store.old) }
-    ensures put { (is : List Input) → global_put home number value (with_inputs is (world_of (λ v. (⟦<dyn Driver as Driver>⟧ v).meaning) store.old)) ≡ with_inputs is (world_of (λ v. (⟦<dyn Driver as Driver>⟧ v).meaning) store.new) }
-    ensures moves { (roles : List Role) → StoreMoves (λ v. (⟦<dyn Driver as Driver>⟧ v).meaning) roles store.old store.new }
+    requires ready { IsReady ⟦<dyn Driver as Driver>⟧ store.old }
+    ensures old { result
+        ≡ global_or home number value (world_of ⟦<dyn Driver as Driver>⟧ store.old) }
+    ensures put { StoreBecomes ⟦<dyn Driver as Driver>⟧ (global_put home number value) store.old
+        store.new }
+    ensures moves { HasMoved ⟦<dyn Driver as Driver>⟧ store.old store.new }
 {
     let old = store.globals.get_or(home, number, value);
     store.globals.put(home, number, value);
@@ -34,9 +33,11 @@ pub fn trade_global(store: &mut Store, home: u32, number: u32, value: Slot) -> S
 /// # Errors
 /// `Tally` where a tally is full.
 pub fn get(store: &mut Store, home: u32, number: u32) -> Result<Slot, Fault>
-    requires counted { StandCounted [] (world_of (λ v. (⟦<dyn Driver as Driver>⟧ v).meaning) store.old) }
-    ensures told { (z : Setting) → Told (λ is. perform z home (GlobalGet number) [] (with_inputs is (world_of (λ v. (⟦<dyn Driver as Driver>⟧ v).meaning) store.old))) (λ is. done result (with_inputs is (world_of (λ v. (⟦<dyn Driver as Driver>⟧ v).meaning) store.new))) }
-    ensures moves { (roles : List Role) → StoreMoves (λ v. (⟦<dyn Driver as Driver>⟧ v).meaning) roles store.old store.new }
+    requires counted { StandCounted [] (world_of ⟦<dyn Driver as Driver>⟧ store.old) }
+    ensures told { (z : Setting)
+        → StoreTold ⟦<dyn Driver as Driver>⟧ (perform z home (GlobalGet number) []) store.old
+        (done result) store.new }
+    ensures moves { HasMoved ⟦<dyn Driver as Driver>⟧ store.old store.new }
 {
     let value = store.globals.get_or(home, number, Slot::Bits(0));
     if !hold(store, value) {
@@ -50,10 +51,12 @@ pub fn get(store: &mut Store, home: u32, number: u32) -> Result<Slot, Fault>
 /// # Errors
 /// `Tally` where a tally is full.
 pub fn set(store: &mut Store, home: u32, number: u32, value: Slot) -> Result<Slot, Fault>
-    requires ready { IsReady (λ v. (⟦<dyn Driver as Driver>⟧ v).meaning) store.old }
-    requires counted { StandCounted (value ∷ []) (world_of (λ v. (⟦<dyn Driver as Driver>⟧ v).meaning) store.old) }
-    ensures told { (z : Setting) → Told (λ is. perform z home (GlobalSet number) (value ∷ []) (with_inputs is (world_of (λ v. (⟦<dyn Driver as Driver>⟧ v).meaning) store.old))) (λ is. done result (with_inputs is (world_of (λ v. (⟦<dyn Driver as Driver>⟧ v).meaning) store.new))) }
-    ensures moves { (roles : List Role) → StoreMoves (λ v. (⟦<dyn Driver as Driver>⟧ v).meaning) roles store.old store.new }
+    requires ready { IsReady ⟦<dyn Driver as Driver>⟧ store.old }
+    requires counted { StandCounted (value ∷ []) (world_of ⟦<dyn Driver as Driver>⟧ store.old) }
+    ensures told { (z : Setting)
+        → StoreTold ⟦<dyn Driver as Driver>⟧ (perform z home (GlobalSet number) (value ∷ []))
+        store.old (done result) store.new }
+    ensures moves { HasMoved ⟦<dyn Driver as Driver>⟧ store.old store.new }
 {
     if !hold(store, value) {
         return Err(Fault::Tally);
@@ -74,9 +77,11 @@ pub fn alter(
     by: Change,
     operand: Slot,
 ) -> Result<Slot, Fault>
-    requires ready { IsReady (λ v. (⟦<dyn Driver as Driver>⟧ v).meaning) store.old }
-    ensures told { (z : Setting) → Told (λ is. perform z home (GlobalChange number by) (operand ∷ []) (with_inputs is (world_of (λ v. (⟦<dyn Driver as Driver>⟧ v).meaning) store.old))) (λ is. done result (with_inputs is (world_of (λ v. (⟦<dyn Driver as Driver>⟧ v).meaning) store.new))) }
-    ensures moves { (roles : List Role) → StoreMoves (λ v. (⟦<dyn Driver as Driver>⟧ v).meaning) roles store.old store.new }
+    requires ready { IsReady ⟦<dyn Driver as Driver>⟧ store.old }
+    ensures told { (z : Setting)
+        → StoreTold ⟦<dyn Driver as Driver>⟧
+        (perform z home (GlobalChange number by) (operand ∷ [])) store.old (done result) store.new }
+    ensures moves { HasMoved ⟦<dyn Driver as Driver>⟧ store.old store.new }
 {
     let old = store.globals.get_or(home, number, Slot::Bits(0));
     match change_slot(by, old, operand) {

@@ -1,14 +1,11 @@
 //! Handles: which are null, and which name one object.
 ghost use Rattle.std.specs.Prelude.{◌≡◌, ℕ, ◌∷◌, List, []};
-ghost use Rattle.ang_host.specs.declared.event.Role.{Role};
 ghost use Rattle.ang_meaning.specs.declared.operation.Operation.TheVariants.{Same};
-ghost use Rattle.ang_meaning.specs.World.{with_inputs};
 ghost use Rattle.ang_meaning.specs.Setting.{Setting, is_null as is_null_slot};
 ghost use Rattle.ang_meaning.specs.Numbers.{truth as truth_of};
 ghost use Rattle.ang_meaning.specs.Hosts.{Fine};
 ghost use Rattle.ang_meaning.specs.Perform.{perform, is_same, name_one};
-ghost use Rattle.ang_meaning.specs.Told.{Told};
-ghost use Rattle.ang_heap.specs.Stores.{world_of, IsReady, StoreMoves};
+ghost use Rattle.ang_heap.specs.Stores.{world_of, IsReady, StoreTold, HasMoved};
 ghost use Rattle.ang_vm_objects.specs.Counts.{StandCounted};
 
 use ang_heap::{Store, give};
@@ -68,10 +65,13 @@ fn truth(value: bool) -> u64
 
 /// `is` on two values, which are given up, the second one first.
 pub fn compare_handles(store: &mut Store, first: Slot, second: Slot) -> Slot
-    requires ready { IsReady (λ v. (⟦<dyn Driver as Driver>⟧ v).meaning) store.old }
-    requires counted { StandCounted (second ∷ first ∷ []) (world_of (λ v. (⟦<dyn Driver as Driver>⟧ v).meaning) store.old) }
-    ensures told { (z : Setting) (home : ℕ) → Told (λ is. perform z home Same (second ∷ first ∷ []) (with_inputs is (world_of (λ v. (⟦<dyn Driver as Driver>⟧ v).meaning) store.old))) (λ is. Fine result (with_inputs is (world_of (λ v. (⟦<dyn Driver as Driver>⟧ v).meaning) store.new))) }
-    ensures moves { (roles : List Role) → StoreMoves (λ v. (⟦<dyn Driver as Driver>⟧ v).meaning) roles store.old store.new }
+    requires ready { IsReady ⟦<dyn Driver as Driver>⟧ store.old }
+    requires counted { StandCounted (second ∷ first ∷ [])
+        (world_of ⟦<dyn Driver as Driver>⟧ store.old) }
+    ensures told { (z : Setting) (home : ℕ)
+        → StoreTold ⟦<dyn Driver as Driver>⟧ (perform z home Same (second ∷ first ∷ [])) store.old
+        (Fine result) store.new }
+    ensures moves { HasMoved ⟦<dyn Driver as Driver>⟧ store.old store.new }
 {
     let same = truth(are_same(first, second));
     give(store, second);

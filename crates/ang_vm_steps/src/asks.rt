@@ -1,21 +1,18 @@
 //! Operations that ask the host.
 ghost use Rattle.std.specs.Prelude.{◌≡◌, ℕ, ◌+◌, ◌-◌, ◌<◌, ◌≤◌, true, List, length, IfOk};
-ghost use Rattle.ang_host.specs.declared.event.Role.{Role};
 ghost use Rattle.ang_host.specs.Boxes.{members};
-ghost use Rattle.ang_meaning.specs.World.{with_inputs};
 ghost use Rattle.ang_meaning.specs.Setting.{is_fit};
 ghost use Rattle.ang_meaning.specs.Perform.{perform, operands as operand_count};
-ghost use Rattle.ang_meaning.specs.Counting.{IsCounted};
-ghost use Rattle.ang_meaning.specs.Told.{Told};
 ghost use Rattle.ang_code.specs.declared.instruction.Instruction.TheVariants.{Do};
-ghost use Rattle.ang_code.specs.Machine.{Texts, take_some};
-ghost use Rattle.ang_heap.specs.Stores.{world_of, IsReady, StoreMoves};
+ghost use Rattle.ang_code.specs.Machine.{take_some};
+ghost use Rattle.ang_heap.specs.Stores.{IsReady, StoreTold};
 ghost use Rattle.ang_vm_ask.specs.Asks.{asks_host};
-ghost use Rattle.ang_vm_ask.specs.Entities.{DriversThere, HaveRoles};
+ghost use Rattle.ang_vm_ask.specs.Entities.{DriversThere};
 ghost use Rattle.ang_vm_stack.specs.Arms.{done};
-ghost use Rattle.ang_vm_steps.specs.Arms.{ActsIn};
+ghost use Rattle.ang_vm_steps.specs.Arms.{AreCounted, TableActs};
 ghost use Rattle.ang_vm_stack.specs.Stacks.{values};
 ghost use Rattle.ang_vm_stack.specs.Tables.{setting_of};
+ghost use Rattle.ang_vm_ask.specs.Askings.{HasMovedOver};
 
 use crate::doing::put_answer;
 use crate::many::give_top;
@@ -44,14 +41,15 @@ fn perform_on_host(
     requires in_use { count ≤ top }
     requires within { top ≤ length stack.now }
     requires drivers { DriversThere table.now (length (members store.old.drivers)) }
-    requires ready { IsReady (λ v. (⟦<dyn Driver as Driver>⟧ v).meaning) store.old }
-    requires counted { IsCounted (values stack.now top) (world_of (λ v. (⟦<dyn Driver as Driver>⟧ v).meaning) store.old) }
-    ensures told { (nesting : ℕ) → asks_host operation ≡ true → is_fit (setting_of table.now nesting) home operation ≡ true
+    requires ready { IsReady ⟦<dyn Driver as Driver>⟧ store.old }
+    requires counted { AreCounted ⟦<dyn Driver as Driver>⟧ stack.now top store.old }
+    ensures told { (nesting : ℕ) → asks_host operation ≡ true
+        → is_fit (setting_of table.now nesting) home operation ≡ true
         → count ≡ operand_count (setting_of table.now nesting) home operation
-        → Told (λ is. perform (setting_of table.now nesting) home operation (take_some count (values stack.now top)) (with_inputs is (world_of (λ v. (⟦<dyn Driver as Driver>⟧ v).meaning) store.old)))
-        (λ is. done result (with_inputs is (world_of (λ v. (⟦<dyn Driver as Driver>⟧ v).meaning) store.new))) }
-    ensures moves { (roles : List Role) → HaveRoles table.now roles → StoreMoves (λ v. (⟦<dyn Driver as Driver>⟧ v).meaning) roles store.old store.new }
-    ensures ready { IsReady (λ v. (⟦<dyn Driver as Driver>⟧ v).meaning) store.new }
+        → StoreTold ⟦<dyn Driver as Driver>⟧ (perform (setting_of table.now nesting) home operation
+        (take_some count (values stack.now top))) store.old (done result) store.new }
+    ensures moves { HasMovedOver ⟦<dyn Driver as Driver>⟧ table.now store.old store.new }
+    ensures ready { IsReady ⟦<dyn Driver as Driver>⟧ store.new }
     ensures count { length (members store.new.drivers) ≡ length (members store.old.drivers) }
 {
     let alloc = *store.events.allocator();
@@ -76,15 +74,15 @@ pub(crate) fn ask_host(
 ) -> Result<usize, Stop>
     requires in_room { top ≤ room }
     requires within { room ≤ length stack.old }
-    requires ready { IsReady (λ v. (⟦<dyn Driver as Driver>⟧ v).meaning) store.old }
-    requires counted { IsCounted (values stack.old top) (world_of (λ v. (⟦<dyn Driver as Driver>⟧ v).meaning) store.old) }
+    requires ready { IsReady ⟦<dyn Driver as Driver>⟧ store.old }
+    requires counted { AreCounted ⟦<dyn Driver as Driver>⟧ stack.old top store.old }
     requires drivers { DriversThere table.now (length (members store.old.drivers)) }
     requires asks { asks_host operation ≡ true }
-    ensures acts { (nesting : ℕ) (code : Texts) → ActsIn body (setting_of table.now nesting) code (Do operation) room top stack.old (world_of (λ v. (⟦<dyn Driver as Driver>⟧ v).meaning) store.old)
-        result stack.new (world_of (λ v. (⟦<dyn Driver as Driver>⟧ v).meaning) store.new) }
+    ensures acts { TableActs ⟦<dyn Driver as Driver>⟧ table.now body (Do operation) room top
+        stack.old store.old result stack.new store.new }
     ensures in_room { IfOk result (λ n. n ≤ room) }
-    ensures moves { (roles : List Role) → HaveRoles table.now roles → StoreMoves (λ v. (⟦<dyn Driver as Driver>⟧ v).meaning) roles store.old store.new }
-    ensures ready { IsReady (λ v. (⟦<dyn Driver as Driver>⟧ v).meaning) store.new }
+    ensures moves { HasMovedOver ⟦<dyn Driver as Driver>⟧ table.now store.old store.new }
+    ensures ready { IsReady ⟦<dyn Driver as Driver>⟧ store.new }
     ensures count { length (members store.new.drivers) ≡ length (members store.old.drivers) }
 {
     match operands(table, body.home, operation) {

@@ -30,7 +30,8 @@ pub fn callee_of(
 ) -> Result<Routine, Fault>
     requires within { top ≤ length stack.now }
     ensures exact { (nesting : ℕ) (is : List Input)
-        → target (setting_of table.now nesting) home callee (values stack.now top) (with_inputs is (world_of (λ v. (⟦<dyn Driver as Driver>⟧ v).meaning) store.now)) ≡ found result }
+        → target (setting_of table.now nesting) home callee (values stack.now top)
+        (with_inputs is (world_of ⟦<dyn Driver as Driver>⟧ store.now)) ≡ found result }
 {
     match callee {
         Callee::Own(number) => Ok(Routine { home, number }),
@@ -65,7 +66,8 @@ fn count_of(table: &Table, home: u32, slot: u32) -> usize
 /// The value of the first parameter of a slot's methods, the receiver's: it stands lowest of the arguments.
 fn receiver_of(table: &Table, home: u32, slot: u32, stack: &[Slot], top: usize) -> Slot
     requires within { top ≤ length stack.now }
-    ensures exact { result ≡ receiver_in (params_in (slot_of table.now home slot)) (values stack.now top) }
+    ensures exact { result
+        ≡ receiver_in (params_in (slot_of table.now home slot)) (values stack.now top) }
 {
     let count = count_of(table, home, slot);
     if count == 0 {
@@ -86,7 +88,8 @@ fn method_for(
     store: &Store,
 ) -> Result<Routine, Fault>
     ensures exact { (nesting : ℕ) (is : List Input)
-        → virtual_of (setting_of table.now nesting) home slot receiver (with_inputs is (world_of (λ v. (⟦<dyn Driver as Driver>⟧ v).meaning) store.now)) ≡ found result }
+        → virtual_of (setting_of table.now nesting) home slot receiver
+        (with_inputs is (world_of ⟦<dyn Driver as Driver>⟧ store.now)) ≡ found result }
 {
     match receiver {
         Slot::Bits(_) => Err(Fault::Null),

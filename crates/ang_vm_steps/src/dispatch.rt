@@ -1,13 +1,12 @@
 //! `Do`: each operation by its function.
 ghost use Rattle.std.specs.Prelude.{◌≡◌, ◌<◌, ◌≤◌, List, length};
-ghost use Rattle.ang_host.specs.declared.event.Role.{Role};
 ghost use Rattle.ang_host.specs.Boxes.{members};
-ghost use Rattle.ang_meaning.specs.Counting.{IsCounted};
 ghost use Rattle.ang_code.specs.declared.instruction.Instruction.TheVariants.{Do};
-ghost use Rattle.ang_heap.specs.Stores.{world_of, IsReady, StoreMoves};
-ghost use Rattle.ang_vm_stack.specs.Stacks.{values};
-ghost use Rattle.ang_vm_ask.specs.Entities.{DriversThere, HaveRoles};
+ghost use Rattle.ang_heap.specs.Stores.{world_of, IsReady};
+ghost use Rattle.ang_vm_ask.specs.Entities.{DriversThere};
 ghost use Rattle.ang_vm_steps.specs.Turns.{Turned, IsNext};
+ghost use Rattle.ang_vm_ask.specs.Askings.{HasMovedOver};
+ghost use Rattle.ang_vm_steps.specs.Arms.{AreCounted};
 
 use crate::asks::ask_host;
 use crate::doing::{do_compare, do_complement, do_convert, do_negate, do_not, do_work};
@@ -36,13 +35,14 @@ pub fn do_operation(
     requires inside { here.at < size }
     requires in_room { here.top ≤ room }
     requires within { room ≤ length stack.old }
-    requires ready { IsReady (λ v. (⟦<dyn Driver as Driver>⟧ v).meaning) store.old }
-    requires counted { IsCounted (values stack.old here.top) (world_of (λ v. (⟦<dyn Driver as Driver>⟧ v).meaning) store.old) }
+    requires ready { IsReady ⟦<dyn Driver as Driver>⟧ store.old }
+    requires counted { AreCounted ⟦<dyn Driver as Driver>⟧ stack.old here.top store.old }
     requires drivers { DriversThere table.now (length (members store.old.drivers)) }
     ensures turned { IsNext table.now body here (Do operation.now) size
-        → Turned table.now body room here stack.old (world_of (λ v. (⟦<dyn Driver as Driver>⟧ v).meaning) store.old) result stack.new (world_of (λ v. (⟦<dyn Driver as Driver>⟧ v).meaning) store.new) }
-    ensures moves { (roles : List Role) → HaveRoles table.now roles → StoreMoves (λ v. (⟦<dyn Driver as Driver>⟧ v).meaning) roles store.old store.new }
-    ensures ready { IsReady (λ v. (⟦<dyn Driver as Driver>⟧ v).meaning) store.new }
+        → Turned table.now body room here stack.old (world_of ⟦<dyn Driver as Driver>⟧ store.old)
+        result stack.new (world_of ⟦<dyn Driver as Driver>⟧ store.new) }
+    ensures moves { HasMovedOver ⟦<dyn Driver as Driver>⟧ table.now store.old store.new }
+    ensures ready { IsReady ⟦<dyn Driver as Driver>⟧ store.new }
     ensures count { length (members store.new.drivers) ≡ length (members store.old.drivers) }
 {
     let top = here.top;

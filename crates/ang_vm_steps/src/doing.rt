@@ -4,15 +4,14 @@ ghost use Rattle.ang_kinds.specs.declared.fault.Fault.{Fault as FaultOf};
 ghost use Rattle.ang_meaning.specs.declared.routine.Routine.{Routine};
 ghost use Rattle.ang_meaning.specs.declared.operation.Operation.TheVariants.{Work, Compare, Convert, Negate, Complement, Not};
 ghost use Rattle.ang_meaning.specs.World.{World};
-ghost use Rattle.ang_meaning.specs.Setting.{Setting};
 ghost use Rattle.ang_meaning.specs.Results.{drop_some};
 ghost use Rattle.ang_code.specs.declared.instruction.Frame.{Frame};
 ghost use Rattle.ang_code.specs.declared.instruction.Instruction.TheVariants.{Do};
-ghost use Rattle.ang_code.specs.Machine.{Texts, At, did};
+ghost use Rattle.ang_code.specs.Machine.{At, did};
 ghost use Rattle.ang_vm_stack.specs.declared.stop.Stop.TheVariants.{Fails};
 ghost use Rattle.ang_vm_stack.specs.Stacks.{values};
 ghost use Rattle.ang_vm_stack.specs.Arms.{done, went};
-ghost use Rattle.ang_vm_steps.specs.Arms.{Acts};
+ghost use Rattle.ang_vm_steps.specs.Arms.{ActsAlone};
 
 use crate::operations::{
     compare_slots, complement_slot, convert_slot, deny_slot, negate_slot, work_slots,
@@ -35,10 +34,12 @@ pub(crate) fn put_answer(
     requires within { top ≤ length stack.old }
     requires room { top - count < length stack.old }
     ensures exact { (room : ℕ) (f : Routine) (pc : ℕ) (fr : List Frame) (t : ℕ) (w : World)
-        → did (done answer w) (values stack.old top) (λ v u. At f (pc + 1) room (v ∷ drop_some count (values stack.old top)) fr t u)
+        → did (done answer w) (values stack.old top)
+        (λ v u. At f (pc + 1) room (v ∷ drop_some count (values stack.old top)) fr t u)
         ≡ went result f pc room stack.new top fr t w }
     ensures in_room { IfOk result (λ n. n ≤ top - count + 1) }
-    ensures fails { (x : FaultOf) → result ≡ Err (Fails x) → (answer ≡ Err x) × (stack.new ≡ stack.old) }
+    ensures fails { (x : FaultOf) → result ≡ Err (Fails x)
+        → (answer ≡ Err x) × (stack.new ≡ stack.old) }
 {
     match answer {
         Ok(value) => {
@@ -60,7 +61,7 @@ pub(crate) fn do_work(
 ) -> Result<usize, Stop>
     requires in_room { top ≤ room }
     requires within { room ≤ length stack.old }
-    ensures acts { (z : Setting) (code : Texts) (w : World) → Acts z code (Do (Work what at)) room top stack.old w result stack.new w }
+    ensures acts { ActsAlone (Do (Work what at)) room top stack.old result stack.new }
     ensures in_room { IfOk result (λ n. n ≤ room) }
 {
     if top < 2 {
@@ -83,7 +84,7 @@ pub(crate) fn do_compare(
 ) -> Result<usize, Stop>
     requires in_room { top ≤ room }
     requires within { room ≤ length stack.old }
-    ensures acts { (z : Setting) (code : Texts) (w : World) → Acts z code (Do (Compare what signed)) room top stack.old w result stack.new w }
+    ensures acts { ActsAlone (Do (Compare what signed)) room top stack.old result stack.new }
     ensures in_room { IfOk result (λ n. n ≤ room) }
 {
     if top < 2 {
@@ -105,7 +106,7 @@ pub(crate) fn do_convert(
 ) -> Result<usize, Stop>
     requires in_room { top ≤ room }
     requires within { room ≤ length stack.old }
-    ensures acts { (z : Setting) (code : Texts) (w : World) → Acts z code (Do (Convert to)) room top stack.old w result stack.new w }
+    ensures acts { ActsAlone (Do (Convert to)) room top stack.old result stack.new }
     ensures in_room { IfOk result (λ n. n ≤ room) }
 {
     if top == 0 {
@@ -126,7 +127,7 @@ pub(crate) fn do_negate(
 ) -> Result<usize, Stop>
     requires in_room { top ≤ room }
     requires within { room ≤ length stack.old }
-    ensures acts { (z : Setting) (code : Texts) (w : World) → Acts z code (Do (Negate at)) room top stack.old w result stack.new w }
+    ensures acts { ActsAlone (Do (Negate at)) room top stack.old result stack.new }
     ensures in_room { IfOk result (λ n. n ≤ room) }
 {
     if top == 0 {
@@ -147,7 +148,7 @@ pub(crate) fn do_complement(
 ) -> Result<usize, Stop>
     requires in_room { top ≤ room }
     requires within { room ≤ length stack.old }
-    ensures acts { (z : Setting) (code : Texts) (w : World) → Acts z code (Do (Complement at)) room top stack.old w result stack.new w }
+    ensures acts { ActsAlone (Do (Complement at)) room top stack.old result stack.new }
     ensures in_room { IfOk result (λ n. n ≤ room) }
 {
     if top == 0 {
@@ -163,7 +164,7 @@ pub(crate) fn do_complement(
 pub(crate) fn do_not(stack: &mut [Slot], top: usize, room: usize) -> Result<usize, Stop>
     requires in_room { top ≤ room }
     requires within { room ≤ length stack.old }
-    ensures acts { (z : Setting) (code : Texts) (w : World) → Acts z code (Do Not) room top stack.old w result stack.new w }
+    ensures acts { ActsAlone (Do Not) room top stack.old result stack.new }
     ensures in_room { IfOk result (λ n. n ≤ room) }
 {
     if top == 0 {

@@ -1,15 +1,9 @@
 //! `Do`: operations on script objects.
 ghost use Rattle.std.specs.Prelude.{◌≡◌, ℕ, ◌≤◌, ◌∷◌, List, [], length, IfOk};
-ghost use Rattle.ang_host.specs.declared.event.Role.{Role};
 ghost use Rattle.ang_meaning.specs.declared.operation.Operation.TheVariants.{Make, FieldGet, FieldSet, FieldChange, Cast};
-ghost use Rattle.ang_meaning.specs.Setting.{Setting};
-ghost use Rattle.ang_meaning.specs.Counting.{IsCounted};
 ghost use Rattle.ang_code.specs.declared.instruction.Instruction.TheVariants.{Do};
-ghost use Rattle.ang_code.specs.Machine.{Texts};
-ghost use Rattle.ang_heap.specs.Stores.{world_of, IsReady, StoreMoves};
-ghost use Rattle.ang_vm_stack.specs.Stacks.{values};
-ghost use Rattle.ang_vm_stack.specs.Tables.{setting_of};
-ghost use Rattle.ang_vm_steps.specs.Arms.{Acts, ActsIn};
+ghost use Rattle.ang_heap.specs.Stores.{IsReady, HasMoved};
+ghost use Rattle.ang_vm_steps.specs.Arms.{AreCounted, ActsOn, TableActs};
 
 use crate::doing::put_answer;
 use ang_heap::Store;
@@ -32,12 +26,12 @@ pub(crate) fn make_object(
 ) -> Result<usize, Stop>
     requires in_room { top ≤ room }
     requires within { room ≤ length stack.old }
-    requires ready { IsReady (λ v. (⟦<dyn Driver as Driver>⟧ v).meaning) store.old }
-    requires counted { IsCounted (values stack.old top) (world_of (λ v. (⟦<dyn Driver as Driver>⟧ v).meaning) store.old) }
-    ensures acts { (nesting : ℕ) (code : Texts) → ActsIn body (setting_of table.now nesting) code (Do (Make class)) room top stack.old (world_of (λ v. (⟦<dyn Driver as Driver>⟧ v).meaning) store.old)
-        result stack.new (world_of (λ v. (⟦<dyn Driver as Driver>⟧ v).meaning) store.new) }
+    requires ready { IsReady ⟦<dyn Driver as Driver>⟧ store.old }
+    requires counted { AreCounted ⟦<dyn Driver as Driver>⟧ stack.old top store.old }
+    ensures acts { TableActs ⟦<dyn Driver as Driver>⟧ table.now body (Do (Make class)) room top
+        stack.old store.old result stack.new store.new }
     ensures in_room { IfOk result (λ n. n ≤ room) }
-    ensures moves { (roles : List Role) → StoreMoves (λ v. (⟦<dyn Driver as Driver>⟧ v).meaning) roles store.old store.new }
+    ensures moves { HasMoved ⟦<dyn Driver as Driver>⟧ store.old store.new }
 {
     let found = match class_at(table, body.home, class) {
         Some(found) => found,
@@ -60,12 +54,12 @@ pub(crate) fn get_field(
 ) -> Result<usize, Stop>
     requires in_room { top ≤ room }
     requires within { room ≤ length stack.old }
-    requires ready { IsReady (λ v. (⟦<dyn Driver as Driver>⟧ v).meaning) store.old }
-    requires counted { IsCounted (values stack.old top) (world_of (λ v. (⟦<dyn Driver as Driver>⟧ v).meaning) store.old) }
-    ensures acts { (z : Setting) (code : Texts) → Acts z code (Do (FieldGet index)) room top stack.old (world_of (λ v. (⟦<dyn Driver as Driver>⟧ v).meaning) store.old)
-        result stack.new (world_of (λ v. (⟦<dyn Driver as Driver>⟧ v).meaning) store.new) }
+    requires ready { IsReady ⟦<dyn Driver as Driver>⟧ store.old }
+    requires counted { AreCounted ⟦<dyn Driver as Driver>⟧ stack.old top store.old }
+    ensures acts { ActsOn ⟦<dyn Driver as Driver>⟧ (Do (FieldGet index)) room top stack.old
+        store.old result stack.new store.new }
     ensures in_room { IfOk result (λ n. n ≤ room) }
-    ensures moves { (roles : List Role) → StoreMoves (λ v. (⟦<dyn Driver as Driver>⟧ v).meaning) roles store.old store.new }
+    ensures moves { HasMoved ⟦<dyn Driver as Driver>⟧ store.old store.new }
 {
     if top == 0 {
         return Err(Stop::Lost);
@@ -85,12 +79,12 @@ pub(crate) fn set_field(
 ) -> Result<usize, Stop>
     requires in_room { top ≤ room }
     requires within { room ≤ length stack.old }
-    requires ready { IsReady (λ v. (⟦<dyn Driver as Driver>⟧ v).meaning) store.old }
-    requires counted { IsCounted (values stack.old top) (world_of (λ v. (⟦<dyn Driver as Driver>⟧ v).meaning) store.old) }
-    ensures acts { (z : Setting) (code : Texts) → Acts z code (Do (FieldSet index)) room top stack.old (world_of (λ v. (⟦<dyn Driver as Driver>⟧ v).meaning) store.old)
-        result stack.new (world_of (λ v. (⟦<dyn Driver as Driver>⟧ v).meaning) store.new) }
+    requires ready { IsReady ⟦<dyn Driver as Driver>⟧ store.old }
+    requires counted { AreCounted ⟦<dyn Driver as Driver>⟧ stack.old top store.old }
+    ensures acts { ActsOn ⟦<dyn Driver as Driver>⟧ (Do (FieldSet index)) room top stack.old
+        store.old result stack.new store.new }
     ensures in_room { IfOk result (λ n. n ≤ room) }
-    ensures moves { (roles : List Role) → StoreMoves (λ v. (⟦<dyn Driver as Driver>⟧ v).meaning) roles store.old store.new }
+    ensures moves { HasMoved ⟦<dyn Driver as Driver>⟧ store.old store.new }
 {
     if top < 2 {
         return Err(Stop::Lost);
@@ -112,12 +106,12 @@ pub(crate) fn change_field(
 ) -> Result<usize, Stop>
     requires in_room { top ≤ room }
     requires within { room ≤ length stack.old }
-    requires ready { IsReady (λ v. (⟦<dyn Driver as Driver>⟧ v).meaning) store.old }
-    requires counted { IsCounted (values stack.old top) (world_of (λ v. (⟦<dyn Driver as Driver>⟧ v).meaning) store.old) }
-    ensures acts { (z : Setting) (code : Texts) → Acts z code (Do (FieldChange index by)) room top stack.old (world_of (λ v. (⟦<dyn Driver as Driver>⟧ v).meaning) store.old)
-        result stack.new (world_of (λ v. (⟦<dyn Driver as Driver>⟧ v).meaning) store.new) }
+    requires ready { IsReady ⟦<dyn Driver as Driver>⟧ store.old }
+    requires counted { AreCounted ⟦<dyn Driver as Driver>⟧ stack.old top store.old }
+    ensures acts { ActsOn ⟦<dyn Driver as Driver>⟧ (Do (FieldChange index by)) room top stack.old
+        store.old result stack.new store.new }
     ensures in_room { IfOk result (λ n. n ≤ room) }
-    ensures moves { (roles : List Role) → StoreMoves (λ v. (⟦<dyn Driver as Driver>⟧ v).meaning) roles store.old store.new }
+    ensures moves { HasMoved ⟦<dyn Driver as Driver>⟧ store.old store.new }
 {
     if top < 2 {
         return Err(Stop::Lost);
@@ -140,12 +134,12 @@ pub(crate) fn cast(
 ) -> Result<usize, Stop>
     requires in_room { top ≤ room }
     requires within { room ≤ length stack.old }
-    requires ready { IsReady (λ v. (⟦<dyn Driver as Driver>⟧ v).meaning) store.old }
-    requires counted { IsCounted (values stack.old top) (world_of (λ v. (⟦<dyn Driver as Driver>⟧ v).meaning) store.old) }
-    ensures acts { (nesting : ℕ) (code : Texts) → ActsIn body (setting_of table.now nesting) code (Do (Cast class)) room top stack.old (world_of (λ v. (⟦<dyn Driver as Driver>⟧ v).meaning) store.old)
-        result stack.new (world_of (λ v. (⟦<dyn Driver as Driver>⟧ v).meaning) store.new) }
+    requires ready { IsReady ⟦<dyn Driver as Driver>⟧ store.old }
+    requires counted { AreCounted ⟦<dyn Driver as Driver>⟧ stack.old top store.old }
+    ensures acts { TableActs ⟦<dyn Driver as Driver>⟧ table.now body (Do (Cast class)) room top
+        stack.old store.old result stack.new store.new }
     ensures in_room { IfOk result (λ n. n ≤ room) }
-    ensures moves { (roles : List Role) → StoreMoves (λ v. (⟦<dyn Driver as Driver>⟧ v).meaning) roles store.old store.new }
+    ensures moves { HasMoved ⟦<dyn Driver as Driver>⟧ store.old store.new }
 {
     if top == 0 {
         return Err(Stop::Lost);

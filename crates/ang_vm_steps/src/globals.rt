@@ -1,14 +1,9 @@
 //! `Do`: operations on the globals of the running module.
 ghost use Rattle.std.specs.Prelude.{◌≡◌, ◌≤◌, ◌∷◌, List, [], length, IfOk};
-ghost use Rattle.ang_host.specs.declared.event.Role.{Role};
 ghost use Rattle.ang_meaning.specs.declared.operation.Operation.TheVariants.{GlobalGet, GlobalSet, GlobalChange};
-ghost use Rattle.ang_meaning.specs.Setting.{Setting};
-ghost use Rattle.ang_meaning.specs.Counting.{IsCounted};
 ghost use Rattle.ang_code.specs.declared.instruction.Instruction.TheVariants.{Do};
-ghost use Rattle.ang_code.specs.Machine.{Texts};
-ghost use Rattle.ang_heap.specs.Stores.{world_of, IsReady, StoreMoves};
-ghost use Rattle.ang_vm_stack.specs.Stacks.{values};
-ghost use Rattle.ang_vm_steps.specs.Arms.{ActsIn};
+ghost use Rattle.ang_heap.specs.Stores.{IsReady, HasMoved};
+ghost use Rattle.ang_vm_steps.specs.Arms.{AreCounted, BodyActs};
 
 use crate::doing::put_answer;
 use ang_heap::Store;
@@ -29,12 +24,12 @@ pub(crate) fn get_global(
 ) -> Result<usize, Stop>
     requires in_room { top ≤ room }
     requires within { room ≤ length stack.old }
-    requires ready { IsReady (λ v. (⟦<dyn Driver as Driver>⟧ v).meaning) store.old }
-    requires counted { IsCounted (values stack.old top) (world_of (λ v. (⟦<dyn Driver as Driver>⟧ v).meaning) store.old) }
-    ensures acts { (z : Setting) (code : Texts) → ActsIn body z code (Do (GlobalGet number)) room top stack.old (world_of (λ v. (⟦<dyn Driver as Driver>⟧ v).meaning) store.old)
-        result stack.new (world_of (λ v. (⟦<dyn Driver as Driver>⟧ v).meaning) store.new) }
+    requires ready { IsReady ⟦<dyn Driver as Driver>⟧ store.old }
+    requires counted { AreCounted ⟦<dyn Driver as Driver>⟧ stack.old top store.old }
+    ensures acts { BodyActs ⟦<dyn Driver as Driver>⟧ body (Do (GlobalGet number)) room top stack.old
+        store.old result stack.new store.new }
     ensures in_room { IfOk result (λ n. n ≤ room) }
-    ensures moves { (roles : List Role) → StoreMoves (λ v. (⟦<dyn Driver as Driver>⟧ v).meaning) roles store.old store.new }
+    ensures moves { HasMoved ⟦<dyn Driver as Driver>⟧ store.old store.new }
 {
     if top >= room {
         return Err(Stop::Lost);
@@ -54,12 +49,12 @@ pub(crate) fn set_global(
 ) -> Result<usize, Stop>
     requires in_room { top ≤ room }
     requires within { room ≤ length stack.old }
-    requires ready { IsReady (λ v. (⟦<dyn Driver as Driver>⟧ v).meaning) store.old }
-    requires counted { IsCounted (values stack.old top) (world_of (λ v. (⟦<dyn Driver as Driver>⟧ v).meaning) store.old) }
-    ensures acts { (z : Setting) (code : Texts) → ActsIn body z code (Do (GlobalSet number)) room top stack.old (world_of (λ v. (⟦<dyn Driver as Driver>⟧ v).meaning) store.old)
-        result stack.new (world_of (λ v. (⟦<dyn Driver as Driver>⟧ v).meaning) store.new) }
+    requires ready { IsReady ⟦<dyn Driver as Driver>⟧ store.old }
+    requires counted { AreCounted ⟦<dyn Driver as Driver>⟧ stack.old top store.old }
+    ensures acts { BodyActs ⟦<dyn Driver as Driver>⟧ body (Do (GlobalSet number)) room top stack.old
+        store.old result stack.new store.new }
     ensures in_room { IfOk result (λ n. n ≤ room) }
-    ensures moves { (roles : List Role) → StoreMoves (λ v. (⟦<dyn Driver as Driver>⟧ v).meaning) roles store.old store.new }
+    ensures moves { HasMoved ⟦<dyn Driver as Driver>⟧ store.old store.new }
 {
     if top == 0 {
         return Err(Stop::Lost);
@@ -81,12 +76,12 @@ pub(crate) fn change_global(
 ) -> Result<usize, Stop>
     requires in_room { top ≤ room }
     requires within { room ≤ length stack.old }
-    requires ready { IsReady (λ v. (⟦<dyn Driver as Driver>⟧ v).meaning) store.old }
-    requires counted { IsCounted (values stack.old top) (world_of (λ v. (⟦<dyn Driver as Driver>⟧ v).meaning) store.old) }
-    ensures acts { (z : Setting) (code : Texts) → ActsIn body z code (Do (GlobalChange number by)) room top stack.old (world_of (λ v. (⟦<dyn Driver as Driver>⟧ v).meaning) store.old)
-        result stack.new (world_of (λ v. (⟦<dyn Driver as Driver>⟧ v).meaning) store.new) }
+    requires ready { IsReady ⟦<dyn Driver as Driver>⟧ store.old }
+    requires counted { AreCounted ⟦<dyn Driver as Driver>⟧ stack.old top store.old }
+    ensures acts { BodyActs ⟦<dyn Driver as Driver>⟧ body (Do (GlobalChange number by)) room top
+        stack.old store.old result stack.new store.new }
     ensures in_room { IfOk result (λ n. n ≤ room) }
-    ensures moves { (roles : List Role) → StoreMoves (λ v. (⟦<dyn Driver as Driver>⟧ v).meaning) roles store.old store.new }
+    ensures moves { HasMoved ⟦<dyn Driver as Driver>⟧ store.old store.new }
 {
     if top == 0 {
         return Err(Stop::Lost);

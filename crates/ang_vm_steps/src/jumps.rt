@@ -72,7 +72,8 @@ pub fn skip_if_false(
     requires in_room { here.top ≤ room }
     requires within { room ≤ length stack.now }
     ensures turned { (t : Table) (f : Routine) (w : World)
-        → IsNext t f here (SkipIfFalse count) size → Turned t f room here stack.now w result stack.now w }
+        → IsNext t f here (SkipIfFalse count) size
+        → Turned t f room here stack.now w result stack.now w }
 {
     if here.top == 0 {
         return Err(Pause::Lost);

@@ -3,16 +3,14 @@
 //! Where nothing lives nothing is given up, so that a script without objects pays one test for all of its
 //! values.
 ghost use Rattle.std.specs.Prelude.{◌≡◌, ℕ, ◌+◌, ◌-◌, ◌<◌, ◌≤◌, List, length, IfOk, IsTrue};
-ghost use Rattle.ang_host.specs.declared.event.Role.{Role};
-ghost use Rattle.ang_meaning.specs.World.{Input, give as give_in, give_all, with_inputs};
-ghost use Rattle.ang_meaning.specs.Setting.{Setting};
+ghost use Rattle.ang_meaning.specs.World.{give as give_in, give_all};
 ghost use Rattle.ang_meaning.specs.Results.{give_some, give_back};
-ghost use Rattle.ang_meaning.specs.Counting.{IsCounted, CanGive};
+ghost use Rattle.ang_meaning.specs.Counting.{CanGive};
 ghost use Rattle.ang_code.specs.declared.instruction.Instruction.TheVariants.{Leave, DropUnder};
-ghost use Rattle.ang_code.specs.Machine.{Texts, take_some};
-ghost use Rattle.ang_heap.specs.Stores.{world_of, IsReady, StoreMoves};
+ghost use Rattle.ang_code.specs.Machine.{take_some};
+ghost use Rattle.ang_heap.specs.Stores.{world_of, IsReady, HasMoved, StoreBecomes};
 ghost use Rattle.ang_vm_stack.specs.Stacks.{values};
-ghost use Rattle.ang_vm_steps.specs.Arms.{Acts};
+ghost use Rattle.ang_vm_steps.specs.Arms.{AreCounted, ActsOn};
 
 use ang_heap::{Store, give};
 use ang_host::Driver;
@@ -23,9 +21,9 @@ use ang_vm_stack::stop::Stop;
 /// Whether no object lives, so that there is nothing to be given up.
 #[inline(always)]
 pub fn nothing_lives(store: &Store) -> bool
-    requires ready { IsReady (λ v. (⟦<dyn Driver as Driver>⟧ v).meaning) store.now }
-    ensures nothing { IsTrue result → (value : Slot) (is : List Input)
-        → give_in value (with_inputs is (world_of (λ v. (⟦<dyn Driver as Driver>⟧ v).meaning) store.now)) ≡ with_inputs is (world_of (λ v. (⟦<dyn Driver as Driver>⟧ v).meaning) store.now) }
+    requires ready { IsReady ⟦<dyn Driver as Driver>⟧ store.now }
+    ensures nothing { IsTrue result → (value : Slot)
+        → StoreBecomes ⟦<dyn Driver as Driver>⟧ (give_in value) store.now store.now }
 {
     store.live == 0 && store.heap.is_empty()
 }
@@ -36,11 +34,11 @@ pub fn nothing_lives(store: &Store) -> bool
 fn give_each(stack: &[Slot], store: &mut Store, top: usize, count: usize)
     requires in_use { count ≤ top }
     requires within { top ≤ length stack.now }
-    requires ready { IsReady (λ v. (⟦<dyn Driver as Driver>⟧ v).meaning) store.old }
-    requires enough { CanGive (values stack.now top) (world_of (λ v. (⟦<dyn Driver as Driver>⟧ v).meaning) store.old) }
-    ensures given { (is : List Input) → give_some count (values stack.now top) (with_inputs is (world_of (λ v. (⟦<dyn Driver as Driver>⟧ v).meaning) store.old))
-        ≡ with_inputs is (world_of (λ v. (⟦<dyn Driver as Driver>⟧ v).meaning) store.new) }
-    ensures moves { (roles : List Role) → StoreMoves (λ v. (⟦<dyn Driver as Driver>⟧ v).meaning) roles store.old store.new }
+    requires ready { IsReady ⟦<dyn Driver as Driver>⟧ store.old }
+    requires enough { CanGive (values stack.now top) (world_of ⟦<dyn Driver as Driver>⟧ store.old) }
+    ensures given { StoreBecomes ⟦<dyn Driver as Driver>⟧ (give_some count (values stack.now top))
+        store.old store.new }
+    ensures moves { HasMoved ⟦<dyn Driver as Driver>⟧ store.old store.new }
 {
     for given in 0..count {
         let value = peek(stack, top - given, 0);
@@ -53,11 +51,11 @@ fn give_each(stack: &[Slot], store: &mut Store, top: usize, count: usize)
 pub fn give_top(stack: &[Slot], store: &mut Store, top: usize, count: usize)
     requires in_use { count ≤ top }
     requires within { top ≤ length stack.now }
-    requires ready { IsReady (λ v. (⟦<dyn Driver as Driver>⟧ v).meaning) store.old }
-    requires enough { CanGive (values stack.now top) (world_of (λ v. (⟦<dyn Driver as Driver>⟧ v).meaning) store.old) }
-    ensures given { (is : List Input) → give_some count (values stack.now top) (with_inputs is (world_of (λ v. (⟦<dyn Driver as Driver>⟧ v).meaning) store.old))
-        ≡ with_inputs is (world_of (λ v. (⟦<dyn Driver as Driver>⟧ v).meaning) store.new) }
-    ensures moves { (roles : List Role) → StoreMoves (λ v. (⟦<dyn Driver as Driver>⟧ v).meaning) roles store.old store.new }
+    requires ready { IsReady ⟦<dyn Driver as Driver>⟧ store.old }
+    requires enough { CanGive (values stack.now top) (world_of ⟦<dyn Driver as Driver>⟧ store.old) }
+    ensures given { StoreBecomes ⟦<dyn Driver as Driver>⟧ (give_some count (values stack.now top))
+        store.old store.new }
+    ensures moves { HasMoved ⟦<dyn Driver as Driver>⟧ store.old store.new }
 {
     if nothing_lives(store) {
         return;
@@ -68,11 +66,11 @@ pub fn give_top(stack: &[Slot], store: &mut Store, top: usize, count: usize)
 /// Gives up all values in use, the top one first, as a fault does.
 pub fn give_all_in_use(stack: &[Slot], store: &mut Store, top: usize)
     requires within { top ≤ length stack.now }
-    requires ready { IsReady (λ v. (⟦<dyn Driver as Driver>⟧ v).meaning) store.old }
-    requires enough { CanGive (values stack.now top) (world_of (λ v. (⟦<dyn Driver as Driver>⟧ v).meaning) store.old) }
-    ensures given { (is : List Input) → give_all (values stack.now top) (with_inputs is (world_of (λ v. (⟦<dyn Driver as Driver>⟧ v).meaning) store.old))
-        ≡ with_inputs is (world_of (λ v. (⟦<dyn Driver as Driver>⟧ v).meaning) store.new) }
-    ensures moves { (roles : List Role) → StoreMoves (λ v. (⟦<dyn Driver as Driver>⟧ v).meaning) roles store.old store.new }
+    requires ready { IsReady ⟦<dyn Driver as Driver>⟧ store.old }
+    requires enough { CanGive (values stack.now top) (world_of ⟦<dyn Driver as Driver>⟧ store.old) }
+    ensures given { StoreBecomes ⟦<dyn Driver as Driver>⟧ (give_all (values stack.now top))
+        store.old store.new }
+    ensures moves { HasMoved ⟦<dyn Driver as Driver>⟧ store.old store.new }
 {
     give_top(stack, store, top, top);
 }
@@ -82,11 +80,11 @@ pub fn give_all_in_use(stack: &[Slot], store: &mut Store, top: usize)
 fn give_each_upwards(stack: &[Slot], store: &mut Store, top: usize, count: usize)
     requires in_use { count ≤ top }
     requires within { top ≤ length stack.now }
-    requires ready { IsReady (λ v. (⟦<dyn Driver as Driver>⟧ v).meaning) store.old }
-    requires enough { CanGive (values stack.now top) (world_of (λ v. (⟦<dyn Driver as Driver>⟧ v).meaning) store.old) }
-    ensures given { (is : List Input) → give_back (take_some count (values stack.now top)) (with_inputs is (world_of (λ v. (⟦<dyn Driver as Driver>⟧ v).meaning) store.old))
-        ≡ with_inputs is (world_of (λ v. (⟦<dyn Driver as Driver>⟧ v).meaning) store.new) }
-    ensures moves { (roles : List Role) → StoreMoves (λ v. (⟦<dyn Driver as Driver>⟧ v).meaning) roles store.old store.new }
+    requires ready { IsReady ⟦<dyn Driver as Driver>⟧ store.old }
+    requires enough { CanGive (values stack.now top) (world_of ⟦<dyn Driver as Driver>⟧ store.old) }
+    ensures given { StoreBecomes ⟦<dyn Driver as Driver>⟧
+        (give_back (take_some count (values stack.now top))) store.old store.new }
+    ensures moves { HasMoved ⟦<dyn Driver as Driver>⟧ store.old store.new }
 {
     for given in 0..count {
         let value = peek(stack, top - count + given + 1, 0);
@@ -99,11 +97,11 @@ fn give_each_upwards(stack: &[Slot], store: &mut Store, top: usize, count: usize
 fn give_lowest_first(stack: &[Slot], store: &mut Store, top: usize, count: usize)
     requires in_use { count ≤ top }
     requires within { top ≤ length stack.now }
-    requires ready { IsReady (λ v. (⟦<dyn Driver as Driver>⟧ v).meaning) store.old }
-    requires enough { CanGive (values stack.now top) (world_of (λ v. (⟦<dyn Driver as Driver>⟧ v).meaning) store.old) }
-    ensures given { (is : List Input) → give_back (take_some count (values stack.now top)) (with_inputs is (world_of (λ v. (⟦<dyn Driver as Driver>⟧ v).meaning) store.old))
-        ≡ with_inputs is (world_of (λ v. (⟦<dyn Driver as Driver>⟧ v).meaning) store.new) }
-    ensures moves { (roles : List Role) → StoreMoves (λ v. (⟦<dyn Driver as Driver>⟧ v).meaning) roles store.old store.new }
+    requires ready { IsReady ⟦<dyn Driver as Driver>⟧ store.old }
+    requires enough { CanGive (values stack.now top) (world_of ⟦<dyn Driver as Driver>⟧ store.old) }
+    ensures given { StoreBecomes ⟦<dyn Driver as Driver>⟧
+        (give_back (take_some count (values stack.now top))) store.old store.new }
+    ensures moves { HasMoved ⟦<dyn Driver as Driver>⟧ store.old store.new }
 {
     if nothing_lives(store) {
         return;
@@ -121,12 +119,12 @@ pub fn leave(
 ) -> Result<usize, Stop>
     requires in_room { top ≤ room }
     requires within { room ≤ length stack.now }
-    requires ready { IsReady (λ v. (⟦<dyn Driver as Driver>⟧ v).meaning) store.old }
-    requires counted { IsCounted (values stack.now top) (world_of (λ v. (⟦<dyn Driver as Driver>⟧ v).meaning) store.old) }
-    ensures acts { (z : Setting) (code : Texts) → Acts z code (Leave count) room top stack.now (world_of (λ v. (⟦<dyn Driver as Driver>⟧ v).meaning) store.old)
-        result stack.now (world_of (λ v. (⟦<dyn Driver as Driver>⟧ v).meaning) store.new) }
+    requires ready { IsReady ⟦<dyn Driver as Driver>⟧ store.old }
+    requires counted { AreCounted ⟦<dyn Driver as Driver>⟧ stack.now top store.old }
+    ensures acts { ActsOn ⟦<dyn Driver as Driver>⟧ (Leave count) room top stack.now store.old result
+        stack.now store.new }
     ensures in_room { IfOk result (λ n. n ≤ room) }
-    ensures moves { (roles : List Role) → StoreMoves (λ v. (⟦<dyn Driver as Driver>⟧ v).meaning) roles store.old store.new }
+    ensures moves { HasMoved ⟦<dyn Driver as Driver>⟧ store.old store.new }
 {
     if count > top {
         return Err(Stop::Lost);
@@ -145,12 +143,12 @@ pub fn drop_under(
 ) -> Result<usize, Stop>
     requires in_room { top ≤ room }
     requires within { room ≤ length stack.old }
-    requires ready { IsReady (λ v. (⟦<dyn Driver as Driver>⟧ v).meaning) store.old }
-    requires counted { IsCounted (values stack.old top) (world_of (λ v. (⟦<dyn Driver as Driver>⟧ v).meaning) store.old) }
-    ensures acts { (z : Setting) (code : Texts) → Acts z code (DropUnder count) room top stack.old (world_of (λ v. (⟦<dyn Driver as Driver>⟧ v).meaning) store.old)
-        result stack.new (world_of (λ v. (⟦<dyn Driver as Driver>⟧ v).meaning) store.new) }
+    requires ready { IsReady ⟦<dyn Driver as Driver>⟧ store.old }
+    requires counted { AreCounted ⟦<dyn Driver as Driver>⟧ stack.old top store.old }
+    ensures acts { ActsOn ⟦<dyn Driver as Driver>⟧ (DropUnder count) room top stack.old store.old
+        result stack.new store.new }
     ensures in_room { IfOk result (λ n. n ≤ room) }
-    ensures moves { (roles : List Role) → StoreMoves (λ v. (⟦<dyn Driver as Driver>⟧ v).meaning) roles store.old store.new }
+    ensures moves { HasMoved ⟦<dyn Driver as Driver>⟧ store.old store.new }
 {
     if top == 0 {
         return Err(Stop::Lost);

@@ -18,7 +18,8 @@ use ang_vm_numbers::{compare, complement, convert, deny, negate, work};
 #[inline(always)]
 #[tactic(auto, unfolding(ang_meaning::specs::Perform::perform))]
 pub(crate) fn work_slots(what: Arithmetic, at: Prim, x: Slot, y: Slot) -> Result<Slot, Fault>
-    ensures exact { (z : Setting) (m : ℕ) (w : World) → perform z m (Work what at) (y ∷ x ∷ []) w ≡ done result w }
+    ensures exact { (z : Setting) (m : ℕ) (w : World)
+        → perform z m (Work what at) (y ∷ x ∷ []) w ≡ done result w }
 {
     match y {
         Slot::Bits(second) => match x {
@@ -36,7 +37,8 @@ pub(crate) fn work_slots(what: Arithmetic, at: Prim, x: Slot, y: Slot) -> Result
 #[inline(always)]
 #[tactic(auto, unfolding(ang_meaning::specs::Perform::perform))]
 pub(crate) fn compare_slots(what: Comparison, signed: bool, x: Slot, y: Slot) -> Result<Slot, Fault>
-    ensures exact { (z : Setting) (m : ℕ) (w : World) → perform z m (Compare what signed) (y ∷ x ∷ []) w ≡ done result w }
+    ensures exact { (z : Setting) (m : ℕ) (w : World)
+        → perform z m (Compare what signed) (y ∷ x ∷ []) w ≡ done result w }
 {
     match y {
         Slot::Bits(second) => match x {
@@ -54,7 +56,8 @@ pub(crate) fn compare_slots(what: Comparison, signed: bool, x: Slot, y: Slot) ->
 #[inline(always)]
 #[tactic(auto, unfolding(ang_meaning::specs::Perform::perform))]
 pub(crate) fn convert_slot(to: Prim, x: Slot) -> Result<Slot, Fault>
-    ensures exact { (z : Setting) (m : ℕ) (w : World) → perform z m (Convert to) (x ∷ []) w ≡ done result w }
+    ensures exact { (z : Setting) (m : ℕ) (w : World)
+        → perform z m (Convert to) (x ∷ []) w ≡ done result w }
 {
     match x {
         Slot::Bits(n) => Ok(Slot::Bits(convert(to, n))),
@@ -69,7 +72,8 @@ pub(crate) fn convert_slot(to: Prim, x: Slot) -> Result<Slot, Fault>
 #[inline(always)]
 #[tactic(auto, unfolding(ang_meaning::specs::Perform::perform))]
 pub(crate) fn negate_slot(at: Prim, x: Slot) -> Result<Slot, Fault>
-    ensures exact { (z : Setting) (m : ℕ) (w : World) → perform z m (Negate at) (x ∷ []) w ≡ done result w }
+    ensures exact { (z : Setting) (m : ℕ) (w : World)
+        → perform z m (Negate at) (x ∷ []) w ≡ done result w }
 {
     match x {
         Slot::Bits(n) => Ok(Slot::Bits(negate(at, n))),
@@ -84,7 +88,8 @@ pub(crate) fn negate_slot(at: Prim, x: Slot) -> Result<Slot, Fault>
 #[inline(always)]
 #[tactic(auto, unfolding(ang_meaning::specs::Perform::perform))]
 pub(crate) fn complement_slot(at: Prim, x: Slot) -> Result<Slot, Fault>
-    ensures exact { (z : Setting) (m : ℕ) (w : World) → perform z m (Complement at) (x ∷ []) w ≡ done result w }
+    ensures exact { (z : Setting) (m : ℕ) (w : World)
+        → perform z m (Complement at) (x ∷ []) w ≡ done result w }
 {
     match x {
         Slot::Bits(n) => Ok(Slot::Bits(complement(at, n))),
@@ -110,7 +115,8 @@ pub(crate) fn deny_slot(x: Slot) -> Result<Slot, Fault>
 #[inline(always)]
 #[tactic(auto, unfolding(ang_meaning::specs::Perform::perform), using(ang_vm_numbers::proofs::Working::work_ends))]
 fn work_bits(what: Arithmetic, at: Prim, x: u64, y: u64) -> Result<Slot, Fault>
-    ensures exact { (z : Setting) (m : ℕ) (w : World) → perform z m (Work what at) (Bits y ∷ Bits x ∷ []) w ≡ done result w }
+    ensures exact { (z : Setting) (m : ℕ) (w : World)
+        → perform z m (Work what at) (Bits y ∷ Bits x ∷ []) w ≡ done result w }
 {
     match work(what, at, x, y) {
         Ok(n) => Ok(Slot::Bits(n)),

@@ -1,15 +1,9 @@
 //! Values that change places with a variable, for the targets of `&out` parameters.
 ghost use Rattle.std.specs.Prelude.{◌≡◌, ◌<◌, ◌≤◌, List, length, IfOk};
-ghost use Rattle.ang_host.specs.declared.event.Role.{Role};
-ghost use Rattle.ang_meaning.specs.World.{World};
-ghost use Rattle.ang_meaning.specs.Setting.{Setting};
 ghost use Rattle.ang_meaning.specs.Results.{brought};
-ghost use Rattle.ang_meaning.specs.Counting.{IsCounted};
 ghost use Rattle.ang_code.specs.declared.instruction.Instruction.TheVariants.{Swap, SwapGlobal, SwapField};
-ghost use Rattle.ang_code.specs.Machine.{Texts};
-ghost use Rattle.ang_heap.specs.Stores.{world_of, IsReady, StoreMoves};
-ghost use Rattle.ang_vm_stack.specs.Stacks.{values};
-ghost use Rattle.ang_vm_steps.specs.Arms.{Acts, ActsIn};
+ghost use Rattle.ang_heap.specs.Stores.{IsReady, HasMoved};
+ghost use Rattle.ang_vm_steps.specs.Arms.{AreCounted, ActsOn, ActsAlone, BodyActs};
 
 use ang_heap::Store;
 use ang_host::Driver;
@@ -49,8 +43,7 @@ pub fn swap_local(
 ) -> Result<usize, Stop>
     requires in_room { top ≤ room }
     requires within { room ≤ length stack.old }
-    ensures acts { (z : Setting) (code : Texts) (w : World)
-        → Acts z code (Swap to under with) room top stack.old w result stack.new w }
+    ensures acts { ActsAlone (Swap to under with) room top stack.old result stack.new }
     ensures in_room { IfOk result (λ n. n ≤ room) }
 {
     let under = under as usize;
@@ -81,12 +74,12 @@ pub fn swap_global(
 ) -> Result<usize, Stop>
     requires in_room { top ≤ room }
     requires within { room ≤ length stack.old }
-    requires ready { IsReady (λ v. (⟦<dyn Driver as Driver>⟧ v).meaning) store.old }
-    requires counted { IsCounted (values stack.old top) (world_of (λ v. (⟦<dyn Driver as Driver>⟧ v).meaning) store.old) }
-    ensures acts { (z : Setting) (code : Texts) → ActsIn body z code (SwapGlobal to under global) room top stack.old (world_of (λ v. (⟦<dyn Driver as Driver>⟧ v).meaning) store.old)
-        result stack.new (world_of (λ v. (⟦<dyn Driver as Driver>⟧ v).meaning) store.new) }
+    requires ready { IsReady ⟦<dyn Driver as Driver>⟧ store.old }
+    requires counted { AreCounted ⟦<dyn Driver as Driver>⟧ stack.old top store.old }
+    ensures acts { BodyActs ⟦<dyn Driver as Driver>⟧ body (SwapGlobal to under global) room top
+        stack.old store.old result stack.new store.new }
     ensures in_room { IfOk result (λ n. n ≤ room) }
-    ensures moves { (roles : List Role) → StoreMoves (λ v. (⟦<dyn Driver as Driver>⟧ v).meaning) roles store.old store.new }
+    ensures moves { HasMoved ⟦<dyn Driver as Driver>⟧ store.old store.new }
 {
     let place = under as usize;
     if place >= top {
@@ -112,12 +105,12 @@ pub fn swap_field(
 ) -> Result<usize, Stop>
     requires in_room { top ≤ room }
     requires within { room ≤ length stack.old }
-    requires ready { IsReady (λ v. (⟦<dyn Driver as Driver>⟧ v).meaning) store.old }
-    requires counted { IsCounted (values stack.old top) (world_of (λ v. (⟦<dyn Driver as Driver>⟧ v).meaning) store.old) }
-    ensures acts { (z : Setting) (code : Texts) → Acts z code (SwapField to under object field) room top stack.old (world_of (λ v. (⟦<dyn Driver as Driver>⟧ v).meaning) store.old)
-        result stack.new (world_of (λ v. (⟦<dyn Driver as Driver>⟧ v).meaning) store.new) }
+    requires ready { IsReady ⟦<dyn Driver as Driver>⟧ store.old }
+    requires counted { AreCounted ⟦<dyn Driver as Driver>⟧ stack.old top store.old }
+    ensures acts { ActsOn ⟦<dyn Driver as Driver>⟧ (SwapField to under object field) room top
+        stack.old store.old result stack.new store.new }
     ensures in_room { IfOk result (λ n. n ≤ room) }
-    ensures moves { (roles : List Role) → StoreMoves (λ v. (⟦<dyn Driver as Driver>⟧ v).meaning) roles store.old store.new }
+    ensures moves { HasMoved ⟦<dyn Driver as Driver>⟧ store.old store.new }
 {
     let place = under as usize;
     if place >= top {

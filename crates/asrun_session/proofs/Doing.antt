@@ -7,7 +7,7 @@ use Rattle.std.proofs.Math.Seq.{take-append_seam, take-append-add}
 use Rattle.std.specs.declared.alloc.Global.{Global}
 use Rattle.std.specs.declared.dyn_box.DynBox.{DynBox}
 use Rattle.ang_host.specs.Events.{DriversFollow}
-use Rattle.ang_host.specs.Laws.{Meaning}
+use Rattle.ang_host.specs.Meanings.{Meanings, state_in}
 use Rattle.ang_host.proofs.Events.{AllFollow-none, AllFollow-join}
 use Rattle.ang_view.specs.Registration.{RegistrationList}
 use Rattle.ang_registry.specs.Roles.{roles_of}
@@ -60,7 +60,7 @@ all_more [] d = and_true (is_ok d)
 all_more (x ∷ xs) d = ap (λ b. is_ok x && b) (all_more xs d) ∙ and_assoc (is_ok x) (list_all is_ok xs) (is_ok d)
 
 -- What has been done of a session, and what is left of it. The drivers followed the events of what was done, and its text is printed.
-pub record HasDone {V : Type 0} {P : V → Type 0} (m : (v : V) → Meaning (P v)) (R : RegistrationList) (w : World) (xs : List (DynBox V Global P))
+pub record HasDone {V : Type 0} {P : V → Type 0} (m : Meanings P) (R : RegistrationList) (w : World) (xs : List (DynBox V Global P))
     (whole left : Session) (old new : Option (List ℕ)) (ok : Bool) (after : World) (ys : List (DynBox V Global P)) : Type 0 where
   pub deeds : List Deed
   pub actions : whole.actions ≡ map action_of deeds ++ left.actions
@@ -78,16 +78,16 @@ appends_nothing (Some xs) = sym (append-nil xs)
 pub cut_nothing : (R : RegistrationList) (w : World) (s : Session) (o : Option (List ℕ)) → IsCut R w s o o [] w
 cut_nothing R w s o = record { deeds = []; left = s.actions; actions = refl; replies = refl; events = refl; count = 0; printed = appends_nothing o }
 
-module _ {V : Type 0} {P : V → Type 0} (m : (v : V) → Meaning (P v)) (R : RegistrationList) where
+module _ {V : Type 0} {P : V → Type 0} (m : Meanings P) (R : RegistrationList) where
   follow_more : (xs ys zs : List (DynBox V Global P)) (ds : List Deed) (d : Deed)
       → DriversFollow m (roles_of R) xs (events_in ds) ys → DriversFollow m (roles_of R) ys (deed_events d) zs
       → DriversFollow m (roles_of R) xs (events_in (ds ++ d ∷ [])) zs
   follow_more xs ys zs ds d p q =
       rw (events_more ds d)
-      (AllFollow-join (λ b. (m b.vtable).state b.value) (λ b. b.vtable) (λ v. (m v).fits) (roles_of R) xs ys zs (events_in ds) (deed_events d) p q)
+      (AllFollow-join (λ b. state_in m b) (λ b. b.vtable) (λ v. (m v).meaning.fits) (roles_of R) xs ys zs (events_in ds) (deed_events d) p q)
 
   pub follow_nothing : (xs : List (DynBox V Global P)) → DriversFollow m (roles_of R) xs [] xs
-  follow_nothing xs = AllFollow-none (λ b. (m b.vtable).state b.value) (λ b. b.vtable) (λ v. (m v).fits) (roles_of R) xs
+  follow_nothing xs = AllFollow-none (λ b. state_in m b) (λ b. b.vtable) (λ v. (m v).meaning.fits) (roles_of R) xs
 
   pub done_nothing : (w : World) (xs : List (DynBox V Global P)) (s : Session) (o : Option (List ℕ)) → HasDone m R w xs s s o o true w xs
   done_nothing w xs s o =

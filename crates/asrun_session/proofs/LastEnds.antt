@@ -11,7 +11,7 @@ use Rattle.std.proofs.lemmas.Bool.{eqb-true}
 use Rattle.ang_host.specs.declared.event.HostEvent.{HostEvent}
 use Rattle.ang_host.specs.declared.event.HostEvent.TheVariants.{Ended}
 use Rattle.ang_host.specs.Events.{events_of, live_after, live_along, DriversFollow}
-use Rattle.ang_host.specs.Laws.{Meaning}
+use Rattle.ang_host.specs.Meanings.{Meanings}
 use Rattle.ang_host.specs.Members.{state_at, states_of, AreFresh}
 use Rattle.ang_meaning.specs.declared.slot.Slot.{Slot}
 use Rattle.ang_meaning.specs.declared.slot.Slot.TheVariants.{Bits, Script, Host}
@@ -138,7 +138,7 @@ once None n rest false e t some = omega (arith, e)
 once (Some v) n rest true e t some = omega (arith, e, some refl)
 once (Some v) n rest false e t some = absurd (let x : ⊥ = cc in x)
 
-module _ {V : Type 0} {P : V → Type 0} (m : (v : V) → Meaning (P v)) (R : RegistrationList) (xs zs ys : List (DynBox V Global P)) (es : List HostEvent) (w : EngineWorld) where
+module _ {V : Type 0} {P : V → Type 0} (m : Meanings P) (R : RegistrationList) (xs zs ys : List (DynBox V Global P)) (es : List HostEvent) (w : EngineWorld) where
   ended_once : w.hosts ≡ counts_by (states_of m zs) → AreFresh (states_of m xs) → AreFresh (states_of m ys) → DriversFollow m (roles_of R) xs es zs
       → DriversFollow m (roles_of R) zs (engine_ended w).events ys
       → (d k : ℕ) → d < length xs → ends_in d k (engine_ended w).events ≡ cond (live_along k false (events_of d es)) 1 0

@@ -5,7 +5,7 @@ use Rattle.std.specs.Result.{IfOk, IfErr, OnOk, OnErr}
 use Rattle.std.specs.declared.alloc.Global.{Global}
 use Rattle.std.specs.declared.dyn_box.DynBox.{DynBox}
 use Rattle.ang_host.specs.Events.{DriversFollow}
-use Rattle.ang_host.specs.Laws.{Meaning}
+use Rattle.ang_host.specs.Meanings.{Meanings, state_in}
 use Rattle.ang_host.specs.Members.{states_of}
 use Rattle.ang_host.specs.declared.event.HostEvent.{HostEvent}
 use Rattle.ang_host.proofs.Events.{AllFollow-join}
@@ -30,7 +30,7 @@ use Rattle.asrun_session.proofs.LastEnds.{last_ends}
 
 -- ---- the text of a session, over a new engine, which has the world w
 
-module _ {V : Type 0} {P : V → Type 0} (m : (v : V) → Meaning (P v)) (R : RegistrationList) (w : World) (new_engine : w ≡ no_modules) where
+module _ {V : Type 0} {P : V → Type 0} (m : Meanings P) (R : RegistrationList) (w : World) (new_engine : w ≡ no_modules) where
   -- it could not be read
   pub stops_unread : (xs : List (DynBox V Global P)) (o text : Option (List ℕ)) (budget : ℕ)
       → IfSome text (λ s. ByEvents m R xs (λ es. StopsSession R s budget o o es w) xs)
@@ -80,7 +80,7 @@ module _ {V : Type 0} {P : V → Type 0} (m : (v : V) → Meaning (P v)) (R : Re
 
 -- ---- no engine took the drivers
 
-pub ends_refused : {V : Type 0} {P : V → Type 0} (m : (v : V) → Meaning (P v)) (R : RegistrationList) (xs ys : List (DynBox V Global P)) (old new text : Option (List ℕ))
+pub ends_refused : {V : Type 0} {P : V → Type 0} (m : Meanings P) (R : RegistrationList) (xs ys : List (DynBox V Global P)) (old new text : Option (List ℕ))
     (budget : ℕ) (why : EngineRefusal) (ended : Result Status Stop) → ys ≡ xs → IsRefused m R xs why → OnOk ended (Appends old new (engine_text why))
     → IfOk ended (λ status. status ≡ BadInput) → IfOk ended (λ status. IfSome text (λ s. Ends m xs ys old new (Ok R) s budget status))
 ends_refused m R xs ys old new text budget why (Err stop) back refused printed ending = tt
@@ -88,7 +88,7 @@ ends_refused m R xs ys old new None budget why (Ok status) back refused printed 
 ends_refused m R xs ys old new (Some s) budget why (Ok status) back refused printed ending = inl (why, refused, printed, ending, back)
 
 -- the text that says why was cut short
-pub stops_refused : {V : Type 0} {P : V → Type 0} (m : (v : V) → Meaning (P v)) (R : RegistrationList) (xs ys : List (DynBox V Global P)) (old new text : Option (List ℕ))
+pub stops_refused : {V : Type 0} {P : V → Type 0} (m : Meanings P) (R : RegistrationList) (xs ys : List (DynBox V Global P)) (old new text : Option (List ℕ))
     (budget : ℕ) (why : EngineRefusal) (ended : Result Status Stop) → ys ≡ xs → IsRefused m R xs why → OnErr ended (HasFront old new (engine_text why))
     → OnErr ended (IfSome text (λ s. Stops m xs ys old new (Ok R) s budget))
 stops_refused m R xs ys old new text budget why (Ok status) back refused front = tt
@@ -96,7 +96,7 @@ stops_refused m R xs ys old new None budget why (Err stop) back refused front = 
 stops_refused m R xs ys old new (Some s) budget why (Err stop) back refused front = inr (inl (why, refused, front, back))
 
 -- a write fault then comes behind drivers that were refused
-pub read_refused : {V : Type 0} {P : V → Type 0} (m : (v : V) → Meaning (P v)) (R : RegistrationList) (xs : List (DynBox V Global P)) (A : Type 0)
+pub read_refused : {V : Type 0} {P : V → Type 0} (m : Meanings P) (R : RegistrationList) (xs : List (DynBox V Global P)) (A : Type 0)
     (why : EngineRefusal) (ended : Result Status Stop) → IsRefused m R xs why → IfErr ended (λ e. e ≡ unwritten → A ⊎ AreRefused m R xs)
 read_refused m R xs A why (Ok status) refused = tt
 read_refused m R xs A why (Err stop) refused = λ _. inr (why, refused)
@@ -110,7 +110,7 @@ read_memory A ended is = rw is (λ e. absurd (memory_written e))
 
 -- ---- an engine over the list R' took the drivers, which it has as xs'; it was left with this world and the drivers zs, and discarded
 
-module _ {V : Type 0} {P : V → Type 0} (m : (v : V) → Meaning (P v)) (R R' : RegistrationList) (xs xs' zs ys : List (DynBox V Global P)) (w : World)
+module _ {V : Type 0} {P : V → Type 0} (m : Meanings P) (R R' : RegistrationList) (xs xs' zs ys : List (DynBox V Global P)) (w : World)
     (list : R' ≡ R) (same : xs' ≡ xs) (listed : AreListed m xs) (in_list : HaveDrivers R' (length xs'))
     (hosts : w.hosts ≡ counts_by (states_of m zs)) (ends : DriversFollow m (roles_of R) zs (engine_ended w).events ys) (back : AreBack m ys) where
   -- what was done with it, by the events that the drivers followed meanwhile
@@ -123,7 +123,7 @@ module _ {V : Type 0} {P : V → Type 0} (m : (v : V) → Meaning (P v)) (R R' :
         events = h.0;
         after = w;
         did = subst (λ l. S l h.0 w) list h.1;
-        follow = AllFollow-join (λ b. (m b.vtable).state b.value) (λ b. b.vtable) (λ v. (m v).fits) (roles_of R) xs zs ys h.0 (engine_ended w).events first ends;
+        follow = AllFollow-join (λ b. state_in m b) (λ b. b.vtable) (λ v. (m v).meaning.fits) (roles_of R) xs zs ys h.0 (engine_ended w).events first ends;
         last = last_ends m R xs zs ys h.0 w hosts listed.idle back.fresh first ends;
         back = back;
       }
@@ -149,7 +149,7 @@ module _ {V : Type 0} {P : V → Type 0} (m : (v : V) → Meaning (P v)) (R R' :
   unused new_engine kept = discarded (λ l. DidNothing) ([], (refl, new_engine), subst (λ l. DriversFollow m (roles_of R') xs' [] l) (sym kept) (follow_nothing m R' xs'))
 
 -- the session could not be read
-pub unread_taken : {V : Type 0} {P : V → Type 0} (m : (v : V) → Meaning (P v)) (R : RegistrationList) (xs ys : List (DynBox V Global P)) (old new : Option (List ℕ))
+pub unread_taken : {V : Type 0} {P : V → Type 0} (m : Meanings P) (R : RegistrationList) (xs ys : List (DynBox V Global P)) (old new : Option (List ℕ))
     (A : Type 0) (ended : Result Status Stop) → (A → WasDiscarded m R xs ys DidNothing)
     → IfErr ended (λ e. e ≡ unread → new ≡ old) → IfErr ended (λ e. e ≡ unread → A) → IfErr ended (λ e. e ≡ unread → Unread m xs ys old new (Ok R))
 unread_taken m R xs ys old new A (Ok status) go h k = tt

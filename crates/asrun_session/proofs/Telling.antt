@@ -4,7 +4,7 @@ use Rattle.std.specs.Result.{IfOk, IfErr, OnErr}
 use Rattle.std.specs.List.{list_all}
 use Rattle.std.specs.declared.alloc.Global.{Global}
 use Rattle.std.specs.declared.dyn_box.DynBox.{DynBox}
-use Rattle.ang_host.specs.Laws.{Meaning}
+use Rattle.ang_host.specs.Meanings.{Meanings}
 use Rattle.ang_host.specs.declared.event.HostEvent.{HostEvent}
 use Rattle.ang_view.specs.Registration.{RegistrationList}
 use Rattle.ang_engine.specs.World.{World}
@@ -30,7 +30,7 @@ unsaid : (R : RegistrationList) (s : List ℕ) (budget : ℕ) (old new : Option 
 unsaid R s budget old new es w (inl h) = let e : Memory ≡ BadInput = h.2 in cc
 unsaid R s budget old new es w (inr h) = no_memory _ h.1.deeds h.1.ending
 
-module _ {V : Type 0} {P : V → Type 0} (m : (v : V) → Meaning (P v)) (xs ys : List (DynBox V Global P)) where
+module _ {V : Type 0} {P : V → Type 0} (m : Meanings P) (xs ys : List (DynBox V Global P)) where
   never : (R : RegistrationList) (s : List ℕ) (budget : ℕ) (old new : Option (List ℕ)) → Ends m xs ys old new (Ok R) s budget Memory → ⊥
   never R s budget old new (inl h) = let e : Memory ≡ BadInput = h.3 in cc
   never R s budget old new (inr gone) = unsaid R s budget old new gone.events gone.after gone.did

@@ -8,6 +8,8 @@ use Rattle.asrun_session.specs.declared.session_line.LineError.TheVariants.{BadL
 
 -- An act is as stated, and the lines behind its section follow it, unless memory ran out.
 abbrev pub Gives : Result Made LineError → List (List ℕ) → Option Act → Type 0
-Gives (Ok a) behind stated = (stated ≡ Some (record { action = a.action; lines = a.lines })) × (lines_of a.rest.now ≡ drop a.lines behind) × (a.lines ≤ length behind)
+Gives (Ok a) behind stated =
+    (stated ≡ Some (record { action = a.action; lines = a.lines }))
+    × (lines_of a.rest.now ≡ drop a.lines behind) × (a.lines ≤ length behind)
 Gives (Err BadLine) behind stated = stated ≡ None
 Gives (Err Memory) behind stated = Unit {0}

@@ -5,7 +5,7 @@ use Rattle.std.specs.Io.KnownBytes.{Appends}
 use Rattle.std.specs.declared.alloc.Global.{Global}
 use Rattle.std.specs.declared.dyn_box.DynBox.{DynBox}
 use Rattle.ang_host.specs.Events.{DriversFollow}
-use Rattle.ang_host.specs.Laws.{Meaning}
+use Rattle.ang_host.specs.Meanings.{Meanings}
 use Rattle.ang_host.specs.declared.event.HostEvent.{HostEvent}
 use Rattle.ang_view.specs.Registration.{RegistrationList}
 use Rattle.ang_registry.specs.Roles.{roles_of}
@@ -85,8 +85,10 @@ abbrev pub Does : RegistrationList → World → Deed → World → Type 0
 Does R w (Ran c r) after = Takes R w c r after
 Does R w (Set ticks) after = w ≡ after
 
--- The session was done whole: its commands ran in their order, each with its reply, these are the events of all replies, and the text of all was printed.
-pub record IsDone (R : RegistrationList) (w : World) (session : Session) (old new : Option (List ℕ)) (status : Status) (es : List HostEvent) (after : World) : Type 0 where
+-- The session was done whole: its commands ran in their order, each with its reply, these are the
+-- events of all replies, and the text of all was printed.
+pub record IsDone (R : RegistrationList) (w : World) (session : Session) (old new : Option (List ℕ))
+    (status : Status) (es : List HostEvent) (after : World) : Type 0 where
   pub deeds : List Deed
   pub actions : session.actions ≡ map action_of deeds
   pub replies : Runs R w (commands_in deeds) (replies_in deeds) after
@@ -94,8 +96,10 @@ pub record IsDone (R : RegistrationList) (w : World) (session : Session) (old ne
   pub printed : Appends old new (text_in deeds ++ bad_line_text session.bad_line)
   pub ending : status ≡ status_of session.bad_line deeds
 
--- The session was cut short: its first commands ran, these are the events of their replies, and a front of their text was printed.
-pub record IsCut (R : RegistrationList) (w : World) (session : Session) (old new : Option (List ℕ)) (es : List HostEvent) (after : World) : Type 0 where
+-- The session was cut short: its first commands ran, these are the events of their replies, and a
+-- front of their text was printed.
+pub record IsCut (R : RegistrationList) (w : World) (session : Session) (old new : Option (List ℕ))
+    (es : List HostEvent) (after : World) : Type 0 where
   pub deeds : List Deed
   pub left : List Action
   pub actions : session.actions ≡ map action_of deeds ++ left
@@ -105,8 +109,9 @@ pub record IsCut (R : RegistrationList) (w : World) (session : Session) (old new
   pub printed : Appends old new (take count (text_in deeds ++ bad_line_text session.bad_line))
 
 -- one action was done, the drivers followed its events, and its text was printed
-pub record IsPrinted {V : Type 0} {P : V → Type 0} (m : (v : V) → Meaning (P v)) (R : RegistrationList) (w : World) (xs : List (DynBox V Global P))
-    (a : Action) (old new : Option (List ℕ)) (ok : Bool) (after : World) (ys : List (DynBox V Global P)) : Type 0 where
+pub record IsPrinted {V : Type 0} {P : V → Type 0} (m : Meanings P) (R : RegistrationList)
+    (w : World) (xs : List (DynBox V Global P)) (a : Action) (old new : Option (List ℕ)) (ok : Bool)
+    (after : World) (ys : List (DynBox V Global P)) : Type 0 where
   pub deed : Deed
   pub action : action_of deed ≡ a
   pub does : Does R w deed after
@@ -115,8 +120,9 @@ pub record IsPrinted {V : Type 0} {P : V → Type 0} (m : (v : V) → Meaning (P
   pub ended : ok ≡ is_ok deed
 
 -- one action was done, the drivers followed its events, and a front of its text was printed
-pub record IsHalfPrinted {V : Type 0} {P : V → Type 0} (m : (v : V) → Meaning (P v)) (R : RegistrationList) (w : World) (xs : List (DynBox V Global P))
-    (a : Action) (old new : Option (List ℕ)) (after : World) (ys : List (DynBox V Global P)) : Type 0 where
+pub record IsHalfPrinted {V : Type 0} {P : V → Type 0} (m : Meanings P) (R : RegistrationList)
+    (w : World) (xs : List (DynBox V Global P)) (a : Action) (old new : Option (List ℕ))
+    (after : World) (ys : List (DynBox V Global P)) : Type 0 where
   pub deed : Deed
   pub action : action_of deed ≡ a
   pub does : Does R w deed after

@@ -1,6 +1,7 @@
--- What is done with an engine that stands: from the engine e to the engine f, where m is the meaning of what is behind each vtable.
+-- What is done with an engine that stands: from the engine e to the engine f, where m is the
+-- meaning of what is behind each vtable.
 use Rattle.std.specs.Prelude.{ℕ, Bool, List, Option}
-use Rattle.ang_host.specs.Laws.{Meaning}
+use Rattle.ang_host.specs.Meanings.{Meanings}
 use Rattle.ang_host.specs.declared.event.HostEvent.{HostEvent}
 use Rattle.ang_engine.specs.declared.engine.Engine.{Engine}
 use Rattle.ang_engine.specs.Engines.{registrations, world_in, drivers_in}
@@ -12,22 +13,27 @@ use Rattle.asrun_session.specs.Whole.{RunsSession, StopsSession}
 use Rattle.asrun_session.specs.declared.action.Action.{Action}
 use Rattle.asrun_session.specs.declared.ending.Status.{Status}
 
-module _ {V : Type 0} {P : V → Type 0} (m : (v : V) → Meaning (P v)) (e f : Engine V P) where
+module _ {V : Type 0} {P : V → Type 0} (m : Meanings P) (e f : Engine V P) where
   -- By some events, which its drivers follow, it comes to another world, as S says.
   abbrev pub Comes : (List HostEvent → World → Type 0) → Type 0
   Comes S = ByEvents m (registrations e) (drivers_in e) (λ es. S es (world_in m f)) (drivers_in f)
 
   -- one action is done, and its text is printed
   abbrev pub Prints : Action → Option (List ℕ) → Option (List ℕ) → Bool → Type 0
-  Prints a old new ok = IsPrinted m (registrations e) (world_in m e) (drivers_in e) a old new ok (world_in m f) (drivers_in f)
+  Prints a old new ok =
+      IsPrinted m (registrations e) (world_in m e) (drivers_in e) a old new ok (world_in m f)
+      (drivers_in f)
 
   -- one action is done, and a front of its text is printed
   abbrev pub HalfPrints : Action → Option (List ℕ) → Option (List ℕ) → Type 0
-  HalfPrints a old new = IsHalfPrinted m (registrations e) (world_in m e) (drivers_in e) a old new (world_in m f) (drivers_in f)
+  HalfPrints a old new =
+      IsHalfPrinted m (registrations e) (world_in m e) (drivers_in e) a old new (world_in m f)
+      (drivers_in f)
 
   -- the lines of a session are done
   abbrev pub RunsLines : Session → Option (List ℕ) → Option (List ℕ) → Status → Type 0
-  RunsLines session old new status = Comes (IsDone (registrations e) (world_in m e) session old new status)
+  RunsLines session old new status =
+      Comes (IsDone (registrations e) (world_in m e) session old new status)
 
   -- some of them are
   abbrev pub StopsLines : Session → Option (List ℕ) → Option (List ℕ) → Type 0
@@ -35,7 +41,8 @@ module _ {V : Type 0} {P : V → Type 0} (m : (v : V) → Meaning (P v)) (e f : 
 
   -- the text of a session is done
   abbrev pub RunsText : List ℕ → ℕ → Option (List ℕ) → Option (List ℕ) → Status → Type 0
-  RunsText text budget old new status = Comes (RunsSession (registrations e) text budget old new status)
+  RunsText text budget old new status =
+      Comes (RunsSession (registrations e) text budget old new status)
 
   -- some of it is
   abbrev pub StopsText : List ℕ → ℕ → Option (List ℕ) → Option (List ℕ) → Type 0

@@ -1,4 +1,5 @@
--- The fields of a line, and the numbers, masks and values that they spell (docs/EMBEDDING.md, "The program").
+-- The fields of a line, and the numbers, masks and values that they spell (docs/EMBEDDING.md, "The
+-- program").
 use Rattle.std.specs.Prelude.{ℕ, ◌+◌, ◌*◌, ◌^◌, Bool, ◌||◌, List, [], ◌∷◌, length, take, drop, Option, Some, None, nat_lt, ◌==◌, if◌then◌else◌, position}
 use Rattle.std.specs.Option.{option_and_then, option_map}
 use Rattle.std.specs.List.{list_any}
@@ -30,7 +31,8 @@ rest_of line = if length line == 0 then None else Some line
 -- the number that digits of a base write behind the number n
 unfoldable pub numeral_of : ℕ → ℕ → List ℕ → Option ℕ
 numeral_of base n [] = Some n
-numeral_of base n (b ∷ bs) = if nat_lt (digit_value b) base then numeral_of base (n * base + digit_value b) bs else None
+numeral_of base n (b ∷ bs) =
+    if nat_lt (digit_value b) base then numeral_of base (n * base + digit_value b) bs else None
 
 -- a number below the bound
 abbrev pub below : ℕ → ℕ → Option ℕ
@@ -42,11 +44,15 @@ numeral64_of base text = numeral_of base 0 text >>= below (2 ^ 64)
 
 -- 1 to `most` decimal digits that write a number of 64 bits
 unfoldable pub decimal_of : ℕ → List ℕ → Option ℕ
-decimal_of most text = if length text == 0 || nat_lt most (length text) then None else numeral64_of 10 text
+decimal_of most text =
+    if length text == 0 || nat_lt most (length text) then None else numeral64_of 10 text
 
 -- eight hexadecimal digits
 unfoldable pub mask_of : List ℕ → Option Mask
-mask_of text = if length text == 8 then option_map (λ n. record { 0 = n }) (numeral64_of 16 text >>= below (2 ^ 32)) else None
+mask_of text =
+    if length text == 8
+    then option_map (λ n. record { 0 = n }) (numeral64_of 16 text >>= below (2 ^ 32))
+    else None
 
 -- a number of 32 bits in 1 to 10 decimal digits
 unfoldable pub number_of : List ℕ → Option ℕ

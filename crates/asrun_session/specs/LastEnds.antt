@@ -15,7 +15,8 @@ abbrev pub ends_in : ℕ → ℕ → List HostEvent → ℕ
 ends_in d k [] = 0
 ends_in d k (e ∷ es) = cond (is_end d k e) 1 0 + ends_in d k es
 
--- Of n drivers that began with nothing alive, each object that is alive after the events es ends once, in some order, and nothing else is listed.
+-- Of n drivers that began with nothing alive, each object that is alive after the events es ends
+-- once, in some order, and nothing else is listed.
 pub record AreLastEnds (n : ℕ) (es ends : List HostEvent) : Type 0 where
   pub only : (ks : List (ℕ × ℕ)) × (ends ≡ ends_of ks)
   pub once : (d k : ℕ) → d < n → ends_in d k ends ≡ cond (live_along k false (events_of d es)) 1 0

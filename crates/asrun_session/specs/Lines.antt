@@ -11,7 +11,9 @@ lines_of (b ∷ bs) = if b == 10 then (b ∷ []) ∷ lines_of bs else onto_first
 unfoldable pub before_last : ℕ → List ℕ → Option (List ℕ)
 before_last b line =
     if length line == 0 then None
-    else (if slice_index line (length line - 1) == b then Some (take (length line - 1) line) else None)
+    else (if slice_index line (length line - 1) == b
+    then Some (take (length line - 1) line)
+    else None)
 
 -- a line without its CR
 abbrev pub without_return : List ℕ → List ℕ

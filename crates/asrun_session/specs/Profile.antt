@@ -26,14 +26,24 @@ registered n (Some why) after = Err (Refused n why)
 abbrev pub entered : ℕ → Registrations → Option Entry → Result Registrations ProfileFault
 entered n r None = Err (BadLine n)
 entered n r (Some (DefaultMask m)) = Ok (record r { default_mask = m })
-entered n r (Some (HostType name driver)) = registered n (refusal_of_type r driver (declared_type name)) (with_type r driver (declared_type name))
-entered n r (Some (Factory t f decl)) = registered n (refusal_of_factory r t (declared_factory decl)) (with_factory r t f (declared_factory decl))
-entered n r (Some (Method t f decl)) = registered n (refusal_of_method r t (declared_method decl)) (with_method r t f (declared_method decl))
-entered n r (Some (Property t f decl)) = registered n (refusal_of_property r t (declared_property decl)) (with_property r t f (declared_property decl))
+entered n r (Some (HostType name driver)) =
+    registered n (refusal_of_type r driver (declared_type name))
+    (with_type r driver (declared_type name))
+entered n r (Some (Factory t f decl)) =
+    registered n (refusal_of_factory r t (declared_factory decl))
+    (with_factory r t f (declared_factory decl))
+entered n r (Some (Method t f decl)) =
+    registered n (refusal_of_method r t (declared_method decl))
+    (with_method r t f (declared_method decl))
+entered n r (Some (Property t f decl)) =
+    registered n (refusal_of_property r t (declared_property decl))
+    (with_property r t f (declared_property decl))
 entered n r (Some (Function driver f decl)) =
-    registered n (refusal_of_function r driver (declared_function decl)) (with_function r driver f (declared_function decl))
+    registered n (refusal_of_function r driver (declared_function decl))
+    (with_function r driver f (declared_function decl))
 entered n r (Some (Global driver f decl)) =
-    registered n (refusal_of_global r driver (declared_property decl)) (with_global r driver f (declared_property decl))
+    registered n (refusal_of_global r driver (declared_property decl))
+    (with_global r driver f (declared_property decl))
 entered n r (Some Blank) = registered n (refusal_of_blank r) (with_blank r)
 
 abbrev pub line_entered : ℕ → Registrations → List ℕ → Result Registrations ProfileFault
@@ -45,7 +55,8 @@ loaded n r [] = Ok r
 loaded n r (line ∷ lines) = on_ok (line_entered n r (shown_of line)) (λ s. loaded (n + 1) s lines)
 
 -- What was loaded is as stated, unless memory ran out.
-abbrev pub Loads : {U : Type 0} → Result U ProfileStop → Registrations → Result Registrations ProfileFault → Type 0
+abbrev pub Loads :
+    {U : Type 0} → Result U ProfileStop → Registrations → Result Registrations ProfileFault → Type 0
 Loads (Ok u) r stated = stated ≡ Ok r
 Loads (Err (stop.Fault fault)) r stated = stated ≡ Err fault
 Loads (Err stop.Memory) r stated = Unit {0}
@@ -53,5 +64,6 @@ Loads (Err stop.Memory) r stated = Unit {0}
 -- What a registration at line n answered ends the run there, where it is an error.
 abbrev pub IsJudged : {U : Type 0} → Result U ProfileStop → ℕ → Result EntityNo RegError → Type 0
 IsJudged (Ok u) n answer = IsOk answer
-IsJudged (Err (stop.Fault fault)) n answer = (why : RegError) × (answer ≡ Err why) × (why ≢ NoMemory) × (fault ≡ Refused n why)
+IsJudged (Err (stop.Fault fault)) n answer =
+    (why : RegError) × (answer ≡ Err why) × (why ≢ NoMemory) × (fault ≡ Refused n why)
 IsJudged (Err stop.Memory) n answer = answer ≡ Err NoMemory

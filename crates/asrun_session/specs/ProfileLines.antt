@@ -59,11 +59,17 @@ unfoldable pub entry_behind : List ℕ → List ℕ → Option Entry
 entry_behind word text =
     if bytes_eq word (codes "mask") then option_map DefaultMask (mask_of text)
     else (if bytes_eq word (codes "type") then type_of text
-    else (if bytes_eq word (codes "factory") then option_map (λ m. Factory m.0 m.1 m.2) (member_of text)
-    else (if bytes_eq word (codes "method") then option_map (λ m. Method m.0 m.1 m.2) (member_of text)
-    else (if bytes_eq word (codes "property") then option_map (λ m. Property m.0 m.1 m.2) (member_of text)
-    else (if bytes_eq word (codes "function") then option_map (λ o. Function o.0 o.1 o.2) (own_of text)
-    else (if bytes_eq word (codes "global") then option_map (λ o. Global o.0 o.1 o.2) (own_of text) else None))))))
+    else (if bytes_eq word (codes "factory")
+    then option_map (λ m. Factory m.0 m.1 m.2) (member_of text)
+    else (if bytes_eq word (codes "method")
+    then option_map (λ m. Method m.0 m.1 m.2) (member_of text)
+    else (if bytes_eq word (codes "property")
+    then option_map (λ m. Property m.0 m.1 m.2) (member_of text)
+    else (if bytes_eq word (codes "function")
+    then option_map (λ o. Function o.0 o.1 o.2) (own_of text)
+    else (if bytes_eq word (codes "global")
+    then option_map (λ o. Global o.0 o.1 o.2) (own_of text)
+    else None))))))
 
 -- one of these lines, or `blank` alone
 unfoldable pub entry_of : List ℕ → Option Entry

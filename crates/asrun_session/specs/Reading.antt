@@ -7,17 +7,21 @@ use Rattle.asrun_session.specs.declared.ending.Stop.TheVariants.{Fault}
 use Rattle.asrun_session.specs.declared.reading.Text.{Text}
 use Rattle.asrun_session.specs.declared.reading.Text.TheVariants.{Whole, TooLong}
 
--- What was read: all that was left, if that is within the limit. Otherwise reading stopped one byte above it.
+-- What was read: all that was left, if that is within the limit. Otherwise reading stopped one byte
+-- above it.
 abbrev pub WasRead : ℕ → Option (List ℕ) → Option (List ℕ) → Text → Type 0
-WasRead limit old new (Whole text) = Consumes old new text.items × IsAtEnd new × (length text.items ≤ limit)
-WasRead limit old new TooLong = (taken : List ℕ) × Consumes old new taken × (length taken ≡ limit + 1)
+WasRead limit old new (Whole text) =
+    Consumes old new text.items × IsAtEnd new × (length text.items ≤ limit)
+WasRead limit old new TooLong =
+    (taken : List ℕ) × Consumes old new taken × (length taken ≡ limit + 1)
 
 -- The text is these bytes, or these are more than the limit.
 abbrev pub IsTextOf : ℕ → Text → List ℕ → Type 0
 IsTextOf limit (Whole text) bytes = (text.items ≡ bytes) × (length bytes ≤ limit)
 IsTextOf limit TooLong bytes = limit < length bytes
 
--- The text was read as far as reading goes: what is left is what stands behind one byte above the limit, and nothing of a text within it.
+-- The text was read as far as reading goes: what is left is what stands behind one byte above the
+-- limit, and nothing of a text within it.
 abbrev pub IsReadThrough : ℕ → Option (List ℕ) → Option (List ℕ) → Type 0
 IsReadThrough limit old new = IfSome old (λ bytes. new ≡ Some (drop (limit + 1) bytes))
 

@@ -18,12 +18,19 @@ pub record Act : Type 0 where
 abbrev pub command : Command → Option Act
 command c = Some (record { action = action.Command c; lines = 0 })
 
--- the first `lines` lines of those behind are a section of the module: nothing where they are too few
+-- the first `lines` lines of those behind are a section of the module: nothing where they are too
+-- few
 abbrev pub section_act : List (List ℕ) → List ℕ → ℕ → Option Act
 section_act behind name lines =
-    if nat_le lines (length behind) then Some (record { action = action.Command (AddSection name (concat (take lines behind))); lines = lines }) else None
+    if nat_le lines (length behind)
+    then Some (record {
+      action = action.Command (AddSection name (concat (take lines behind)));
+      lines = lines;
+    })
+    else None
 
--- what a line does, where `behind` are the lines that follow it: nothing where they are too few for its section
+-- what a line does, where `behind` are the lines that follow it: nothing where they are too few for
+-- its section
 abbrev pub act_of : ℕ → List (List ℕ) → SessionLine → Option Act
 act_of budget behind (line.Module name mask) = command (NewModule name mask)
 act_of budget behind (line.Section name lines) = section_act behind name lines
@@ -36,7 +43,8 @@ abbrev pub budget_after : ℕ → Action → ℕ
 budget_after budget (action.Command c) = budget
 budget_after budget (action.Budget ticks) = ticks
 
--- the actions of a session, and the line of another form, or without lines enough for its section, that ends it
+-- the actions of a session, and the line of another form, or without lines enough for its section,
+-- that ends it
 pub record Session : Type 0 where
   pub actions : List Action
   pub bad_line : Option ℕ
@@ -48,10 +56,13 @@ abbrev pub acts : ℕ → ℕ → Option Act → (ℕ → ℕ → Session) → S
 acts n budget None more = record { actions = []; bad_line = Some n }
 acts n budget (Some a) more = behind_action a.action (more (budget_after budget a.action) a.lines)
 
--- The session from line n on, with the budget that holds there. The next `lines` lines are the text of a section.
+-- The session from line n on, with the budget that holds there. The next `lines` lines are the text
+-- of a section.
 unfoldable pub session_from : ℕ → ℕ → ℕ → List (List ℕ) → Session
 session_from n budget lines [] = record { actions = []; bad_line = None }
 session_from n budget (suc lines) (l ∷ ls) = session_from (n + 1) budget lines ls
 session_from n budget zero (l ∷ ls) =
-    if is_skipped (shown_of l) then session_from (n + 1) budget zero ls
-    else acts n budget (option_and_then (act_of budget ls) (session_line_of (shown_of l))) (λ b lines. session_from (n + 1) b lines ls)
+    if is_skipped (shown_of l)
+    then session_from (n + 1) budget zero ls
+    else acts n budget (option_and_then (act_of budget ls) (session_line_of (shown_of l)))
+    (λ b lines. session_from (n + 1) b lines ls)

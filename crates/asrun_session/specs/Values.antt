@@ -23,7 +23,8 @@ unfoldable pub digits_value_of : List ℕ → Option Value
 digits_value_of text =
     if length text == 0 then None
     else (if slice_index text 0 == 45 then negative_of (drop 1 text)
-    else (if slice_index text (length text - 1) == 117 then option_map value.Uint (decimal_of 20 (take (length text - 1) text))
+    else (if slice_index text (length text - 1) == 117
+    then option_map value.Uint (decimal_of 20 (take (length text - 1) text))
     else positive_of text))
 
 -- `7` or `-7`, `7u`, `true`, `false`
@@ -47,7 +48,9 @@ is_comma b = b == 44
 unfoldable pub inside_of : List ℕ → Option (List ℕ)
 inside_of text =
     if nat_lt (length text) 2 then None
-    else (if slice_index text 0 == 40 && slice_index text (length text - 1) == 41 then Some (slice_range text 1 (length text - 1)) else None)
+    else (if slice_index text 0 == 40 && slice_index text (length text - 1) == 41
+    then Some (slice_range text 1 (length text - 1))
+    else None)
 
 -- `(V,V)`, or `()` for none
 unfoldable pub arguments_of : List ℕ → Option (List Value)

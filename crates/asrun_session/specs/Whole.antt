@@ -1,9 +1,10 @@
--- What a run over a profile and a session prints, and how it ends (docs/EMBEDDING.md, "The program").
+-- What a run over a profile and a session prints, and how it ends (docs/EMBEDDING.md, "The
+-- program").
 use Rattle.std.specs.Prelude.{◌≡◌, ℕ, ◌<◌, ◌≤◌, ◌⊎◌, nat_lt, List, [], ◌++◌, length, Option, Result, Ok, Err, codes, decimal, Bool, true, false, if◌then◌else◌}
 use Rattle.std.specs.Io.KnownBytes.{Appends}
 use Rattle.std.specs.declared.alloc.Global.{Global}
 use Rattle.std.specs.declared.dyn_box.DynBox.{DynBox}
-use Rattle.ang_host.specs.Laws.{Meaning}
+use Rattle.ang_host.specs.Meanings.{Meanings}
 use Rattle.ang_host.specs.declared.event.HostEvent.{HostEvent}
 use Rattle.ang_registry.specs.declared.error.RegError.{RegError}
 use Rattle.ang_registry.specs.declared.error.RegError.TheVariants.{Limit, EmptyMask, BadDeclaration, UnknownType, WrongDriver, Duplicate, Memory as NoMemory}
@@ -44,7 +45,8 @@ why_text NoMemory = codes "Memory"
 -- `profile LINE BadLine` or `profile LINE REFUSAL`
 unfoldable pub profile_fault_text : ProfileFault → List ℕ
 profile_fault_text (BadLine n) = codes "profile " ++ decimal n ++ codes " BadLine\n"
-profile_fault_text (Refused n why) = codes "profile " ++ decimal n ++ codes " " ++ why_text why ++ codes "\n"
+profile_fault_text (Refused n why) =
+    codes "profile " ++ decimal n ++ codes " " ++ why_text why ++ codes "\n"
 
 abbrev pub long_profile_text : List ℕ
 long_profile_text = codes "profile 0 TooLong\n"
@@ -63,15 +65,20 @@ fresh = record { default_mask = record { 0 = 1 }; entries = [] }
 
 abbrev pub start_of : List ℕ → Result RegistrationList (List ℕ)
 start_of profile =
-    if nat_lt most_profile (length profile) then Err long_profile_text else registered_by (loaded 1 fresh (lines_of profile))
+    if nat_lt most_profile (length profile)
+    then Err long_profile_text
+    else registered_by (loaded 1 fresh (lines_of profile))
 
--- What a session does over the list R, with a writer that has the bytes old and then new: which events its replies list, and the world that it leaves.
+-- What a session does over the list R, with a writer that has the bytes old and then new: which
+-- events its replies list, and the world that it leaves.
 module _ (R : RegistrationList) (session : List ℕ) (budget : ℕ) (old new : Option (List ℕ)) where
   -- It was read and done.
   abbrev pub RunsSession : Status → List HostEvent → World → Type 0
   RunsSession status es after =
-      ((most_session < length session) × Appends old new long_session_text × (status ≡ BadInput) × DidNothing es after)
-      ⊎ ((length session ≤ most_session) × IsDone R no_modules (session_from 1 budget 0 (lines_of session)) old new status es after)
+      ((most_session < length session) × Appends old new long_session_text × (status ≡ BadInput)
+      × DidNothing es after)
+      ⊎ ((length session ≤ most_session)
+      × IsDone R no_modules (session_from 1 budget 0 (lines_of session)) old new status es after)
 
   -- It was not done to its end.
   abbrev pub StopsSession : List HostEvent → World → Type 0
@@ -79,31 +86,41 @@ module _ (R : RegistrationList) (session : List ℕ) (budget : ℕ) (old new : O
       ((most_session < length session) × HasFront old new long_session_text × DidNothing es after)
       ⊎ IsCut R no_modules (session_from 1 budget 0 (lines_of session)) old new es after
 
--- A run with the drivers xs that come back as ys, and with a writer that has the bytes old and then new. Here m is the meaning of what is behind each vtable.
-module _ {V : Type 0} {P : V → Type 0} (m : (v : V) → Meaning (P v)) (xs ys : List (DynBox V Global P)) (old new : Option (List ℕ)) where
+-- A run with the drivers xs that come back as ys, and with a writer that has the bytes old and then
+-- new. Here m is the meaning of what is behind each vtable.
+module _ {V : Type 0} {P : V → Type 0} (m : Meanings P) (xs ys : List (DynBox V Global P))
+    (old new : Option (List ℕ)) where
   -- Nothing was printed, and the drivers are as they were.
   abbrev pub Untouched : Type 0
   Untouched = (new ≡ old) × (ys ≡ xs)
 
-  -- No engine over the list R takes the drivers, which come back as they were. The text that says why was printed.
+  -- No engine over the list R takes the drivers, which come back as they were. The text that says
+  -- why was printed.
   abbrev pub EngineRefused : RegistrationList → Status → Type 0
-  EngineRefused R status = (why : EngineRefusal) × IsRefused m R xs why × Appends old new (engine_text why) × (status ≡ BadInput) × (ys ≡ xs)
+  EngineRefused R status =
+      (why : EngineRefusal) × IsRefused m R xs why × Appends old new (engine_text why)
+      × (status ≡ BadInput) × (ys ≡ xs)
 
   -- The text that says why no engine takes the drivers was cut short.
   abbrev pub EngineStops : RegistrationList → Type 0
-  EngineStops R = (why : EngineRefusal) × IsRefused m R xs why × HasFront old new (engine_text why) × (ys ≡ xs)
+  EngineStops R =
+      (why : EngineRefusal) × IsRefused m R xs why × HasFront old new (engine_text why) × (ys ≡ xs)
 
   -- A run that came to its end: what it printed is all.
   abbrev pub Ends : Result RegistrationList (List ℕ) → List ℕ → ℕ → Status → Type 0
   Ends (Err text) session budget status = Appends old new text × (status ≡ BadInput) × (ys ≡ xs)
-  Ends (Ok R) session budget status = EngineRefused R status ⊎ WasDiscarded m R xs ys (RunsSession R session budget old new status)
+  Ends (Ok R) session budget status =
+      EngineRefused R status ⊎ WasDiscarded m R xs ys (RunsSession R session budget old new status)
 
-  -- A run that was cut short: what it printed is a front. It may have been cut before there was an engine.
+  -- A run that was cut short: what it printed is a front. It may have been cut before there was an
+  -- engine.
   abbrev pub Stops : Result RegistrationList (List ℕ) → List ℕ → ℕ → Type 0
   Stops (Err text) session budget = HasFront old new text × (ys ≡ xs)
-  Stops (Ok R) session budget = Untouched ⊎ (EngineStops R ⊎ WasDiscarded m R xs ys (StopsSession R session budget old new))
+  Stops (Ok R) session budget =
+      Untouched ⊎ (EngineStops R ⊎ WasDiscarded m R xs ys (StopsSession R session budget old new))
 
-  -- A text that can't be read is found before anything is printed and any driver is asked. There may have been an engine.
+  -- A text that can't be read is found before anything is printed and any driver is asked. There
+  -- may have been an engine.
   abbrev pub Unread : Result RegistrationList (List ℕ) → Type 0
   Unread (Err text) = Untouched
   Unread (Ok R) = Untouched ⊎ ((new ≡ old) × WasDiscarded m R xs ys DidNothing)
@@ -118,12 +135,14 @@ module _ {V : Type 0} {P : V → Type 0} (m : (v : V) → Meaning (P v)) (xs ys 
   Tells start session budget (Err io.Read) = Unread start
 
 -- a profile that was loaded printed nothing, and one that wasn't said why
-abbrev pub Starts : Result RegistrationList (List ℕ) → RegistrationList → Option (List ℕ) → Option (List ℕ) → Bool → Type 0
+abbrev pub Starts : Result RegistrationList (List ℕ) → RegistrationList → Option (List ℕ)
+    → Option (List ℕ) → Bool → Type 0
 Starts start R old new true = (start ≡ Ok R) × (new ≡ old)
 Starts start R old new false = (text : List ℕ) × (start ≡ Err text) × Appends old new text
 
 -- a front of what a profile prints that isn't taken, and else nothing
-abbrev pub StartStops : Result RegistrationList (List ℕ) → Option (List ℕ) → Option (List ℕ) → Type 0
+abbrev pub StartStops :
+    Result RegistrationList (List ℕ) → Option (List ℕ) → Option (List ℕ) → Type 0
 StartStops (Err text) old new = HasFront old new text
 StartStops (Ok R) old new = new ≡ old
 

@@ -26,7 +26,8 @@ pub enum Text {
 /// One call of `read`, for at most `room` bytes, which go behind the text. Gives how many came.
 fn read_more<R: Read>(reader: &mut R, text: &mut Vec<u8>, room: usize) -> Result<usize, Stop>
     requires some { 0 < room }
-    ensures taken { IfOk result (λ count. (bytes : List ℕ) × (length bytes ≡ count) × (text.new.items ≡ text.old.items ++ bytes)
+    ensures taken { IfOk result (λ count. (bytes : List ℕ) × (length bytes ≡ count)
+        × (text.new.items ≡ text.old.items ++ bytes)
         × Consumes (R.remaining reader.old) (R.remaining reader.new) bytes) }
     ensures few { IfOk result (λ count. count ≤ room) }
     ensures end { IfOk result (λ count. count ≡ 0 → IsAtEnd (R.remaining reader.new)) }
@@ -51,7 +52,8 @@ pub fn read_text<R: Read>(alloc: Global, reader: &mut R, limit: usize) -> Result
     requires small { limit < 2 ^ 32 }
     ensures read { IfOk result (WasRead limit (R.remaining reader.old) (R.remaining reader.new)) }
     ensures text { IfOk result (λ text. IfSome (R.remaining reader.old) (IsTextOf limit text)) }
-    ensures through { IfOk result (λ _. IsReadThrough limit (R.remaining reader.old) (R.remaining reader.new)) }
+    ensures through { IfOk result
+        (λ _. IsReadThrough limit (R.remaining reader.old) (R.remaining reader.new)) }
     ensures fault { IfErr result (λ e. e ≢ unwritten) }
 {
     let mut text = Vec::new(alloc);

@@ -27,8 +27,10 @@ use std::io::Write;
 
 /// Prints a reply.
 fn print_reply<W: Write>(alloc: Global, writer: &mut W, reply: &Reply) -> Result<(), Stop>
-    ensures whole { OnOk result (Appends (W.contents writer.old) (W.contents writer.new) (reply_text reply.now)) }
-    ensures front { OnErr result (HasFront (W.contents writer.old) (W.contents writer.new) (reply_text reply.now)) }
+    ensures whole { OnOk result
+        (Appends (W.contents writer.old) (W.contents writer.new) (reply_text reply.now)) }
+    ensures front { OnErr result
+        (HasFront (W.contents writer.old) (W.contents writer.new) (reply_text reply.now)) }
     ensures fault { IfErr result (λ e. e ≢ unread) }
 {
     let mut text = Vec::new(alloc);
@@ -39,8 +41,10 @@ fn print_reply<W: Write>(alloc: Global, writer: &mut W, reply: &Reply) -> Result
 
 /// Prints `line N BadLine`.
 fn print_bad_line<W: Write>(alloc: Global, writer: &mut W, number: u64) -> Result<(), Stop>
-    ensures whole { OnOk result (Appends (W.contents writer.old) (W.contents writer.new) (bad_line_text (Some number))) }
-    ensures front { OnErr result (HasFront (W.contents writer.old) (W.contents writer.new) (bad_line_text (Some number))) }
+    ensures whole { OnOk result
+        (Appends (W.contents writer.old) (W.contents writer.new) (bad_line_text (Some number))) }
+    ensures front { OnErr result
+        (HasFront (W.contents writer.old) (W.contents writer.new) (bad_line_text (Some number))) }
     ensures fault { IfErr result (λ e. e ≢ unread) }
 {
     let mut text = Vec::new(alloc);
@@ -65,13 +69,13 @@ fn run_command<W: Write>(
     writer: &mut W,
     command: Command,
 ) -> Result<bool, Stop>
-    requires sound { IsSound (λ v. (⟦<dyn Driver as Driver>⟧ v).meaning) engine.old }
-    ensures sound { IsSound (λ v. (⟦<dyn Driver as Driver>⟧ v).meaning) engine.new }
+    requires sound { IsSound ⟦<dyn Driver as Driver>⟧ engine.old }
+    ensures sound { IsSound ⟦<dyn Driver as Driver>⟧ engine.new }
     ensures registrations { registrations engine.new ≡ registrations engine.old }
     ensures order { kinds_of (drivers_in engine.new) ≡ kinds_of (drivers_in engine.old) }
-    ensures done { IfOk result (λ ok. Prints (λ v. (⟦<dyn Driver as Driver>⟧ v).meaning) engine.old engine.new
+    ensures done { IfOk result (λ ok. Prints ⟦<dyn Driver as Driver>⟧ engine.old engine.new
         (action.Command command) (W.contents writer.old) (W.contents writer.new) ok) }
-    ensures cut { OnErr result (HalfPrints (λ v. (⟦<dyn Driver as Driver>⟧ v).meaning) engine.old engine.new
+    ensures cut { OnErr result (HalfPrints ⟦<dyn Driver as Driver>⟧ engine.old engine.new
         (action.Command command) (W.contents writer.old) (W.contents writer.new)) }
     ensures fault { IfErr result (λ e. e ≢ unread) }
 {
@@ -88,14 +92,14 @@ fn perform<W: Write>(
     action: Action,
     budget: u64,
 ) -> Result<(bool, u64), Stop>
-    requires sound { IsSound (λ v. (⟦<dyn Driver as Driver>⟧ v).meaning) engine.old }
-    ensures sound { IsSound (λ v. (⟦<dyn Driver as Driver>⟧ v).meaning) engine.new }
+    requires sound { IsSound ⟦<dyn Driver as Driver>⟧ engine.old }
+    ensures sound { IsSound ⟦<dyn Driver as Driver>⟧ engine.new }
     ensures registrations { registrations engine.new ≡ registrations engine.old }
     ensures order { kinds_of (drivers_in engine.new) ≡ kinds_of (drivers_in engine.old) }
     ensures budget { IfOk result (λ x. x.1 ≡ budget_after budget action) }
-    ensures done { IfOk result (λ x. Prints (λ v. (⟦<dyn Driver as Driver>⟧ v).meaning) engine.old engine.new
+    ensures done { IfOk result (λ x. Prints ⟦<dyn Driver as Driver>⟧ engine.old engine.new
         action (W.contents writer.old) (W.contents writer.new) x.0) }
-    ensures cut { OnErr result (HalfPrints (λ v. (⟦<dyn Driver as Driver>⟧ v).meaning) engine.old engine.new
+    ensures cut { OnErr result (HalfPrints ⟦<dyn Driver as Driver>⟧ engine.old engine.new
         action (W.contents writer.old) (W.contents writer.new)) }
     ensures fault { IfErr result (λ e. e ≢ unread) }
 {
@@ -119,15 +123,17 @@ pub fn run_session<W: Write>(
     text: &[u8],
     budget: u64,
 ) -> Result<Status, Stop>
-    requires sound { IsSound (λ v. (⟦<dyn Driver as Driver>⟧ v).meaning) engine.old }
+    requires sound { IsSound ⟦<dyn Driver as Driver>⟧ engine.old }
     requires few { length text.now < 2 ^ 32 }
-    ensures sound { IsSound (λ v. (⟦<dyn Driver as Driver>⟧ v).meaning) engine.new }
+    ensures sound { IsSound ⟦<dyn Driver as Driver>⟧ engine.new }
     ensures registrations { registrations engine.new ≡ registrations engine.old }
     ensures order { kinds_of (drivers_in engine.new) ≡ kinds_of (drivers_in engine.old) }
-    ensures done { IfOk result (λ status. RunsLines (λ v. (⟦<dyn Driver as Driver>⟧ v).meaning) engine.old engine.new
-        (session_from 1 budget 0 (lines_of text.now)) (W.contents writer.old) (W.contents writer.new) status) }
-    ensures cut { OnErr result (StopsLines (λ v. (⟦<dyn Driver as Driver>⟧ v).meaning) engine.old engine.new
-        (session_from 1 budget 0 (lines_of text.now)) (W.contents writer.old) (W.contents writer.new)) }
+    ensures done { IfOk result (λ status. RunsLines ⟦<dyn Driver as Driver>⟧ engine.old engine.new
+        (session_from 1 budget 0 (lines_of text.now)) (W.contents writer.old)
+        (W.contents writer.new) status) }
+    ensures cut { OnErr result (StopsLines ⟦<dyn Driver as Driver>⟧ engine.old engine.new
+        (session_from 1 budget 0 (lines_of text.now)) (W.contents writer.old)
+        (W.contents writer.new)) }
     ensures fault { IfErr result (λ e. e ≢ unread) }
 {
     let mut rest = text;

@@ -60,7 +60,8 @@ pub fn value(text: &[u8]) -> Option<Value>
 /// What stands before and behind the first comma.
 fn piece(text: &[u8]) -> Option<(&[u8], &[u8])>
     ensures none { IfNone result (slice_split is_comma text.now ≡ text.now ∷ []) }
-    ensures some { IfSome result (λ x. slice_split is_comma text.now ≡ x.0.now ∷ slice_split is_comma x.1.now) }
+    ensures some { IfSome result
+        (λ x. slice_split is_comma text.now ≡ x.0.now ∷ slice_split is_comma x.1.now) }
     ensures shorter { IfSome result (λ x. length x.1.now < length text.now) }
 {
     let at = place_of(text, b',')?;
@@ -69,7 +70,8 @@ fn piece(text: &[u8]) -> Option<(&[u8], &[u8])>
 
 /// The values that the text spells, separated by commas.
 fn values(alloc: Global, text: &[u8]) -> Result<Option<Vec<Value>>, AllocError>
-    ensures exact { IfOk result (λ r. option_map (λ v. v.items) r ≡ values_of (slice_split is_comma text.now)) }
+    ensures exact { IfOk result
+        (λ r. option_map (λ v. v.items) r ≡ values_of (slice_split is_comma text.now)) }
 {
     let mut values = Vec::new(alloc);
     let mut text = text;

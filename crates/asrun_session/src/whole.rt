@@ -45,8 +45,10 @@ fn print_profile_fault<W: Write>(
     writer: &mut W,
     fault: ProfileFault,
 ) -> Result<(), Stop>
-    ensures whole { OnOk result (Appends (W.contents writer.old) (W.contents writer.new) (profile_fault_text fault)) }
-    ensures front { OnErr result (HasFront (W.contents writer.old) (W.contents writer.new) (profile_fault_text fault)) }
+    ensures whole { OnOk result
+        (Appends (W.contents writer.old) (W.contents writer.new) (profile_fault_text fault)) }
+    ensures front { OnErr result
+        (HasFront (W.contents writer.old) (W.contents writer.new) (profile_fault_text fault)) }
     ensures fault { IfErr result (λ e. e ≢ unread) }
 {
     let mut text = Vec::new(alloc);
@@ -63,9 +65,13 @@ fn load_text<W: Write>(
     text: &[u8],
 ) -> Result<bool, Stop>
     requires few { length text.now < 2 ^ 32 }
-    ensures done { IfOk result (Starts (registered_by (loaded 1 registry.old (lines_of text.now))) registry.new.entries (W.contents writer.old) (W.contents writer.new)) }
-    ensures cut { OnErr result (StartStops (registered_by (loaded 1 registry.old (lines_of text.now))) (W.contents writer.old) (W.contents writer.new)) }
-    ensures refused { IfErr result (λ e. e ≡ unwritten → IfOk (registered_by (loaded 1 registry.old (lines_of text.now))) (λ _. ⊥)) }
+    ensures done { IfOk result (Starts (registered_by (loaded 1 registry.old (lines_of text.now)))
+        registry.new.entries (W.contents writer.old) (W.contents writer.new)) }
+    ensures cut { OnErr result (StartStops
+        (registered_by (loaded 1 registry.old (lines_of text.now))) (W.contents writer.old)
+        (W.contents writer.new)) }
+    ensures refused { IfErr result (λ e. e ≡ unwritten
+        → IfOk (registered_by (loaded 1 registry.old (lines_of text.now))) (λ _. ⊥)) }
     ensures fault { IfErr result (λ e. e ≢ unread) }
 {
     match load(registry, text) {
@@ -86,11 +92,17 @@ fn load_profile<R: Read, W: Write>(
     registry: &mut Registry,
 ) -> Result<bool, Stop>
     requires new { registry.old ≡ fresh }
-    ensures done { IfOk result (λ ok. IfSome (R.remaining reader.old) (λ text. Starts (start_of text) registry.new.entries (W.contents writer.old) (W.contents writer.new) ok)) }
-    ensures cut { OnErr result (IfSome (R.remaining reader.old) (λ text. StartStops (start_of text) (W.contents writer.old) (W.contents writer.new))) }
-    ensures through { IfOk result (λ _. IsReadThrough most_profile (R.remaining reader.old) (R.remaining reader.new)) }
-    ensures read { IfErr result (λ e. e ≡ unwritten → IsReadThrough most_profile (R.remaining reader.old) (R.remaining reader.new)) }
-    ensures refused { IfErr result (λ e. e ≡ unwritten → IfSome (R.remaining reader.old) (λ text. IfOk (start_of text) (λ _. ⊥))) }
+    ensures done { IfOk result (λ ok. IfSome (R.remaining reader.old) (λ text.
+        Starts (start_of text) registry.new.entries (W.contents writer.old)
+        (W.contents writer.new) ok)) }
+    ensures cut { OnErr result (IfSome (R.remaining reader.old)
+        (λ text. StartStops (start_of text) (W.contents writer.old) (W.contents writer.new))) }
+    ensures through { IfOk result
+        (λ _. IsReadThrough most_profile (R.remaining reader.old) (R.remaining reader.new)) }
+    ensures read { IfErr result (λ e. e ≡ unwritten
+        → IsReadThrough most_profile (R.remaining reader.old) (R.remaining reader.new)) }
+    ensures refused { IfErr result (λ e. e ≡ unwritten
+        → IfSome (R.remaining reader.old) (λ text. IfOk (start_of text) (λ _. ⊥))) }
     ensures fault { IfErr result (λ e. e ≡ unread → W.contents writer.new ≡ W.contents writer.old) }
 {
     match read_text(alloc, reader, MOST_PROFILE)? {
@@ -110,17 +122,18 @@ fn run_text<R: Read, W: Write>(
     engine: &mut Engine,
     budget: u64,
 ) -> Result<Status, Stop>
-    requires sound { IsSound (λ v. (⟦<dyn Driver as Driver>⟧ v).meaning) engine.old }
-    requires new { world_in (λ v. (⟦<dyn Driver as Driver>⟧ v).meaning) engine.old ≡ no_modules }
-    ensures sound { IsSound (λ v. (⟦<dyn Driver as Driver>⟧ v).meaning) engine.new }
+    requires sound { IsSound ⟦<dyn Driver as Driver>⟧ engine.old }
+    requires new { world_in ⟦<dyn Driver as Driver>⟧ engine.old ≡ no_modules }
+    ensures sound { IsSound ⟦<dyn Driver as Driver>⟧ engine.new }
     ensures order { kinds_of (drivers_in engine.new) ≡ kinds_of (drivers_in engine.old) }
     ensures done { IfOk result (λ status. IfSome (R.remaining reader.old) (λ text.
-        RunsText (λ v. (⟦<dyn Driver as Driver>⟧ v).meaning) engine.old engine.new
+        RunsText ⟦<dyn Driver as Driver>⟧ engine.old engine.new
         text budget (W.contents writer.old) (W.contents writer.new) status)) }
     ensures cut { OnErr result (IfSome (R.remaining reader.old) (λ text.
-        StopsText (λ v. (⟦<dyn Driver as Driver>⟧ v).meaning) engine.old engine.new
+        StopsText ⟦<dyn Driver as Driver>⟧ engine.old engine.new
         text budget (W.contents writer.old) (W.contents writer.new))) }
-    ensures read { IfErr result (λ e. e ≡ unwritten → IsReadThrough most_session (R.remaining reader.old) (R.remaining reader.new)) }
+    ensures read { IfErr result (λ e. e ≡ unwritten
+        → IsReadThrough most_session (R.remaining reader.old) (R.remaining reader.new)) }
     ensures fault { IfErr result (λ e. e ≡ unread → W.contents writer.new ≡ W.contents writer.old) }
     ensures unused { IfErr result (λ e. e ≡ unread → engine.new ≡ engine.old) }
 {
@@ -135,9 +148,11 @@ fn run_text<R: Read, W: Write>(
 
 /// Prints why the drivers were not taken as a list.
 fn print_drivers_error<W: Write>(writer: &mut W, why: DriversError) -> Result<Status, Stop>
-    ensures whole { OnOk result (Appends (W.contents writer.old) (W.contents writer.new) (engine_text (NotListed why))) }
+    ensures whole { OnOk result
+        (Appends (W.contents writer.old) (W.contents writer.new) (engine_text (NotListed why))) }
     ensures status { IfOk result (λ status. status ≡ Status.BadInput) }
-    ensures front { OnErr result (HasFront (W.contents writer.old) (W.contents writer.new) (engine_text (NotListed why))) }
+    ensures front { OnErr result
+        (HasFront (W.contents writer.old) (W.contents writer.new) (engine_text (NotListed why))) }
     ensures fault { IfErr result (λ e. e ≢ unread) }
 {
     match why {
@@ -149,9 +164,11 @@ fn print_drivers_error<W: Write>(writer: &mut W, why: DriversError) -> Result<St
 
 /// Prints that an entry's driver is not there.
 fn print_no_driver<W: Write>(writer: &mut W) -> Result<Status, Stop>
-    ensures whole { OnOk result (Appends (W.contents writer.old) (W.contents writer.new) (engine_text NoDriver)) }
+    ensures whole { OnOk result
+        (Appends (W.contents writer.old) (W.contents writer.new) (engine_text NoDriver)) }
     ensures status { IfOk result (λ status. status ≡ Status.BadInput) }
-    ensures front { OnErr result (HasFront (W.contents writer.old) (W.contents writer.new) (engine_text NoDriver)) }
+    ensures front { OnErr result
+        (HasFront (W.contents writer.old) (W.contents writer.new) (engine_text NoDriver)) }
     ensures fault { IfErr result (λ e. e ≢ unread) }
 {
     write_text(writer, b"engine NoDriver\n")?;
@@ -167,21 +184,21 @@ fn run_engine<R: Read, W: Write>(
     drivers: Drivers,
     budget: u64,
 ) -> (Result<Status, Stop>, Vec<Box<dyn Driver>>)
-    requires listed { AreListed (λ v. (⟦<dyn Driver as Driver>⟧ v).meaning) (members drivers) }
+    requires listed { AreListed ⟦<dyn Driver as Driver>⟧ (members drivers) }
     ensures done { IfOk result.0 (λ status. IfSome (R.remaining reader.old) (λ text.
-        Ends (λ v. (⟦<dyn Driver as Driver>⟧ v).meaning) (members drivers) result.1.items
+        Ends ⟦<dyn Driver as Driver>⟧ (members drivers) result.1.items
         (W.contents writer.old) (W.contents writer.new) (Ok registry.entries) text budget status)) }
     ensures cut { OnErr result.0 (IfSome (R.remaining reader.old) (λ text.
-        Stops (λ v. (⟦<dyn Driver as Driver>⟧ v).meaning) (members drivers) result.1.items
+        Stops ⟦<dyn Driver as Driver>⟧ (members drivers) result.1.items
         (W.contents writer.old) (W.contents writer.new) (Ok registry.entries) text budget)) }
     ensures read { IfErr result.0 (λ e. e ≡ unwritten →
         IsReadThrough most_session (R.remaining reader.old) (R.remaining reader.new)
-        ⊎ AreRefused (λ v. (⟦<dyn Driver as Driver>⟧ v).meaning) registry.entries (members drivers)) }
+        ⊎ AreRefused ⟦<dyn Driver as Driver>⟧ registry.entries (members drivers)) }
     ensures order { kinds_of result.1.items ≡ kinds_of (members drivers) }
     ensures returned { (result.1.items ≡ members drivers)
-        ⊎ AreBack (λ v. (⟦<dyn Driver as Driver>⟧ v).meaning) result.1.items }
+        ⊎ AreBack ⟦<dyn Driver as Driver>⟧ result.1.items }
     ensures fault { IfErr result.0 (λ e. e ≡ unread →
-        Unread (λ v. (⟦<dyn Driver as Driver>⟧ v).meaning) (members drivers) result.1.items
+        Unread ⟦<dyn Driver as Driver>⟧ (members drivers) result.1.items
         (W.contents writer.old) (W.contents writer.new) (Ok registry.entries)) }
 {
     match Engine::new(alloc, registry, drivers) {
@@ -217,20 +234,20 @@ fn run_drivers<R: Read, W: Write>(
 ) -> (Result<Status, Stop>, Vec<Box<dyn Driver>>)
     requires few { length drivers.items < 2 ^ 60 }
     ensures done { IfOk result.0 (λ status. IfSome (R.remaining reader.old) (λ text.
-        Ends (λ v. (⟦<dyn Driver as Driver>⟧ v).meaning) drivers.items result.1.items
+        Ends ⟦<dyn Driver as Driver>⟧ drivers.items result.1.items
         (W.contents writer.old) (W.contents writer.new) (Ok registry.entries) text budget status)) }
     ensures cut { OnErr result.0 (IfSome (R.remaining reader.old) (λ text.
-        Stops (λ v. (⟦<dyn Driver as Driver>⟧ v).meaning) drivers.items result.1.items
+        Stops ⟦<dyn Driver as Driver>⟧ drivers.items result.1.items
         (W.contents writer.old) (W.contents writer.new) (Ok registry.entries) text budget)) }
     ensures read { IfErr result.0 (λ e. e ≡ unwritten →
         IsReadThrough most_session (R.remaining reader.old) (R.remaining reader.new)
-        ⊎ AreRefused (λ v. (⟦<dyn Driver as Driver>⟧ v).meaning) registry.entries drivers.items) }
+        ⊎ AreRefused ⟦<dyn Driver as Driver>⟧ registry.entries drivers.items) }
     ensures order { kinds_of result.1.items ≡ kinds_of drivers.items }
     ensures returned { (result.1.items ≡ drivers.items)
-        ⊎ (AreListed (λ v. (⟦<dyn Driver as Driver>⟧ v).meaning) drivers.items
-        × AreBack (λ v. (⟦<dyn Driver as Driver>⟧ v).meaning) result.1.items) }
+        ⊎ (AreListed ⟦<dyn Driver as Driver>⟧ drivers.items
+        × AreBack ⟦<dyn Driver as Driver>⟧ result.1.items) }
     ensures fault { IfErr result.0 (λ e. e ≡ unread →
-        Unread (λ v. (⟦<dyn Driver as Driver>⟧ v).meaning) drivers.items result.1.items
+        Unread ⟦<dyn Driver as Driver>⟧ drivers.items result.1.items
         (W.contents writer.old) (W.contents writer.new) (Ok registry.entries)) }
 {
     match Drivers::new(drivers) {
@@ -275,18 +292,21 @@ pub fn session<P: Read, S: Read, W: Write>(
     budget: u64,
 ) -> SessionEnd
     requires few { length drivers.items < 2 ^ 60 }
-    ensures output { IfSome (P.remaining profile.old) (λ p. IfSome (S.remaining session.old) (λ s.
-        Tells (λ v. (⟦<dyn Driver as Driver>⟧ v).meaning) drivers.items result.drivers.items (W.contents out.old) (W.contents out.new)
-        (start_of p) s budget result.outcome)) }
+    ensures output { IfSome (P.remaining profile.old) (λ p. IfSome (S.remaining session.old)
+        (λ s. Tells ⟦<dyn Driver as Driver>⟧ drivers.items result.drivers.items
+        (W.contents out.old) (W.contents out.new) (start_of p) s budget result.outcome)) }
     // A write fault comes only behind a profile that was read, and behind a session that was, unless the profile or the drivers were refused.
-    ensures profile_read { IfErr result.outcome (λ e. e ≡ IoFault.Write → IsReadThrough most_profile (P.remaining profile.old) (P.remaining profile.new)) }
-    ensures session_read { IfErr result.outcome (λ e. e ≡ IoFault.Write → IsReadThrough most_session (S.remaining session.old) (S.remaining session.new)
-        ⊎ IfSome (P.remaining profile.old) (λ p. IfOk (start_of p) (λ R. AreRefused (λ v. (⟦<dyn Driver as Driver>⟧ v).meaning) R drivers.items))) }
+    ensures profile_read { IfErr result.outcome (λ e. e ≡ IoFault.Write
+        → IsReadThrough most_profile (P.remaining profile.old) (P.remaining profile.new)) }
+    ensures session_read { IfErr result.outcome (λ e. e ≡ IoFault.Write
+        → IsReadThrough most_session (S.remaining session.old) (S.remaining session.new)
+        ⊎ IfSome (P.remaining profile.old) (λ p.
+        IfOk (start_of p) (λ R. AreRefused ⟦<dyn Driver as Driver>⟧ R drivers.items))) }
     ensures order { kinds_of result.drivers.items ≡ kinds_of drivers.items }
     // They come back as they were, or, where an engine may have taken them, with nothing alive.
     ensures returned { (result.drivers.items ≡ drivers.items)
-        ⊎ (AreListed (λ v. (⟦<dyn Driver as Driver>⟧ v).meaning) drivers.items
-        × AreBack (λ v. (⟦<dyn Driver as Driver>⟧ v).meaning) result.drivers.items) }
+        ⊎ (AreListed ⟦<dyn Driver as Driver>⟧ drivers.items
+        × AreBack ⟦<dyn Driver as Driver>⟧ result.drivers.items) }
 {
     let mut registry = Registry::new(alloc);
     match load_profile(alloc, profile, out, &mut registry) {

@@ -13,7 +13,8 @@ use std::io::Write;
 /// text is written then.
 pub fn write_text<W: Write>(writer: &mut W, text: &[u8]) -> Result<(), IoFault>
     ensures whole { OnOk result (Appends (W.contents writer.old) (W.contents writer.new) text.now) }
-    ensures front { OnErr result (HasFront (W.contents writer.old) (W.contents writer.new) text.now) }
+    ensures front { OnErr result
+        (HasFront (W.contents writer.old) (W.contents writer.new) text.now) }
     ensures fault { IfErr result (λ e. e ≡ IoFault.Write) }
 {
     let mut written = 0;

@@ -86,8 +86,8 @@ fn print_tickets(rt: &HostRuntime, reply: &Reply) -> io::Result<()> {
 
 /// Gives the module a script and builds it.
 fn build(rt: &HostRuntime, engine: &mut Engine, script: &str) -> io::Result<()>
-    requires sound { IsSound (λ v. (⟦<dyn Driver as Driver>⟧ v).meaning) engine.old }
-    ensures sound { IsSound (λ v. (⟦<dyn Driver as Driver>⟧ v).meaning) engine.new }
+    requires sound { IsSound ⟦<dyn Driver as Driver>⟧ engine.old }
+    ensures sound { IsSound ⟦<dyn Driver as Driver>⟧ engine.new }
 {
     let alloc = rt.alloc();
     let (name, text) = (bytes(alloc, QUEST)?, bytes(alloc, script)?);
@@ -98,8 +98,8 @@ fn build(rt: &HostRuntime, engine: &mut Engine, script: &str) -> io::Result<()>
 
 /// Calls the function of the script that has this declaration, with these values.
 fn call(rt: &HostRuntime, engine: &mut Engine, decl: &str, args: &[Value]) -> io::Result<Outcome>
-    requires sound { IsSound (λ v. (⟦<dyn Driver as Driver>⟧ v).meaning) engine.old }
-    ensures sound { IsSound (λ v. (⟦<dyn Driver as Driver>⟧ v).meaning) engine.new }
+    requires sound { IsSound ⟦<dyn Driver as Driver>⟧ engine.old }
+    ensures sound { IsSound ⟦<dyn Driver as Driver>⟧ engine.new }
 {
     let alloc = rt.alloc();
     let (name, decl) = (bytes(alloc, QUEST)?, bytes(alloc, decl)?);
@@ -117,8 +117,8 @@ fn call(rt: &HostRuntime, engine: &mut Engine, decl: &str, args: &[Value]) -> io
 
 /// Makes a module for a player, gives it a script, calls it, and then gives it another.
 fn run_scripts(rt: &HostRuntime, engine: &mut Engine) -> io::Result<()>
-    requires sound { IsSound (λ v. (⟦<dyn Driver as Driver>⟧ v).meaning) engine.old }
-    ensures sound { IsSound (λ v. (⟦<dyn Driver as Driver>⟧ v).meaning) engine.new }
+    requires sound { IsSound ⟦<dyn Driver as Driver>⟧ engine.old }
+    ensures sound { IsSound ⟦<dyn Driver as Driver>⟧ engine.new }
 {
     let (name, mask) = (bytes(rt.alloc(), QUEST)?, PLAYERS);
     print_reply(rt, &engine.apply(Command::NewModule { name, mask }))?;

@@ -11,6 +11,8 @@ mod headings;
 #[cfg(test)]
 mod limits;
 #[cfg(test)]
+mod objects;
+#[cfg(test)]
 mod operators;
 #[cfg(test)]
 mod rows;

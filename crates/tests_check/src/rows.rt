@@ -24,7 +24,11 @@ fn view(alloc: Global, mask: Mask) -> Result<View, RegError> {
 }
 
 /// What the checker gives of scripts that are declared, or nothing of other ones.
-fn checked_of(alloc: Global, view: &View, scripts: &[Script]) -> Option<Result<Typed, Unbuilt>> {
+pub fn checked_of(
+    alloc: Global,
+    view: &View,
+    scripts: &[Script],
+) -> Option<Result<Typed, Unbuilt>> {
     let names = declare(alloc, view, scripts).ok()?;
     Some(check(alloc, view, &names, scripts))
 }
@@ -49,7 +53,7 @@ fn is_built(alloc: Global, text: &str) -> bool {
 }
 
 /// A section of one line, and the kind, the column and the name of its only error.
-type Row = (&'static str, ErrorKind, u32, &'static str);
+pub type Row = (&'static str, ErrorKind, u32, &'static str);
 
 const BODIES: [Row; 16] = [
     ("void m() { if (1) {} }", ErrorKind::NotBool, 16, ""),
@@ -209,28 +213,6 @@ fn first_wrong(alloc: Global, text: &str, wanted: &[(ErrorKind, u32)]) -> Option
 #[test]
 fn each_body_and_initializer_gives_one_error(rt: HostRuntime) {
     assert_eq!(rt; first_wrong(rt.alloc(), SEVERAL, &ERRORS), None);
-}
-
-const BUILT: [&str; 12] = [
-    "",
-    "bool b() { return 6 & 3 == 2; }",
-    "int s() { return -8 >>> 1; }",
-    "int d() { int a = -2147483648; return a / -1; }",
-    "int64 q() { return -2147483648 / -1; }",
-    "int n() { uint8 a = 255; a++; int8 b = 200; return a + b; }",
-    "bool s(int z) { return z != 0 && 10 / z > 1; }",
-    "void two(int &out a, int &out b) { a = 1; b = a + 1; } int main() { int x; two(x, x); return x; }",
-    "int f(int n) { if (n <= 1) return 1; return f(n - 1) + 1; }",
-    "void w() { for (int i = 0; i < 3; i++) {} }",
-    "int z; int y = 1 / z;",
-    "int64 r() { reg = 5; reg += 2; return reg; }",
-];
-
-#[test]
-fn worked_scripts_are_built(rt: HostRuntime) {
-    for text in BUILT {
-        assert!(rt; is_built(rt.alloc(), text), "{text}");
-    }
 }
 
 /// The entry that an expression calls.

@@ -1,42 +1,71 @@
 //! A small module, with the code that docs/MEANING.md ("Code") gives for it.
-use crate::forms::{
-    INT, compare, evaluate, function, local, number, only, plain_module, step, while_loop,
-};
-use crate::trees::counting_rows;
 use ang_code::{Instruction, RoutineCode};
-use ang_gen::compile;
-use ang_kinds::{Pass, Prim};
+use ang_gen::generate;
+use ang_kinds::{List, Pass, Prim};
 use ang_meaning::{Arithmetic, Change, Comparison as Test, Operation, Passing};
-use ang_typed::{Comparison, Function, Global as GlobalVariable, StepKind, Typed, Variable};
+use ang_typed::{
+    Block, Comparison, Expression, Function, Global as GlobalVariable, Loop, Parameter, Site,
+    Statement, StepKind, Typed, Variable,
+};
+use ang_types::ArgType;
 use std::alloc::{AllocError, Global};
 
-/// `int f(int a, int &out b) { int c = a + 1; b = c; return c; }`
-fn counting(alloc: Global) -> Result<Function, AllocError> {
-    function(alloc, &[Pass::Value, Pass::RefOut], counting_rows(alloc))
+const INT: ArgType = ArgType::Plain(Prim::I32);
+
+fn boxed(alloc: Global, e: Expression) -> Result<Box<Expression>, AllocError> {
+    Ok(Box::new(alloc, e)?)
+}
+
+fn number(alloc: Global, value: u64) -> Result<Box<Expression>, AllocError> {
+    let ty = Prim::I32;
+    boxed(alloc, Expression::Number { ty, value })
+}
+
+/// The parameter n, which is local 0.
+const N: Site = Site::Named(Variable::Local(0));
+
+/// `n > 0`
+fn positive(alloc: Global) -> Result<Box<Expression>, AllocError> {
+    let right = number(alloc, 0)?;
+    let left = boxed(alloc, Expression::Read { site: N, ty: INT })?;
+    boxed(
+        alloc,
+        Expression::Compare {
+            comparison: Comparison::Greater,
+            ty: Prim::I32,
+            left,
+            right,
+        },
+    )
+}
+
+/// `--n;`
+fn less(alloc: Global) -> Result<Statement, AllocError> {
+    let step = StepKind::DecrementBefore;
+    let ty = Prim::I32;
+    let e = boxed(alloc, Expression::Step { site: N, ty, step })?;
+    Ok(Statement::Expression(Some(e)))
+}
+
+/// `while (n > 0) { --n; }`
+fn repeated(alloc: Global) -> Result<Box<Loop>, AllocError> {
+    let statements = vec![in alloc; less(alloc)?]?;
+    let condition = positive(alloc)?;
+    let body = Block { statements };
+    Ok(Box::new(alloc, Loop { condition, body })?)
 }
 
 /// `void f(int n) { while (n > 0) { --n; } }`
 fn looping(alloc: Global) -> Result<Function, AllocError> {
-    let test = compare(
-        alloc,
-        Comparison::Greater,
-        local(alloc, 0),
-        number(alloc, 0),
-    );
-    let less = step(alloc, Variable::Local(0), StepKind::DecrementBefore);
-    let body = only(alloc, evaluate(alloc, less));
-    function(
-        alloc,
-        &[Pass::Value],
-        only(alloc, while_loop(alloc, test, body)),
-    )
-}
-
-fn functions(alloc: Global) -> Result<Vec<Function>, AllocError> {
-    let mut functions = Vec::with_capacity(alloc, 2)?;
-    functions.push(counting(alloc)?)?;
-    functions.push(looping(alloc)?)?;
-    Ok(functions)
+    let ty = INT;
+    let pass = Pass::Value;
+    let parameters = vec![in alloc; Parameter { ty, pass }]?;
+    let statements = vec![in alloc; Statement::While(repeated(alloc)?)]?;
+    Ok(Function {
+        parameters: List::from_vec(parameters),
+        result: ArgType::Void,
+        body: Block { statements },
+    })
 }
 
 /// `int a; int b = 5;`
@@ -55,36 +84,24 @@ fn globals(alloc: Global) -> Result<Vec<GlobalVariable>, AllocError> {
 
 /// The module of these.
 fn module(alloc: Global) -> Result<Typed, AllocError> {
-    let functions = functions(alloc)?;
+    let functions = vec![in alloc; looping(alloc)?]?;
     let globals = globals(alloc)?;
-    Ok(plain_module(alloc, functions, globals))
+    Ok(Typed {
+        functions: List::from_vec(functions),
+        globals: List::from_vec(globals),
+        classes: List::from_vec(Vec::new(alloc)),
+        methods: List::from_vec(Vec::new(alloc)),
+        imports: List::from_vec(Vec::new(alloc)),
+    })
 }
 
 /// The code of a module that is not used again.
 fn codes_of(alloc: Global, module: Typed) -> Result<Vec<RoutineCode>, AllocError> {
-    compile(alloc, &module)
+    generate(alloc, &module)
 }
 
 /// How code takes its arguments, its height, and its instructions.
 pub type Code = (&'static [Passing], usize, &'static [Instruction]);
-
-const COUNTING: Code = (
-    &[Passing::Out, Passing::In],
-    2,
-    &[
-        Instruction::Load(1),
-        Instruction::PushBits(1),
-        Instruction::Do(Operation::Work(Arithmetic::Add, Prim::I32)),
-        Instruction::Load(0),
-        Instruction::Store(1),
-        Instruction::Drop,
-        Instruction::Load(0),
-        Instruction::Return(1),
-        Instruction::Leave(1),
-        Instruction::PushBits(0),
-        Instruction::Return(0),
-    ],
-);
 
 const LESS: Change = Change {
     work: Arithmetic::Subtract,
@@ -123,7 +140,7 @@ const INITIALIZER: Code = (
     ],
 );
 
-const CODES: [Code; 3] = [COUNTING, LOOPING, INITIALIZER];
+const CODES: [Code; 2] = [LOOPING, INITIALIZER];
 
 fn is_code(code: &RoutineCode, want: Option<&Code>) -> bool {
     match want {

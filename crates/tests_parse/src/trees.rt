@@ -3,8 +3,8 @@
 use ang_lex::{TokenKind, lex};
 use ang_parse::parse;
 use ang_tree::{
-    Class, Declaration, Expression, Function, Initializer, Interface, Member, Parameter,
-    Parameters, Reference, Script, Variables,
+    Class, Declaration, Expression, Function, Initializer, Member, Parameter, Parameters,
+    Reference, Script, Variables,
 };
 use std::alloc::Global;
 
@@ -75,23 +75,14 @@ enum Fact {
     Declarations(&'static [Sort]),
     /// The first variable's value, and that value's first and last operand.
     Value(Kind, Kind, Kind),
-    /// The first variable's value is a cast to a handle.
-    CastToHandle,
-    /// The first variable's value is the call of a class's method with two arguments, and a comma stands in front of the
-    /// second.
-    TwoArguments,
     /// What each variable begins with.
     Starts(&'static [Start]),
     /// Whether the function's word `void` stands for no parameters, and its parameters.
     Parameters(bool, &'static [Parts]),
     /// The function's result is a handle, it has so many parameters, and so many statements.
     Function(usize, usize),
-    /// The import has so many parameters.
-    Import(usize),
     /// Whether the class is `final`, how many names are behind its colon, and its members.
     Class(bool, usize, &'static [Shape]),
-    /// How many names are behind the interface's colon, and for each method whether it is `const`.
-    Interface(usize, &'static [bool]),
 }
 
 fn sort_of(declaration: &Declaration) -> Sort {
@@ -213,15 +204,6 @@ fn is_class(class: &Class, is_final: bool, bases: usize, shapes: &[Shape]) -> bo
         && class.bases.len() == bases
 }
 
-fn is_interface(interface: &Interface, bases: usize, constants: &[bool]) -> bool {
-    for (i, method) in interface.methods.iter().enumerate() {
-        if constants.get(i).copied() != Some(method.constant.is_some()) {
-            return false;
-        }
-    }
-    interface.methods.len() == constants.len() && interface.bases.len() == bases
-}
-
 fn is_function(function: &Function, parameters: usize, statements: usize) -> bool {
     function.result.handle.is_some()
         && function.parameters.items.len() == parameters
@@ -237,16 +219,9 @@ fn value_of(variables: &Variables) -> Option<&Expression> {
 }
 
 fn is_value(value: &Expression, fact: Fact) -> bool {
-    match (value, fact) {
-        (_, Fact::Value(whole, first, last)) => {
+    match fact {
+        Fact::Value(whole, first, last) => {
             kind_of(value) == whole && ends_of(value) == (first, last)
-        }
-        (Expression::Cast { target, .. }, Fact::CastToHandle) => target.handle.is_some(),
-        (Expression::ScopedCall { arguments, .. }, Fact::TwoArguments) => {
-            match arguments.items.as_slice() {
-                [first, second] => first.comma.is_none() && second.comma.is_some(),
-                _ => false,
-            }
         }
         _ => false,
     }
@@ -270,14 +245,8 @@ fn is_first(first: &Declaration, fact: Fact) -> bool {
         (Declaration::Function(function), Fact::Function(parameters, statements)) => {
             is_function(function, parameters, statements)
         }
-        (Declaration::Import(import), Fact::Import(count)) => {
-            import.parameters.items.len() == count
-        }
         (Declaration::Class(class), Fact::Class(is_final, bases, shapes)) => {
             is_class(class, is_final, bases, shapes)
-        }
-        (Declaration::Interface(interface), Fact::Interface(bases, constants)) => {
-            is_interface(interface, bases, constants)
         }
         _ => false,
     }
@@ -315,22 +284,11 @@ const TYPE: Parts = Parts {
 /// `, D`
 const MORE_TYPE: Parts = Parts {
     comma: true,
-    constant: false,
-    handle: false,
-    reference: false,
-    direction: None,
-    name: false,
+    ..TYPE
 };
 
 /// `void x`
-const NAMED: Parts = Parts {
-    comma: false,
-    constant: false,
-    handle: false,
-    reference: false,
-    direction: None,
-    name: true,
-};
+const NAMED: Parts = Parts { name: true, ..TYPE };
 
 /// `const A@ const &in a`
 const IN: Parts = Parts {
@@ -354,22 +312,15 @@ const OUT: Parts = Parts {
 
 /// `, B &inout`
 const IN_OUT: Parts = Parts {
-    comma: true,
-    constant: false,
-    handle: false,
-    reference: true,
     direction: Some(TokenKind::InOut),
     name: false,
+    ..OUT
 };
 
 /// `, C& c`
 const NO_WORD: Parts = Parts {
-    comma: true,
-    constant: false,
-    handle: false,
-    reference: true,
     direction: None,
-    name: true,
+    ..OUT
 };
 
 const ALL_SORTS: &str =
@@ -377,12 +328,10 @@ const ALL_SORTS: &str =
 
 const BLOCK: &str = "A@ f(B, int &out c) { return c; } class D {}";
 
-const IMPORT: &str = "import int f(int, uint8 x) from \"m\"; ;";
-
 const BASES: &str = "class A : B, C {} class D {}";
 
 /// A script, and what it has to have.
-const SCRIPTS: [(&str, Fact); 23] = [
+const SCRIPTS: [(&str, Fact); 16] = [
     (
         ALL_SORTS,
         Fact::Declarations(&[
@@ -422,8 +371,6 @@ const SCRIPTS: [(&str, Fact); 23] = [
         "int v = -a.b;",
         Fact::Value(Kind::Prefix, Kind::Member, Kind::Member),
     ),
-    ("T@ v = cast<T@>(x);", Fact::CastToHandle),
-    ("int v = A::f(1, 2);", Fact::TwoArguments),
     // `void` alone is no parameters
     ("void f() {}", Fact::Parameters(false, &[])),
     ("void f(void) {}", Fact::Parameters(true, &[])),
@@ -438,18 +385,14 @@ const SCRIPTS: [(&str, Fact); 23] = [
     ),
     // a block makes a function
     (BLOCK, Fact::Function(2, 1)),
-    (BLOCK, Fact::Declarations(&[Sort::Function, Sort::Class])),
     // the group is parameters as well, and a semicolon tells
     ("A x(B & C);", Fact::Starts(&[Start::Constructor])),
     (
         "const int a = (1), b, c((2) + 3);",
         Fact::Starts(&[Start::Value, Start::Absent, Start::Constructor]),
     ),
-    (IMPORT, Fact::Import(2)),
-    (IMPORT, Fact::Declarations(&[Sort::Import, Sort::Empty])),
     // bases are names behind a colon
     (BASES, Fact::Class(false, 2, &[])),
-    (BASES, Fact::Declarations(&[Sort::Class, Sort::Class])),
     // `final` stands in front of `class`
     ("final class A {}", Fact::Class(true, 0, &[])),
     // a parenthesis tells members apart
@@ -477,11 +420,6 @@ const SCRIPTS: [(&str, Fact); 23] = [
                 },
             ],
         ),
-    ),
-    // an interface has methods without bodies
-    (
-        "interface I : J { void f(int a); int g() const; }",
-        Fact::Interface(1, &[false, true]),
     ),
 ];
 

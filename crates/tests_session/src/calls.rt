@@ -7,9 +7,9 @@ use std::test::Fail;
 /// Functions that a call names, and their arguments.
 const CALLS: [(&str, &str, &str, Status); 8] = [
     (
-        "void u(int x) {}",
-        "call a () void u(int)\ncall a (7u) void u(int)\ncall a () void v()\ncall a (7) int u(int)\ncall a (7) void u(int64)\ncall a (1,2) void u(int)\ncall a (true) void u(int)\ncall a (2147483648) void u(int)\ncall a (-2147483648) void u(int)\ncall b (7) void u(int)\n",
-        "ok\nrefused BadArguments\nrefused BadArguments\nrefused NoFunction\nrefused NoFunction\nrefused NoFunction\nrefused BadArguments\nrefused BadArguments\nrefused BadArguments\nok\nrefused NoModule\n",
+        "void t(Cell@ c) {} void u(int x) {}",
+        "call a () void t(Cell@)\ncall a () void u(int)\ncall a (7u) void u(int)\ncall a () void v()\ncall a (7) int u(int)\ncall a (7) void u(int64)\ncall a (1,2) void u(int)\ncall a (true) void u(int)\ncall a (2147483648) void u(int)\ncall a (-2147483648) void u(int)\ncall b (7) void u(int)\n",
+        "ok\nrefused NotCallable\nrefused BadArguments\nrefused BadArguments\nrefused NoFunction\nrefused NoFunction\nrefused NoFunction\nrefused BadArguments\nrefused BadArguments\nrefused BadArguments\nok\nrefused NoModule\n",
         Status::SomeRefused,
     ),
     (

@@ -91,8 +91,8 @@ const SECTIONS: [(&str, &str, &str); 32] = [
     ),
     (
         ALL_KINDS,
-        "void u(int x) {} void t(Cell@ c) {}",
-        "error NotYet 0:1:18 -\n",
+        "void m(const Counter@ c) { c.bump(); }",
+        "error Const 0:1:30 bump\n",
     ),
     (
         ALL_KINDS,

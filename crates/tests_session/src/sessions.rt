@@ -5,7 +5,7 @@ use asrun_session::Status;
 use std::test::Fail;
 
 /// Profile, session, output and status.
-const RUNS: [(&str, &str, &str, Status); 26] = [
+const RUNS: [(&str, &str, &str, Status); 30] = [
     (PROFILE, SESSION, OUTPUT, Status::AllOk),
     (
         PROFILE,
@@ -49,6 +49,30 @@ const RUNS: [(&str, &str, &str, Status); 26] = [
         "mask 00000001\ntype Counter 1\nfactory Counter 1 Counter@ f(int)\n",
         "module a 00000002\nsection a 1\nvoid m(){ Counter(5); }\nbuild a\n",
         "ok\nok\nerror UnknownName 0:1:11 Counter\nrefused BuildErrors\n",
+        Status::SomeRefused,
+    ),
+    (
+        "mask 00000001\ntype Counter 1\nfactory Counter 1 Counter@ f(int)\n",
+        "module a 00000002\nsection a 1\nvoid m(){ Counter c(5); }\nbuild a\n",
+        "ok\nok\nerror UnknownType 0:1:11 Counter\nrefused BuildErrors\n",
+        Status::SomeRefused,
+    ),
+    (
+        "mask 00000001\ntype Cell 2\nmask 00000002\nfunction 2 2 Cell@+ pick(Cell@+)\n",
+        "module a 00000002\nsection a 1\nvoid main(){ pick(null); }\nbuild a\n",
+        "ok\nok\nerror UnknownName 0:1:14 pick\nrefused BuildErrors\n",
+        Status::SomeRefused,
+    ),
+    (
+        "mask 00000003\ntype Cell 2\nmask 00000001\nfactory Cell 0 Cell@ f(int)\nmask 00000002\nmethod Cell 0 int get() const\n",
+        "module a 00000001\nsection a 1\nvoid m(){ Cell(1).get(); }\nbuild a\nsection a 1\nvoid m(){ Cell(1); }\nbuild a\ncall a () void m()\n",
+        "ok\nok\nerror UnknownName 0:1:19 get\nrefused BuildErrors\nok\nok\nhost a 1 2 - (1) made #0\nend 2 #0\nok\n",
+        Status::SomeRefused,
+    ),
+    (
+        "type Cell 2\nfactory Cell 0 Cell@ f(int)\nfunction 2 2 int pick(Cell@+)\n",
+        "module a 00000001\nsection a 1\nvoid m() { pick(Cell(1)); }\nbuild a\ncall a () void m()\n",
+        "ok\nok\nok\nhost a 1 2 - (1) made #0\nhost a 2 2 - (#0) #0\nend 2 #0\nfault BadAnswer\n",
         Status::SomeRefused,
     ),
     (

@@ -1,7 +1,7 @@
 -- What a machine of the tests needs to run code, as a test can see it.
 use Rattle.std.specs.Prelude.{ℕ, ltb, Bool, true, false, Option, Some, None, Vec, []}
 use Rattle.std.specs.declared.alloc.Global.{Global}
-use Rattle.ang_host.specs.Laws.{Meaning}
+use Rattle.ang_host.specs.Meanings.{Meanings}
 use Rattle.ang_host.specs.declared.event.HostEvent.{HostEvent}
 use Rattle.ang_meaning.specs.declared.host.HostUse.{HostUse}
 use Rattle.ang_meaning.specs.declared.slot.Slot.{Slot}
@@ -24,6 +24,6 @@ names_nothing (Script (Some n)) = false
 names_nothing (Host d k) = false
 
 -- a machine, with the events of a command, on which code may run, but for its drivers
-pub record MayBegin {V : Type 0} {P : V → Type 0} (m : (v : V) → Meaning (P v)) (x : Machine V P) (events : Vec HostEvent Global) : Type 0 where
+pub record MayBegin {V : Type 0} {P : V → Type 0} (m : Meanings P) (x : Machine V P) (events : Vec HostEvent Global) : Type 0 where
   pub ready : IsReady m (lent x events)
   pub counted : IsCounted [] (world_of m (lent x events))

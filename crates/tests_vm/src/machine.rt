@@ -80,9 +80,9 @@ fn all_are_empty(modules: &Vec<Vec<Slot>>) -> bool
 
 /// A machine on these drivers, with such globals.
 fn machine_of(alloc: Global, drivers: Drivers, modules: Vec<Vec<Slot>>) -> Machine
-    requires fresh { AreFresh (states_of (λ v. (⟦<dyn Driver as Driver>⟧ v).meaning) (members drivers)) }
+    requires fresh { AreFresh (states_of ⟦<dyn Driver as Driver>⟧ (members drivers)) }
     requires empty { IsTrue (list_all (λ globals. list_all names_nothing globals.items) modules.items) }
-    ensures begins { (events : Vec HostEvent Global) → vec_len events ≡ 0 → MayBegin (λ v. (⟦<dyn Driver as Driver>⟧ v).meaning) result events }
+    ensures begins { (events : Vec HostEvent Global) → vec_len events ≡ 0 → MayBegin ⟦<dyn Driver as Driver>⟧ result events }
 {
     let heap = Heap::new(alloc);
     let ends = Vec::new(alloc);
@@ -100,7 +100,7 @@ fn machine_of(alloc: Global, drivers: Drivers, modules: Vec<Vec<Slot>>) -> Machi
 
 /// The machine with a console, a counter and a cell, and with the globals of all modules.
 pub fn with_drivers(alloc: Global) -> Result<Option<Machine>, AllocError>
-    ensures begins { IfOk result (λ made. IfSome made (λ machine. (events : Vec HostEvent Global) → vec_len events ≡ 0 → MayBegin (λ v. (⟦<dyn Driver as Driver>⟧ v).meaning) machine events)) }
+    ensures begins { IfOk result (λ made. IfSome made (λ machine. (events : Vec HostEvent Global) → vec_len events ≡ 0 → MayBegin ⟦<dyn Driver as Driver>⟧ machine events)) }
 {
     let globals = first_globals(alloc)?;
     if !all_are_empty(&globals) {
@@ -142,9 +142,9 @@ fn call_alone(
     events: &mut Vec<HostEvent>,
 ) -> Result<Slot, Fault>
     requires drivers { DriversThere table.now (length (members machine.old.store.drivers)) }
-    requires begins { MayBegin (λ v. (⟦<dyn Driver as Driver>⟧ v).meaning) machine.old events.old }
-    ensures ready { IsReady (λ v. (⟦<dyn Driver as Driver>⟧ v).meaning) (lent machine.new events.new) }
-    ensures counted { result ≢ Err NullFault → IsCounted [] (world_of (λ v. (⟦<dyn Driver as Driver>⟧ v).meaning) (lent machine.new events.new)) }
+    requires begins { MayBegin ⟦<dyn Driver as Driver>⟧ machine.old events.old }
+    ensures ready { IsReady ⟦<dyn Driver as Driver>⟧ (lent machine.new events.new) }
+    ensures counted { result ≢ Err NullFault → IsCounted [] (world_of ⟦<dyn Driver as Driver>⟧ (lent machine.new events.new)) }
 {
     run(table, machine, entry, &[], budget, events)
 }
@@ -162,9 +162,9 @@ fn call_with(
     events: &mut Vec<HostEvent>,
 ) -> Result<Slot, Fault>
     requires drivers { DriversThere table.now (length (members machine.old.store.drivers)) }
-    requires begins { MayBegin (λ v. (⟦<dyn Driver as Driver>⟧ v).meaning) machine.old events.old }
-    ensures ready { IsReady (λ v. (⟦<dyn Driver as Driver>⟧ v).meaning) (lent machine.new events.new) }
-    ensures counted { result ≢ Err NullFault → IsCounted [] (world_of (λ v. (⟦<dyn Driver as Driver>⟧ v).meaning) (lent machine.new events.new)) }
+    requires begins { MayBegin ⟦<dyn Driver as Driver>⟧ machine.old events.old }
+    ensures ready { IsReady ⟦<dyn Driver as Driver>⟧ (lent machine.new events.new) }
+    ensures counted { result ≢ Err NullFault → IsCounted [] (world_of ⟦<dyn Driver as Driver>⟧ (lent machine.new events.new)) }
 {
     run(table, machine, entry, &[Slot::Bits(number)], budget, events)
 }
@@ -198,8 +198,8 @@ pub fn call(
     budget: u64,
     events: &mut Vec<HostEvent>,
 ) -> Result<u64, Fault>
-    requires begins { MayBegin (λ v. (⟦<dyn Driver as Driver>⟧ v).meaning) machine.old events.old }
-    ensures begins { result ≢ Err NullFault → MayBegin (λ v. (⟦<dyn Driver as Driver>⟧ v).meaning) machine.new events.new }
+    requires begins { MayBegin ⟦<dyn Driver as Driver>⟧ machine.old events.old }
+    ensures begins { result ≢ Err NullFault → MayBegin ⟦<dyn Driver as Driver>⟧ machine.new events.new }
 {
     if !drivers_are_there(table, machine.store.drivers.len()) {
         return Err(Fault::Null);
@@ -222,9 +222,9 @@ fn initialize_alone(
     events: &mut Vec<HostEvent>,
 ) -> Result<u64, Fault>
     requires drivers { DriversThere table.now (length (members machine.old.store.drivers)) }
-    requires begins { MayBegin (λ v. (⟦<dyn Driver as Driver>⟧ v).meaning) machine.old events.old }
-    ensures ready { IsReady (λ v. (⟦<dyn Driver as Driver>⟧ v).meaning) (lent machine.new events.new) }
-    ensures counted { result ≢ Err NullFault → IsCounted [] (world_of (λ v. (⟦<dyn Driver as Driver>⟧ v).meaning) (lent machine.new events.new)) }
+    requires begins { MayBegin ⟦<dyn Driver as Driver>⟧ machine.old events.old }
+    ensures ready { IsReady ⟦<dyn Driver as Driver>⟧ (lent machine.new events.new) }
+    ensures counted { result ≢ Err NullFault → IsCounted [] (world_of ⟦<dyn Driver as Driver>⟧ (lent machine.new events.new)) }
 {
     run_initializer(table, machine, entry, ticks, events)
 }
@@ -240,8 +240,8 @@ pub fn initialize(
     ticks: u64,
     events: &mut Vec<HostEvent>,
 ) -> Result<u64, Fault>
-    requires begins { MayBegin (λ v. (⟦<dyn Driver as Driver>⟧ v).meaning) machine.old events.old }
-    ensures begins { result ≢ Err NullFault → MayBegin (λ v. (⟦<dyn Driver as Driver>⟧ v).meaning) machine.new events.new }
+    requires begins { MayBegin ⟦<dyn Driver as Driver>⟧ machine.old events.old }
+    ensures begins { result ≢ Err NullFault → MayBegin ⟦<dyn Driver as Driver>⟧ machine.new events.new }
 {
     if !drivers_are_there(table, machine.store.drivers.len()) {
         return Err(Fault::Null);

@@ -90,8 +90,8 @@ fn run_once(
     run: Run,
     events: &mut Vec<HostEvent>,
 ) -> Result<u64, Fault>
-    requires begins { MayBegin (λ v. (⟦<dyn Driver as Driver>⟧ v).meaning) machine.old events.old }
-    ensures begins { result ≢ Err NullFault → MayBegin (λ v. (⟦<dyn Driver as Driver>⟧ v).meaning) machine.new events.new }
+    requires begins { MayBegin ⟦<dyn Driver as Driver>⟧ machine.old events.old }
+    ensures begins { result ≢ Err NullFault → MayBegin ⟦<dyn Driver as Driver>⟧ machine.new events.new }
 {
     if run.initializes {
         initialize(table, machine, run.entry, run.budget, events)
@@ -107,8 +107,8 @@ fn run_again(
     run: Run,
     events: &mut Vec<HostEvent>,
 ) -> Result<u64, Fault>
-    requires begins { MayBegin (λ v. (⟦<dyn Driver as Driver>⟧ v).meaning) machine.old events.old }
-    ensures begins { result ≢ Err NullFault → MayBegin (λ v. (⟦<dyn Driver as Driver>⟧ v).meaning) machine.new events.new }
+    requires begins { MayBegin ⟦<dyn Driver as Driver>⟧ machine.old events.old }
+    ensures begins { result ≢ Err NullFault → MayBegin ⟦<dyn Driver as Driver>⟧ machine.new events.new }
 {
     match run_once(table, machine, run, events) {
         Err(Fault::Memory) => run_once(table, machine, run, events),
@@ -130,8 +130,8 @@ fn verdict_on(ended: Result<u64, Fault>, want: Result<u64, Fault>) -> Verdict
 
 /// Takes a turn.
 fn take(table: &Table, machine: &mut Machine, run: Run, events: &mut Vec<HostEvent>) -> Verdict
-    requires begins { MayBegin (λ v. (⟦<dyn Driver as Driver>⟧ v).meaning) machine.old events.old }
-    ensures goes_on { result ≡ Verdict.Right → MayBegin (λ v. (⟦<dyn Driver as Driver>⟧ v).meaning) machine.new events.new }
+    requires begins { MayBegin ⟦<dyn Driver as Driver>⟧ machine.old events.old }
+    ensures goes_on { result ≡ Verdict.Right → MayBegin ⟦<dyn Driver as Driver>⟧ machine.new events.new }
 {
     let ended = run_again(table, machine, run, events);
     verdict_on(ended, run.want)
@@ -167,7 +167,7 @@ fn first_wrong(
     case: &Case,
     events: &mut Vec<HostEvent>,
 ) -> Option<Wrong>
-    requires begins { MayBegin (λ v. (⟦<dyn Driver as Driver>⟧ v).meaning) machine.old events.old }
+    requires begins { MayBegin ⟦<dyn Driver as Driver>⟧ machine.old events.old }
 {
     for (at, turn) in case.2.iter().enumerate() {
         let verdict = take(table, machine, run_of(case.1, turn), events);

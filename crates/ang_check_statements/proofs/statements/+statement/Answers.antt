@@ -15,7 +15,7 @@ use Rattle.ang_typed.specs.declared.statement.Statement as statements
 use Rattle.ang_typed.specs.declared.statement.Statement.TheVariants as to
 use Rattle.ang_typed.specs.declared.statement.Statement.TheOpen as open_tree
 use Rattle.ang_check_operand.specs.Refusals.{Typing}
-use Rattle.ang_check_typing.specs.declared.scope.LocalVariable.{LocalVariable}
+use Rattle.ang_check_context.specs.declared.scope.LocalVariable.{LocalVariable}
 use Rattle.ang_check_statements.specs.declared.halt.Halt.{Halt}
 use Rattle.ang_check_statements.specs.Halts.{GivesOrHalts}
 use Rattle.ang_check_statements.specs.Typing.{Frame, with_same, jump, stmt_typing, stmts_typing}

@@ -10,6 +10,7 @@ use Rattle.ang_engine.specs.Step.{build_within, is_budget}
 use Rattle.ang_engine.proofs.Finding.{found-same, on_module-none}
 use Rattle.ang_engine.proofs.Leading.{leads-at_once, leads-same}
 use Rattle.ang_engine.proofs.Asking.{asked-nothing, kept-same}
+use Rattle.ang_engine.proofs.Refusing.{begun_build}
 use Rattle.ang_engine.proofs.Rebuilding.{building-found, building-refused}
 use Rattle.ang_engine.proofs.building.build.Goals as goal
 
@@ -17,35 +18,38 @@ pub returns-in_default-clause-done : goal.returns-in_default-clause-done
 returns-in_default-clause-done g c =
     let R = c.args.registry.now.entries in
     let ls = c.args.list.now.code in
-    let w : World = left_to (states_in c.args.list.now) (world_of (λ v. (g.dyn-1.0.entry v).1.meaning) (lent c.args.machine.now c.args.events.now)) in
+    let w : World = left_to (states_in c.args.list.now) (world_of (λ v. (g.dyn-1.0.entry v).1) (lent c.args.machine.now c.args.events.now)) in
     leads-at_once (building R c.args.name.now c.args.budget w) (Refused NoModule) w
     (λ rest. on_module-none c.args.name.now w rest (build_within c.args.budget R w) (found-same _ _ _ ls _ _ (c.in_default.ensures.exact ls) c.deref.ensures.value refl))
 
 pub returns-in_default-clause-asked : goal.returns-in_default-clause-asked
 returns-in_default-clause-asked g c =
-    asked-nothing (λ v. (g.dyn-1.0.entry v).1.meaning) c.args.registry.now.entries _ c.args.machine.now.store
-    (kept-same (λ v. (g.dyn-1.0.entry v).1.meaning) c.args.machine.now.store c.args.events.now c.requires.ready.kept) c.requires.counted
+    asked-nothing (λ v. (g.dyn-1.0.entry v).1) c.args.registry.now.entries _ c.args.machine.now.store
+    (kept-same (λ v. (g.dyn-1.0.entry v).1) c.args.machine.now.store c.args.events.now c.requires.ready.kept) c.requires.counted
 
 pub returns-then-not-may_run-clause-done : goal.returns-then-not-may_run-clause-done
 returns-then-not-may_run-clause-done g c =
     let R = c.args.registry.now.entries in
     let ls = c.args.list.now.code in
     let b : is_budget c.args.budget ≡ false = search rules in
-    let w : World = left_to (states_in c.args.list.now) (world_of (λ v. (g.dyn-1.0.entry v).1.meaning) (lent c.args.machine.now c.args.events.now)) in
+    let w : World = left_to (states_in c.args.list.now) (world_of (λ v. (g.dyn-1.0.entry v).1) (lent c.args.machine.now c.args.events.now)) in
     leads-at_once (building R c.args.name.now c.args.budget w) (Refused BadBudget) w
     (λ rest. building-refused R c.args.name.now c.args.budget w c.in-Some.home rest (found-same _ _ _ ls _ _ (c.in-Some.ensures.exact ls) c.deref.ensures.value refl) b)
 
 pub returns-then-not-may_run-clause-asked : goal.returns-then-not-may_run-clause-asked
 returns-then-not-may_run-clause-asked g c =
-    asked-nothing (λ v. (g.dyn-1.0.entry v).1.meaning) c.args.registry.now.entries _ c.args.machine.now.store
-    (kept-same (λ v. (g.dyn-1.0.entry v).1.meaning) c.args.machine.now.store c.args.events.now c.requires.ready.kept) c.requires.counted
+    asked-nothing (λ v. (g.dyn-1.0.entry v).1) c.args.registry.now.entries _ c.args.machine.now.store
+    (kept-same (λ v. (g.dyn-1.0.entry v).1) c.args.machine.now.store c.args.events.now c.requires.ready.kept) c.requires.counted
 
 pub returns-clause-done : goal.returns-clause-done
 returns-clause-done g c =
     let R = c.args.registry.now.entries in
     let ls = c.args.list.now.code in
     let b : is_budget c.args.budget ≡ true = search rules in
-    let w : World = left_to (states_in c.args.list.now) (world_of (λ v. (g.dyn-1.0.entry v).1.meaning) (lent c.args.machine.now c.args.events.now)) in
+    let w : World = left_to (states_in c.args.list.now) (world_of (λ v. (g.dyn-1.0.entry v).1) (lent c.args.machine.now c.args.events.now)) in
     leads-same _ (building R c.args.name.now c.args.budget w) _ _ _
     (λ rest. building-found R c.args.name.now c.args.budget w c.in-Some.home rest (found-same _ _ _ ls _ _ (c.in-Some.ensures.exact ls) c.deref.ensures.value refl) b)
     refl c.build_module.ensures.done
+
+pub returns-clause-refused : goal.returns-clause-refused
+returns-clause-refused g c = begun_build c.build_module.result c.build_module.new.events.items _ c.build_module.ensures.begun

@@ -9,4 +9,4 @@ returns-in-Ok-with_view-clause-sound c =
     let l = c.in-Ok-with_view.loaded in
     subst (λ (r : Resolved). SoundProgram l.view r.tree) (sym c.in-Ok-with_view.ensures.program)
     (subst (λ V. SoundProgram V (resolved_of c.in-Ok-build_sections.program).tree) (sym c.in-Ok-with_view.ensures.view)
-    (program-sound c.in-Ok.view c.args.sections.now (resolved_of c.in-Ok-build_sections.program) c.in-Ok.ensures.values c.in-Ok-build_sections.ensures.built))
+    (program-sound c.in-Ok.view c.args.sections.now (resolved_of c.in-Ok-build_sections.program) c.in-Ok.ensures.values c.in-Ok.ensures.few c.in-Ok-build_sections.ensures.built))

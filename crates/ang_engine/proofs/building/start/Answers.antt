@@ -18,31 +18,31 @@ initialize-requires-clause-drivers g c =
 
 pub initialize-requires-clause-counted : goal.initialize-requires-clause-counted
 initialize-requires-clause-counted g c =
-    let begun = run-begun (λ v. (g.dyn-1.0.entry v).1.meaning) [] c.args.home (lent c.args.machine.now c.args.events.now) c.put_globals.new.globals c.in-Ok.values.items c.put_globals.ensures.set
+    let begun = run-begun (λ v. (g.dyn-1.0.entry v).1) [] c.args.home (lent c.args.machine.now c.args.events.now) c.put_globals.new.globals c.in-Ok.values.items c.put_globals.ensures.set
     (first_values c.load.new.code c.args.home c.in-Ok.values.items c.in-Ok.ensures.values) c.requires.none in
     begun.counted c.requires.counted
 
 pub returns-in-Ok-initialize-clause-asked : goal.returns-in-Ok-initialize-clause-asked
 returns-in-Ok-initialize-clause-asked g c =
     let ms = modules_of (slice_set c.args.code.now c.args.home (Some c.args.loaded)) in
-    let begun = run-begun (λ v. (g.dyn-1.0.entry v).1.meaning) ms c.args.home (lent c.args.machine.now c.args.events.now) c.put_globals.new.globals c.in-Ok.values.items c.put_globals.ensures.set
+    let begun = run-begun (λ v. (g.dyn-1.0.entry v).1) ms c.args.home (lent c.args.machine.now c.args.events.now) c.put_globals.new.globals c.in-Ok.values.items c.put_globals.ensures.set
     (first_values c.load.new.code c.args.home c.in-Ok.values.items c.in-Ok.ensures.values) c.requires.none in
     let s = record (lent c.args.machine.now c.args.events.now) { globals = c.put_globals.new.globals } in
-    run-join (λ v. (g.dyn-1.0.entry v).1.meaning) ms (lent c.args.machine.now c.args.events.now) s (lent c.initialize.new.machine c.initialize.new.events) begun
-    (run-loaded (λ v. (g.dyn-1.0.entry v).1.meaning) c.load.new.code (slice_set c.args.code.now c.args.home (Some c.args.loaded)) s (lent c.initialize.new.machine c.initialize.new.events)
+    run-join (λ v. (g.dyn-1.0.entry v).1) ms (lent c.args.machine.now c.args.events.now) s (lent c.initialize.new.machine c.initialize.new.events) begun
+    (run-loaded (λ v. (g.dyn-1.0.entry v).1) c.load.new.code (slice_set c.args.code.now c.args.home (Some c.args.loaded)) s (lent c.initialize.new.machine c.initialize.new.events)
     c.in-Ok.ensures.loaded c.initialize.ensures.asked c.initialize.ensures.moves c.initialize.ensures.ready c.initialize.ensures.counted)
 
 pub returns-in-Ok-initialize-clause-started : goal.returns-in-Ok-initialize-clause-started
 returns-in-Ok-initialize-clause-started g c =
-    let u : World = world_of (λ v. (g.dyn-1.0.entry v).1.meaning) (lent c.args.machine.now c.args.events.now) in
+    let u : World = world_of (λ v. (g.dyn-1.0.entry v).1) (lent c.args.machine.now c.args.events.now) in
     started-by (Ok (Bits 0)) _ (slice_set c.args.code.now c.args.home (Some c.args.loaded)) c.args.home c.args.budget (program_in c.args.loaded) u _ _ c.in-Ok.ensures.loaded
     (begun-world u _ c.args.code.now _ c.args.home c.args.loaded c.in-Ok.values.items c.requires.within c.in-Ok.ensures.loaded c.in-Ok.ensures.values c.put_globals.ensures.set)
     c.in-Ok-initialize.ensures.means
 
 pub returns-in-Err-initialize-clause-started : goal.returns-in-Err-initialize-clause-started
 returns-in-Err-initialize-clause-started g c =
-    let u : World = world_of (λ v. (g.dyn-1.0.entry v).1.meaning) (lent c.args.machine.now c.args.events.now) in
-    let x : World = world_of (λ v. (g.dyn-1.0.entry v).1.meaning) (lent c.initialize.new.machine c.initialize.new.events) in (
+    let u : World = world_of (λ v. (g.dyn-1.0.entry v).1) (lent c.args.machine.now c.args.events.now) in
+    let x : World = world_of (λ v. (g.dyn-1.0.entry v).1) (lent c.initialize.new.machine c.initialize.new.events) in (
       x,
       started-by (Err c.in-Err-initialize.fault) _ (slice_set c.args.code.now c.args.home (Some c.args.loaded)) c.args.home c.args.budget (program_in c.args.loaded) u _ x c.in-Ok.ensures.loaded
           (begun-world u _ c.args.code.now _ c.args.home c.args.loaded c.in-Ok.values.items c.requires.within c.in-Ok.ensures.loaded c.in-Ok.ensures.values c.put_globals.ensures.set)
@@ -53,13 +53,13 @@ returns-in-Err-initialize-clause-started g c =
 pub returns-in-Err-initialize-clause-asked : goal.returns-in-Err-initialize-clause-asked
 returns-in-Err-initialize-clause-asked g c =
     let ms = modules_of (slice_set c.args.code.now c.args.home (Some c.args.loaded)) in
-    let begun = run-begun (λ v. (g.dyn-1.0.entry v).1.meaning) ms c.args.home (lent c.args.machine.now c.args.events.now) c.put_globals.new.globals c.in-Ok.values.items c.put_globals.ensures.set
+    let begun = run-begun (λ v. (g.dyn-1.0.entry v).1) ms c.args.home (lent c.args.machine.now c.args.events.now) c.put_globals.new.globals c.in-Ok.values.items c.put_globals.ensures.set
     (first_values c.load.new.code c.args.home c.in-Ok.values.items c.in-Ok.ensures.values) c.requires.none in
     let s = record (lent c.args.machine.now c.args.events.now) { globals = c.put_globals.new.globals } in
     let t = lent c.initialize.new.machine c.initialize.new.events in
     let u = lent c.end_globals.new.machine c.end_globals.new.events in
-    run-join (λ v. (g.dyn-1.0.entry v).1.meaning) ms (lent c.args.machine.now c.args.events.now) s u begun
-    (run-join (λ v. (g.dyn-1.0.entry v).1.meaning) ms s t u
-    (run-loaded (λ v. (g.dyn-1.0.entry v).1.meaning) c.load.new.code (slice_set c.args.code.now c.args.home (Some c.args.loaded)) s t
+    run-join (λ v. (g.dyn-1.0.entry v).1) ms (lent c.args.machine.now c.args.events.now) s u begun
+    (run-join (λ v. (g.dyn-1.0.entry v).1) ms s t u
+    (run-loaded (λ v. (g.dyn-1.0.entry v).1) c.load.new.code (slice_set c.args.code.now c.args.home (Some c.args.loaded)) s t
     c.in-Ok.ensures.loaded c.initialize.ensures.asked c.initialize.ensures.moves c.initialize.ensures.ready c.initialize.ensures.counted)
-    (run-ended (λ v. (g.dyn-1.0.entry v).1.meaning) ms c.args.home t u (c.end_globals.ensures.ended []) c.end_globals.ensures.moves))
+    (run-ended (λ v. (g.dyn-1.0.entry v).1) ms c.args.home t u (c.end_globals.ensures.ended []) c.end_globals.ensures.moves))

@@ -12,14 +12,14 @@ use Rattle.ang_engine.proofs.calling.run_chosen.Goals as goal
 
 pub call-ended-requires-clause-counted : goal.call-ended-requires-clause-counted
 call-ended-requires-clause-counted g c =
-    let w = world_of (λ v. (g.dyn-1.0.entry v).1.meaning) (lent c.args.machine.now c.args.events.now) in
+    let w = world_of (λ v. (g.dyn-1.0.entry v).1) (lent c.args.machine.now c.args.events.now) in
     let vs = c.args.chosen.now.args.items in
     subst (λ l. IsCounted (reverse l) w) (sym c.deref.ensures.value) (counted_as [] (reverse vs) w (λ x. sym (reverse-plain vs c.requires.plain x)) c.requires.counted)
 
 pub returns-clause-means : goal.returns-clause-means
 returns-clause-means g c =
-    let u = world_of (λ v. (g.dyn-1.0.entry v).1.meaning) (lent c.args.machine.now c.args.events.now) in
-    let x = world_of (λ v. (g.dyn-1.0.entry v).1.meaning) (lent c.call-ended.new.machine c.call-ended.new.events) in
+    let u = world_of (λ v. (g.dyn-1.0.entry v).1) (lent c.args.machine.now c.args.events.now) in
+    let x = world_of (λ v. (g.dyn-1.0.entry v).1) (lent c.call-ended.new.machine c.call-ended.new.events) in
     record {
       function = c.index-as_slice-chosen.result;
       at = function-at c.as_slice.result.now c.args.loaded.now.names.functions c.args.chosen.now.number c.index-as_slice-chosen.result c.as_slice.ensures.same c.requires.within

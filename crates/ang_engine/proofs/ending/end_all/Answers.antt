@@ -15,7 +15,7 @@ use Rattle.ang_engine.proofs.ending.end_all.Goals as goal
 pub loop-left-init : goal.loop-left-init
 loop-left-init g c =
     record {
-      ended = λ is. ap (λ n. all_ended n (world_by (objects_of c.args.heap.now) (counts_of (λ v. (g.dyn-1.0.entry v).1.meaning) (members c.args.drivers.now)) (values_in c.args.globals.now) c.args.ends.now.items is))
+      ended = λ is. ap (λ n. all_ended n (world_by (objects_of c.args.heap.now) (counts_of (λ v. (g.dyn-1.0.entry v).1) (members c.args.drivers.now)) (values_in c.args.globals.now) c.args.ends.now.items is))
           (map_length (λ v. v.items) c.args.globals.now.modules.items ∙ sym c.args.globals.now.modules.ok.0 ∙ sym c.len-left.ensures);
       counted = c.requires.counted;
       ready = c.requires.ready;
@@ -24,7 +24,7 @@ loop-left-init g c =
 
 pub loop-left-preserved : goal.loop-left-preserved
 loop-left-preserved g c =
-    let w : World = world_by (objects_of c.loop-left.heap) (counts_of (λ v. (g.dyn-1.0.entry v).1.meaning) (members c.loop-left.drivers)) (values_in c.loop-left.globals) c.loop-left.ends.items [] in
+    let w : World = world_by (objects_of c.loop-left.heap) (counts_of (λ v. (g.dyn-1.0.entry v).1) (members c.loop-left.drivers)) (values_in c.loop-left.globals) c.loop-left.ends.items [] in
     record {
       ended = λ is. c.loop-left.invariant.ended is ∙ turn_ends c.loop-left.left _ _ c.loop-left-test.true (c.end_module.ensures.ended is);
       counted = subst (λ u. IsCounted [] u) (c.end_module.ensures.ended []) (ended_counted (c.loop-left.left - 1) w c.loop-left.invariant.counted);

@@ -13,11 +13,11 @@ use Rattle.ang_engine.proofs.ending.end_all.Given as goal
 abbrev pub invariant-loop-left : goal.invariant-loop-left
 invariant-loop-left g l = record {
   ended : (is : List Input)
-      → all_ended (length (values_in l.initial.globals)) (world_by (objects_of l.initial.heap) (counts_of (λ v. (g.dyn-1.0.entry v).1.meaning) (members l.initial.drivers)) (values_in l.initial.globals) l.initial.ends.items is)
-      ≡ all_ended l.left (world_by (objects_of l.heap) (counts_of (λ v. (g.dyn-1.0.entry v).1.meaning) (members l.drivers)) (values_in l.globals) l.ends.items is);
-  counted : CountedIn [] (objects_of l.heap) (counts_of (λ v. (g.dyn-1.0.entry v).1.meaning) (members l.drivers)) (values_in l.globals);
-  ready : AreReady (states_of (λ v. (g.dyn-1.0.entry v).1.meaning) (members l.drivers)) (vec_len l.ends) (vec_capacity l.ends);
-  moves : (roles : List Role) → PartsMove (λ v. (g.dyn-1.0.entry v).1.meaning) roles (members l.initial.drivers) l.initial.ends.items (members l.drivers) l.ends.items;
+      → all_ended (length (values_in l.initial.globals)) (world_by (objects_of l.initial.heap) (counts_of (λ v. (g.dyn-1.0.entry v).1) (members l.initial.drivers)) (values_in l.initial.globals) l.initial.ends.items is)
+      ≡ all_ended l.left (world_by (objects_of l.heap) (counts_of (λ v. (g.dyn-1.0.entry v).1) (members l.drivers)) (values_in l.globals) l.ends.items is);
+  counted : CountedIn [] (objects_of l.heap) (counts_of (λ v. (g.dyn-1.0.entry v).1) (members l.drivers)) (values_in l.globals);
+  ready : AreReady (states_of (λ v. (g.dyn-1.0.entry v).1) (members l.drivers)) (vec_len l.ends) (vec_capacity l.ends);
+  moves : (roles : List Role) → PartsMove (λ v. (g.dyn-1.0.entry v).1) roles (members l.initial.drivers) l.initial.ends.items (members l.drivers) l.ends.items;
 }
 
 abbrev pub decreases-loop-left : goal.decreases-loop-left

@@ -16,8 +16,8 @@ loop-left-init g c =
     let all : c.args.values.now ≡ take (length c.args.values.now) c.args.values.now = sym (take-length c.args.values.now) in
     record {
       within = omega arith;
-      gives = λ gs is. ap (λ l. give_back l (world_by (objects_of c.args.heap.now) (counts_of (λ v. (g.dyn-1.0.entry v).1.meaning) (members c.args.drivers.now)) gs c.args.events.now.items is)) all;
-      enough = subst (λ l. EnoughIn l (objects_of c.args.heap.now) (counts_of (λ v. (g.dyn-1.0.entry v).1.meaning) (members c.args.drivers.now))) all c.requires.enough;
+      gives = λ gs is. ap (λ l. give_back l (world_by (objects_of c.args.heap.now) (counts_of (λ v. (g.dyn-1.0.entry v).1) (members c.args.drivers.now)) gs c.args.events.now.items is)) all;
+      enough = subst (λ l. EnoughIn l (objects_of c.args.heap.now) (counts_of (λ v. (g.dyn-1.0.entry v).1) (members c.args.drivers.now))) all c.requires.enough;
       ready = c.requires.ready;
       capacity = refl;
       fewer = omega arith;
@@ -40,8 +40,8 @@ loop-left-preserved g c =
       within = omega (arith, c.loop-left.invariant.within);
       gives = λ gs is. back_turn vs c.loop-left.left v _ _ _ e (c.loop-left.invariant.gives gs is) (c.give_up.ensures.gives gs is);
       enough = others_can (take (c.loop-left.left - 1) vs) (take c.loop-left.left vs) v
-          (world_by (objects_of c.loop-left.heap) (counts_of (λ v. (g.dyn-1.0.entry v).1.meaning) (members c.loop-left.drivers)) [] c.loop-left.events.items [])
-          (world_by (objects_of c.give_up.new.self) (counts_of (λ v. (g.dyn-1.0.entry v).1.meaning) (members c.give_up.new.drivers)) [] c.give_up.new.events.items [])
+          (world_by (objects_of c.loop-left.heap) (counts_of (λ v. (g.dyn-1.0.entry v).1) (members c.loop-left.drivers)) [] c.loop-left.events.items [])
+          (world_by (objects_of c.give_up.new.self) (counts_of (λ v. (g.dyn-1.0.entry v).1) (members c.give_up.new.drivers)) [] c.give_up.new.events.items [])
           e c.loop-left.invariant.enough (c.give_up.ensures.gives [] []);
       ready = c.give_up.ensures.ready;
       capacity = c.give_up.ensures.capacity ∙ c.loop-left.invariant.capacity;

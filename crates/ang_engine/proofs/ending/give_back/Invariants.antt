@@ -14,14 +14,14 @@ abbrev pub invariant-loop-left : goal.invariant-loop-left
 invariant-loop-left g l = record {
   within : l.left ≤ length l.values;
   gives : (gs : List (List Slot)) (is : List Input)
-      → give_back l.values (world_by (objects_of l.initial.heap) (counts_of (λ v. (g.dyn-1.0.entry v).1.meaning) (members l.initial.drivers)) gs l.initial.events.items is)
-      ≡ give_back (take l.left l.values) (world_by (objects_of l.heap) (counts_of (λ v. (g.dyn-1.0.entry v).1.meaning) (members l.drivers)) gs l.events.items is);
-  enough : EnoughIn (take l.left l.values) (objects_of l.heap) (counts_of (λ v. (g.dyn-1.0.entry v).1.meaning) (members l.drivers));
-  ready : AreReady (states_of (λ v. (g.dyn-1.0.entry v).1.meaning) (members l.drivers)) (vec_len l.events) (vec_capacity l.events);
+      → give_back l.values (world_by (objects_of l.initial.heap) (counts_of (λ v. (g.dyn-1.0.entry v).1) (members l.initial.drivers)) gs l.initial.events.items is)
+      ≡ give_back (take l.left l.values) (world_by (objects_of l.heap) (counts_of (λ v. (g.dyn-1.0.entry v).1) (members l.drivers)) gs l.events.items is);
+  enough : EnoughIn (take l.left l.values) (objects_of l.heap) (counts_of (λ v. (g.dyn-1.0.entry v).1) (members l.drivers));
+  ready : AreReady (states_of (λ v. (g.dyn-1.0.entry v).1) (members l.drivers)) (vec_len l.events) (vec_capacity l.events);
   capacity : vec_capacity l.events ≡ vec_capacity l.initial.events;
-  fewer : live_of (λ v. (g.dyn-1.0.entry v).1.meaning) (members l.drivers) ≤ live_of (λ v. (g.dyn-1.0.entry v).1.meaning) (members l.initial.drivers);
-  level : vec_len l.events + live_of (λ v. (g.dyn-1.0.entry v).1.meaning) (members l.drivers) ≡ vec_len l.initial.events + live_of (λ v. (g.dyn-1.0.entry v).1.meaning) (members l.initial.drivers);
-  moves : (roles : List Role) → PartsMove (λ v. (g.dyn-1.0.entry v).1.meaning) roles (members l.initial.drivers) l.initial.events.items (members l.drivers) l.events.items;
+  fewer : live_of (λ v. (g.dyn-1.0.entry v).1) (members l.drivers) ≤ live_of (λ v. (g.dyn-1.0.entry v).1) (members l.initial.drivers);
+  level : vec_len l.events + live_of (λ v. (g.dyn-1.0.entry v).1) (members l.drivers) ≡ vec_len l.initial.events + live_of (λ v. (g.dyn-1.0.entry v).1) (members l.initial.drivers);
+  moves : (roles : List Role) → PartsMove (λ v. (g.dyn-1.0.entry v).1) roles (members l.initial.drivers) l.initial.events.items (members l.drivers) l.events.items;
 }
 
 abbrev pub decreases-loop-left : goal.decreases-loop-left

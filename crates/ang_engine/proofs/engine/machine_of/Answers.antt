@@ -9,12 +9,12 @@ use Rattle.ang_engine.proofs.engine.machine_of.Goals as goal
 
 pub returns-clause-world : goal.returns-clause-world
 returns-clause-world g c =
-    fresh_world (states_of (λ v. (g.dyn-1.0.entry v).1.meaning) (members c.args.drivers)) (objects_of c.new-heap.result) (list_map (λ v. v.items) c.new-modules.result.items) c.new.result.items
+    fresh_world (states_of (λ v. (g.dyn-1.0.entry v).1) (members c.args.drivers)) (objects_of c.new-heap.result) (list_map (λ v. v.items) c.new-modules.result.items) c.new.result.items
     c.requires.fresh c.new-heap.ensures.empty (ap (λ vs. list_map (λ v. v.items) vs) c.new-modules.ensures.items) c.new.ensures.items
 
 pub returns-clause-kept : goal.returns-clause-kept
 returns-clause-kept g c =
-    let ss = states_of (λ v. (g.dyn-1.0.entry v).1.meaning) (members c.args.drivers) in
+    let ss = states_of (λ v. (g.dyn-1.0.entry v).1) (members c.args.drivers) in
     record {
       drivers = room_fresh ss (vec_len c.new-ends.result) (vec_capacity c.new-ends.result) c.requires.fresh c.new-ends.ensures.len;
       alive = sym (live-fresh ss c.requires.fresh);
@@ -24,5 +24,5 @@ returns-clause-kept g c =
 pub returns-clause-counted : goal.returns-clause-counted
 returns-clause-counted g c =
     fresh_counted _
-    (fresh_world (states_of (λ v. (g.dyn-1.0.entry v).1.meaning) (members c.args.drivers)) (objects_of c.new-heap.result) (list_map (λ v. v.items) c.new-modules.result.items) c.new.result.items
+    (fresh_world (states_of (λ v. (g.dyn-1.0.entry v).1) (members c.args.drivers)) (objects_of c.new-heap.result) (list_map (λ v. v.items) c.new-modules.result.items) c.new.result.items
     c.requires.fresh c.new-heap.ensures.empty (ap (λ vs. list_map (λ v. v.items) vs) c.new-modules.ensures.items) c.new.ensures.items)

@@ -13,8 +13,8 @@ use Rattle.ang_heap.proofs.heap.+give_up.Goals as goal
 pub loop-i-init : goal.loop-i-init
 loop-i-init g t c =
     let is_script : c.args.value ≡ Script (Some c.in-Some-handle.number) = c.in-Script.is ∙ ap Script c.in-Some-handle.is in
-    let enough : EnoughIn (Script (Some c.in-Some-handle.number) ∷ []) (objects_in c.args.records.now) (counts_of (λ v. (g.dyn-1.0.entry v).1.meaning) (members c.args.drivers.now)) =
-    subst (λ v. EnoughIn (v ∷ []) (objects_in c.args.records.now) (counts_of (λ v. (g.dyn-1.0.entry v).1.meaning) (members c.args.drivers.now))) is_script c.requires.enough in
+    let enough : EnoughIn (Script (Some c.in-Some-handle.number) ∷ []) (objects_in c.args.records.now) (counts_of (λ v. (g.dyn-1.0.entry v).1) (members c.args.drivers.now)) =
+    subst (λ v. EnoughIn (v ∷ []) (objects_in c.args.records.now) (counts_of (λ v. (g.dyn-1.0.entry v).1) (members c.args.drivers.now))) is_script c.requires.enough in
     record {
       gives = λ gs is. refl;
       enough = fields_enough c.in-Some-handle.number c.in-Some-lower.object.fields.items (objects_in c.args.records.now) (objects_in c.lower.new.records) _ c.in-Some-lower.ensures.gone enough;
@@ -33,8 +33,8 @@ loop-i-preserved g t c =
     record {
       gives = λ gs is. turn_gives fs c.loop-i.i c.index.result.now _ _ _ e (c.loop-i.invariant.gives gs is) (c.give_up.ensures.gives gs is);
       enough = turn_can fs c.loop-i.i c.index.result.now
-          (world_by (objects_in c.loop-i.records) (counts_of (λ v. (g.dyn-1.0.entry v).1.meaning) (members c.loop-i.drivers)) [] c.loop-i.events.items [])
-          (world_by (objects_in c.give_up.new.records) (counts_of (λ v. (g.dyn-1.0.entry v).1.meaning) (members c.give_up.new.drivers)) [] c.give_up.new.events.items [])
+          (world_by (objects_in c.loop-i.records) (counts_of (λ v. (g.dyn-1.0.entry v).1) (members c.loop-i.drivers)) [] c.loop-i.events.items [])
+          (world_by (objects_in c.give_up.new.records) (counts_of (λ v. (g.dyn-1.0.entry v).1) (members c.give_up.new.drivers)) [] c.give_up.new.events.items [])
           e c.loop-i.invariant.enough (c.give_up.ensures.gives [] []);
       ready = c.give_up.ensures.ready;
       capacity = c.give_up.ensures.capacity ∙ c.loop-i.invariant.capacity;
@@ -47,12 +47,12 @@ loop-i-preserved g t c =
 pub returns-in-Some-clause-gives : goal.returns-in-Some-clause-gives
 returns-in-Some-clause-gives g t c = λ gs is.
     let is_host : c.args.value ≡ Host c.in-Host.driver (Some c.in-Some.key) = c.in-Host.is ∙ ap (λ o. Host c.in-Host.driver o) c.in-Some.is in
-    ap (λ v. give v (world_by (objects_in c.args.records.now) (counts_of (λ v. (g.dyn-1.0.entry v).1.meaning) (members c.args.drivers.now)) gs c.args.events.now.items is)) is_host
+    ap (λ v. give v (world_by (objects_in c.args.records.now) (counts_of (λ v. (g.dyn-1.0.entry v).1) (members c.args.drivers.now)) gs c.args.events.now.items is)) is_host
     ∙ c.release.ensures.gives (objects_in c.args.records.now) gs is
 
 pub returns-after-loop-i-clause-gives : goal.returns-after-loop-i-clause-gives
 returns-after-loop-i-clause-gives g t c = λ gs is.
-    let w = world_by (objects_in c.args.records.now) (counts_of (λ v. (g.dyn-1.0.entry v).1.meaning) (members c.args.drivers.now)) gs c.args.events.now.items is in
+    let w = world_by (objects_in c.args.records.now) (counts_of (λ v. (g.dyn-1.0.entry v).1) (members c.args.drivers.now)) gs c.args.events.now.items is in
     let is_script : c.args.value ≡ Script (Some c.in-Some-handle.number) = c.in-Script.is ∙ ap Script c.in-Some-handle.is in
     ap (λ v. give v w) is_script
     ∙ give_gone c.in-Some-handle.number c.in-Some-lower.object.fields.items (objects_in c.lower.new.records) w c.in-Some-lower.ensures.gone
@@ -62,14 +62,14 @@ returns-after-loop-i-clause-gives g t c = λ gs is.
 pub returns-in_default-clause-gives : goal.returns-in_default-clause-gives
 returns-in_default-clause-gives g t c = λ gs is.
     let is_script : c.args.value ≡ Script (Some c.in-Some-handle.number) = c.in-Script.is ∙ ap Script c.in-Some-handle.is in
-    ap (λ v. give v (world_by (objects_in c.args.records.now) (counts_of (λ v. (g.dyn-1.0.entry v).1.meaning) (members c.args.drivers.now)) gs c.args.events.now.items is)) is_script
-    ∙ give_kept c.in-Some-handle.number (objects_in c.lower.new.records) (world_by (objects_in c.args.records.now) (counts_of (λ v. (g.dyn-1.0.entry v).1.meaning) (members c.args.drivers.now)) gs c.args.events.now.items is) c.in_default.ensures.kept
+    ap (λ v. give v (world_by (objects_in c.args.records.now) (counts_of (λ v. (g.dyn-1.0.entry v).1) (members c.args.drivers.now)) gs c.args.events.now.items is)) is_script
+    ∙ give_kept c.in-Some-handle.number (objects_in c.lower.new.records) (world_by (objects_in c.args.records.now) (counts_of (λ v. (g.dyn-1.0.entry v).1) (members c.args.drivers.now)) gs c.args.events.now.items is) c.in_default.ensures.kept
 
 pub returns-in_default-clause-moves : goal.returns-in_default-clause-moves
 returns-in_default-clause-moves g t c = λ roles. parts_none _ roles _ _
 
 pub returns-in-Bits-clause-gives : goal.returns-in-Bits-clause-gives
-returns-in-Bits-clause-gives g t c = λ gs is. ap (λ v. give v (world_by (objects_in c.args.records.now) (counts_of (λ v. (g.dyn-1.0.entry v).1.meaning) (members c.args.drivers.now)) gs c.args.events.now.items is)) c.in-Bits.is ∙ give_bits _ _
+returns-in-Bits-clause-gives g t c = λ gs is. ap (λ v. give v (world_by (objects_in c.args.records.now) (counts_of (λ v. (g.dyn-1.0.entry v).1) (members c.args.drivers.now)) gs c.args.events.now.items is)) c.in-Bits.is ∙ give_bits _ _
 
 pub returns-in-Bits-clause-moves : goal.returns-in-Bits-clause-moves
 returns-in-Bits-clause-moves g t c = λ roles. parts_none _ roles _ _
@@ -77,7 +77,7 @@ returns-in-Bits-clause-moves g t c = λ roles. parts_none _ roles _ _
 pub returns-in-None-handle-clause-gives : goal.returns-in-None-handle-clause-gives
 returns-in-None-handle-clause-gives g t c = λ gs is.
     let is_null : c.args.value ≡ Script None = c.in-Script.is ∙ ap Script c.in-None-handle.is in
-    ap (λ v. give v (world_by (objects_in c.args.records.now) (counts_of (λ v. (g.dyn-1.0.entry v).1.meaning) (members c.args.drivers.now)) gs c.args.events.now.items is)) is_null ∙ give_null _
+    ap (λ v. give v (world_by (objects_in c.args.records.now) (counts_of (λ v. (g.dyn-1.0.entry v).1) (members c.args.drivers.now)) gs c.args.events.now.items is)) is_null ∙ give_null _
 
 pub returns-in-None-handle-clause-moves : goal.returns-in-None-handle-clause-moves
 returns-in-None-handle-clause-moves g t c = λ roles. parts_none _ roles _ _
@@ -85,7 +85,7 @@ returns-in-None-handle-clause-moves g t c = λ roles. parts_none _ roles _ _
 pub returns-in-None-clause-gives : goal.returns-in-None-clause-gives
 returns-in-None-clause-gives g t c = λ gs is.
     let is_no_key : c.args.value ≡ Host c.in-Host.driver None = c.in-Host.is ∙ ap (λ o. Host c.in-Host.driver o) c.in-None.is in
-    ap (λ v. give v (world_by (objects_in c.args.records.now) (counts_of (λ v. (g.dyn-1.0.entry v).1.meaning) (members c.args.drivers.now)) gs c.args.events.now.items is)) is_no_key ∙ give_no_key _ _
+    ap (λ v. give v (world_by (objects_in c.args.records.now) (counts_of (λ v. (g.dyn-1.0.entry v).1) (members c.args.drivers.now)) gs c.args.events.now.items is)) is_no_key ∙ give_no_key _ _
 
 pub returns-in-None-clause-moves : goal.returns-in-None-clause-moves
 returns-in-None-clause-moves g t c = λ roles. parts_none _ roles _ _

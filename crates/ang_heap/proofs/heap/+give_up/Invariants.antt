@@ -16,13 +16,13 @@ decreases-give_up g l = slab_len l.records.now
 abbrev pub invariant-loop-i : goal.invariant-loop-i
 invariant-loop-i g l = record {
   gives : (gs : List (List Slot)) (is : List Input)
-      → give_all l.object.fields.items (world_by (objects_in l.initial.records) (counts_of (λ v. (g.dyn-1.0.entry v).1.meaning) (members l.initial.drivers)) gs l.initial.events.items is)
-      ≡ give_all (drop l.i l.object.fields.items) (world_by (objects_in l.records) (counts_of (λ v. (g.dyn-1.0.entry v).1.meaning) (members l.drivers)) gs l.events.items is);
-  enough : EnoughIn (drop l.i l.object.fields.items) (objects_in l.records) (counts_of (λ v. (g.dyn-1.0.entry v).1.meaning) (members l.drivers));
-  ready : AreReady (states_of (λ v. (g.dyn-1.0.entry v).1.meaning) (members l.drivers)) (vec_len l.events) (vec_capacity l.events);
+      → give_all l.object.fields.items (world_by (objects_in l.initial.records) (counts_of (λ v. (g.dyn-1.0.entry v).1) (members l.initial.drivers)) gs l.initial.events.items is)
+      ≡ give_all (drop l.i l.object.fields.items) (world_by (objects_in l.records) (counts_of (λ v. (g.dyn-1.0.entry v).1) (members l.drivers)) gs l.events.items is);
+  enough : EnoughIn (drop l.i l.object.fields.items) (objects_in l.records) (counts_of (λ v. (g.dyn-1.0.entry v).1) (members l.drivers));
+  ready : AreReady (states_of (λ v. (g.dyn-1.0.entry v).1) (members l.drivers)) (vec_len l.events) (vec_capacity l.events);
   capacity : vec_capacity l.events ≡ vec_capacity l.initial.events;
-  fewer : live_of (λ v. (g.dyn-1.0.entry v).1.meaning) (members l.drivers) ≤ live_of (λ v. (g.dyn-1.0.entry v).1.meaning) (members l.initial.drivers);
-  level : vec_len l.events + live_of (λ v. (g.dyn-1.0.entry v).1.meaning) (members l.drivers) ≡ vec_len l.initial.events + live_of (λ v. (g.dyn-1.0.entry v).1.meaning) (members l.initial.drivers);
+  fewer : live_of (λ v. (g.dyn-1.0.entry v).1) (members l.drivers) ≤ live_of (λ v. (g.dyn-1.0.entry v).1) (members l.initial.drivers);
+  level : vec_len l.events + live_of (λ v. (g.dyn-1.0.entry v).1) (members l.drivers) ≡ vec_len l.initial.events + live_of (λ v. (g.dyn-1.0.entry v).1) (members l.initial.drivers);
   shorter : slab_len l.records ≤ slab_len l.initial.records;
-  moves : (roles : List Role) → PartsMove (λ v. (g.dyn-1.0.entry v).1.meaning) roles (members l.initial.drivers) l.initial.events.items (members l.drivers) l.events.items;
+  moves : (roles : List Role) → PartsMove (λ v. (g.dyn-1.0.entry v).1) roles (members l.initial.drivers) l.initial.events.items (members l.drivers) l.events.items;
 }

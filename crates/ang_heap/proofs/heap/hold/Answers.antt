@@ -8,30 +8,30 @@ use Rattle.ang_heap.proofs.Storing.{bits_held, null_held, no_key_held, host_held
 use Rattle.ang_heap.proofs.heap.hold.Goals as goal
 
 pub returns-in-Bits-clause-holds : goal.returns-in-Bits-clause-holds
-returns-in-Bits-clause-holds g c = λ gs es. bits_held c.args.value _ (world_by (objects_in c.args.records.now) (counts_of (λ v. (g.dyn-1.0.entry v).1.meaning) (members c.args.drivers.now)) gs es []) c.in-Bits.is
+returns-in-Bits-clause-holds g c = λ gs es. bits_held c.args.value _ (world_by (objects_in c.args.records.now) (counts_of (λ v. (g.dyn-1.0.entry v).1) (members c.args.drivers.now)) gs es []) c.in-Bits.is
 
 pub returns-in-Some-clause-holds : goal.returns-in-Some-clause-holds
 returns-in-Some-clause-holds g c = λ gs es.
-    host_held c.args.value c.in-Host.driver c.in-Some.key c.add.result (world_by (objects_in c.args.records.now) (counts_of (λ v. (g.dyn-1.0.entry v).1.meaning) (members c.args.drivers.now)) gs es []) _
+    host_held c.args.value c.in-Host.driver c.in-Some.key c.add.result (world_by (objects_in c.args.records.now) (counts_of (λ v. (g.dyn-1.0.entry v).1) (members c.args.drivers.now)) gs es []) _
     (c.in-Host.is ∙ ap (λ o. Host c.in-Host.driver o) c.in-Some.is) c.add.ensures.counts
 
 pub returns-in-Some-clause-full : goal.returns-in-Some-clause-full
 returns-in-Some-clause-full g c = λ e.
-    subst (λ v. IsTallyFull v (objects_in c.args.records.now) (states_of (λ v. (g.dyn-1.0.entry v).1.meaning) (members c.args.drivers.now)))
+    subst (λ v. IsTallyFull v (objects_in c.args.records.now) (states_of (λ v. (g.dyn-1.0.entry v).1) (members c.args.drivers.now)))
     (sym (c.in-Host.is ∙ ap (λ o. Host c.in-Host.driver o) c.in-Some.is)) (c.add.ensures.full e)
 
 pub returns-in-None-clause-holds : goal.returns-in-None-clause-holds
-returns-in-None-clause-holds g c = λ gs es. no_key_held c.args.value c.in-Host.driver (world_by (objects_in c.args.records.now) (counts_of (λ v. (g.dyn-1.0.entry v).1.meaning) (members c.args.drivers.now)) gs es []) (c.in-Host.is ∙ ap (λ o. Host c.in-Host.driver o) c.in-None.is)
+returns-in-None-clause-holds g c = λ gs es. no_key_held c.args.value c.in-Host.driver (world_by (objects_in c.args.records.now) (counts_of (λ v. (g.dyn-1.0.entry v).1) (members c.args.drivers.now)) gs es []) (c.in-Host.is ∙ ap (λ o. Host c.in-Host.driver o) c.in-None.is)
 
 pub returns-in-Some-handle-clause-holds : goal.returns-in-Some-handle-clause-holds
 returns-in-Some-handle-clause-holds g c = λ gs es.
-    script_held c.args.value c.in-Some-handle.number c.raise.result (world_by (objects_in c.args.records.now) (counts_of (λ v. (g.dyn-1.0.entry v).1.meaning) (members c.args.drivers.now)) gs es []) _
+    script_held c.args.value c.in-Some-handle.number c.raise.result (world_by (objects_in c.args.records.now) (counts_of (λ v. (g.dyn-1.0.entry v).1) (members c.args.drivers.now)) gs es []) _
     (c.in-Script.is ∙ ap Script c.in-Some-handle.is) c.raise.ensures.raised
 
 pub returns-in-Some-handle-clause-full : goal.returns-in-Some-handle-clause-full
 returns-in-Some-handle-clause-full g c = λ e.
-    subst (λ v. IsTallyFull v (objects_in c.args.records.now) (states_of (λ v. (g.dyn-1.0.entry v).1.meaning) (members c.args.drivers.now)))
+    subst (λ v. IsTallyFull v (objects_in c.args.records.now) (states_of (λ v. (g.dyn-1.0.entry v).1) (members c.args.drivers.now)))
     (sym (c.in-Script.is ∙ ap Script c.in-Some-handle.is)) (c.raise.ensures.full e)
 
 pub returns-in-None-handle-clause-holds : goal.returns-in-None-handle-clause-holds
-returns-in-None-handle-clause-holds g c = λ gs es. null_held c.args.value (world_by (objects_in c.args.records.now) (counts_of (λ v. (g.dyn-1.0.entry v).1.meaning) (members c.args.drivers.now)) gs es []) (c.in-Script.is ∙ ap Script c.in-None-handle.is)
+returns-in-None-handle-clause-holds g c = λ gs es. null_held c.args.value (world_by (objects_in c.args.records.now) (counts_of (λ v. (g.dyn-1.0.entry v).1) (members c.args.drivers.now)) gs es []) (c.in-Script.is ∙ ap Script c.in-None-handle.is)

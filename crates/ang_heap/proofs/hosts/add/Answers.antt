@@ -9,7 +9,7 @@ pub add_ref-requires-clause-in_list : goal.add_ref-requires-clause-in_list
 add_ref-requires-clause-in_list g c = in_list _ _ _ _ c.requires.held
 
 pub add_ref-requires-clause-key_live : goal.add_ref-requires-clause-key_live
-add_ref-requires-clause-key_live g c = IsLive-held (state_at (states_of (λ v. (g.dyn-1.0.entry v).1.meaning) (members c.args.drivers.now)) c.args.driver) c.args.key c.requires.held
+add_ref-requires-clause-key_live g c = IsLive-held (state_at (states_of (λ v. (g.dyn-1.0.entry v).1) (members c.args.drivers.now)) c.args.driver) c.args.key c.requires.held
 
 pub returns-clause-counts : goal.returns-clause-counts
 returns-clause-counts g c = add_counts _ _ _ _ _ _ _ _ c.add_ref.ensures.moved

@@ -6,4 +6,4 @@ use Rattle.ang_heap.proofs.store.give.Goals as goal
 
 pub returns-in-Bits-clause-given : goal.returns-in-Bits-clause-given
 returns-in-Bits-clause-given g c = λ is.
-    ap (λ v. give v (with_inputs is (world_of (λ v. (g.dyn-1.0.entry v).1.meaning) c.args.store.now))) c.in-Bits.is ∙ give_bits _ _
+    ap (λ v. give v (with_inputs is (world_of (λ v. (g.dyn-1.0.entry v).1) c.args.store.now))) c.in-Bits.is ∙ give_bits _ _

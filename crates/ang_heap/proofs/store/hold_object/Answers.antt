@@ -11,7 +11,7 @@ use Rattle.ang_heap.proofs.store.hold_object.Goals as goal
 
 pub returns-clause-told : goal.returns-clause-told
 returns-clause-told g c =
-    subst (λ b. Told (λ is. hold c.args.value (with_inputs is (world_of (λ v. (g.dyn-1.0.entry v).1.meaning) c.args.store.now))) (λ is. if_told b (world_by (objects_of c.hold.new.self) (counts_of (λ v. (g.dyn-1.0.entry v).1.meaning) (members c.hold.new.drivers)) (values_in c.args.store.now.globals) c.args.store.now.events.items is)))
+    subst (λ b. Told (λ is. hold c.args.value (with_inputs is (world_of (λ v. (g.dyn-1.0.entry v).1) c.args.store.now))) (λ is. if_told b (world_by (objects_of c.hold.new.self) (counts_of (λ v. (g.dyn-1.0.entry v).1) (members c.hold.new.drivers)) (values_in c.args.store.now.globals) c.args.store.now.events.items is)))
     (sym c.is_ok.ensures.value) (c.hold.ensures.holds (values_in c.args.store.now.globals) c.args.store.now.events.items)
 
 pub returns-clause-full : goal.returns-clause-full

@@ -6,5 +6,5 @@ use Rattle.ang_names_written.proofs.not_yet.not_yet_errors.Given as goal
 
 abbrev pub invariant-loop-script : goal.invariant-loop-script
 invariant-loop-script l =
-    flat_map (section_errors l.view) (list_map source_of l.scripts)
-    ≡ l.errors.items ++ flat_map (section_errors l.view) (list_map source_of (drop l.script-index l.scripts))
+    flat_map section_errors (list_map source_of l.scripts)
+    ≡ l.errors.items ++ flat_map section_errors (list_map source_of (drop l.script-index l.scripts))

@@ -6,5 +6,5 @@ use Rattle.ang_names_written.proofs.not_yet.refuse_section.Given as goal
 
 abbrev pub invariant-loop-declaration : goal.invariant-loop-declaration
 invariant-loop-declaration l =
-    l.initial.errors.items ++ flat_map (declaration_errors l.view l.script.source.items) (list_map view_decl l.script.declarations.items)
-    ≡ l.errors.items ++ flat_map (declaration_errors l.view l.script.source.items) (list_map view_decl (drop l.declaration-index l.script.declarations.items))
+    l.initial.errors.items ++ flat_map declaration_errors (list_map view_decl l.script.declarations.items)
+    ≡ l.errors.items ++ flat_map declaration_errors (list_map view_decl (drop l.declaration-index l.script.declarations.items))

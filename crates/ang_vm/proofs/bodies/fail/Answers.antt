@@ -10,8 +10,8 @@ use Rattle.ang_vm.proofs.bodies.fail.Goals as goal
 
 pub returns-clause-told : goal.returns-clause-told
 returns-clause-told g c =
-    let w = (world_of (λ v. (g.dyn-1.0.entry v).1.meaning) c.args.store.now) in
+    let w = (world_of (λ v. (g.dyn-1.0.entry v).1) c.args.store.now) in
     told_same (λ is. ap (λ u. Over (Faulted c.args.fault u)) (sym (ap (λ l. give_all (values l c.args.top) (with_inputs is w)) c.as_slice.ensures.value) ∙ c.give_all_in_use.ensures.given is))
 
 pub give_all_in_use-requires-clause-enough : goal.give_all_in_use-requires-clause-enough
-give_all_in_use-requires-clause-enough g c = subst (λ l. CanGive (values l c.args.top) (world_of (λ v. (g.dyn-1.0.entry v).1.meaning) c.args.store.now)) (sym c.as_slice.ensures.value) c.requires.held
+give_all_in_use-requires-clause-enough g c = subst (λ l. CanGive (values l c.args.top) (world_of (λ v. (g.dyn-1.0.entry v).1) c.args.store.now)) (sym c.as_slice.ensures.value) c.requires.held

@@ -14,10 +14,10 @@ abbrev pub invariant-loop-code : goal.invariant-loop-code
 invariant-loop-code g l = record {
   code : MatchOption l.code (body_of l.table l.here.body ≡ None) (λ code. body_of l.table l.here.body ≡ Some code.now);
   fits : Fits l.here l.stack.items l.frames.items;
-  may_run : MayRun (λ v. (g.dyn-1.0.entry v).1.meaning) l.table (values l.stack.items l.here.place.top) l.store;
-  reaches : Reaches (setting_of l.table l.nesting) (texts_of l.table) (λ is. standing l.fn.from l.initial.stack.items (reverse l.initial.frames.items) (with_inputs is (world_of (λ v. (g.dyn-1.0.entry v).1.meaning) l.initial.store))) (λ is. standing l.here l.stack.items (reverse l.frames.items) (with_inputs is (world_of (λ v. (g.dyn-1.0.entry v).1.meaning) l.store)));
-  moves : RunMoves (λ v. (g.dyn-1.0.entry v).1.meaning) l.table l.initial.store l.store;
+  may_run : MayRun (λ v. (g.dyn-1.0.entry v).1) l.table (values l.stack.items l.here.place.top) l.store;
+  reaches : Reaches (setting_of l.table l.nesting) (texts_of l.table) (λ is. standing l.fn.from l.initial.stack.items (reverse l.initial.frames.items) (with_inputs is (world_of (λ v. (g.dyn-1.0.entry v).1) l.initial.store))) (λ is. standing l.here l.stack.items (reverse l.frames.items) (with_inputs is (world_of (λ v. (g.dyn-1.0.entry v).1) l.store)));
+  moves : RunMoves (λ v. (g.dyn-1.0.entry v).1) l.table l.initial.store l.store;
 }
 
 abbrev pub decreases-loop-code : goal.decreases-loop-code
-decreases-loop-code g l = weight (texts_of l.table) (all_long l.table) (standing l.here l.stack.items (reverse l.frames.items) (world_of (λ v. (g.dyn-1.0.entry v).1.meaning) l.store))
+decreases-loop-code g l = weight (texts_of l.table) (all_long l.table) (standing l.here l.stack.items (reverse l.frames.items) (world_of (λ v. (g.dyn-1.0.entry v).1) l.store))

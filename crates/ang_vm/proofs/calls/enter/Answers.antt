@@ -14,7 +14,7 @@ pub returns-in-Ok-enter_body-clause-told : goal.returns-in-Ok-enter_body-clause-
 returns-in-Ok-enter_body-clause-told g c =
     let z = setting_of c.args.table.now c.args.nesting in
     let f = c.args.from in
-    let w = (world_of (λ v. (g.dyn-1.0.entry v).1.meaning) c.args.store.now) in
+    let w = (world_of (λ v. (g.dyn-1.0.entry v).1) c.args.store.now) in
     let s = values c.args.stack.now.items f.place.top in
     told_then (told_same (λ is. ap (λ e. found_enters z (texts_of c.args.table.now) e s (reverse c.args.frames.now.items) (caller_at f) f.place.ticks (with_inputs is w))
     (sym (ap (λ l. target z f.body.home c.args.callee (values l f.place.top) (with_inputs is w)) c.as_slice.ensures.value) ∙ c.in-Ok.ensures.exact c.args.nesting is)))
@@ -24,7 +24,7 @@ pub returns-in-Err-enter_body-clause-told : goal.returns-in-Err-enter_body-claus
 returns-in-Err-enter_body-clause-told g c =
     let z = setting_of c.args.table.now c.args.nesting in
     let f = c.args.from in
-    let w = (world_of (λ v. (g.dyn-1.0.entry v).1.meaning) c.args.store.now) in
+    let w = (world_of (λ v. (g.dyn-1.0.entry v).1) c.args.store.now) in
     let s = values c.args.stack.now.items f.place.top in
     told_then (told_same (λ is. ap (λ e. found_enters z (texts_of c.args.table.now) e s (reverse c.args.frames.now.items) (caller_at f) f.place.ticks (with_inputs is w))
     (sym (ap (λ l. target z f.body.home c.args.callee (values l f.place.top) (with_inputs is w)) c.as_slice.ensures.value) ∙ c.in-Ok.ensures.exact c.args.nesting is)))
@@ -34,7 +34,7 @@ pub returns-in-Err-clause-told : goal.returns-in-Err-clause-told
 returns-in-Err-clause-told g c =
     let z = setting_of c.args.table.now c.args.nesting in
     let f = c.args.from in
-    let w = (world_of (λ v. (g.dyn-1.0.entry v).1.meaning) c.args.store.now) in
+    let w = (world_of (λ v. (g.dyn-1.0.entry v).1) c.args.store.now) in
     let s = values c.args.stack.now.items f.place.top in
     told_same (λ is. ap (λ e. found_enters z (texts_of c.args.table.now) e s (reverse c.args.frames.now.items) (caller_at f) f.place.ticks (with_inputs is w))
     (sym (ap (λ l. target z f.body.home c.args.callee (values l f.place.top) (with_inputs is w)) c.as_slice.ensures.value) ∙ c.in-Err.ensures.exact c.args.nesting is))

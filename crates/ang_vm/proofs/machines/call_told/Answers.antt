@@ -13,44 +13,44 @@ pub settle-requires : goal.settle-requires
 settle-requires g c =
     let z = setting_of c.args.table.now 200 in
     let code = texts_of c.args.table.now in
-    let w = (world_of (λ v. (g.dyn-1.0.entry v).1.meaning) c.args.store.now) in
+    let w = (world_of (λ v. (g.dyn-1.0.entry v).1) c.args.store.now) in
     record {
       ready = c.run_call-ending.ensures.moves.ready c.requires.may_run.ready;
-      held = whole_held z code (λ is. call_begins z code c.args.budget c.args.entry (reverse c.args.args.now) (with_inputs is w)) c.run_call-ending.result (world_of (λ v. (g.dyn-1.0.entry v).1.meaning) c.run_call-ending.new.store) (λ is. call_counted z code c.args.budget c.args.entry (reverse c.args.args.now) (with_inputs is w) c.requires.may_run.counted) c.run_call-ending.ensures.ends;
+      held = whole_held z code (λ is. call_begins z code c.args.budget c.args.entry (reverse c.args.args.now) (with_inputs is w)) c.run_call-ending.result (world_of (λ v. (g.dyn-1.0.entry v).1) c.run_call-ending.new.store) (λ is. call_counted z code c.args.budget c.args.entry (reverse c.args.args.now) (with_inputs is w) c.requires.may_run.counted) c.run_call-ending.ensures.ends;
     }
 
 pub returns-in-Ok-clause-told : goal.returns-in-Ok-clause-told
 returns-in-Ok-clause-told g c =
     let z = setting_of c.args.table.now 200 in
     let code = texts_of c.args.table.now in
-    let w = (world_of (λ v. (g.dyn-1.0.entry v).1.meaning) c.args.store.now) in
-    (_, has_given z code (λ is. call_begins z code c.args.budget c.args.entry (reverse c.args.args.now) (with_inputs is w)) c.run_call-ending.result c.settle.result (world_of (λ v. (g.dyn-1.0.entry v).1.meaning) c.run_call-ending.new.store) (world_of (λ v. (g.dyn-1.0.entry v).1.meaning) c.settle.new.store) _ _ c.run_call-ending.ensures.ends c.settle.ensures.settled c.in-Ok.is)
+    let w = (world_of (λ v. (g.dyn-1.0.entry v).1) c.args.store.now) in
+    (_, has_given z code (λ is. call_begins z code c.args.budget c.args.entry (reverse c.args.args.now) (with_inputs is w)) c.run_call-ending.result c.settle.result (world_of (λ v. (g.dyn-1.0.entry v).1) c.run_call-ending.new.store) (world_of (λ v. (g.dyn-1.0.entry v).1) c.settle.new.store) _ _ c.run_call-ending.ensures.ends c.settle.ensures.settled c.in-Ok.is)
 
 pub returns-in-Ok-clause-moves : goal.returns-in-Ok-clause-moves
-returns-in-Ok-clause-moves g c = moved_then (λ v. (g.dyn-1.0.entry v).1.meaning) c.args.table.now _ _ _ c.run_call-ending.ensures.moves (moved_by (λ v. (g.dyn-1.0.entry v).1.meaning) c.args.table.now _ _ c.settle.ensures.moves)
+returns-in-Ok-clause-moves g c = moved_then (λ v. (g.dyn-1.0.entry v).1) c.args.table.now _ _ _ c.run_call-ending.ensures.moves (moved_by (λ v. (g.dyn-1.0.entry v).1) c.args.table.now _ _ c.settle.ensures.moves)
 
 pub returns-in-Err-clause-told : goal.returns-in-Err-clause-told
 returns-in-Err-clause-told g c =
     let z = setting_of c.args.table.now 200 in
     let code = texts_of c.args.table.now in
-    let w = (world_of (λ v. (g.dyn-1.0.entry v).1.meaning) c.args.store.now) in
-    has_stopped z code (λ is. call_begins z code c.args.budget c.args.entry (reverse c.args.args.now) (with_inputs is w)) c.run_call-ending.result c.settle.result (world_of (λ v. (g.dyn-1.0.entry v).1.meaning) c.run_call-ending.new.store) (world_of (λ v. (g.dyn-1.0.entry v).1.meaning) c.settle.new.store) c.in-Err.fault c.run_call-ending.ensures.ends c.settle.ensures.settled c.in-Err.is
+    let w = (world_of (λ v. (g.dyn-1.0.entry v).1) c.args.store.now) in
+    has_stopped z code (λ is. call_begins z code c.args.budget c.args.entry (reverse c.args.args.now) (with_inputs is w)) c.run_call-ending.result c.settle.result (world_of (λ v. (g.dyn-1.0.entry v).1) c.run_call-ending.new.store) (world_of (λ v. (g.dyn-1.0.entry v).1) c.settle.new.store) c.in-Err.fault c.run_call-ending.ensures.ends c.settle.ensures.settled c.in-Err.is
 
 pub returns-in-Err-clause-moves : goal.returns-in-Err-clause-moves
-returns-in-Err-clause-moves g c = moved_then (λ v. (g.dyn-1.0.entry v).1.meaning) c.args.table.now _ _ _ c.run_call-ending.ensures.moves (moved_by (λ v. (g.dyn-1.0.entry v).1.meaning) c.args.table.now _ _ c.settle.ensures.moves)
+returns-in-Err-clause-moves g c = moved_then (λ v. (g.dyn-1.0.entry v).1) c.args.table.now _ _ _ c.run_call-ending.ensures.moves (moved_by (λ v. (g.dyn-1.0.entry v).1) c.args.table.now _ _ c.settle.ensures.moves)
 
 pub returns-in-Ok-clause-counted : goal.returns-in-Ok-clause-counted
 returns-in-Ok-clause-counted g c = λ no.
     let z = setting_of c.args.table.now 200 in
     let code = texts_of c.args.table.now in
-    let w = (world_of (λ v. (g.dyn-1.0.entry v).1.meaning) c.args.store.now) in
-    end_counted z code (λ is. call_begins z code c.args.budget c.args.entry (reverse c.args.args.now) (with_inputs is w)) c.run_call-ending.result c.settle.result (world_of (λ v. (g.dyn-1.0.entry v).1.meaning) c.run_call-ending.new.store) (world_of (λ v. (g.dyn-1.0.entry v).1.meaning) c.settle.new.store) c.run_call-ending.ensures.ends
-    (whole_held z code (λ is. call_begins z code c.args.budget c.args.entry (reverse c.args.args.now) (with_inputs is w)) c.run_call-ending.result (world_of (λ v. (g.dyn-1.0.entry v).1.meaning) c.run_call-ending.new.store) (λ is. call_counted z code c.args.budget c.args.entry (reverse c.args.args.now) (with_inputs is w) c.requires.may_run.counted) c.run_call-ending.ensures.ends) c.settle.ensures.settled no
+    let w = (world_of (λ v. (g.dyn-1.0.entry v).1) c.args.store.now) in
+    end_counted z code (λ is. call_begins z code c.args.budget c.args.entry (reverse c.args.args.now) (with_inputs is w)) c.run_call-ending.result c.settle.result (world_of (λ v. (g.dyn-1.0.entry v).1) c.run_call-ending.new.store) (world_of (λ v. (g.dyn-1.0.entry v).1) c.settle.new.store) c.run_call-ending.ensures.ends
+    (whole_held z code (λ is. call_begins z code c.args.budget c.args.entry (reverse c.args.args.now) (with_inputs is w)) c.run_call-ending.result (world_of (λ v. (g.dyn-1.0.entry v).1) c.run_call-ending.new.store) (λ is. call_counted z code c.args.budget c.args.entry (reverse c.args.args.now) (with_inputs is w) c.requires.may_run.counted) c.run_call-ending.ensures.ends) c.settle.ensures.settled no
 
 pub returns-in-Err-clause-counted : goal.returns-in-Err-clause-counted
 returns-in-Err-clause-counted g c = λ no.
     let z = setting_of c.args.table.now 200 in
     let code = texts_of c.args.table.now in
-    let w = (world_of (λ v. (g.dyn-1.0.entry v).1.meaning) c.args.store.now) in
-    end_counted z code (λ is. call_begins z code c.args.budget c.args.entry (reverse c.args.args.now) (with_inputs is w)) c.run_call-ending.result c.settle.result (world_of (λ v. (g.dyn-1.0.entry v).1.meaning) c.run_call-ending.new.store) (world_of (λ v. (g.dyn-1.0.entry v).1.meaning) c.settle.new.store) c.run_call-ending.ensures.ends
-    (whole_held z code (λ is. call_begins z code c.args.budget c.args.entry (reverse c.args.args.now) (with_inputs is w)) c.run_call-ending.result (world_of (λ v. (g.dyn-1.0.entry v).1.meaning) c.run_call-ending.new.store) (λ is. call_counted z code c.args.budget c.args.entry (reverse c.args.args.now) (with_inputs is w) c.requires.may_run.counted) c.run_call-ending.ensures.ends) c.settle.ensures.settled no
+    let w = (world_of (λ v. (g.dyn-1.0.entry v).1) c.args.store.now) in
+    end_counted z code (λ is. call_begins z code c.args.budget c.args.entry (reverse c.args.args.now) (with_inputs is w)) c.run_call-ending.result c.settle.result (world_of (λ v. (g.dyn-1.0.entry v).1) c.run_call-ending.new.store) (world_of (λ v. (g.dyn-1.0.entry v).1) c.settle.new.store) c.run_call-ending.ensures.ends
+    (whole_held z code (λ is. call_begins z code c.args.budget c.args.entry (reverse c.args.args.now) (with_inputs is w)) c.run_call-ending.result (world_of (λ v. (g.dyn-1.0.entry v).1) c.run_call-ending.new.store) (λ is. call_counted z code c.args.budget c.args.entry (reverse c.args.args.now) (with_inputs is w) c.requires.may_run.counted) c.run_call-ending.ensures.ends) c.settle.ensures.settled no

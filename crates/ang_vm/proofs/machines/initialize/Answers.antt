@@ -13,9 +13,9 @@ pub run_from-requires-clause-may_run : goal.run_from-requires-clause-may_run
 run_from-requires-clause-may_run g c =
     let z = setting_of c.args.table.now 201 in
     let code = texts_of c.args.table.now in
-    let w = (world_of (λ v. (g.dyn-1.0.entry v).1.meaning) c.args.store.now) in
-    may_go_on (λ v. (g.dyn-1.0.entry v).1.meaning) c.args.table.now _ _ c.args.store.now c.start_initializer.new.store c.requires.may_run (moved_by (λ v. (g.dyn-1.0.entry v).1.meaning) c.args.table.now _ _ c.in-Ok.ensures.moves)
-    (first_counted z code (λ is. initializer_begins z code c.args.ticks c.args.entry (with_inputs is w)) c.in-Ok.first c.start_initializer.new.stack.items (reverse c.start_initializer.new.frames.items) (world_of (λ v. (g.dyn-1.0.entry v).1.meaning) c.start_initializer.new.store)
+    let w = (world_of (λ v. (g.dyn-1.0.entry v).1) c.args.store.now) in
+    may_go_on (λ v. (g.dyn-1.0.entry v).1) c.args.table.now _ _ c.args.store.now c.start_initializer.new.store c.requires.may_run (moved_by (λ v. (g.dyn-1.0.entry v).1) c.args.table.now _ _ c.in-Ok.ensures.moves)
+    (first_counted z code (λ is. initializer_begins z code c.args.ticks c.args.entry (with_inputs is w)) c.in-Ok.first c.start_initializer.new.stack.items (reverse c.start_initializer.new.frames.items) (world_of (λ v. (g.dyn-1.0.entry v).1) c.start_initializer.new.store)
     (λ is. initializer_counted z code c.args.ticks c.args.entry (with_inputs is w) c.requires.may_run.counted)
     (c.in-Ok.ensures.starts 201))
 
@@ -23,19 +23,19 @@ pub returns-in-Ok : goal.returns-in-Ok
 returns-in-Ok g c =
     let z = setting_of c.args.table.now 201 in
     let code = texts_of c.args.table.now in
-    let w = (world_of (λ v. (g.dyn-1.0.entry v).1.meaning) c.args.store.now) in
+    let w = (world_of (λ v. (g.dyn-1.0.entry v).1) c.args.store.now) in
     record {
-      ends = whole_ends z code (λ is. initializer_begins z code c.args.ticks c.args.entry (with_inputs is w)) c.run_from.result (world_of (λ v. (g.dyn-1.0.entry v).1.meaning) c.run_from.new.store)
+      ends = whole_ends z code (λ is. initializer_begins z code c.args.ticks c.args.entry (with_inputs is w)) c.run_from.result (world_of (λ v. (g.dyn-1.0.entry v).1) c.run_from.new.store)
           (reach_then z code (c.in-Ok.ensures.starts 201) c.run_from.ensures.ends);
-      moves = moved_then (λ v. (g.dyn-1.0.entry v).1.meaning) c.args.table.now _ _ _ (moved_by (λ v. (g.dyn-1.0.entry v).1.meaning) c.args.table.now _ _ c.in-Ok.ensures.moves) c.run_from.ensures.moves;
+      moves = moved_then (λ v. (g.dyn-1.0.entry v).1) c.args.table.now _ _ _ (moved_by (λ v. (g.dyn-1.0.entry v).1) c.args.table.now _ _ c.in-Ok.ensures.moves) c.run_from.ensures.moves;
     }
 
 pub returns : goal.returns
 returns g c =
     let z = setting_of c.args.table.now 201 in
     let code = texts_of c.args.table.now in
-    let w = (world_of (λ v. (g.dyn-1.0.entry v).1.meaning) c.args.store.now) in
+    let w = (world_of (λ v. (g.dyn-1.0.entry v).1) c.args.store.now) in
     record {
-      ends = whole_ends z code (λ is. initializer_begins z code c.args.ticks c.args.entry (with_inputs is w)) c.in-Err.ending (world_of (λ v. (g.dyn-1.0.entry v).1.meaning) c.start_initializer.new.store) (c.in-Err.ensures.starts 201);
-      moves = moved_by (λ v. (g.dyn-1.0.entry v).1.meaning) c.args.table.now _ _ c.in-Err.ensures.moves;
+      ends = whole_ends z code (λ is. initializer_begins z code c.args.ticks c.args.entry (with_inputs is w)) c.in-Err.ending (world_of (λ v. (g.dyn-1.0.entry v).1) c.start_initializer.new.store) (c.in-Err.ensures.starts 201);
+      moves = moved_by (λ v. (g.dyn-1.0.entry v).1) c.args.table.now _ _ c.in-Err.ensures.moves;
     }

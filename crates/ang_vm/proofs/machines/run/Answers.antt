@@ -12,7 +12,7 @@ use Rattle.ang_vm.proofs.machines.run.Goals as goal
 
 pub call_told-ended-requires : goal.call_told-ended-requires
 call_told-ended-requires g c = record {
-  may_run = subst (λ s. MayRun (λ v. (g.dyn-1.0.entry v).1.meaning) c.args.table.now (reverse c.args.args.now) s) (sym c.lend.ensures.lent) (record { ready = c.requires.ready; counted = c.requires.counted; drivers = c.requires.drivers });
+  may_run = subst (λ s. MayRun (λ v. (g.dyn-1.0.entry v).1) c.args.table.now (reverse c.args.args.now) s) (sym c.lend.ensures.lent) (record { ready = c.requires.ready; counted = c.requires.counted; drivers = c.requires.drivers });
 }
 
 pub returns-clause-told : goal.returns-clause-told
@@ -21,31 +21,31 @@ returns-clause-told g c =
     let code = texts_of c.args.table.now in
     let first = lent c.args.machine.now c.args.events.now in
     let after = c.call_told-ended.new.store in
-    let told = subst (λ s. HasRun z code (λ is. call_begins z code c.args.budget c.args.entry (reverse c.args.args.now) (with_inputs is (world_of (λ v. (g.dyn-1.0.entry v).1.meaning) s))) c.call_told-ended.result (world_of (λ v. (g.dyn-1.0.entry v).1.meaning) after)) c.lend.ensures.lent c.call_told-ended.ensures.told in
-    subst (λ u. HasRun z code (λ is. call_begins z code c.args.budget c.args.entry (reverse c.args.args.now) (with_inputs is (world_of (λ v. (g.dyn-1.0.entry v).1.meaning) first))) c.call_told-ended.result (world_of (λ v. (g.dyn-1.0.entry v).1.meaning) u)) (sym c.take_back.ensures.back) told
+    let told = subst (λ s. HasRun z code (λ is. call_begins z code c.args.budget c.args.entry (reverse c.args.args.now) (with_inputs is (world_of (λ v. (g.dyn-1.0.entry v).1) s))) c.call_told-ended.result (world_of (λ v. (g.dyn-1.0.entry v).1) after)) c.lend.ensures.lent c.call_told-ended.ensures.told in
+    subst (λ u. HasRun z code (λ is. call_begins z code c.args.budget c.args.entry (reverse c.args.args.now) (with_inputs is (world_of (λ v. (g.dyn-1.0.entry v).1) first))) c.call_told-ended.result (world_of (λ v. (g.dyn-1.0.entry v).1) u)) (sym c.take_back.ensures.back) told
 
 pub returns-clause-moves : goal.returns-clause-moves
 returns-clause-moves g c = λ roles r.
     let first = lent c.args.machine.now c.args.events.now in
     let after = c.call_told-ended.new.store in
-    let moved = subst (λ s. RunMoves (λ v. (g.dyn-1.0.entry v).1.meaning) c.args.table.now s after) c.lend.ensures.lent c.call_told-ended.ensures.moves in
-    subst (λ u. StoreMoves (λ v. (g.dyn-1.0.entry v).1.meaning) roles first u) (sym c.take_back.ensures.back) (moved.moves roles r)
+    let moved = subst (λ s. RunMoves (λ v. (g.dyn-1.0.entry v).1) c.args.table.now s after) c.lend.ensures.lent c.call_told-ended.ensures.moves in
+    subst (λ u. StoreMoves (λ v. (g.dyn-1.0.entry v).1) roles first u) (sym c.take_back.ensures.back) (moved.moves roles r)
 
 pub returns-clause-ready : goal.returns-clause-ready
 returns-clause-ready g c =
     let after = c.call_told-ended.new.store in
-    let moved = subst (λ s. RunMoves (λ v. (g.dyn-1.0.entry v).1.meaning) c.args.table.now s after) c.lend.ensures.lent c.call_told-ended.ensures.moves in
-    subst (λ u. IsReady (λ v. (g.dyn-1.0.entry v).1.meaning) u) (sym c.take_back.ensures.back) (moved.ready c.requires.ready)
+    let moved = subst (λ s. RunMoves (λ v. (g.dyn-1.0.entry v).1) c.args.table.now s after) c.lend.ensures.lent c.call_told-ended.ensures.moves in
+    subst (λ u. IsReady (λ v. (g.dyn-1.0.entry v).1) u) (sym c.take_back.ensures.back) (moved.ready c.requires.ready)
 
 pub returns-clause-count : goal.returns-clause-count
 returns-clause-count g c =
     let after = c.call_told-ended.new.store in
-    let moved = subst (λ s. RunMoves (λ v. (g.dyn-1.0.entry v).1.meaning) c.args.table.now s after) c.lend.ensures.lent c.call_told-ended.ensures.moves in
+    let moved = subst (λ s. RunMoves (λ v. (g.dyn-1.0.entry v).1) c.args.table.now s after) c.lend.ensures.lent c.call_told-ended.ensures.moves in
     ap (λ u. length (members u.drivers)) c.take_back.ensures.back ∙ moved.count
 
 pub returns-clause-counted : goal.returns-clause-counted
 returns-clause-counted g c = λ no.
     let z = setting_of c.args.table.now 200 in
     let code = texts_of c.args.table.now in
-    subst (λ u. IsCounted [] (world_of (λ v. (g.dyn-1.0.entry v).1.meaning) u)) (sym c.take_back.ensures.back)
-    (c.call_told-ended.ensures.counted (λ lost. no (subst (λ s. IsLost z code (λ is. call_begins z code c.args.budget c.args.entry (reverse c.args.args.now) (with_inputs is (world_of (λ v. (g.dyn-1.0.entry v).1.meaning) s)))) c.lend.ensures.lent lost)))
+    subst (λ u. IsCounted [] (world_of (λ v. (g.dyn-1.0.entry v).1) u)) (sym c.take_back.ensures.back)
+    (c.call_told-ended.ensures.counted (λ lost. no (subst (λ s. IsLost z code (λ is. call_begins z code c.args.budget c.args.entry (reverse c.args.args.now) (with_inputs is (world_of (λ v. (g.dyn-1.0.entry v).1) s)))) c.lend.ensures.lent lost)))

@@ -15,37 +15,37 @@ use Rattle.ang_vm.proofs.returns.leave_body.Goals as goal
 
 pub returns-then-top-eq0 : goal.returns-then-top-eq0
 returns-then-top-eq0 g c =
-    let w = (world_of (λ v. (g.dyn-1.0.entry v).1.meaning) c.args.store.now) in
+    let w = (world_of (λ v. (g.dyn-1.0.entry v).1) c.args.store.now) in
     let f = c.args.from in
     let deep : f.place.top ≤ length c.args.stack.now = omega (arith, c.requires.fits.values, c.requires.fits.body) in
     record {
       told = λ nesting. told_same (λ is. leaves_nothing (setting_of c.args.table.now nesting) (texts_of c.args.table.now) f.body f.place.at f.room c.args.stack.now f.place.top c.args.count (reverse c.args.frames.now.items) f.place.ticks deep (omega arith) (with_inputs is w));
       fits = tt;
-      moves = λ roles. moves_none (λ v. (g.dyn-1.0.entry v).1.meaning) roles c.args.store.now;
+      moves = λ roles. moves_none (λ v. (g.dyn-1.0.entry v).1) roles c.args.store.now;
     }
 
 pub returns-then-count-top : goal.returns-then-count-top
 returns-then-count-top g c =
-    let w = (world_of (λ v. (g.dyn-1.0.entry v).1.meaning) c.args.store.now) in
+    let w = (world_of (λ v. (g.dyn-1.0.entry v).1) c.args.store.now) in
     let f = c.args.from in
     let deep : f.place.top ≤ length c.args.stack.now = omega (arith, c.requires.fits.values, c.requires.fits.body) in
     record {
       told = λ nesting. told_same (λ is. leaves_lost (setting_of c.args.table.now nesting) (texts_of c.args.table.now) f.body f.place.at f.room c.args.stack.now f.place.top c.args.count (reverse c.args.frames.now.items) f.place.ticks deep
           (local_at (values c.args.stack.now f.place.top) 0) (omega arith) refl (omega arith) (with_inputs is w));
       fits = tt;
-      moves = λ roles. moves_none (λ v. (g.dyn-1.0.entry v).1.meaning) roles c.args.store.now;
+      moves = λ roles. moves_none (λ v. (g.dyn-1.0.entry v).1) roles c.args.store.now;
     }
 
 pub returns-then-params-base : goal.returns-then-params-base
 returns-then-params-base g c =
-    let w = (world_of (λ v. (g.dyn-1.0.entry v).1.meaning) c.args.store.now) in
+    let w = (world_of (λ v. (g.dyn-1.0.entry v).1) c.args.store.now) in
     let f = c.args.from in
     let deep : f.place.top ≤ length c.args.stack.now = omega (arith, c.requires.fits.values, c.requires.fits.body) in
     record {
       told = λ nesting. let count = ap length (c.params-params.ensures.exact ∙ params_there c.args.table.now f.body c.args.code.now nesting c.requires.there) in told_same (λ is. leaves_lost (setting_of c.args.table.now nesting) (texts_of c.args.table.now) f.body f.place.at f.room c.args.stack.now f.place.top c.args.count (reverse c.args.frames.now.items) f.place.ticks deep
           (local_at (values c.args.stack.now f.place.top) 0) (omega arith) refl (omega (arith, count)) (with_inputs is w));
       fits = tt;
-      moves = λ roles. moves_none (λ v. (g.dyn-1.0.entry v).1.meaning) roles c.args.store.now;
+      moves = λ roles. moves_none (λ v. (g.dyn-1.0.entry v).1) roles c.args.store.now;
     }
 
 pub hand_back-requires : goal.hand_back-requires
@@ -60,7 +60,7 @@ pub give_top-requires-clause-enough : goal.give_top-requires-clause-enough
 give_top-requires-clause-enough g c =
     let f = c.args.from in
     let deep : f.place.top ≤ length c.args.stack.now = omega (arith, c.requires.fits.values, c.requires.fits.body) in
-    top_can c.args.stack.now f.place.top (world_of (λ v. (g.dyn-1.0.entry v).1.meaning) c.args.store.now) (omega arith) deep c.requires.counted
+    top_can c.args.stack.now f.place.top (world_of (λ v. (g.dyn-1.0.entry v).1) c.args.store.now) (omega arith) deep c.requires.counted
 
 pub leave_params-kept-requires-clause-ready : goal.leave_params-kept-requires-clause-ready
 leave_params-kept-requires-clause-ready g c = (c.give_top.ensures.moves []).ready c.requires.ready
@@ -69,8 +69,8 @@ pub leave_params-kept-requires-clause-held : goal.leave_params-kept-requires-cla
 leave_params-kept-requires-clause-held g c =
     let f = c.args.from in
     let deep : f.place.top ≤ length c.args.stack.now = omega (arith, c.requires.fits.values, c.requires.fits.body) in
-    below_can c.args.stack.now (f.place.top - 1) c.args.count (world_of (λ v. (g.dyn-1.0.entry v).1.meaning) c.args.store.now) (world_of (λ v. (g.dyn-1.0.entry v).1.meaning) c.give_top.new.store) (omega arith) (omega arith)
-    (top_can c.args.stack.now f.place.top (world_of (λ v. (g.dyn-1.0.entry v).1.meaning) c.args.store.now) (omega arith) deep c.requires.counted) (c.give_top.ensures.given [])
+    below_can c.args.stack.now (f.place.top - 1) c.args.count (world_of (λ v. (g.dyn-1.0.entry v).1) c.args.store.now) (world_of (λ v. (g.dyn-1.0.entry v).1) c.give_top.new.store) (omega arith) (omega arith)
+    (top_can c.args.stack.now f.place.top (world_of (λ v. (g.dyn-1.0.entry v).1) c.args.store.now) (omega arith) deep c.requires.counted) (c.give_top.ensures.given [])
 
 pub returns : goal.returns
 returns g c =
@@ -82,9 +82,9 @@ returns g c =
     record {
       told = λ nesting. told_then
           (leaves_on (setting_of c.args.table.now nesting) (texts_of c.args.table.now) f.body f.place.at f.room c.args.stack.now f.place.top c.args.count (reverse c.args.frames.now.items) f.place.ticks deep
-          c.peek-value.result (omega arith) c.peek-value.ensures.exact c.params-params.result.now ((world_of (λ v. (g.dyn-1.0.entry v).1.meaning) c.args.store.now)) (world_of (λ v. (g.dyn-1.0.entry v).1.meaning) c.give_top.new.store) (world_of (λ v. (g.dyn-1.0.entry v).1.meaning) c.leave_params-kept.new.store) outs rest
+          c.peek-value.result (omega arith) c.peek-value.ensures.exact c.params-params.result.now ((world_of (λ v. (g.dyn-1.0.entry v).1) c.args.store.now)) (world_of (λ v. (g.dyn-1.0.entry v).1) c.give_top.new.store) (world_of (λ v. (g.dyn-1.0.entry v).1) c.leave_params-kept.new.store) outs rest
           (c.params-params.ensures.exact ∙ params_there c.args.table.now f.body c.args.code.now nesting c.requires.there) (omega arith) (told_same c.give_top.ensures.given) (told_same c.leave_params-kept.ensures.given) refl refl)
           (c.hand_back.ensures.told outs rest c.leave_params-kept.ensures.kept);
       fits = c.hand_back.ensures.fits;
-      moves = λ roles. moves_join (λ v. (g.dyn-1.0.entry v).1.meaning) roles _ _ _ (c.give_top.ensures.moves roles) (moves_join (λ v. (g.dyn-1.0.entry v).1.meaning) roles _ _ _ (c.leave_params-kept.ensures.moves roles) (c.hand_back.ensures.moves roles));
+      moves = λ roles. moves_join (λ v. (g.dyn-1.0.entry v).1) roles _ _ _ (c.give_top.ensures.moves roles) (moves_join (λ v. (g.dyn-1.0.entry v).1) roles _ _ _ (c.leave_params-kept.ensures.moves roles) (c.hand_back.ensures.moves roles));
     }

@@ -11,11 +11,11 @@ pub returns-then-by_value : goal.returns-then-by_value
 returns-then-by_value g c =
     let params = c.args.params.now in
     let vs = values c.args.stack.now c.args.top in
-    let w = (world_of (λ v. (g.dyn-1.0.entry v).1.meaning) c.args.store.now) in
+    let w = (world_of (λ v. (g.dyn-1.0.entry v).1) c.args.store.now) in
     let all : by_value params ≡ true = sym c.requires.known ∙ c.if-by_value.true in
     record {
       given = λ is. sym (values_given params vs (with_inputs is w) all) ∙ c.give_top.ensures.given is;
-      held = below_can c.args.stack.now c.args.top (length params) w (world_of (λ v. (g.dyn-1.0.entry v).1.meaning) c.give_top.new.store) c.requires.enough c.requires.within c.requires.held (c.give_top.ensures.given []);
+      held = below_can c.args.stack.now c.args.top (length params) w (world_of (λ v. (g.dyn-1.0.entry v).1) c.give_top.new.store) c.requires.enough c.requires.within c.requires.held (c.give_top.ensures.given []);
       kept = sym (ap (λ l. l ++ values c.args.stack.now (c.args.top - length params)) (no_outs params vs all));
       fewer = omega arith;
       moves = c.give_top.ensures.moves;
@@ -24,7 +24,7 @@ returns-then-by_value g c =
 pub returns : goal.returns
 returns g c = record {
   given = c.give_others.ensures.given;
-  held = left_can c.args.params.now c.args.stack.now c.keep_outs.new.stack c.args.top c.keep_outs.result (world_of (λ v. (g.dyn-1.0.entry v).1.meaning) c.args.store.now) (world_of (λ v. (g.dyn-1.0.entry v).1.meaning) c.give_others.new.store) c.requires.enough c.requires.within c.requires.held (c.give_others.ensures.given []) c.keep_outs.ensures.kept;
+  held = left_can c.args.params.now c.args.stack.now c.keep_outs.new.stack c.args.top c.keep_outs.result (world_of (λ v. (g.dyn-1.0.entry v).1) c.args.store.now) (world_of (λ v. (g.dyn-1.0.entry v).1) c.give_others.new.store) c.requires.enough c.requires.within c.requires.held (c.give_others.ensures.given []) c.keep_outs.ensures.kept;
   kept = c.keep_outs.ensures.kept;
   fewer = c.keep_outs.ensures.fewer;
   moves = c.give_others.ensures.moves;

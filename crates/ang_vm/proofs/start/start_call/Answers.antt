@@ -14,7 +14,7 @@ use Rattle.ang_vm.proofs.start.start_call.Goals as goal
 
 pub fail-requires : goal.fail-requires
 fail-requires g c =
-    let w = (world_of (λ v. (g.dyn-1.0.entry v).1.meaning) c.args.store.now) in
+    let w = (world_of (λ v. (g.dyn-1.0.entry v).1) c.args.store.now) in
     let all = all_values c.args.stack.now.items c.len-held.result (omega (arith, c.len-held.ensures, c.args.stack.now.ok.0)) in
     record {
       within = omega (arith, c.len-held.ensures, c.args.stack.now.ok.0);
@@ -25,7 +25,7 @@ fail-requires g c =
 pub returns-then-budget-eq0 : goal.returns-then-budget-eq0
 returns-then-budget-eq0 g c =
     let code = texts_of c.args.table.now in
-    let w = (world_of (λ v. (g.dyn-1.0.entry v).1.meaning) c.args.store.now) in
+    let w = (world_of (λ v. (g.dyn-1.0.entry v).1) c.args.store.now) in
     let s = reverse c.args.stack.now.items in
     let all = all_values c.args.stack.now.items c.len-held.result (omega (arith, c.len-held.ensures, c.args.stack.now.ok.0)) in
     record {
@@ -38,7 +38,7 @@ returns-then-budget-eq0 g c =
 pub returns : goal.returns
 returns g c =
     let code = texts_of c.args.table.now in
-    let w = (world_of (λ v. (g.dyn-1.0.entry v).1.meaning) c.args.store.now) in
+    let w = (world_of (λ v. (g.dyn-1.0.entry v).1) c.args.store.now) in
     let s = reverse c.args.stack.now.items in
     record {
       starts = λ nesting. let z = setting_of c.args.table.now nesting in

@@ -9,12 +9,12 @@ use Rattle.ang_vm_steps.proofs.Paths.{reach_same, reach_then}
 use Rattle.ang_vm.proofs.start.start_initializer.Goals as goal
 
 pub start-requires-clause-counted : goal.start-requires-clause-counted
-start-requires-clause-counted g c = subst (λ l. IsCounted (reverse l) (world_of (λ v. (g.dyn-1.0.entry v).1.meaning) c.args.store.now)) (sym c.requires.empty) c.requires.counted
+start-requires-clause-counted g c = subst (λ l. IsCounted (reverse l) (world_of (λ v. (g.dyn-1.0.entry v).1) c.args.store.now)) (sym c.requires.empty) c.requires.counted
 
 pub returns : goal.returns
 returns g c =
     let code = texts_of c.args.table.now in
-    let w = (world_of (λ v. (g.dyn-1.0.entry v).1.meaning) c.args.store.now) in
+    let w = (world_of (λ v. (g.dyn-1.0.entry v).1) c.args.store.now) in
     let none : reverse c.args.stack.now.items ≡ [] = ap reverse c.requires.empty in
     record {
       starts = λ nesting. let z = setting_of c.args.table.now nesting in

@@ -20,24 +20,24 @@ use Rattle.ang_vm_ask.proofs.asking.make.Goals as goal
 pub returns-in_default-call_room-clause-told : goal.returns-in_default-call_room-clause-told
 returns-in_default-call_room-clause-told g c = λ z m sees.
     let host = c.args.host.now in
-    refused z m c.args.caller.now c.args.entity host sees None (values_of host.driver host.params c.args.args.now) host.result (world_of (λ v. (g.dyn-1.0.entry v).1.meaning) c.args.store.now) _ c.call_room.ensures.events
+    refused z m c.args.caller.now c.args.entity host sees None (values_of host.driver host.params c.args.args.now) host.result (world_of (λ v. (g.dyn-1.0.entry v).1) c.args.store.now) _ c.call_room.ensures.events
 
 pub returns-in_default-room_for_ends-clause-told : goal.returns-in_default-room_for_ends-clause-told
 returns-in_default-room_for_ends-clause-told g c = λ z m sees.
     let host = c.args.host.now in
-    refused z m c.args.caller.now c.args.entity host sees None (values_of host.driver host.params c.args.args.now) host.result (world_of (λ v. (g.dyn-1.0.entry v).1.meaning) c.args.store.now) _ c.call_room.ensures.events
+    refused z m c.args.caller.now c.args.entity host sees None (values_of host.driver host.params c.args.args.now) host.result (world_of (λ v. (g.dyn-1.0.entry v).1) c.args.store.now) _ c.call_room.ensures.events
 
 pub returns-clause-told : goal.returns-clause-told
 returns-clause-told g c = λ z m sees.
     let host = c.args.host.now in
     let made = c.make_listed-answer.result in
     told_then
-    (made_told z m c.args.caller.now c.args.entity host sees None (values_of host.driver host.params c.args.args.now) host.result made (world_of (λ v. (g.dyn-1.0.entry v).1.meaning) c.args.store.now)
-    (counts_of (λ v. (g.dyn-1.0.entry v).1.meaning) (members c.make_listed-answer.new.drivers)) c.make_listed-answer.new.events.items
+    (made_told z m c.args.caller.now c.args.entity host sees None (values_of host.driver host.params c.args.args.now) host.result made (world_of (λ v. (g.dyn-1.0.entry v).1) c.args.store.now)
+    (counts_of (λ v. (g.dyn-1.0.entry v).1) (members c.make_listed-answer.new.drivers)) c.make_listed-answer.new.events.items
     (by_making host.role c.args.number made c.requires.role)
     (made_counts _ _ _ _ _ _ _ made c.make_listed-answer.ensures.moved)
     (listed_by _ _ _ _ _ c.args.entity host.driver None _ _ (Making made) c.make_listed-answer.ensures.listed c.call_room.ensures.events c.in-Ok.ensures.caller c.in-Ok.ensures.args))
-    (told_same (λ is. (λ j. done ((sym c.take_made.ensures.exact) j) (with_inputs is (world_of (λ v. (g.dyn-1.0.entry v).1.meaning) ((sym c.take_made.ensures.live) j))))))
+    (told_same (λ is. (λ j. done ((sym c.take_made.ensures.exact) j) (with_inputs is (world_of (λ v. (g.dyn-1.0.entry v).1) ((sym c.take_made.ensures.live) j))))))
 
 pub returns-clause-enough : goal.returns-clause-enough
 returns-clause-enough g c = λ vs p.
@@ -45,17 +45,17 @@ returns-clause-enough g c = λ vs p.
     let made = c.make_listed-answer.result in
     let os = objects_of c.args.store.now.heap in
     let counts = made_counts _ _ _ _ _ _ _ made c.make_listed-answer.ensures.moved in
-    let here = subst (λ hs. EnoughIn (with_result (made_as host.driver made) vs) os hs) (sym counts) (made_can host.driver made vs (world_of (λ v. (g.dyn-1.0.entry v).1.meaning) c.args.store.now) p) in
-    let given = subst (λ r. EnoughIn (with_result r vs) os (counts_of (λ v. (g.dyn-1.0.entry v).1.meaning) (members c.make_listed-answer.new.drivers))) (sym c.take_made.ensures.exact) here in
-    subst (λ t. CanGive (with_result c.take_made.result vs) (world_of (λ v. (g.dyn-1.0.entry v).1.meaning) t)) (sym c.take_made.ensures.live) given
+    let here = subst (λ hs. EnoughIn (with_result (made_as host.driver made) vs) os hs) (sym counts) (made_can host.driver made vs (world_of (λ v. (g.dyn-1.0.entry v).1) c.args.store.now) p) in
+    let given = subst (λ r. EnoughIn (with_result r vs) os (counts_of (λ v. (g.dyn-1.0.entry v).1) (members c.make_listed-answer.new.drivers))) (sym c.take_made.ensures.exact) here in
+    subst (λ t. CanGive (with_result c.take_made.result vs) (world_of (λ v. (g.dyn-1.0.entry v).1) t)) (sym c.take_made.ensures.live) given
 
 pub returns-clause-asked : goal.returns-clause-asked
 returns-clause-asked g c =
     let host = c.args.host.now in
     let made = c.make_listed-answer.result in
     let event = Called c.in-Ok.caller c.args.entity host.driver None c.in-Ok.args (Making made) in
-    subst (StoreAsked (λ v. (g.dyn-1.0.entry v).1.meaning) c.args.entity host.role c.args.store.now) (sym c.take_made.ensures.live)
-    (made_asked (λ v. (g.dyn-1.0.entry v).1.meaning) c.args.entity host.role c.args.store.now c.make_listed-answer.new.drivers c.make_listed-answer.new.events event host.driver _
+    subst (StoreAsked (λ v. (g.dyn-1.0.entry v).1) c.args.entity host.role c.args.store.now) (sym c.take_made.ensures.live)
+    (made_asked (λ v. (g.dyn-1.0.entry v).1) c.args.entity host.role c.args.store.now c.make_listed-answer.new.drivers c.make_listed-answer.new.events event host.driver _
     (c.make_listed-answer.ensures.listed ∙ ap (λ es. es ++ event ∷ []) c.call_room.ensures.events) (λ roles h. c.make_listed-answer.ensures.follow roles (h ∙ c.requires.role))
     c.room_for_ends.new.ends made c.make_listed-answer.ensures.moved
     (omega (arith, c.make_listed-answer.ensures.len, c.make_listed-answer.ensures.capacity, c.in-Ok.ensures.room, c.in-Some.ensures))

@@ -15,7 +15,7 @@ returns-in_default-entity_at-clause-told g c = λ nesting is fit count.
 
 pub perform-requires-clause-enough : goal.perform-requires-clause-enough
 perform-requires-clause-enough g c =
-    operands_can c.args.count c.args.top c.args.stack.now c.operands_at-operands.result.now (world_of (λ v. (g.dyn-1.0.entry v).1.meaning) c.args.store.now) c.operands_at-operands.ensures.exact c.requires.counted
+    operands_can c.args.count c.args.top c.args.stack.now c.operands_at-operands.result.now (world_of (λ v. (g.dyn-1.0.entry v).1) c.args.store.now) c.operands_at-operands.ensures.exact c.requires.counted
 
 pub returns-clause-told : goal.returns-clause-told
 returns-clause-told g c = λ nesting is fit count.
@@ -24,5 +24,5 @@ returns-clause-told g c = λ nesting is fit count.
     let same = operands_length c.args.count c.args.top c.args.stack.now ops c.operands_at-operands.ensures.exact c.requires.in_use c.requires.within ∙ count in
     let told = (c.perform.ensures.performed c.in-Some.entity (sym c.in-Some.ensures.exact)).told z c.args.home
     (record { name = sym c.name_at-caller.ensures.exact; host = c.in-Some-entity_at.ensures.exact }) fit same in
-    subst (λ l. Told (λ ins. asks z c.args.home c.args.operation l (with_inputs ins (world_of (λ v. (g.dyn-1.0.entry v).1.meaning) c.args.store.now))) (λ ins. done c.perform.result (with_inputs ins (world_of (λ v. (g.dyn-1.0.entry v).1.meaning) c.perform.new.store))))
+    subst (λ l. Told (λ ins. asks z c.args.home c.args.operation l (with_inputs ins (world_of (λ v. (g.dyn-1.0.entry v).1) c.args.store.now))) (λ ins. done c.perform.result (with_inputs ins (world_of (λ v. (g.dyn-1.0.entry v).1) c.perform.new.store))))
     c.operands_at-operands.ensures.exact told

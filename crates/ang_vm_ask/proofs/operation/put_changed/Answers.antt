@@ -12,11 +12,11 @@ returns-in-Ok-clause-enough g c = λ vs p. c.put.ensures.enough vs (rest_enough 
 
 pub returns-in-Err-clause-told : goal.returns-in-Err-clause-told
 returns-in-Err-clause-told g c = λ z m r to sees is same.
-    unchanged_told z m c.args.caller.now c.args.entity c.args.host.now sees r c.args.object is c.args.old to c.in-Err.fault (world_of (λ v. (g.dyn-1.0.entry v).1.meaning) c.args.store.now) (world_of (λ v. (g.dyn-1.0.entry v).1.meaning) c.give.new.store)
+    unchanged_told z m c.args.caller.now c.args.entity c.args.host.now sees r c.args.object is c.args.old to c.in-Err.fault (world_of (λ v. (g.dyn-1.0.entry v).1) c.args.store.now) (world_of (λ v. (g.dyn-1.0.entry v).1) c.give.new.store)
     (never_of to c.in-Err.fault (sym same ∙ c.in-Err.is)) c.give.ensures.given
 
 pub returns-in-Err-clause-enough : goal.returns-in-Err-clause-enough
-returns-in-Err-clause-enough g c = λ vs p. subst (CanGive vs) (c.give.ensures.given []) (give_can c.args.old vs (with_inputs [] (world_of (λ v. (g.dyn-1.0.entry v).1.meaning) c.args.store.now)) p)
+returns-in-Err-clause-enough g c = λ vs p. subst (CanGive vs) (c.give.ensures.given []) (give_can c.args.old vs (with_inputs [] (world_of (λ v. (g.dyn-1.0.entry v).1) c.args.store.now)) p)
 
 pub returns-in-Err-clause-asked : goal.returns-in-Err-clause-asked
-returns-in-Err-clause-asked g c = moved_asked (λ v. (g.dyn-1.0.entry v).1.meaning) c.args.entity c.args.host.now.role _ _ c.give.ensures.moves
+returns-in-Err-clause-asked g c = moved_asked (λ v. (g.dyn-1.0.entry v).1) c.args.entity c.args.host.now.role _ _ c.give.ensures.moves

@@ -12,7 +12,7 @@ use Rattle.ang_vm_ask.proofs.replies.take_answer.Goals as goal
 
 pub accept-requires : goal.accept-requires
 accept-requires g c =
-    let ss = states_of (λ v. (g.dyn-1.0.entry v).1.meaning) (members c.args.store.now.drivers) in
+    let ss = states_of (λ v. (g.dyn-1.0.entry v).1) (members c.args.store.now.drivers) in
     record {
       there = subst (HasKeyOption ss c.args.driver c.requires.sound) (sym c.slot_from.ensures.exact)
           (slot_there ss c.args.driver c.requires.sound c.args.of c.in-Gave.value (subst (IsLiveAnswer (state_at ss c.args.driver)) c.in-Gave.is c.requires.live));
@@ -20,12 +20,12 @@ accept-requires g c =
 
 pub returns-then-is_void-clause-told : goal.returns-then-is_void-clause-told
 returns-then-is_void-clause-told g c =
-    replied_as c.args.driver c.args.of c.args.answer Void (Ok (Bits 0)) (world_of (λ v. (g.dyn-1.0.entry v).1.meaning) c.args.store.now) c.in-Void.is
+    replied_as c.args.driver c.args.of c.args.answer Void (Ok (Bits 0)) (world_of (λ v. (g.dyn-1.0.entry v).1) c.args.store.now) c.in-Void.is
     (void_fine c.args.driver c.args.of (sym c.is_void.ensures.exact ∙ c.if-is_void.true))
 
 pub returns-else-is_void-clause-told : goal.returns-else-is_void-clause-told
 returns-else-is_void-clause-told g c =
-    replied_as c.args.driver c.args.of c.args.answer Void (Err BadAnswer) (world_of (λ v. (g.dyn-1.0.entry v).1.meaning) c.args.store.now) c.in-Void.is
+    replied_as c.args.driver c.args.of c.args.answer Void (Err BadAnswer) (world_of (λ v. (g.dyn-1.0.entry v).1) c.args.store.now) c.in-Void.is
     (void_bad c.args.driver c.args.of (sym c.is_void.ensures.exact ∙ c.if-is_void.false))
 
 pub returns-in-Gave-clause-told : goal.returns-in-Gave-clause-told
@@ -34,15 +34,15 @@ returns-in-Gave-clause-told g c =
 
 pub returns-in-Fault-clause-told : goal.returns-in-Fault-clause-told
 returns-in-Fault-clause-told g c =
-    replied_as c.args.driver c.args.of c.args.answer (SaidFault c.in-Fault.number) (Err (HostFault c.in-Fault.number)) (world_of (λ v. (g.dyn-1.0.entry v).1.meaning) c.args.store.now) c.in-Fault.is
+    replied_as c.args.driver c.args.of c.args.answer (SaidFault c.in-Fault.number) (Err (HostFault c.in-Fault.number)) (world_of (λ v. (g.dyn-1.0.entry v).1) c.args.store.now) c.in-Fault.is
     (said_fault c.args.driver c.args.of c.in-Fault.number)
 
 pub returns-in-Memory-clause-told : goal.returns-in-Memory-clause-told
 returns-in-Memory-clause-told g c =
-    replied_as c.args.driver c.args.of c.args.answer SaidMemory (Err Memory) (world_of (λ v. (g.dyn-1.0.entry v).1.meaning) c.args.store.now) c.in-Memory.is
+    replied_as c.args.driver c.args.of c.args.answer SaidMemory (Err Memory) (world_of (λ v. (g.dyn-1.0.entry v).1) c.args.store.now) c.in-Memory.is
     (said_memory c.args.driver c.args.of)
 
 pub returns-in-Full-clause-told : goal.returns-in-Full-clause-told
 returns-in-Full-clause-told g c =
-    replied_as c.args.driver c.args.of c.args.answer Full (Err Tally) (world_of (λ v. (g.dyn-1.0.entry v).1.meaning) c.args.store.now) c.in-Full.is
+    replied_as c.args.driver c.args.of c.args.answer Full (Err Tally) (world_of (λ v. (g.dyn-1.0.entry v).1) c.args.store.now) c.in-Full.is
     (said_full c.args.driver c.args.of)

@@ -12,7 +12,7 @@ use Rattle.ang_vm_objects.proofs.fields.alter.Goals as goal
 
 pub returns-in-None-clause-told : goal.returns-in-None-clause-told
 returns-in-None-clause-told g c = λ z home.
-    told_same (λ is. change_null z home c.args.index c.args.by c.args.object c.args.operand (with_inputs is (world_of (λ v. (g.dyn-1.0.entry v).1.meaning) c.args.store.now)) (sym c.number_of.ensures.exact ∙ c.in-None.is))
+    told_same (λ is. change_null z home c.args.index c.args.by c.args.object c.args.operand (with_inputs is (world_of (λ v. (g.dyn-1.0.entry v).1) c.args.store.now)) (sym c.number_of.ensures.exact ∙ c.in-None.is))
 
 pub give-requires-clause-ready : goal.give-requires-clause-ready
 give-requires-clause-ready g c = (moves_heap _ [] c.args.store.now c.set_field.new.self).ready c.requires.ready
@@ -20,8 +20,8 @@ give-requires-clause-ready g c = (moves_heap _ [] c.args.store.now c.set_field.n
 pub give-requires-clause-enough : goal.give-requires-clause-enough
 give-requires-clause-enough g c =
     let t = record c.args.store.now { heap = c.set_field.new.self } in
-    let w = world_of (λ v. (g.dyn-1.0.entry v).1.meaning) c.args.store.now in
-    let u = world_of (λ v. (g.dyn-1.0.entry v).1.meaning) t in
+    let w = world_of (λ v. (g.dyn-1.0.entry v).1) c.args.store.now in
+    let u = world_of (λ v. (g.dyn-1.0.entry v).1) t in
     let n = c.in-Some.number in
     let i = c.args.index in
     let v = Bits c.in-Ok.altered.stored in
@@ -33,9 +33,9 @@ give-requires-clause-enough g c =
 pub returns-in-Ok-clause-told : goal.returns-in-Ok-clause-told
 returns-in-Ok-clause-told g c = λ z home.
     let t = record c.args.store.now { heap = c.set_field.new.self } in
-    let w = world_of (λ v. (g.dyn-1.0.entry v).1.meaning) c.args.store.now in
-    let u = world_of (λ v. (g.dyn-1.0.entry v).1.meaning) t in
-    let x = world_of (λ v. (g.dyn-1.0.entry v).1.meaning) c.give.new.store in
+    let w = world_of (λ v. (g.dyn-1.0.entry v).1) c.args.store.now in
+    let u = world_of (λ v. (g.dyn-1.0.entry v).1) t in
+    let x = world_of (λ v. (g.dyn-1.0.entry v).1) c.give.new.store in
     changed z home c.in-Some.number c.args.index c.args.by c.args.object c.args.operand c.field-old.result w (sym c.number_of.ensures.exact ∙ c.in-Some.is) c.change_slot.result c.field-old.ensures.exact c.change_slot.ensures.exact
     c.in-Ok.altered u x c.in-Ok.is (field_set_is c.in-Some.number c.args.index (Bits c.in-Ok.altered.stored) w (objects_of c.set_field.new.self) c.set_field.ensures.put) c.give.ensures.given
 
@@ -46,5 +46,5 @@ returns-in-Ok-clause-moves g c = λ roles.
 
 pub returns-in-Err-clause-told : goal.returns-in-Err-clause-told
 returns-in-Err-clause-told g c = λ z home.
-    not_changed z home c.in-Some.number c.args.index c.args.by c.args.object c.args.operand c.field-old.result (world_of (λ v. (g.dyn-1.0.entry v).1.meaning) c.args.store.now) (sym c.number_of.ensures.exact ∙ c.in-Some.is)
+    not_changed z home c.in-Some.number c.args.index c.args.by c.args.object c.args.operand c.field-old.result (world_of (λ v. (g.dyn-1.0.entry v).1) c.args.store.now) (sym c.number_of.ensures.exact ∙ c.in-Some.is)
     c.change_slot.result c.field-old.ensures.exact c.change_slot.ensures.exact c.in-Err.fault c.in-Err.is

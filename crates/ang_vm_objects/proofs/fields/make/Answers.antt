@@ -9,13 +9,13 @@ use Rattle.ang_vm_objects.proofs.fields.make.Goals as goal
 
 pub returns-in-Ok-clause-told : goal.returns-in-Ok-clause-told
 returns-in-Ok-clause-told g c = λ z home number e.
-    made z home number c.args.class.now e (world_of (λ v. (g.dyn-1.0.entry v).1.meaning) c.args.store.now) c.in-Ok.number (objects_of c.make.new.self)
+    made z home number c.args.class.now e (world_of (λ v. (g.dyn-1.0.entry v).1) c.args.store.now) c.in-Ok.number (objects_of c.make.new.self)
     (if_ok c.make.result c.in-Ok.number (λ n. map.get (objects_of c.args.store.now.heap) n ≡ None) c.in-Ok.is c.make.ensures.free)
     (if_ok c.make.result c.in-Ok.number (λ n. objects_of c.make.new.self ≡ map.insert (objects_of c.args.store.now.heap) n (new_object c.args.class.now)) c.in-Ok.is c.make.ensures.made)
 
 pub returns-in-Err-clause-told : goal.returns-in-Err-clause-told
 returns-in-Err-clause-told g c = λ z home number e.
-    not_made z home number c.args.class.now e (world_of (λ v. (g.dyn-1.0.entry v).1.meaning) c.args.store.now) (objects_of c.make.new.self) (on_err c.make.result _ _ c.in-Err.is c.make.ensures.unchanged)
+    not_made z home number c.args.class.now e (world_of (λ v. (g.dyn-1.0.entry v).1) c.args.store.now) (objects_of c.make.new.self) (on_err c.make.result _ _ c.in-Err.is c.make.ensures.unchanged)
 
 pub returns-in-Ok-clause-moves : goal.returns-in-Ok-clause-moves
 returns-in-Ok-clause-moves g c = λ roles. moves_heap _ roles c.args.store.now c.make.new.self

@@ -10,34 +10,34 @@ use Rattle.ang_vm_objects.proofs.FieldOperations.{null_kept, null_same, refused_
 use Rattle.ang_vm_objects.proofs.fields.trade_member.Goals as goal
 
 pub returns-in-None-clause-old : goal.returns-in-None-clause-old
-returns-in-None-clause-old g c = null_kept c.args.object c.args.index c.args.value (world_of (λ v. (g.dyn-1.0.entry v).1.meaning) c.args.store.now) (sym c.number_of.ensures.exact ∙ c.in-None.is)
+returns-in-None-clause-old g c = null_kept c.args.object c.args.index c.args.value (world_of (λ v. (g.dyn-1.0.entry v).1) c.args.store.now) (sym c.number_of.ensures.exact ∙ c.in-None.is)
 
 pub returns-in-None-clause-put : goal.returns-in-None-clause-put
-returns-in-None-clause-put g c = λ is. null_same c.args.object c.args.index c.args.value (with_inputs is (world_of (λ v. (g.dyn-1.0.entry v).1.meaning) c.args.store.now)) (sym c.number_of.ensures.exact ∙ c.in-None.is)
+returns-in-None-clause-put g c = λ is. null_same c.args.object c.args.index c.args.value (with_inputs is (world_of (λ v. (g.dyn-1.0.entry v).1) c.args.store.now)) (sym c.number_of.ensures.exact ∙ c.in-None.is)
 
 pub returns-clause-old : goal.returns-clause-old
 returns-clause-old g c =
     let s = c.args.store.now in
-    refused_kept c.args.object c.in-Some.number c.args.index c.args.value (sym c.number_of.ensures.exact ∙ c.in-Some.is) (world_of (λ v. (g.dyn-1.0.entry v).1.meaning) s)
-    (sym (c.may_take.ensures.exact (counts_of (λ v. (g.dyn-1.0.entry v).1.meaning) (members s.drivers)) (values_in s.globals) s.events.items []) ∙ c.if-may_take.false)
+    refused_kept c.args.object c.in-Some.number c.args.index c.args.value (sym c.number_of.ensures.exact ∙ c.in-Some.is) (world_of (λ v. (g.dyn-1.0.entry v).1) s)
+    (sym (c.may_take.ensures.exact (counts_of (λ v. (g.dyn-1.0.entry v).1) (members s.drivers)) (values_in s.globals) s.events.items []) ∙ c.if-may_take.false)
 
 pub returns-clause-put : goal.returns-clause-put
 returns-clause-put g c = λ is.
     let s = c.args.store.now in
-    refused_same c.args.object c.in-Some.number c.args.index c.args.value (sym c.number_of.ensures.exact ∙ c.in-Some.is) (with_inputs is (world_of (λ v. (g.dyn-1.0.entry v).1.meaning) s))
-    (sym (c.may_take.ensures.exact (counts_of (λ v. (g.dyn-1.0.entry v).1.meaning) (members s.drivers)) (values_in s.globals) s.events.items is) ∙ c.if-may_take.false)
+    refused_same c.args.object c.in-Some.number c.args.index c.args.value (sym c.number_of.ensures.exact ∙ c.in-Some.is) (with_inputs is (world_of (λ v. (g.dyn-1.0.entry v).1) s))
+    (sym (c.may_take.ensures.exact (counts_of (λ v. (g.dyn-1.0.entry v).1) (members s.drivers)) (values_in s.globals) s.events.items is) ∙ c.if-may_take.false)
 
 pub returns-then-may_take-clause-old : goal.returns-then-may_take-clause-old
 returns-then-may_take-clause-old g c =
     let s = c.args.store.now in
-    field_traded c.args.object c.in-Some.number c.args.index c.args.value (sym c.number_of.ensures.exact ∙ c.in-Some.is) c.set_field.result (world_of (λ v. (g.dyn-1.0.entry v).1.meaning) s)
-    (sym (c.may_take.ensures.exact (counts_of (λ v. (g.dyn-1.0.entry v).1.meaning) (members s.drivers)) (values_in s.globals) s.events.items []) ∙ c.if-may_take.true) c.set_field.ensures.old
+    field_traded c.args.object c.in-Some.number c.args.index c.args.value (sym c.number_of.ensures.exact ∙ c.in-Some.is) c.set_field.result (world_of (λ v. (g.dyn-1.0.entry v).1) s)
+    (sym (c.may_take.ensures.exact (counts_of (λ v. (g.dyn-1.0.entry v).1) (members s.drivers)) (values_in s.globals) s.events.items []) ∙ c.if-may_take.true) c.set_field.ensures.old
 
 pub returns-then-may_take-clause-put : goal.returns-then-may_take-clause-put
 returns-then-may_take-clause-put g c = λ is.
     let s = c.args.store.now in
-    field_replaced c.args.object c.in-Some.number c.args.index c.args.value (sym c.number_of.ensures.exact ∙ c.in-Some.is) (world_of (λ v. (g.dyn-1.0.entry v).1.meaning) s) (objects_of c.set_field.new.self) c.set_field.ensures.put is
-    (sym (c.may_take.ensures.exact (counts_of (λ v. (g.dyn-1.0.entry v).1.meaning) (members s.drivers)) (values_in s.globals) s.events.items is) ∙ c.if-may_take.true)
+    field_replaced c.args.object c.in-Some.number c.args.index c.args.value (sym c.number_of.ensures.exact ∙ c.in-Some.is) (world_of (λ v. (g.dyn-1.0.entry v).1) s) (objects_of c.set_field.new.self) c.set_field.ensures.put is
+    (sym (c.may_take.ensures.exact (counts_of (λ v. (g.dyn-1.0.entry v).1) (members s.drivers)) (values_in s.globals) s.events.items is) ∙ c.if-may_take.true)
 
 pub returns-then-may_take-clause-moves : goal.returns-then-may_take-clause-moves
 returns-then-may_take-clause-moves g c = λ roles. moves_heap _ roles c.args.store.now c.set_field.new.self

@@ -7,12 +7,12 @@ use Rattle.ang_vm_objects.proofs.StoreOperations.{stored, not_stored}
 use Rattle.ang_vm_objects.proofs.globals.set.Goals as goal
 
 pub hold-requires : goal.hold-requires
-hold-requires g c = record { there = (first_known c.args.value [] (world_of (λ v. (g.dyn-1.0.entry v).1.meaning) c.args.store.now) c.requires.counted).1 }
+hold-requires g c = record { there = (first_known c.args.value [] (world_of (λ v. (g.dyn-1.0.entry v).1) c.args.store.now) c.requires.counted).1 }
 
 pub returns-then-not-hold-clause-told : goal.returns-then-not-hold-clause-told
 returns-then-not-hold-clause-told g c =
-    let w = world_of (λ v. (g.dyn-1.0.entry v).1.meaning) c.args.store.now in
-    let u = world_of (λ v. (g.dyn-1.0.entry v).1.meaning) c.hold.new.store in
+    let w = world_of (λ v. (g.dyn-1.0.entry v).1) c.args.store.now in
+    let u = world_of (λ v. (g.dyn-1.0.entry v).1) c.hold.new.store in
     λ z. not_stored z c.args.home c.args.number w u c.args.value c.hold.result c.hold.ensures.told c.if-not-hold.true
 
 pub trade_global-old-requires : goal.trade_global-old-requires
@@ -23,9 +23,9 @@ give-requires-clause-ready g c = (c.trade_global-old.ensures.moves []).ready ((c
 
 pub give-requires-clause-enough : goal.give-requires-clause-enough
 give-requires-clause-enough g c =
-    let w = world_of (λ v. (g.dyn-1.0.entry v).1.meaning) c.args.store.now in
-    let u = world_of (λ v. (g.dyn-1.0.entry v).1.meaning) c.hold.new.store in
-    let x = world_of (λ v. (g.dyn-1.0.entry v).1.meaning) c.trade_global-old.new.store in
+    let w = world_of (λ v. (g.dyn-1.0.entry v).1) c.args.store.now in
+    let u = world_of (λ v. (g.dyn-1.0.entry v).1) c.hold.new.store in
+    let x = world_of (λ v. (g.dyn-1.0.entry v).1) c.trade_global-old.new.store in
     let v = c.args.value in
     let old = c.trade_global-old.result in
     let twice = held_stand v c.hold.result w u c.if-not-hold.false c.hold.ensures.told (v ∷ []) ((first_known v [] w c.requires.counted).0) c.requires.counted in
@@ -33,10 +33,10 @@ give-requires-clause-enough g c =
 
 pub returns-clause-told : goal.returns-clause-told
 returns-clause-told g c =
-    let w = world_of (λ v. (g.dyn-1.0.entry v).1.meaning) c.args.store.now in
-    let u = world_of (λ v. (g.dyn-1.0.entry v).1.meaning) c.hold.new.store in
-    let x = world_of (λ v. (g.dyn-1.0.entry v).1.meaning) c.trade_global-old.new.store in
-    let y = world_of (λ v. (g.dyn-1.0.entry v).1.meaning) c.give.new.store in
+    let w = world_of (λ v. (g.dyn-1.0.entry v).1) c.args.store.now in
+    let u = world_of (λ v. (g.dyn-1.0.entry v).1) c.hold.new.store in
+    let x = world_of (λ v. (g.dyn-1.0.entry v).1) c.trade_global-old.new.store in
+    let y = world_of (λ v. (g.dyn-1.0.entry v).1) c.give.new.store in
     λ z. stored z c.args.home c.args.number w u c.args.value c.hold.result c.hold.ensures.told c.trade_global-old.result x y c.if-not-hold.false c.trade_global-old.ensures.old c.trade_global-old.ensures.put c.give.ensures.given
 
 pub returns-clause-moves : goal.returns-clause-moves

@@ -7,22 +7,22 @@ use Rattle.ang_vm_objects.proofs.StoreOperations.{compared_same}
 use Rattle.ang_vm_objects.proofs.handles.compare_handles.Goals as goal
 
 pub give-requires-clause-enough : goal.give-requires-clause-enough
-give-requires-clause-enough g c = first_gives c.args.second (c.args.first ∷ []) (world_of (λ v. (g.dyn-1.0.entry v).1.meaning) c.args.store.now) c.requires.counted
+give-requires-clause-enough g c = first_gives c.args.second (c.args.first ∷ []) (world_of (λ v. (g.dyn-1.0.entry v).1) c.args.store.now) c.requires.counted
 
 pub give-requires-2-clause-ready : goal.give-requires-2-clause-ready
 give-requires-2-clause-ready g c = (c.give.ensures.moves []).ready c.requires.ready
 
 pub give-requires-2-clause-enough : goal.give-requires-2-clause-enough
 give-requires-2-clause-enough g c =
-    let w = world_of (λ v. (g.dyn-1.0.entry v).1.meaning) c.args.store.now in
-    let u = world_of (λ v. (g.dyn-1.0.entry v).1.meaning) c.give.new.store in
+    let w = world_of (λ v. (g.dyn-1.0.entry v).1) c.args.store.now in
+    let u = world_of (λ v. (g.dyn-1.0.entry v).1) c.give.new.store in
     first_gives c.args.first [] u (given_stand c.args.second (c.args.first ∷ []) w u (c.give.ensures.given []) c.requires.counted)
 
 pub returns-clause-told : goal.returns-clause-told
 returns-clause-told g c =
-    let w = world_of (λ v. (g.dyn-1.0.entry v).1.meaning) c.args.store.now in
-    let u = world_of (λ v. (g.dyn-1.0.entry v).1.meaning) c.give.new.store in
-    let x = world_of (λ v. (g.dyn-1.0.entry v).1.meaning) c.give-2.new.store in
+    let w = world_of (λ v. (g.dyn-1.0.entry v).1) c.args.store.now in
+    let u = world_of (λ v. (g.dyn-1.0.entry v).1) c.give.new.store in
+    let x = world_of (λ v. (g.dyn-1.0.entry v).1) c.give-2.new.store in
     λ z home. compared_same z home c.args.first c.args.second c.truth-same.result w u x (c.truth-same.ensures.exact ∙ ap truth c.are_same.ensures.exact) c.give.ensures.given c.give-2.ensures.given
 
 pub returns-clause-moves : goal.returns-clause-moves

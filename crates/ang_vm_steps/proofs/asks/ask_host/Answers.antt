@@ -10,7 +10,7 @@ use Rattle.ang_vm_steps.proofs.asks.ask_host.Goals as goal
 pub returns-in-None : goal.returns-in-None
 returns-in-None g c =
     let deep : c.args.top ≤ length c.args.stack.now = omega (arith, c.requires.in_room, c.requires.within) in
-    let w = world_of (λ v. (g.dyn-1.0.entry v).1.meaning) c.args.store.now in
+    let w = world_of (λ v. (g.dyn-1.0.entry v).1) c.args.store.now in
     record {
       acts = λ nesting code. do_unfit (setting_of c.args.table.now nesting) code c.args.operation c.args.room c.args.top c.args.stack.now c.args.stack.now w deep c.args.body (c.in-None.ensures.none c.requires.asks nesting);
       in_room = tt;
@@ -22,7 +22,7 @@ returns-in-None g c =
 pub returns-then-count-top : goal.returns-then-count-top
 returns-then-count-top g c =
     let deep : c.args.top ≤ length c.args.stack.now = omega (arith, c.requires.in_room, c.requires.within) in
-    let w = world_of (λ v. (g.dyn-1.0.entry v).1.meaning) c.args.store.now in
+    let w = world_of (λ v. (g.dyn-1.0.entry v).1) c.args.store.now in
     record {
       acts = λ nesting code.
           let fit = c.in-Some.ensures.some nesting in
@@ -36,7 +36,7 @@ returns-then-count-top g c =
 pub returns-then-top-count : goal.returns-then-top-count
 returns-then-top-count g c =
     let deep : c.args.top ≤ length c.args.stack.now = omega (arith, c.requires.in_room, c.requires.within) in
-    let w = world_of (λ v. (g.dyn-1.0.entry v).1.meaning) c.args.store.now in
+    let w = world_of (λ v. (g.dyn-1.0.entry v).1) c.args.store.now in
     record {
       acts = λ nesting code.
           let fit = c.in-Some.ensures.some nesting in
@@ -50,13 +50,13 @@ returns-then-top-count g c =
 pub returns-else-top-count : goal.returns-else-top-count
 returns-else-top-count g c =
     let deep : c.args.top ≤ length c.args.stack.now = omega (arith, c.requires.in_room, c.requires.within) in
-    let w = world_of (λ v. (g.dyn-1.0.entry v).1.meaning) c.args.store.now in
+    let w = world_of (λ v. (g.dyn-1.0.entry v).1) c.args.store.now in
     let n = c.in-Some.count in
     record {
       acts = λ nesting code.
           let fit = c.in-Some.ensures.some nesting in
           do_told (setting_of c.args.table.now nesting) code c.args.operation c.args.room c.args.top c.args.stack.now _ w deep c.args.body fit.0 n (sym fit.1) (omega arith) (omega arith)
-          (take_some n (values c.args.stack.now c.args.top)) c.perform_on_host-answer.result c.put_answer.result refl (world_of (λ v. (g.dyn-1.0.entry v).1.meaning) c.perform_on_host-answer.new.store)
+          (take_some n (values c.args.stack.now c.args.top)) c.perform_on_host-answer.result c.put_answer.result refl (world_of (λ v. (g.dyn-1.0.entry v).1) c.perform_on_host-answer.new.store)
           (c.perform_on_host-answer.ensures.told nesting c.requires.asks fit.0 fit.1) (λ pc fr t u. c.put_answer.ensures.exact c.args.room c.args.body pc fr t u) c.put_answer.ensures.fails;
       in_room = room_left c.put_answer.result (c.args.top - n + 1) c.args.room (omega arith) c.put_answer.ensures.in_room;
       moves = c.perform_on_host-answer.ensures.moves;

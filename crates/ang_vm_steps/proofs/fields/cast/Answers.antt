@@ -12,20 +12,20 @@ pub returns-then-top-eq0-clause-acts : goal.returns-then-top-eq0-clause-acts
 unfolding operands is_fit
 returns-then-top-eq0-clause-acts g c = λ nesting code.
     let deep : c.args.top ≤ length c.args.stack.now = omega (arith, c.requires.in_room, c.requires.within) in
-    let w = (world_of (λ v. (g.dyn-1.0.entry v).1.meaning) c.args.store.now) in
+    let w = (world_of (λ v. (g.dyn-1.0.entry v).1) c.args.store.now) in
     do_short (setting_of c.args.table.now nesting) code (Cast c.args.class) c.args.room c.args.top c.args.stack.now c.args.stack.now w deep c.args.body refl 1 refl (omega arith)
 
 pub cast_value-answer-requires-clause-counted : goal.cast_value-answer-requires-clause-counted
 cast_value-answer-requires-clause-counted g c =
     let deep : c.args.top ≤ length c.args.stack.now = omega (arith, c.requires.in_room, c.requires.within) in
-    one_stands c.args.stack.now c.args.top c.peek-value.result (world_of (λ v. (g.dyn-1.0.entry v).1.meaning) c.args.store.now) (omega arith) deep c.peek-value.ensures.exact c.requires.counted
+    one_stands c.args.stack.now c.args.top c.peek-value.result (world_of (λ v. (g.dyn-1.0.entry v).1) c.args.store.now) (omega arith) deep c.peek-value.ensures.exact c.requires.counted
 
 pub returns-clause-acts : goal.returns-clause-acts
 unfolding operands is_fit
 returns-clause-acts g c = λ nesting code.
     let deep : c.args.top ≤ length c.args.stack.now = omega (arith, c.requires.in_room, c.requires.within) in
-    let w = (world_of (λ v. (g.dyn-1.0.entry v).1.meaning) c.args.store.now) in
-    let u = (world_of (λ v. (g.dyn-1.0.entry v).1.meaning) c.cast_value-answer.new.store) in
+    let w = (world_of (λ v. (g.dyn-1.0.entry v).1) c.args.store.now) in
+    let u = (world_of (λ v. (g.dyn-1.0.entry v).1) c.cast_value-answer.new.store) in
     do_told (setting_of c.args.table.now nesting) code (Cast c.args.class) c.args.room c.args.top c.args.stack.now _ w deep c.args.body refl 1 refl (omega arith) (omega arith) (c.peek-value.result ∷ []) c.cast_value-answer.result c.put_answer.result
     (one_taken c.args.stack.now c.args.top c.peek-value.result (omega arith) deep c.peek-value.ensures.exact)
     u (c.cast_value-answer.ensures.told nesting) (λ pc fr t x. c.put_answer.ensures.exact c.args.room c.args.body pc fr t x) c.put_answer.ensures.fails

@@ -13,20 +13,20 @@ pub returns-then-top-eq0-clause-acts : goal.returns-then-top-eq0-clause-acts
 unfolding operands is_fit
 returns-then-top-eq0-clause-acts g c = λ z code.
     let deep : c.args.top ≤ length c.args.stack.now = omega (arith, c.requires.in_room, c.requires.within) in
-    let w = (world_of (λ v. (g.dyn-1.0.entry v).1.meaning) c.args.store.now) in
+    let w = (world_of (λ v. (g.dyn-1.0.entry v).1) c.args.store.now) in
     acts_all z code (Do (FieldGet c.args.index)) c.args.room c.args.top c.args.stack.now c.args.stack.now w w (Err Lost) (λ f. do_short z code (FieldGet c.args.index) c.args.room c.args.top c.args.stack.now c.args.stack.now w deep f refl 1 refl (omega arith))
 
 pub get-answer-requires-clause-counted : goal.get-answer-requires-clause-counted
 get-answer-requires-clause-counted g c =
     let deep : c.args.top ≤ length c.args.stack.now = omega (arith, c.requires.in_room, c.requires.within) in
-    one_stands c.args.stack.now c.args.top c.peek-object.result (world_of (λ v. (g.dyn-1.0.entry v).1.meaning) c.args.store.now) (omega arith) deep c.peek-object.ensures.exact c.requires.counted
+    one_stands c.args.stack.now c.args.top c.peek-object.result (world_of (λ v. (g.dyn-1.0.entry v).1) c.args.store.now) (omega arith) deep c.peek-object.ensures.exact c.requires.counted
 
 pub returns-clause-acts : goal.returns-clause-acts
 unfolding operands is_fit
 returns-clause-acts g c = λ z code.
     let deep : c.args.top ≤ length c.args.stack.now = omega (arith, c.requires.in_room, c.requires.within) in
-    let w = (world_of (λ v. (g.dyn-1.0.entry v).1.meaning) c.args.store.now) in
-    let u = (world_of (λ v. (g.dyn-1.0.entry v).1.meaning) c.get-answer.new.store) in
+    let w = (world_of (λ v. (g.dyn-1.0.entry v).1) c.args.store.now) in
+    let u = (world_of (λ v. (g.dyn-1.0.entry v).1) c.get-answer.new.store) in
     acts_all z code (Do (FieldGet c.args.index)) c.args.room c.args.top c.args.stack.now _ w u c.put_answer.result
     (λ f. do_told z code (FieldGet c.args.index) c.args.room c.args.top c.args.stack.now _ w deep f refl 1 refl (omega arith) (omega arith) (c.peek-object.result ∷ []) c.get-answer.result c.put_answer.result
     (one_taken c.args.stack.now c.args.top c.peek-object.result (omega arith) deep c.peek-object.ensures.exact)

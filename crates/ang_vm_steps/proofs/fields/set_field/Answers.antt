@@ -13,20 +13,20 @@ pub returns-then-top-lt2-clause-acts : goal.returns-then-top-lt2-clause-acts
 unfolding operands is_fit
 returns-then-top-lt2-clause-acts g c = λ z code.
     let deep : c.args.top ≤ length c.args.stack.now = omega (arith, c.requires.in_room, c.requires.within) in
-    let w = (world_of (λ v. (g.dyn-1.0.entry v).1.meaning) c.args.store.now) in
+    let w = (world_of (λ v. (g.dyn-1.0.entry v).1) c.args.store.now) in
     acts_all z code (Do (FieldSet c.args.index)) c.args.room c.args.top c.args.stack.now c.args.stack.now w w (Err Lost) (λ f. do_short z code (FieldSet c.args.index) c.args.room c.args.top c.args.stack.now c.args.stack.now w deep f refl 2 refl (omega arith))
 
 pub set-answer-requires-clause-counted : goal.set-answer-requires-clause-counted
 set-answer-requires-clause-counted g c =
     let deep : c.args.top ≤ length c.args.stack.now = omega (arith, c.requires.in_room, c.requires.within) in
-    two_stand c.args.stack.now c.args.top c.peek-value.result c.peek-object.result (world_of (λ v. (g.dyn-1.0.entry v).1.meaning) c.args.store.now) (omega arith) deep c.peek-object.ensures.exact c.peek-value.ensures.exact c.requires.counted
+    two_stand c.args.stack.now c.args.top c.peek-value.result c.peek-object.result (world_of (λ v. (g.dyn-1.0.entry v).1) c.args.store.now) (omega arith) deep c.peek-object.ensures.exact c.peek-value.ensures.exact c.requires.counted
 
 pub returns-clause-acts : goal.returns-clause-acts
 unfolding operands is_fit
 returns-clause-acts g c = λ z code.
     let deep : c.args.top ≤ length c.args.stack.now = omega (arith, c.requires.in_room, c.requires.within) in
-    let w = (world_of (λ v. (g.dyn-1.0.entry v).1.meaning) c.args.store.now) in
-    let u = (world_of (λ v. (g.dyn-1.0.entry v).1.meaning) c.set-answer.new.store) in
+    let w = (world_of (λ v. (g.dyn-1.0.entry v).1) c.args.store.now) in
+    let u = (world_of (λ v. (g.dyn-1.0.entry v).1) c.set-answer.new.store) in
     acts_all z code (Do (FieldSet c.args.index)) c.args.room c.args.top c.args.stack.now _ w u c.put_answer.result
     (λ f. do_told z code (FieldSet c.args.index) c.args.room c.args.top c.args.stack.now _ w deep f refl 2 refl (omega arith) (omega arith) (c.peek-object.result ∷ c.peek-value.result ∷ []) c.set-answer.result c.put_answer.result
     (two_taken c.args.stack.now c.args.top c.peek-value.result c.peek-object.result (omega arith) deep c.peek-object.ensures.exact c.peek-value.ensures.exact)

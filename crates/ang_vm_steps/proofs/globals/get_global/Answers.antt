@@ -10,15 +10,15 @@ pub returns-then-top-room-clause-acts : goal.returns-then-top-room-clause-acts
 unfolding operands is_fit
 returns-then-top-room-clause-acts g c = λ z code.
     let deep : c.args.top ≤ length c.args.stack.now = omega (arith, c.requires.in_room, c.requires.within) in
-    let w = (world_of (λ v. (g.dyn-1.0.entry v).1.meaning) c.args.store.now) in
+    let w = (world_of (λ v. (g.dyn-1.0.entry v).1) c.args.store.now) in
     do_full z code (GlobalGet c.args.number) c.args.room c.args.top c.args.stack.now c.args.stack.now w deep c.args.body refl 0 refl (omega arith) (omega arith)
 
 pub returns-clause-acts : goal.returns-clause-acts
 unfolding operands is_fit
 returns-clause-acts g c = λ z code.
     let deep : c.args.top ≤ length c.args.stack.now = omega (arith, c.requires.in_room, c.requires.within) in
-    let w = (world_of (λ v. (g.dyn-1.0.entry v).1.meaning) c.args.store.now) in
-    let u = (world_of (λ v. (g.dyn-1.0.entry v).1.meaning) c.get-answer.new.store) in
+    let w = (world_of (λ v. (g.dyn-1.0.entry v).1) c.args.store.now) in
+    let u = (world_of (λ v. (g.dyn-1.0.entry v).1) c.get-answer.new.store) in
     do_told z code (GlobalGet c.args.number) c.args.room c.args.top c.args.stack.now _ w deep c.args.body refl 0 refl (omega arith) (omega arith) [] c.get-answer.result c.put_answer.result
     refl
     u (c.get-answer.ensures.told z) (λ pc fr t x. c.put_answer.ensures.exact c.args.room c.args.body pc fr t x) c.put_answer.ensures.fails

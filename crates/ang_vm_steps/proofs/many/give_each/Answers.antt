@@ -11,7 +11,7 @@ use Rattle.ang_vm_steps.proofs.many.give_each.Goals as goal
 
 pub loop-given-init : goal.loop-given-init
 loop-given-init g c =
-    let w = world_of (λ v. (g.dyn-1.0.entry v).1.meaning) c.args.store.now in
+    let w = world_of (λ v. (g.dyn-1.0.entry v).1) c.args.store.now in
     let s = values c.args.stack.now c.args.top in
     let n : c.args.count ≡ c.args.count - 0 = omega arith in
     let m : c.args.top ≡ c.args.top - 0 = omega arith in
@@ -24,7 +24,7 @@ loop-given-init g c =
 
 pub give-requires : goal.give-requires
 give-requires g c =
-    let u = world_of (λ v. (g.dyn-1.0.entry v).1.meaning) c.loop-given.store in
+    let u = world_of (λ v. (g.dyn-1.0.entry v).1) c.loop-given.store in
     record {
       ready = c.loop-given.invariant.ready;
       enough = top_can c.args.stack.now (c.args.top - c.loop-given.given) c.peek-value.result u (omega (arith, c.requires.in_use)) (omega (arith, c.requires.within)) c.peek-value.ensures.exact c.loop-given.invariant.enough;
@@ -32,8 +32,8 @@ give-requires g c =
 
 pub loop-given-preserved : goal.loop-given-preserved
 loop-given-preserved g c =
-    let u = world_of (λ v. (g.dyn-1.0.entry v).1.meaning) c.loop-given.store in
-    let x = world_of (λ v. (g.dyn-1.0.entry v).1.meaning) c.give.new.store in
+    let u = world_of (λ v. (g.dyn-1.0.entry v).1) c.loop-given.store in
+    let x = world_of (λ v. (g.dyn-1.0.entry v).1) c.give.new.store in
     let v = c.peek-value.result in
     record {
       given = λ is. c.loop-given.invariant.given is
@@ -45,7 +45,7 @@ loop-given-preserved g c =
 
 pub returns : goal.returns
 returns g c =
-    let u = world_of (λ v. (g.dyn-1.0.entry v).1.meaning) c.loop-given.store in
+    let u = world_of (λ v. (g.dyn-1.0.entry v).1) c.loop-given.store in
     record {
       given = λ is. c.loop-given.invariant.given is ∙ give_over (values c.args.stack.now (c.args.top - c.loop-given.given)) c.args.count c.loop-given.given (with_inputs is u) (omega arith);
       moves = c.loop-given.invariant.moves;

@@ -20,14 +20,14 @@ pub give-requires : goal.give-requires
 give-requires g c =
     record {
       ready = c.loop-given.invariant.ready;
-      enough = low_can c.args.stack.now c.args.top (c.args.top - c.args.count) c.loop-given.given c.peek-value.result (with_inputs [] (world_of (λ v. (g.dyn-1.0.entry v).1.meaning) c.args.store.now)) (world_of (λ v. (g.dyn-1.0.entry v).1.meaning) c.loop-given.store)
+      enough = low_can c.args.stack.now c.args.top (c.args.top - c.args.count) c.loop-given.given c.peek-value.result (with_inputs [] (world_of (λ v. (g.dyn-1.0.entry v).1) c.args.store.now)) (world_of (λ v. (g.dyn-1.0.entry v).1) c.loop-given.store)
           (omega (arith, c.requires.in_use)) c.requires.within c.peek-value.ensures.exact (c.loop-given.invariant.given []) c.requires.enough;
     }
 
 pub loop-given-preserved : goal.loop-given-preserved
 loop-given-preserved g c =
     record {
-      given = λ is. back_turn c.args.stack.now (c.args.top - c.args.count) c.loop-given.given (with_inputs is (world_of (λ v. (g.dyn-1.0.entry v).1.meaning) c.args.store.now)) (with_inputs is (world_of (λ v. (g.dyn-1.0.entry v).1.meaning) c.loop-given.store)) (with_inputs is (world_of (λ v. (g.dyn-1.0.entry v).1.meaning) c.give.new.store)) c.peek-value.result
+      given = λ is. back_turn c.args.stack.now (c.args.top - c.args.count) c.loop-given.given (with_inputs is (world_of (λ v. (g.dyn-1.0.entry v).1) c.args.store.now)) (with_inputs is (world_of (λ v. (g.dyn-1.0.entry v).1) c.loop-given.store)) (with_inputs is (world_of (λ v. (g.dyn-1.0.entry v).1) c.give.new.store)) c.peek-value.result
           (omega (arith, c.requires.in_use, c.requires.within)) c.peek-value.ensures.exact (c.give.ensures.given is) (c.loop-given.invariant.given is);
       ready = (c.give.ensures.moves []).ready c.loop-given.invariant.ready;
       moves = λ roles. moves_join _ roles _ _ _ (c.loop-given.invariant.moves roles) (c.give.ensures.moves roles);
@@ -35,7 +35,7 @@ loop-given-preserved g c =
 
 pub returns : goal.returns
 returns g c =
-    let w = world_of (λ v. (g.dyn-1.0.entry v).1.meaning) c.args.store.now in
+    let w = world_of (λ v. (g.dyn-1.0.entry v).1) c.args.store.now in
     let n : c.args.count ≡ c.loop-given.given = omega arith in
     let m : c.args.top ≡ c.args.top - c.args.count + c.loop-given.given = omega (arith, c.requires.in_use) in
     record {

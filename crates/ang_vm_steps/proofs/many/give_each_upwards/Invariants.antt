@@ -9,7 +9,7 @@ use Rattle.ang_vm_steps.proofs.many.give_each_upwards.Given as goal
 
 abbrev pub invariant-loop-given : goal.invariant-loop-given
 invariant-loop-given g l = record {
-  given : (is : List Input) → give_back (take_some l.given (values l.stack (l.top - l.count + l.given))) (with_inputs is (world_of (λ v. (g.dyn-1.0.entry v).1.meaning) l.initial.store)) ≡ with_inputs is (world_of (λ v. (g.dyn-1.0.entry v).1.meaning) l.store);
-  ready : IsReady (λ v. (g.dyn-1.0.entry v).1.meaning) l.store;
-  moves : (roles : List Role) → StoreMoves (λ v. (g.dyn-1.0.entry v).1.meaning) roles l.initial.store l.store;
+  given : (is : List Input) → give_back (take_some l.given (values l.stack (l.top - l.count + l.given))) (with_inputs is (world_of (λ v. (g.dyn-1.0.entry v).1) l.initial.store)) ≡ with_inputs is (world_of (λ v. (g.dyn-1.0.entry v).1) l.store);
+  ready : IsReady (λ v. (g.dyn-1.0.entry v).1) l.store;
+  moves : (roles : List Role) → StoreMoves (λ v. (g.dyn-1.0.entry v).1) roles l.initial.store l.store;
 }

@@ -8,6 +8,6 @@ use Rattle.ang_vm_steps.proofs.many.give_top.Goals as goal
 pub returns-then-nothing_lives : goal.returns-then-nothing_lives
 returns-then-nothing_lives g c =
     record {
-      given = λ is. some_nothing c.args.count (values c.args.stack.now c.args.top) (with_inputs is (world_of (λ v. (g.dyn-1.0.entry v).1.meaning) c.args.store.now)) (λ v. c.nothing_lives.ensures.nothing c.if-nothing_lives.true v is);
+      given = λ is. some_nothing c.args.count (values c.args.stack.now c.args.top) (with_inputs is (world_of (λ v. (g.dyn-1.0.entry v).1) c.args.store.now)) (λ v. c.nothing_lives.ensures.nothing c.if-nothing_lives.true v is);
       moves = λ roles. moves_none _ roles _;
     }

@@ -11,12 +11,12 @@ abbrev pub invariant-loop-line : goal.invariant-loop-line
 invariant-loop-line g l =
     record {
       lines : l.number + length l.rest ≤ length l.text + 1;
-      sound : IsSound (λ v. (g.dyn-1.0.entry v).1.meaning) l.engine;
+      sound : IsSound (λ v. (g.dyn-1.0.entry v).1) l.engine;
       list : registrations l.engine ≡ registrations l.initial.engine;
       order : kinds_of (drivers_in l.engine) ≡ kinds_of (drivers_in l.initial.engine);
-      done : HasDone (λ v. (g.dyn-1.0.entry v).1.meaning) (registrations l.initial.engine) (world_in (λ v. (g.dyn-1.0.entry v).1.meaning) l.initial.engine) (drivers_in l.initial.engine)
+      done : HasDone (λ v. (g.dyn-1.0.entry v).1) (registrations l.initial.engine) (world_in (λ v. (g.dyn-1.0.entry v).1) l.initial.engine) (drivers_in l.initial.engine)
           (session_from 1 l.budget 0 (lines_of l.text)) (session_from l.number l.ticks 0 (lines_of l.rest))
-          (g.W.Write.contents l.initial.writer) (g.W.Write.contents l.writer) l.all_ok (world_in (λ v. (g.dyn-1.0.entry v).1.meaning) l.engine) (drivers_in l.engine);
+          (g.W.Write.contents l.initial.writer) (g.W.Write.contents l.writer) l.all_ok (world_in (λ v. (g.dyn-1.0.entry v).1) l.engine) (drivers_in l.engine);
     }
 
 abbrev pub decreases-loop-line : goal.decreases-loop-line

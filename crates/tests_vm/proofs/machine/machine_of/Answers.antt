@@ -11,7 +11,7 @@ use Rattle.tests_vm.proofs.machine.machine_of.Goals as goal
 pub returns : goal.returns
 returns g c = record {
   begins = λ events e.
-      let ss = states_of (λ v. (g.dyn-1.0.entry v).1.meaning) (members c.args.drivers) in
+      let ss = states_of (λ v. (g.dyn-1.0.entry v).1) (members c.args.drivers) in
       record {
         ready = record {
           kept = record {

@@ -7,8 +7,8 @@ use Rattle.ang_engine.proofs.engine.Engine.add_section.Goals as goal
 pub returns-clause-applied : goal.returns-clause-applied
 returns-clause-applied g c =
     let s = c.args.self.now.machine.store in
-    applied-done (λ v. (g.dyn-1.0.entry v).1.meaning) (registrations c.args.self.now) (world_in (λ v. (g.dyn-1.0.entry v).1.meaning) c.args.self.now) _ s s _ _
-    c.add_section-done.result c.ended.result c.ended.ensures.exact c.answer.ensures.exact (c.add_section-done.ensures.done (world_of (λ v. (g.dyn-1.0.entry v).1.meaning) s))
+    applied-done (λ v. (g.dyn-1.0.entry v).1) (registrations c.args.self.now) (world_in (λ v. (g.dyn-1.0.entry v).1) c.args.self.now) _ s s _ _
+    c.add_section-done.result c.ended.result c.ended.ensures.exact c.answer.ensures.exact (c.add_section-done.ensures.done (world_of (λ v. (g.dyn-1.0.entry v).1) s))
     c.requires.sound.kept c.requires.sound.counted refl
 
 pub returns-clause-sound : goal.returns-clause-sound

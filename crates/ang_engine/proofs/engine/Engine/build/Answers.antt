@@ -6,16 +6,16 @@ use Rattle.ang_engine.proofs.engine.Engine.build.Goals as goal
 
 pub returns-in_default-clause-applied : goal.returns-in_default-clause-applied
 returns-in_default-clause-applied g c =
-    applied-memory (λ v. (g.dyn-1.0.entry v).1.meaning) (registrations c.args.self.now) (world_in (λ v. (g.dyn-1.0.entry v).1.meaning) c.args.self.now) c.args.self.now.machine.store
+    applied-memory (λ v. (g.dyn-1.0.entry v).1) (registrations c.args.self.now) (world_in (λ v. (g.dyn-1.0.entry v).1) c.args.self.now) c.args.self.now.machine.store
     (Build c.args.name c.args.budget) _ c.answer.ensures.exact c.requires.sound.kept c.requires.sound.counted
 
 pub returns-clause-applied : goal.returns-clause-applied
 returns-clause-applied g c =
-    applied-build (λ v. (g.dyn-1.0.entry v).1.meaning) (registrations c.args.self.now) (world_in (λ v. (g.dyn-1.0.entry v).1.meaning) c.args.self.now) _
+    applied-build (λ v. (g.dyn-1.0.entry v).1) (registrations c.args.self.now) (world_in (λ v. (g.dyn-1.0.entry v).1) c.args.self.now) _
     c.args.self.now.machine.store c.build-done.new.machine.store c.as_slice.result.now c.args.name c.args.budget _ c.build-done.result c.build-done.new.events.items
-    c.as_slice.ensures.same c.build_reply.ensures.exact c.build-done.ensures.done c.build-done.ensures.asked
+    c.as_slice.ensures.same c.build_reply.ensures.exact c.build-done.ensures.done c.build-done.ensures.asked c.build-done.ensures.refused
 
 pub returns-clause-sound : goal.returns-clause-sound
 returns-clause-sound g c =
-    sound-asked (λ v. (g.dyn-1.0.entry v).1.meaning) c.args.self.now (record c.args.self.now { modules = c.build-done.new.list; machine = c.build-done.new.machine }) _ _
+    sound-asked (λ v. (g.dyn-1.0.entry v).1) c.args.self.now (record c.args.self.now { modules = c.build-done.new.list; machine = c.build-done.new.machine }) _ _
     c.requires.sound refl c.build-done.ensures.sound c.build-done.ensures.asked

@@ -7,17 +7,17 @@ use Rattle.ang_engine.proofs.engine.Engine.call.Goals as goal
 
 pub returns-in_default-clause-applied : goal.returns-in_default-clause-applied
 returns-in_default-clause-applied g c =
-    applied-memory (λ v. (g.dyn-1.0.entry v).1.meaning) (registrations c.args.self.now) (world_in (λ v. (g.dyn-1.0.entry v).1.meaning) c.args.self.now) c.args.self.now.machine.store
+    applied-memory (λ v. (g.dyn-1.0.entry v).1) (registrations c.args.self.now) (world_in (λ v. (g.dyn-1.0.entry v).1) c.args.self.now) c.args.self.now.machine.store
     (Call c.args.name c.args.decl c.args.args c.args.budget) _ c.answer.ensures.exact c.requires.sound.kept c.requires.sound.counted
 
 pub returns-clause-applied : goal.returns-clause-applied
 returns-clause-applied g c =
-    applied-call (λ v. (g.dyn-1.0.entry v).1.meaning) (registrations c.args.self.now) (world_in (λ v. (g.dyn-1.0.entry v).1.meaning) c.args.self.now) _
+    applied-call (λ v. (g.dyn-1.0.entry v).1) (registrations c.args.self.now) (world_in (λ v. (g.dyn-1.0.entry v).1) c.args.self.now) _
     c.args.self.now.machine.store c.call_named-done.new.self.machine.store c.as_slice.result.now c.args.name c.as_slice-2.result.now c.args.decl c.as_slice-3.result.now c.args.args c.args.budget _
     c.call_named-done.result c.call_named-done.new.events.items c.as_slice.ensures.same c.as_slice-2.ensures.same c.as_slice-3.ensures.same
-    c.call_reply.ensures.exact c.call_named-done.ensures.done c.call_named-done.ensures.asked
+    c.call_reply.ensures.exact c.call_named-done.ensures.done c.call_named-done.ensures.asked c.call_named-done.ensures.refused
 
 pub returns-clause-sound : goal.returns-clause-sound
 returns-clause-sound g c =
-    sound-asked (λ v. (g.dyn-1.0.entry v).1.meaning) c.args.self.now c.call_named-done.new.self _ _ c.requires.sound c.call_named-done.ensures.registrations
+    sound-asked (λ v. (g.dyn-1.0.entry v).1) c.args.self.now c.call_named-done.new.self _ _ c.requires.sound c.call_named-done.ensures.registrations
     (subst (λ x. AreSoundModules (registrations c.args.self.now) x) (sym c.call_named-done.ensures.modules) c.requires.sound.modules) c.call_named-done.ensures.asked

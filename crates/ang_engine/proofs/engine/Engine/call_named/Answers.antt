@@ -11,6 +11,8 @@ use Rattle.ang_engine.proofs.Entries.{drivers_there}
 use Rattle.ang_engine.proofs.Finding.{found-same, on_module-none}
 use Rattle.ang_engine.proofs.Calls.{call-run}
 use Rattle.ang_engine.proofs.Named.{few_families, program_there, takes_chosen, chosen_refused, calling-unbuilt, calling-unbudgeted, calling-built}
+use Rattle.ang_engine.specs.declared.reply.Outcome.TheVariants.{Refused}
+use Rattle.ang_engine.proofs.Refusing.{refused_anyway, called_ended}
 use Rattle.ang_engine.proofs.Asking.{asked-nothing, asked-run}
 use Rattle.ang_engine.proofs.engine.Engine.call_named.Goals as goal
 
@@ -18,12 +20,12 @@ use Rattle.ang_engine.proofs.engine.Engine.call_named.Goals as goal
 
 pub returns-in_default-clause-done : goal.returns-in_default-clause-done
 returns-in_default-clause-done g c =
-    let w = world_in (λ v. (g.dyn-1.0.entry v).1.meaning) c.args.self.now in
+    let w = world_in (λ v. (g.dyn-1.0.entry v).1) c.args.self.now in
     (inr (λ rest. on_module-none c.args.name.now w rest (call c.args.decl.now c.args.args.now c.args.budget w) (found-same _ _ _ c.args.self.now.modules.code _ _ (c.in_default.ensures.exact c.args.self.now.modules.code) c.deref.ensures.value refl)), refl)
 
 pub returns-in_default-clause-asked : goal.returns-in_default-clause-asked
 returns-in_default-clause-asked g c =
-    asked-nothing (λ v. (g.dyn-1.0.entry v).1.meaning) (registrations c.args.self.now) (world_in (λ v. (g.dyn-1.0.entry v).1.meaning) c.args.self.now) c.args.self.now.machine.store
+    asked-nothing (λ v. (g.dyn-1.0.entry v).1) (registrations c.args.self.now) (world_in (λ v. (g.dyn-1.0.entry v).1) c.args.self.now) c.args.self.now.machine.store
     c.requires.sound.kept c.requires.sound.counted
 
 -- ---- the module is not built
@@ -31,7 +33,7 @@ returns-in_default-clause-asked g c =
 pub returns-in_default-loaded-clause-done : goal.returns-in_default-loaded-clause-done
 returns-in_default-loaded-clause-done g c =
     let m = c.args.self.now.modules in
-    let w = world_in (λ v. (g.dyn-1.0.entry v).1.meaning) c.args.self.now in
+    let w = world_in (λ v. (g.dyn-1.0.entry v).1) c.args.self.now in
     let found : Some c.in-Some.home ≡ module_named c.args.name.now w = found-same _ _ _ m.code _ _ (c.in-Some.ensures.exact m.code) c.deref.ensures.value refl in
     let lt : c.in-Some.home < length m.modules.items = subst (λ xs. c.in-Some.home < length xs) c.deref.ensures.value c.in-Some.ensures.within in (
       inr (λ rest.
@@ -42,7 +44,7 @@ returns-in_default-loaded-clause-done g c =
 
 pub returns-in_default-loaded-clause-asked : goal.returns-in_default-loaded-clause-asked
 returns-in_default-loaded-clause-asked g c =
-    asked-nothing (λ v. (g.dyn-1.0.entry v).1.meaning) (registrations c.args.self.now) (world_in (λ v. (g.dyn-1.0.entry v).1.meaning) c.args.self.now) c.args.self.now.machine.store
+    asked-nothing (λ v. (g.dyn-1.0.entry v).1) (registrations c.args.self.now) (world_in (λ v. (g.dyn-1.0.entry v).1) c.args.self.now) c.args.self.now.machine.store
     c.requires.sound.kept c.requires.sound.counted
 
 -- ---- the budget is none
@@ -50,7 +52,7 @@ returns-in_default-loaded-clause-asked g c =
 pub returns-then-not-may_run-clause-done : goal.returns-then-not-may_run-clause-done
 returns-then-not-may_run-clause-done g c =
     let m = c.args.self.now.modules in
-    let w = world_in (λ v. (g.dyn-1.0.entry v).1.meaning) c.args.self.now in
+    let w = world_in (λ v. (g.dyn-1.0.entry v).1) c.args.self.now in
     let found : Some c.in-Some.home ≡ module_named c.args.name.now w = found-same _ _ _ m.code _ _ (c.in-Some.ensures.exact m.code) c.deref.ensures.value refl in
     let lt : c.in-Some.home < length m.modules.items = subst (λ xs. c.in-Some.home < length xs) c.deref.ensures.value c.in-Some.ensures.within in
     let l = c.in-Some-loaded.loaded.now in
@@ -63,7 +65,7 @@ returns-then-not-may_run-clause-done g c =
 
 pub returns-then-not-may_run-clause-asked : goal.returns-then-not-may_run-clause-asked
 returns-then-not-may_run-clause-asked g c =
-    asked-nothing (λ v. (g.dyn-1.0.entry v).1.meaning) (registrations c.args.self.now) (world_in (λ v. (g.dyn-1.0.entry v).1.meaning) c.args.self.now) c.args.self.now.machine.store
+    asked-nothing (λ v. (g.dyn-1.0.entry v).1) (registrations c.args.self.now) (world_in (λ v. (g.dyn-1.0.entry v).1) c.args.self.now) c.args.self.now.machine.store
     c.requires.sound.kept c.requires.sound.counted
 
 -- ---- a function is looked for
@@ -78,7 +80,7 @@ choose-requires g c =
 pub returns-in-Err-clause-done : goal.returns-in-Err-clause-done
 returns-in-Err-clause-done g c =
     let m = c.args.self.now.modules in
-    let w = world_in (λ v. (g.dyn-1.0.entry v).1.meaning) c.args.self.now in
+    let w = world_in (λ v. (g.dyn-1.0.entry v).1) c.args.self.now in
     let found : Some c.in-Some.home ≡ module_named c.args.name.now w = found-same _ _ _ m.code _ _ (c.in-Some.ensures.exact m.code) c.deref.ensures.value refl in
     let lt : c.in-Some.home < length m.modules.items = subst (λ xs. c.in-Some.home < length xs) c.deref.ensures.value c.in-Some.ensures.within in
     let l = c.in-Some-loaded.loaded.now in
@@ -89,8 +91,11 @@ returns-in-Err-clause-done g c =
 
 pub returns-in-Err-clause-asked : goal.returns-in-Err-clause-asked
 returns-in-Err-clause-asked g c =
-    asked-nothing (λ v. (g.dyn-1.0.entry v).1.meaning) (registrations c.args.self.now) (world_in (λ v. (g.dyn-1.0.entry v).1.meaning) c.args.self.now) c.args.self.now.machine.store
+    asked-nothing (λ v. (g.dyn-1.0.entry v).1) (registrations c.args.self.now) (world_in (λ v. (g.dyn-1.0.entry v).1) c.args.self.now) c.args.self.now.machine.store
     c.requires.sound.kept c.requires.sound.counted
+
+pub returns-in-Err-clause-refused : goal.returns-in-Err-clause-refused
+returns-in-Err-clause-refused g c = refused_anyway (Refused c.in-Err.refusal) _ refl
 
 -- ---- it is called
 
@@ -108,7 +113,7 @@ run_chosen-requires-clause-takes g c =
 pub returns-in-Ok-clause-done : goal.returns-in-Ok-clause-done
 returns-in-Ok-clause-done g c =
     let m = c.args.self.now.modules in
-    let w = world_in (λ v. (g.dyn-1.0.entry v).1.meaning) c.args.self.now in
+    let w = world_in (λ v. (g.dyn-1.0.entry v).1) c.args.self.now in
     let found : Some c.in-Some.home ≡ module_named c.args.name.now w = found-same _ _ _ m.code _ _ (c.in-Some.ensures.exact m.code) c.deref.ensures.value refl in
     let lt : c.in-Some.home < length m.modules.items = subst (λ xs. c.in-Some.home < length xs) c.deref.ensures.value c.in-Some.ensures.within in
     let l = c.in-Some-loaded.loaded.now in
@@ -116,12 +121,17 @@ returns-in-Ok-clause-done g c =
     calling-built w c.args.name.now c.args.decl.now c.args.args.now c.args.budget c.in-Some.home found (program_in l) (Ok c.run_chosen.result) c.run_chosen.new.events.items _
     (program_there m.modules.items m.code c.in-Some.home (Some l) lt c.in-Some-loaded.ensures.exact) may
     (call-run (program_in l) (modules_of m.code) c.args.decl.now c.args.args.now c.in-Some.home c.args.budget c.in-Ok.chosen c.in-Ok.ensures.chosen.0 c.run_chosen.result (states_in m)
-    (world_of (λ v. (g.dyn-1.0.entry v).1.meaning) (lent c.args.self.now.machine c.args.events.now)) (world_of (λ v. (g.dyn-1.0.entry v).1.meaning) (lent c.run_chosen.new.machine c.run_chosen.new.events))
+    (world_of (λ v. (g.dyn-1.0.entry v).1) (lent c.args.self.now.machine c.args.events.now)) (world_of (λ v. (g.dyn-1.0.entry v).1) (lent c.run_chosen.new.machine c.run_chosen.new.events))
     (states_built (registrations c.args.self.now) m.modules.items m.code c.requires.sound.modules.each) c.requires.first c.in-Ok.ensures.chosen.1 c.run_chosen.ensures.means)
 
 pub returns-in-Ok-clause-asked : goal.returns-in-Ok-clause-asked
 returns-in-Ok-clause-asked g c =
     let m = c.args.self.now.modules in
-    asked-run (λ v. (g.dyn-1.0.entry v).1.meaning) (registrations c.args.self.now) c.args.self.now.machine.store c.run_chosen.new.machine.store c.args.events.now c.run_chosen.new.events
-    c.requires.first c.requires.ready c.requires.sound.counted m.modules.items m.code m.code (world_of (λ v. (g.dyn-1.0.entry v).1.meaning) c.run_chosen.new.machine.store)
+    asked-run (λ v. (g.dyn-1.0.entry v).1) (registrations c.args.self.now) c.args.self.now.machine.store c.run_chosen.new.machine.store c.args.events.now c.run_chosen.new.events
+    c.requires.first c.requires.ready c.requires.sound.counted m.modules.items m.code m.code (world_of (λ v. (g.dyn-1.0.entry v).1) c.run_chosen.new.machine.store)
     c.requires.sound.modules.each c.requires.sound.modules.few c.run_chosen.ensures.asked
+
+pub returns-in-Ok-clause-refused : goal.returns-in-Ok-clause-refused
+returns-in-Ok-clause-refused g c =
+    let means = c.run_chosen.ensures.means in
+    called_ended means.function means.value c.run_chosen.result _ means.ended

@@ -16,25 +16,25 @@ pub returns-clause-ended : goal.returns-clause-ended
 returns-clause-ended g c = λ roles.
     let s = c.args.self.machine.store in
     let os = objects_of s.heap in
-    let hs = counts_of (λ v. (g.dyn-1.0.entry v).1.meaning) (members s.drivers) in
+    let hs = counts_of (λ v. (g.dyn-1.0.entry v).1) (members s.drivers) in
     let gs = values_in s.globals in
     let none = c.requires.sound.kept.none in
-    let all : engine_ended (world_in (λ v. (g.dyn-1.0.entry v).1.meaning) c.args.self) ≡ all_ended (length gs) (world_by os hs gs s.ends.items []) =
+    let all : engine_ended (world_in (λ v. (g.dyn-1.0.entry v).1) c.args.self) ≡ all_ended (length gs) (world_by os hs gs s.ends.items []) =
     ap (λ es. all_ended (length gs) (world_by os hs gs es [])) (sym none) in
-    subst (λ bs. DriversFollow (λ v. (g.dyn-1.0.entry v).1.meaning) roles (members s.drivers) (engine_ended (world_in (λ v. (g.dyn-1.0.entry v).1.meaning) c.args.self)).events bs) (sym c.into_boxes.ensures.same)
-    (discarded-follow (λ v. (g.dyn-1.0.entry v).1.meaning) roles (members s.drivers) (members c.end_all.new.drivers) s.ends.items c.end_all.new.ends.items _
+    subst (λ bs. DriversFollow (λ v. (g.dyn-1.0.entry v).1) roles (members s.drivers) (engine_ended (world_in (λ v. (g.dyn-1.0.entry v).1) c.args.self)).events bs) (sym c.into_boxes.ensures.same)
+    (discarded-follow (λ v. (g.dyn-1.0.entry v).1) roles (members s.drivers) (members c.end_all.new.drivers) s.ends.items c.end_all.new.ends.items _
     none (ap (λ (w : RunWorld). w.events) (all ∙ c.end_all.ensures.ended [])) (c.end_all.ensures.moves roles))
 
 pub returns-clause-balanced : goal.returns-clause-balanced
 returns-clause-balanced g c =
     let s = c.args.self.machine.store in
-    let r : RunWorld = world_by (objects_of s.heap) (counts_of (λ v. (g.dyn-1.0.entry v).1.meaning) (members s.drivers)) (values_in s.globals) s.ends.items [] in
-    let p : AreGivenBack (states_of (λ v. (g.dyn-1.0.entry v).1.meaning) (members c.end_all.new.drivers)) = discarded _ r _ c.requires.sound.counted (c.end_all.ensures.ended []) refl c.end_all.ensures.ready.sound in
-    subst (λ bs. All IsBalanced (states_of (λ v. (g.dyn-1.0.entry v).1.meaning) bs)) (sym c.into_boxes.ensures.same) p.balanced
+    let r : RunWorld = world_by (objects_of s.heap) (counts_of (λ v. (g.dyn-1.0.entry v).1) (members s.drivers)) (values_in s.globals) s.ends.items [] in
+    let p : AreGivenBack (states_of (λ v. (g.dyn-1.0.entry v).1) (members c.end_all.new.drivers)) = discarded _ r _ c.requires.sound.counted (c.end_all.ensures.ended []) refl c.end_all.ensures.ready.sound in
+    subst (λ bs. All IsBalanced (states_of (λ v. (g.dyn-1.0.entry v).1) bs)) (sym c.into_boxes.ensures.same) p.balanced
 
 pub returns-clause-fresh : goal.returns-clause-fresh
 returns-clause-fresh g c =
     let s = c.args.self.machine.store in
-    let r : RunWorld = world_by (objects_of s.heap) (counts_of (λ v. (g.dyn-1.0.entry v).1.meaning) (members s.drivers)) (values_in s.globals) s.ends.items [] in
-    let p : AreGivenBack (states_of (λ v. (g.dyn-1.0.entry v).1.meaning) (members c.end_all.new.drivers)) = discarded _ r _ c.requires.sound.counted (c.end_all.ensures.ended []) refl c.end_all.ensures.ready.sound in
-    subst (λ bs. AreFresh (states_of (λ v. (g.dyn-1.0.entry v).1.meaning) bs)) (sym c.into_boxes.ensures.same) p.fresh
+    let r : RunWorld = world_by (objects_of s.heap) (counts_of (λ v. (g.dyn-1.0.entry v).1) (members s.drivers)) (values_in s.globals) s.ends.items [] in
+    let p : AreGivenBack (states_of (λ v. (g.dyn-1.0.entry v).1) (members c.end_all.new.drivers)) = discarded _ r _ c.requires.sound.counted (c.end_all.ensures.ended []) refl c.end_all.ensures.ready.sound in
+    subst (λ bs. AreFresh (states_of (λ v. (g.dyn-1.0.entry v).1) bs)) (sym c.into_boxes.ensures.same) p.fresh

@@ -7,7 +7,7 @@ use Rattle.ang_engine.proofs.engine.Engine.new.Goals as goal
 
 pub returns-in-Ok-clause-world : goal.returns-in-Ok-clause-world
 returns-in-Ok-clause-world g c =
-    world_begun (record { modules = c.in-Ok.modules; code = c.new.result }) (world_of (λ v. (g.dyn-1.0.entry v).1.meaning) c.machine_of.result.store) c.in-Ok.ensures.items c.machine_of.ensures.world
+    world_begun (record { modules = c.in-Ok.modules; code = c.new.result }) (world_of (λ v. (g.dyn-1.0.entry v).1) c.machine_of.result.store) c.in-Ok.ensures.items c.machine_of.ensures.world
 
 pub returns-in-Ok-clause-sound : goal.returns-in-Ok-clause-sound
 returns-in-Ok-clause-sound g c =

@@ -12,14 +12,14 @@ add_module-done-requires-clause-zipped g c = zip_length (IsSoundModule (registra
 pub returns-clause-applied : goal.returns-clause-applied
 returns-clause-applied g c =
     let s = c.args.self.now.machine.store in
-    let w = world_of (λ v. (g.dyn-1.0.entry v).1.meaning) s in
-    applied-done (λ v. (g.dyn-1.0.entry v).1.meaning) (registrations c.args.self.now) (world_in (λ v. (g.dyn-1.0.entry v).1.meaning) c.args.self.now) _ s (record s { globals = c.add_module-done.new.globals }) _ _
+    let w = world_of (λ v. (g.dyn-1.0.entry v).1) s in
+    applied-done (λ v. (g.dyn-1.0.entry v).1) (registrations c.args.self.now) (world_in (λ v. (g.dyn-1.0.entry v).1) c.args.self.now) _ s (record s { globals = c.add_module-done.new.globals }) _ _
     c.add_module-done.result c.ended.result c.ended.ensures.exact c.answer.ensures.exact (c.add_module-done.ensures.done w)
     (record { drivers = c.requires.sound.kept.drivers; alive = c.requires.sound.kept.alive; none = c.requires.sound.kept.none }) (c.add_module-done.ensures.counted w c.requires.sound.counted) refl
 
 pub returns-clause-sound : goal.returns-clause-sound
 returns-clause-sound g c =
-    let w = world_of (λ v. (g.dyn-1.0.entry v).1.meaning) c.args.self.now.machine.store in
+    let w = world_of (λ v. (g.dyn-1.0.entry v).1) c.args.self.now.machine.store in
     record {
       modules = c.add_module-done.ensures.sound (registrations c.args.self.now) c.requires.sound.modules;
       in_list = c.requires.sound.in_list;

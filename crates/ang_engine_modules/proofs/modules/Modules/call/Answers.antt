@@ -21,21 +21,21 @@ pub returns-clause-means : goal.returns-clause-means
 returns-clause-means g c =
     let x = c.self.inside in
     (call_ended x.table x.loaded.items c.args.self.now c.self.invariant c.self.view_is c.args.budget c.args.home c.args.number c.args.args.now
-    (world_of (λ v. (g.dyn-1.0.entry v).1.meaning) (lent c.args.machine.now c.args.events.now)) (world_of (λ v. (g.dyn-1.0.entry v).1.meaning) (lent c.run.new.machine c.run.new.events))
+    (world_of (λ v. (g.dyn-1.0.entry v).1) (lent c.args.machine.now c.args.events.now)) (world_of (λ v. (g.dyn-1.0.entry v).1) (lent c.run.new.machine c.run.new.events))
     c.run.result c.requires.counted c.requires.takes c.run.ensures.told).means
 
 pub returns-clause-asked : goal.returns-clause-asked
 returns-clause-asked g c =
     let x = c.self.inside in
     (call_ended x.table x.loaded.items c.args.self.now c.self.invariant c.self.view_is c.args.budget c.args.home c.args.number c.args.args.now
-    (world_of (λ v. (g.dyn-1.0.entry v).1.meaning) (lent c.args.machine.now c.args.events.now)) (world_of (λ v. (g.dyn-1.0.entry v).1.meaning) (lent c.run.new.machine c.run.new.events))
+    (world_of (λ v. (g.dyn-1.0.entry v).1) (lent c.args.machine.now c.args.events.now)) (world_of (λ v. (g.dyn-1.0.entry v).1) (lent c.run.new.machine c.run.new.events))
     c.run.result c.requires.counted c.requires.takes c.run.ensures.told).asked
 
 pub returns-clause-counted : goal.returns-clause-counted
 returns-clause-counted g c =
     let x = c.self.inside in
     (call_ended x.table x.loaded.items c.args.self.now c.self.invariant c.self.view_is c.args.budget c.args.home c.args.number c.args.args.now
-    (world_of (λ v. (g.dyn-1.0.entry v).1.meaning) (lent c.args.machine.now c.args.events.now)) (world_of (λ v. (g.dyn-1.0.entry v).1.meaning) (lent c.run.new.machine c.run.new.events))
+    (world_of (λ v. (g.dyn-1.0.entry v).1) (lent c.args.machine.now c.args.events.now)) (world_of (λ v. (g.dyn-1.0.entry v).1) (lent c.run.new.machine c.run.new.events))
     c.run.result c.requires.counted c.requires.takes c.run.ensures.told).counted
 
 pub returns-clause-moves : goal.returns-clause-moves

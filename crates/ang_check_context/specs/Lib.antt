@@ -1,0 +1,6 @@
+pub mod Access
+pub mod Casts
+pub mod Members
+pub mod Names
+pub mod Operands
+pub mod Scope

@@ -1,0 +1,21 @@
+//! What the expressions of a body stand in, and what is typed of them without a look at another
+//! expression: names, fields and properties, and casts (docs/LANGUAGE.md, "Expressions").
+#![tactic(auto)]
+
+mod casts;
+mod context;
+mod members;
+mod names;
+mod operands;
+mod receiver;
+mod scope;
+
+pub use casts::{cast, cast_type};
+pub use context::{
+    BodyContext, access_error, is_there, makers, may_reach, resolved, type_or_refusal,
+};
+pub use members::member_of;
+pub use names::named;
+pub use operands::types_of;
+pub use receiver::{Receiver, own_type, receiver_within, this, this_operand};
+pub use scope::{LocalVariable, Within};

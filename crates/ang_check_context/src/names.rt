@@ -1,0 +1,152 @@
+//! Bare names.
+ghost use Rattle.std.specs.Prelude.{◌≡◌, false, Some, IfOk, option_map};
+ghost use Rattle.ang_check_operand.specs.Refusals.{Gives};
+ghost use Rattle.ang_check_operand.specs.View.{view_operand};
+ghost use Rattle.ang_check_context.specs.Names as spec;
+
+use crate::context::{BodyContext, access_error, is_there, may_reach, resolved};
+use crate::scope::{LocalVariable, Within, last_named};
+use ang_check_operand::{Operand, Stop, Target, reading, refused, use_refused};
+use ang_check_uses::Resolution;
+use ang_kinds::ErrorKind;
+use ang_lex::Token;
+use ang_names_known::{FoundField, field_named, is_read_only};
+use ang_typed::{Site, Variable};
+use ang_types::{ArgType, Asks};
+use std::alloc::{AllocError, Global};
+
+fn variable_at(
+    alloc: Global,
+    name: &Token,
+    variable: Variable,
+    ty: ArgType,
+    read_only: bool,
+) -> Result<Operand, AllocError>
+    ensures exact { IfOk result
+        (λ a. view_operand a ≡ spec.variable_at name.now variable ty read_only) }
+{
+    let target = Target {
+        read_only,
+        bare: true,
+        name: *name,
+    };
+    reading(alloc, name.place, Site::Named(variable), ty, target)
+}
+
+fn value_use(
+    alloc: Global,
+    context: &BodyContext<'_>,
+    name: &Token,
+    is_there: bool,
+    resolution: Resolution,
+) -> Result<Operand, Stop>
+    ensures exact { Gives view_operand result
+        (spec.value_use context.now name.now is_there resolution) }
+{
+    match resolution {
+        Resolution::Variable(variable, ty, read_only) => {
+            Ok(variable_at(alloc, name, variable, ty, read_only)?)
+        }
+        Resolution::Refused(kind) => Err(use_refused(kind, name, Asks::Value, is_there)),
+        Resolution::Property(_) | Resolution::Call(_) | Resolution::Type(_) => {
+            Err(use_refused(ErrorKind::UnknownName, name, Asks::Value, is_there))
+        }
+    }
+}
+
+/// The field of this name that `this` has, with the body's class.
+fn field_within(context: &BodyContext<'_>, name: &[u8]) -> Option<(Within, FoundField)>
+    ensures exact { result ≡ spec.field_within context.now context.now.within name.now }
+{
+    match context.within() {
+        None => None,
+        Some(within) => match field_named(context.families(), within.family, name) {
+            None => None,
+            Some(field) => Some((within, field)),
+        },
+    }
+}
+
+fn own_field(
+    alloc: Global,
+    context: &BodyContext<'_>,
+    name: &Token,
+    within: Within,
+    field: FoundField,
+) -> Result<Operand, Stop>
+    ensures exact { Gives view_operand result
+        (spec.field_or_global context.now name.now false (Some (within, field))) }
+{
+    if !may_reach(context, field.owner, field.access) {
+        return Err(refused(access_error(field.access), name));
+    }
+    let read_only = is_read_only(field.written) || within.read_only;
+    let variable = Variable::Field(field.number);
+    Ok(variable_at(alloc, name, variable, field.written.ty, read_only)?)
+}
+
+fn field_or_global(
+    alloc: Global,
+    context: &BodyContext<'_>,
+    name: &Token,
+    is_there: bool,
+    found: Option<(Within, FoundField)>,
+) -> Result<Operand, Stop>
+    ensures exact { Gives view_operand result
+        (spec.field_or_global context.now name.now is_there found) }
+{
+    match found {
+        None => {
+            let resolution = resolved(alloc, context, name, &Asks::Value)?;
+            value_use(alloc, context, name, is_there, resolution)
+        }
+        Some((within, field)) => own_field(alloc, context, name, within, field),
+    }
+}
+
+fn local_named(
+    alloc: Global,
+    locals: &[LocalVariable<'_>],
+    token: &Token,
+    name: &[u8],
+) -> Result<Option<Operand>, AllocError>
+    ensures exact { IfOk result (λ found. option_map view_operand found
+        ≡ spec.local_named token.now name.now locals.now) }
+{
+    let Some(number) = last_named(locals, name) else {
+        return Ok(None);
+    };
+    let Some(local) = locals.get(number) else {
+        return Ok(None);
+    };
+    let variable = Variable::Local(number);
+    let operand = variable_at(alloc, token, variable, local.ty, local.read_only)?;
+    Ok(Some(operand))
+}
+
+/// A bare name that is not called: the innermost local or parameter, else a field of the class,
+/// else a global.
+///
+/// # Errors
+///
+/// At the name `Private` or `Protected` of a field that the body may not use, else what refuses a
+/// use of the name as a value: `UnknownName` where nothing has it. `Memory` where a growth was
+/// refused.
+#[tactic(auto, unfolding(crate::specs::Names::name_typing))]
+pub fn named(
+    alloc: Global,
+    context: &BodyContext<'_>,
+    locals: &[LocalVariable<'_>],
+    token: &Token,
+) -> Result<Operand, Stop>
+    ensures exact { Gives view_operand result (spec.name_typing context.now locals.now token.now) }
+{
+    let name = context.text_of(token);
+    match local_named(alloc, locals, token, name)? {
+        Some(operand) => Ok(operand),
+        None => {
+            let is_there = is_there(context, locals, name);
+            field_or_global(alloc, context, token, is_there, field_within(context, name))
+        }
+    }
+}

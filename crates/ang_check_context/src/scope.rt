@@ -1,0 +1,39 @@
+//! The parameters and locals that are alive, and their names.
+ghost use Rattle.std.specs.Prelude.{◌≡◌};
+ghost use Rattle.ang_check_context.specs.Scope as spec;
+
+use ang_names_known::Text;
+use ang_types::ArgType;
+
+/// A parameter or a local.
+#[derive(Drop)]
+pub struct LocalVariable<'a> {
+    /// Its name, empty for a parameter without one and for `this`.
+    pub name: Text<'a>,
+    /// Its type.
+    pub ty: ArgType,
+    /// Whether it can't be assigned.
+    pub read_only: bool,
+}
+
+/// The class in whose body an expression stands.
+#[derive(Clone, Copy, PartialEq, Eq, Debug)]
+pub struct Within {
+    /// The class's number among the families.
+    pub family: usize,
+    /// Whether `this` may not be changed.
+    pub read_only: bool,
+}
+
+/// The number of the innermost local or parameter of the name. The innermost one is the last.
+pub fn last_named(locals: &[LocalVariable<'_>], name: &[u8]) -> Option<usize>
+    ensures exact { result ≡ spec.last_named name.now 0 locals.now }
+{
+    let mut found = None;
+    for number in 0..locals.len() {
+        if locals[number].name.bytes() == name {
+            found = Some(number);
+        }
+    }
+    found
+}

@@ -1,0 +1,346 @@
+-- The slot of each method of the names is that of a method of its signature, which takes what it takes.
+use Rattle.std.specs.Prelude.{◌≡◌, ℕ, zero, suc, ◌+◌, ◌<◌, ◌==◌, nat_lt, Bool, true, false, not, ◌&&◌, cond, length, List, [], ◌∷◌, ◌++◌, map, bytes_eq, unwrap_or, option_map, Option, Some, None, slice_get}
+use Rattle.std.specs.List.{cons_option, filter_map, flat_map, position_or_len}
+use Rattle.std.specs.Cmp.Lexicographic.{pointwise}
+use Rattle.std.proofs.Common.{refl, ap, sym, ◌∙◌, subst, arith}
+use Rattle.std.proofs.Math.Bool.{beq}
+use Rattle.std.proofs.lemmas.Bool.{eq-eqb}
+use Rattle.std.proofs.lemmas.List.{map-append}
+use Rattle.std.proofs.lemmas.Option.{same_Some, slice_get_within, slice_get-map}
+use Rattle.ang_kinds.specs.declared.types.Pass.{Pass}
+use Rattle.ang_kinds.specs.declared.types.Pass.TheVariants as pass
+use Rattle.ang_tree.specs.Stmt.{Every}
+use Rattle.ang_types.specs.declared.arg_type.ArgType.{ArgType}
+use Rattle.ang_types.specs.declared.arg_type.ArgType.TheVariants as type
+use Rattle.ang_typed.specs.declared.program.Heading.{Heading}
+use Rattle.ang_typed.specs.declared.program.Parameter.{Parameter}
+use Rattle.ang_view.specs.Registration.{RegistrationList}
+use Rattle.ang_view.specs.Numbers.{primitive_number, pass_number}
+use Rattle.ang_meaning.specs.declared.routine.Passing.{Passing}
+use Rattle.ang_meaning.specs.declared.routine.Passing.TheVariants as passing
+use Rattle.ang_source.specs.Meaning.{referred, passing_by, passing_of}
+use Rattle.ang_names_known.specs.declared.names.Family.{Family}
+use Rattle.ang_names_known.specs.declared.names.Method.{Method}
+use Rattle.ang_names_known.specs.declared.names.Names.{Names}
+use Rattle.ang_names_known.specs.declared.names.ScriptFunction.{ScriptFunction}
+use Rattle.ang_names_known.specs.declared.names.ScriptParameter.{ScriptParameter}
+use Rattle.ang_names_known.specs.Items.{each_after}
+use Rattle.ang_names_known.specs.Lookup.{same_type, same_written, same_parameter, same_parameters}
+use Rattle.ang_names_known.specs.Spaces.{Space}
+use Rattle.ang_names_written.specs.Sources.{Source}
+use Rattle.ang_names_listed.specs.declared.listed.Declared.{Declared}
+use Rattle.ang_names_listed.specs.declared.listed.Member.{Member}
+use Rattle.ang_names_listed.specs.declared.listed.MemberKind.{MemberKind}
+use Rattle.ang_names_listed.specs.declared.listed.MemberKind.TheVariants as member
+use Rattle.ang_names_listed.specs.Declarations.{Declaring, declarations_of, families_of}
+use Rattle.ang_names.specs.Meant.{space_of_declared}
+use Rattle.ang_names.specs.Resolved.{heading_of as written_as, signature_by, signatures_of, same_signature, slot_of, with_bodies, body_members, methods_by, methods_after, families_after, functions_in, families_in, names_of}
+use Rattle.ang_check_body.specs.Typing.{typed_parameter}
+use Rattle.ang_check_bodies.specs.Bodies.{method_heading, method_headings}
+use Rattle.ang_check_sound.proofs.Items.{first_true, second_true, every_joined, every_at, at_front}
+use Rattle.ang_check_sound.proofs.Places.{in_second}
+
+-- ---- a test that a thing passes with itself
+
+same_number : (n : ℕ) → (n == n) ≡ true
+same_number n = eq-eqb n n refl
+
+same_truth : (b : Bool) → beq b b ≡ true
+same_truth true = refl
+same_truth false = refl
+
+both : (a b : Bool) → a ≡ true → b ≡ true → (a && b) ≡ true
+both true b e h = h
+both false b e h = cc
+
+own_type : (ty : ArgType) → same_type ty ty ≡ true
+own_type type.Void = refl
+own_type type.Null = refl
+own_type (type.Plain p) = same_number (primitive_number p)
+own_type (type.Object n c) = both (n == n) (beq c c) (same_number n) (same_truth c)
+own_type (type.Handle n c) = both (n == n) (beq c c) (same_number n) (same_truth c)
+
+own_parameter : (p : ScriptParameter) → same_parameter p p ≡ true
+own_parameter p =
+    let w = p.written in
+    both (same_written w w) (pass_number p.pass == pass_number p.pass)
+    (both (same_type w.ty w.ty && beq w.constant w.constant) (beq w.const_handle w.const_handle)
+    (both (same_type w.ty w.ty) (beq w.constant w.constant) (own_type w.ty) (same_truth w.constant)) (same_truth w.const_handle))
+    (same_number (pass_number p.pass))
+
+each_own : {A : Type 0} (test : A → A → Bool) → ((a : A) → test a a ≡ true) → (xs : List A) → pointwise test xs xs ≡ true
+each_own test h [] = refl
+each_own test h (x ∷ xs) = both (test x x) (pointwise test xs xs) (h x) (each_own test h xs)
+
+own_signature : (s : ScriptFunction × Bool) → same_signature s s ≡ true
+own_signature s =
+    both (bytes_eq s.0.name s.0.name && same_parameters s.0.params s.0.params) (beq s.1 s.1)
+    (both (bytes_eq s.0.name s.0.name) (same_parameters s.0.params s.0.params) (each_own _ same_number s.0.name)
+    (each_own same_parameter own_parameter s.0.params)) (same_truth s.1)
+
+-- ---- what parameters that are the same take
+
+same_pass : (p q : Pass) → (pass_number p == pass_number q) ≡ true → p ≡ q
+same_pass pass.Value pass.Value e = refl
+same_pass pass.Value pass.RefIn e = cc
+same_pass pass.Value pass.RefOut e = cc
+same_pass pass.Value pass.RefInOut e = cc
+same_pass pass.RefIn pass.Value e = cc
+same_pass pass.RefIn pass.RefIn e = refl
+same_pass pass.RefIn pass.RefOut e = cc
+same_pass pass.RefIn pass.RefInOut e = cc
+same_pass pass.RefOut pass.Value e = cc
+same_pass pass.RefOut pass.RefIn e = cc
+same_pass pass.RefOut pass.RefOut e = refl
+same_pass pass.RefOut pass.RefInOut e = cc
+same_pass pass.RefInOut pass.Value e = cc
+same_pass pass.RefInOut pass.RefIn e = cc
+same_pass pass.RefInOut pass.RefOut e = cc
+same_pass pass.RefInOut pass.RefInOut e = refl
+
+same_referred : (x y : ArgType) → same_type x y ≡ true → referred x ≡ referred y
+same_referred type.Void type.Void e = refl
+same_referred type.Void type.Null e = refl
+same_referred type.Void (type.Plain q) e = refl
+same_referred type.Void (type.Object m d) e = cc
+same_referred type.Void (type.Handle m d) e = refl
+same_referred type.Null type.Void e = refl
+same_referred type.Null type.Null e = refl
+same_referred type.Null (type.Plain q) e = refl
+same_referred type.Null (type.Object m d) e = cc
+same_referred type.Null (type.Handle m d) e = refl
+same_referred (type.Plain p) type.Void e = refl
+same_referred (type.Plain p) type.Null e = refl
+same_referred (type.Plain p) (type.Plain q) e = refl
+same_referred (type.Plain p) (type.Object m d) e = cc
+same_referred (type.Plain p) (type.Handle m d) e = refl
+same_referred (type.Object n c) type.Void e = cc
+same_referred (type.Object n c) type.Null e = cc
+same_referred (type.Object n c) (type.Plain q) e = cc
+same_referred (type.Object n c) (type.Object m d) e = refl
+same_referred (type.Object n c) (type.Handle m d) e = cc
+same_referred (type.Handle n c) type.Void e = refl
+same_referred (type.Handle n c) type.Null e = refl
+same_referred (type.Handle n c) (type.Plain q) e = refl
+same_referred (type.Handle n c) (type.Object m d) e = cc
+same_referred (type.Handle n c) (type.Handle m d) e = refl
+
+passed_alike : (way : Pass) (x y : ArgType) → referred x ≡ referred y → passing_by way x ≡ passing_by way y
+passed_alike pass.Value x y e = refl
+passed_alike pass.RefIn x y e = e
+passed_alike pass.RefOut x y e = refl
+passed_alike pass.RefInOut x y e = e
+
+abbrev taken_by : List ScriptParameter → List Passing
+taken_by ps = map (λ (p : Parameter). passing_of p) (map typed_parameter ps)
+
+one_alike : (p q : ScriptParameter) → same_parameter p q ≡ true → passing_by p.pass p.written.ty ≡ passing_by q.pass q.written.ty
+one_alike p q e =
+    let written = first_true (same_written p.written q.written) (pass_number p.pass == pass_number q.pass) e in
+    let ways = same_pass p.pass q.pass (second_true (same_written p.written q.written) (pass_number p.pass == pass_number q.pass) e) in
+    let types = same_referred p.written.ty q.written.ty
+    (first_true (same_type p.written.ty q.written.ty) (beq p.written.constant q.written.constant)
+    (first_true (same_type p.written.ty q.written.ty && beq p.written.constant q.written.constant) (beq p.written.const_handle q.written.const_handle) written)) in
+    passed_alike p.pass p.written.ty q.written.ty types ∙ ap (λ way. passing_by way q.written.ty) ways
+
+same_taken : (ps qs : List ScriptParameter) → same_parameters ps qs ≡ true → taken_by ps ≡ taken_by qs
+same_taken [] [] e = refl
+same_taken [] (q ∷ qs) e = cc
+same_taken (p ∷ ps) [] e = cc
+same_taken (p ∷ ps) (q ∷ qs) e =
+    ap (λ way. way ∷ taken_by ps) (one_alike p q (first_true (same_parameter p q) (pointwise same_parameter ps qs) e))
+    ∙ ap (λ ways. passing_by q.pass q.written.ty ∷ ways) (same_taken ps qs (second_true (same_parameter p q) (pointwise same_parameter ps qs) e))
+
+-- what a method of this signature takes, its object first
+abbrev pub taken : ScriptFunction × Bool → List Passing
+taken s = passing.Object ∷ taken_by s.0.params
+
+alike : (a b : ScriptFunction × Bool) → same_signature a b ≡ true → taken a ≡ taken b
+alike a b e =
+    let front = first_true (bytes_eq a.0.name b.0.name && same_parameters a.0.params b.0.params) (beq a.1 b.1) e in
+    ap (λ ways. passing.Object ∷ ways)
+    (same_taken a.0.params b.0.params (second_true (bytes_eq a.0.name b.0.name) (same_parameters a.0.params b.0.params) front))
+
+-- ---- the first item that passes a test
+
+record Passes {A : Type 0} (p : A → Bool) (xs : List A) (k : ℕ) : Type 0 where
+  item : A
+  there : slice_get xs k ≡ Some item
+  passes : p item ≡ true
+
+passes_behind : {A : Type 0} (p : A → Bool) (x : A) (xs : List A) (k : ℕ) (b : Bool) → p x ≡ b → (b ≡ false → Passes p xs k)
+    → Passes p (x ∷ xs) (cond (not b) (1 + k) 0)
+passes_behind p x xs k true e h = record { item = x; there = refl; passes = e }
+passes_behind p x xs k false e h =
+    let r = h refl in
+    let next : suc k ≡ 1 + k = omega arith in
+    record { item = r.item; there = subst (λ n. slice_get (x ∷ xs) n ≡ Some r.item) next r.there; passes = r.passes }
+
+first_passing : {A : Type 0} (p : A → Bool) (xs : List A) (i : ℕ) (a : A) → slice_get xs i ≡ Some a → p a ≡ true → Passes p xs (position_or_len p xs)
+first_passing p [] i a e h = cc
+first_passing p (x ∷ xs) zero a e h =
+    let passes : p x ≡ true = ap p (same_Some x a e) ∙ h in
+    passes_behind p x xs (position_or_len p xs) (p x) refl (λ no. cc)
+first_passing p (x ∷ xs) (suc i) a e h = passes_behind p x xs (position_or_len p xs) (p x) refl (λ no. first_passing p xs i a e h)
+
+is_below : (k n : ℕ) → k < n → nat_lt k n ≡ true
+is_below k n h = search arith
+
+-- the number of the first item that passes, where one does
+at_first : (k n d : ℕ) → k < n → unwrap_or (cond (nat_lt k n) (Some k) None) d ≡ k
+at_first k n d h = ap (λ b. unwrap_or (cond b (Some k) None) d) (is_below k n h)
+
+-- ---- the methods of the declarations are those of the names
+
+abbrev pub signature : Method → ScriptFunction × Bool
+signature y = (y.function, y.read_only)
+
+abbrev signatures : List Family → List (ScriptFunction × Bool)
+signatures fs = flat_map (λ (f : Family). map signature f.methods) fs
+
+module _ (E : Space) (all : List (ScriptFunction × Bool)) where
+  abbrev IsSlotted : Method → Type 0
+  IsSlotted y = y.slot ≡ slot_of all (signature y)
+
+  abbrev signed_members : Declaring → List Member → List (ScriptFunction × Bool)
+  signed_members d ms = filter_map (λ (m : Member). signature_by E d m m.kind) ms
+
+  kind_signed : (d : Declaring) (m : Member) (n : ℕ) (kind : MemberKind) (ms : List Method) (others : List (ScriptFunction × Bool)) → map signature ms ≡ others
+      → map signature (methods_by E all d m n kind ++ ms) ≡ cons_option (signature_by E d m kind) others
+  kind_signed d m n (member.Field y) ms others e = e
+  kind_signed d m n (member.Method y ps a) ms others e =
+      ap (λ (xs : List (ScriptFunction × Bool)). (written_as E d.origin d.text m.name y ps, a.read_only) ∷ xs) e
+  kind_signed d m n (member.Constructor ps) ms others e = e
+
+  members_signed : (d : Declaring) (first : ℕ) (before ms : List Member)
+      → map signature (each_after (methods_after E all d first) before ms) ≡ signed_members d ms
+  members_signed d first before [] = refl
+  members_signed d first before (m ∷ ms) =
+      kind_signed d m (first + length (with_bodies d.shape.is_class before)) m.kind (each_after (methods_after E all d first) (before ++ m ∷ []) ms)
+      (signed_members d ms) (members_signed d first (before ++ m ∷ []) ms)
+
+  kind_slotted : (d : Declaring) (m : Member) (n : ℕ) (kind : MemberKind) → Every IsSlotted (methods_by E all d m n kind)
+  kind_slotted d m n (member.Field y) = tt
+  kind_slotted d m n (member.Method y ps a) = (refl, tt)
+  kind_slotted d m n (member.Constructor ps) = tt
+
+  members_slotted : (d : Declaring) (first : ℕ) (before ms : List Member) → Every IsSlotted (each_after (methods_after E all d first) before ms)
+  members_slotted d first before [] = tt
+  members_slotted d first before (m ∷ ms) =
+      let n = first + length (with_bodies d.shape.is_class before) in
+      every_joined IsSlotted (methods_by E all d m n m.kind) (each_after (methods_after E all d first) (before ++ m ∷ []) ms) (kind_slotted d m n m.kind)
+      (members_slotted d first (before ++ m ∷ []) ms)
+
+  module _ (families : List Declaring) (functions : ℕ) where
+    abbrev families_from : List Declaring → List Declaring → List Family
+    families_from front ds = each_after (families_after E families all functions) front ds
+
+    all_signed : (front ds : List Declaring) → signatures (families_from front ds) ≡ flat_map (λ (d : Declaring). signed_members d d.shape.members) ds
+    all_signed front [] = refl
+    all_signed front (d ∷ ds) =
+        let first = functions + length (flat_map body_members front) in
+        let rest = signatures (families_from (front ++ d ∷ []) ds) in
+        ap (λ (xs : List (ScriptFunction × Bool)). xs ++ rest) (members_signed d first [] d.shape.members)
+        ∙ ap (λ (xs : List (ScriptFunction × Bool)). signed_members d d.shape.members ++ xs) (all_signed (front ++ d ∷ []) ds)
+
+    all_slotted : (front ds : List Declaring) → Every (λ (f : Family). Every IsSlotted f.methods) (families_from front ds)
+    all_slotted front [] = tt
+    all_slotted front (d ∷ ds) =
+        (members_slotted d (functions + length (flat_map body_members front)) [] d.shape.members, all_slotted (front ++ d ∷ []) ds)
+
+-- ---- the headings of their methods
+
+abbrev taken_in : Heading → List Passing
+taken_in h = map (λ (p : Parameter). passing_of p) h.parameters
+
+methods_headed : (c : ℕ) (ms : List Method) → map taken_in (map (method_heading c) ms) ≡ map taken (map signature ms)
+methods_headed c [] = refl
+methods_headed c (y ∷ ms) = ap (λ (xs : List (List Passing)). taken (signature y) ∷ xs) (methods_headed c ms)
+
+abbrev headings_after : List Family → List Family → List Heading
+headings_after before fs = each_after (λ (front : List Family) (f : Family). map (method_heading (length front)) f.methods) before fs
+
+all_headed : (before fs : List Family) → map taken_in (headings_after before fs) ≡ map taken (signatures fs)
+all_headed before [] = refl
+all_headed before (f ∷ fs) =
+    let own = map (method_heading (length before)) f.methods in
+    let rest = headings_after (before ++ f ∷ []) fs in
+    map-append taken_in own rest
+    ∙ ap (λ (xs : List (List Passing)). xs ++ map taken_in rest) (methods_headed (length before) f.methods)
+    ∙ ap (λ (xs : List (List Passing)). map taken (map signature f.methods) ++ xs) (all_headed (before ++ f ∷ []) fs)
+    ∙ sym (map-append taken (map signature f.methods) (signatures fs))
+
+-- ---- each method has a slot
+
+record Stands (fs : List Family) (y : Method) : Type 0 where
+  number : ℕ
+  there : slice_get (signatures fs) number ≡ Some (signature y)
+
+method_stands : (fs : List Family) (c : ℕ) (f : Family) (m : ℕ) (y : Method) → slice_get fs c ≡ Some f → slice_get f.methods m ≡ Some y → Stands fs y
+method_stands [] c f m y e h = cc
+method_stands (g ∷ fs) zero f m y e h =
+    let own : slice_get g.methods m ≡ Some y = ap (λ (x : Family). slice_get x.methods m) (same_Some g f e) ∙ h in
+    record {
+      number = m;
+      there = at_front (map signature g.methods) (signatures fs) m (signature y) (slice_get-map signature g.methods m ∙ ap (option_map signature) own);
+    }
+method_stands (g ∷ fs) (suc c) f m y e h =
+    let r = method_stands fs c f m y e h in
+    record {
+      number = length (map signature g.methods) + r.number;
+      there = in_second (map signature g.methods) (signatures fs) (length (map signature g.methods)) r.number (signature y) refl r.there;
+    }
+
+record IsHeaded (hs : List Heading) (k : ℕ) (ways : List Passing) : Type 0 where
+  heading : Heading
+  there : slice_get hs k ≡ Some heading
+  takes : taken_in heading ≡ ways
+
+heading_of : (hs : List Heading) (k : ℕ) (o : Option Heading) (ways : List Passing) → slice_get hs k ≡ o → option_map taken_in o ≡ Some ways → IsHeaded hs k ways
+heading_of hs k None ways e h = cc
+heading_of hs k (Some x) ways e h = record { heading = x; there = e; takes = same_Some (taken_in x) ways h }
+
+-- The slot of a method is that of a method which takes what it takes.
+pub record HasSlot (fs : List Family) (y : Method) : Type 0 where
+  pub heading : List Parameter
+  pub slot_is : slice_get (map (λ (h : Heading). h.parameters) (method_headings fs)) y.slot ≡ Some heading
+  pub takes : map (λ (p : Parameter). passing_of p) heading ≡ taken (signature y)
+
+slot_there : (fs : List Family) (all : List (ScriptFunction × Bool)) (y : Method) → signatures fs ≡ all → y.slot ≡ slot_of all (signature y) → Stands fs y
+    → HasSlot fs y
+slot_there fs all y same slotted stands =
+    let s = signature y in
+    let k = position_or_len (same_signature s) all in
+    let first = first_passing (same_signature s) all stands.number s (ap (λ (xs : List (ScriptFunction × Bool)). slice_get xs stands.number) (sym same) ∙ stands.there)
+    (own_signature s) in
+    let slot : y.slot ≡ k = slotted ∙ at_first k (length all) (length all) (slice_get_within all k first.item first.there) in
+    let hs = method_headings fs in
+    let taken_there : option_map taken_in (slice_get hs k) ≡ Some (taken first.item) =
+    sym (slice_get-map taken_in hs k) ∙ ap (λ (xs : List (List Passing)). slice_get xs k) (all_headed [] fs ∙ ap (map taken) same)
+    ∙ slice_get-map taken all k ∙ ap (option_map taken) first.there in
+    let h = heading_of hs k (slice_get hs k) (taken first.item) refl taken_there in
+    record {
+      heading = h.heading.parameters;
+      slot_is = ap (λ n. slice_get (map (λ (x : Heading). x.parameters) hs) n) slot ∙ slice_get-map (λ (x : Heading). x.parameters) hs k
+          ∙ ap (option_map (λ (x : Heading). x.parameters)) h.there;
+      takes = h.takes ∙ sym (alike s first.item first.passes);
+    }
+
+slots_of : (V : RegistrationList) (ds : List Declared) (c : ℕ) (f : Family) (m : ℕ) (y : Method) → slice_get (names_of V ds).families c ≡ Some f
+    → slice_get f.methods m ≡ Some y → HasSlot (names_of V ds).families y
+unfolding names_of families_in signatures_of
+slots_of V ds c f m y e h =
+    let E = space_of_declared V ds in
+    let families = families_of ds in
+    let all = signatures_of E families in
+    let count = length (functions_in E ds) in
+    let fs = families_from E all families count [] families in
+    let slotted = every_at (IsSlotted E all) f.methods m y
+    (every_at (λ (g : Family). Every (IsSlotted E all) g.methods) fs c f (all_slotted E all families count [] families) e) h in
+    slot_there fs all y (all_signed E all families count [] families) slotted (method_stands fs c f m y e h)
+
+pub has_slot : (V : RegistrationList) (names : Names) (sources : List Source) → names ≡ names_of V (declarations_of sources) → (c : ℕ) (f : Family)
+    → slice_get names.families c ≡ Some f → (m : ℕ) (y : Method) → slice_get f.methods m ≡ Some y → HasSlot names.families y
+has_slot V names sources same c f e m y h =
+    subst (λ (n : Names). HasSlot n.families y) (sym same)
+    (slots_of V (declarations_of sources) c f m y (ap (λ (n : Names). slice_get n.families c) (sym same) ∙ e) h)

@@ -1,8 +1,0 @@
-use Rattle.std.proofs.Common.{◌≡◌, ◌++◌, drop}
-use Rattle.ang_check_typing.specs.Calls as spec
-use Rattle.ang_check_operand.specs.View.{view_operands}
-use Rattle.ang_check_typing.proofs.arguments.types_of.Given as goal
-
-abbrev pub invariant-loop-operand : goal.invariant-loop-operand
-invariant-loop-operand l =
-    spec.types_of (view_operands l.operands) ≡ l.types.items ++ spec.types_of (view_operands (drop l.operand-index l.operands))

@@ -1,0 +1,4 @@
+pub mod Tree
+pub mod Plain
+pub mod Lowered
+pub mod Kinds

@@ -1,0 +1,229 @@
+//! Variables and members of objects: where they stand, how they are read, stored and changed.
+ghost use Rattle.std.specs.Prelude.{◌≡◌, ◌+◌, ◌-◌, suc, reverse, IfOk, OnOk};
+ghost use Rattle.ang_typed.specs.View.{view_arg, view_args};
+ghost use Rattle.ang_lower_expr.specs.Plain.{plain_expr};
+ghost use Rattle.ang_lower_expr.specs.Lowered as spec;
+
+use crate::build::{Pair, binary, nullary, unary};
+use crate::operators::brought_to;
+use ang_core::Expression;
+use ang_meaning::{Change, Operation, Spot, Target};
+use ang_typed::{Argument, Member, Variable};
+use std::alloc::{AllocError, Global};
+
+/// The place of a local among `alive` ones, counted from the innermost one. Where it is not alive, which no
+/// checked tree has, the answer is want of memory.
+fn place(alive: usize, local: usize) -> Result<usize, AllocError>
+    ensures exact { IfOk result (λ i. i ≡ alive - suc local) }
+{
+    if local < alive {
+        Ok(alive - local - 1)
+    } else {
+        Err(AllocError)
+    }
+}
+
+/// A number of a function or a global in 32 bits. Where it has more, as no module can, the answer is want of
+/// memory.
+pub fn small(number: usize) -> Result<u32, AllocError>
+    ensures exact { IfOk result (λ n. n ≡ number) }
+{
+    match u32::try_from(number) {
+        Ok(n) => Ok(n),
+        Err(_) => Err(AllocError),
+    }
+}
+
+/// `this`, which is local 0.
+fn this(alive: usize) -> Result<Expression, AllocError>
+    ensures exact { IfOk result (λ x. plain_expr x ≡ spec.this_at alive) }
+{
+    let place = place(alive, 0)?;
+    Ok(Expression::Local(place))
+}
+
+/// An operation on a value and `this`.
+fn with_this(
+    alloc: Global,
+    alive: usize,
+    operation: Operation,
+    value: Expression,
+) -> Result<Expression, AllocError>
+    ensures exact { IfOk result (λ x. plain_expr x ≡ spec.binary operation (plain_expr value) (spec.this_at alive)) }
+{
+    let left = value;
+    let right = this(alive)?;
+    binary(alloc, operation, Pair { left, right })
+}
+
+/// What reads a member of its operand.
+pub fn reading(member: &Member) -> Result<Operation, AllocError>
+    ensures exact { IfOk result (λ o. o ≡ spec.reading member.now) }
+{
+    match member {
+        Member::Field(i) => {
+            let number = small(*i)?;
+            Ok(Operation::FieldGet(number))
+        }
+        Member::Property(host) => Ok(Operation::Read(host.entity)),
+    }
+}
+
+/// What stores its first operand into a member of the second.
+pub fn writing(member: &Member) -> Result<Operation, AllocError>
+    ensures exact { IfOk result (λ o. o ≡ spec.writing member.now) }
+{
+    match member {
+        Member::Field(i) => {
+            let number = small(*i)?;
+            Ok(Operation::FieldSet(number))
+        }
+        Member::Property(host) => Ok(Operation::Write(host.entity)),
+    }
+}
+
+/// What changes a member of its second operand by the first.
+pub fn altering(member: &Member, by: Change) -> Result<Operation, AllocError>
+    ensures exact { IfOk result (λ o. o ≡ spec.altering member.now by) }
+{
+    match member {
+        Member::Field(i) => {
+            let number = small(*i)?;
+            Ok(Operation::FieldChange(number, by))
+        }
+        Member::Property(host) => Ok(Operation::Alter(host.entity, by)),
+    }
+}
+
+/// A variable's value, where so many locals are alive.
+pub fn read(alloc: Global, alive: usize, variable: &Variable) -> Result<Expression, AllocError>
+    ensures exact { IfOk result (λ x. plain_expr x ≡ spec.read alive variable.now) }
+{
+    match variable {
+        Variable::Local(i) => {
+            let place = place(alive, *i)?;
+            Ok(Expression::Local(place))
+        }
+        Variable::Global(g) => {
+            let number = small(*g)?;
+            Ok(nullary(alloc, Operation::GlobalGet(number)))
+        }
+        Variable::Property(host) => Ok(nullary(alloc, Operation::Read(host.entity))),
+        Variable::Field(i) => {
+            let number = small(*i)?;
+            let object = this(alive)?;
+            unary(alloc, Operation::FieldGet(number), object)
+        }
+    }
+}
+
+/// A store into a variable.
+pub fn store(
+    alloc: Global,
+    alive: usize,
+    variable: &Variable,
+    value: Expression,
+) -> Result<Expression, AllocError>
+    ensures exact { IfOk result (λ x. plain_expr x ≡ spec.stored alive variable.now (plain_expr value)) }
+{
+    match variable {
+        Variable::Local(i) => {
+            let place = place(alive, *i)?;
+            let value = Box::new(alloc, value)?;
+            Ok(Expression::Assign(place, value))
+        }
+        Variable::Global(g) => {
+            let number = small(*g)?;
+            unary(alloc, Operation::GlobalSet(number), value)
+        }
+        Variable::Property(host) => unary(alloc, Operation::Write(host.entity), value),
+        Variable::Field(i) => {
+            let number = small(*i)?;
+            with_this(alloc, alive, Operation::FieldSet(number), value)
+        }
+    }
+}
+
+/// A change of a variable by an operand.
+pub fn change(
+    alloc: Global,
+    alive: usize,
+    variable: &Variable,
+    by: Change,
+    value: Expression,
+) -> Result<Expression, AllocError>
+    ensures exact { IfOk result (λ x. plain_expr x ≡ spec.changed alive variable.now by (plain_expr value)) }
+{
+    match variable {
+        Variable::Local(i) => {
+            let place = place(alive, *i)?;
+            let value = Box::new(alloc, value)?;
+            Ok(Expression::Change(place, by, value))
+        }
+        Variable::Global(g) => {
+            let number = small(*g)?;
+            unary(alloc, Operation::GlobalChange(number, by), value)
+        }
+        Variable::Property(host) => unary(alloc, Operation::Alter(host.entity, by), value),
+        Variable::Field(i) => {
+            let number = small(*i)?;
+            with_this(alloc, alive, Operation::FieldChange(number, by), value)
+        }
+    }
+}
+
+/// Where a variable stands that an `&out` value moves into. A host property is none, which no checked tree
+/// has there.
+fn spot(alive: usize, variable: &Variable) -> Result<Spot, AllocError>
+    ensures exact { IfOk result (λ s. s ≡ spec.spot_of alive variable.now) }
+{
+    match variable {
+        Variable::Local(i) => {
+            let place = place(alive, *i)?;
+            Ok(Spot::Local(place))
+        }
+        Variable::Global(g) => {
+            let number = small(*g)?;
+            Ok(Spot::Global(number))
+        }
+        Variable::Property(_) => Err(AllocError),
+        Variable::Field(i) => {
+            let object = place(alive, 0)?;
+            let field = small(*i)?;
+            Ok(Spot::Field { object, field })
+        }
+    }
+}
+
+// The target of one argument behind those that there are, if it is an `&out` one.
+fn add_target(alive: usize, argument: &Argument, found: &mut Vec<Target>) -> Result<(), AllocError>
+    ensures exact { OnOk result (reverse found.new.items ≡ spec.with_target alive (view_arg argument.now) (reverse found.old.items)) }
+{
+    match argument {
+        Argument::Value { .. } => Ok(()),
+        Argument::Out { variable, to, .. } => {
+            let spot = spot(alive, variable)?;
+            found.push(Target {
+                spot,
+                to: brought_to(to),
+            })?;
+            Ok(())
+        }
+    }
+}
+
+/// The targets of a call's arguments, the last one first.
+pub fn targets(
+    alloc: Global,
+    alive: usize,
+    arguments: &[Argument],
+) -> Result<Vec<Target>, AllocError>
+    ensures exact { IfOk result (λ v. v.items ≡ spec.targets_of alive (view_args arguments.now)) }
+{
+    let mut found = Vec::new(alloc);
+    for argument in arguments {
+        add_target(alive, argument, &mut found)?;
+    }
+    found.reverse();
+    Ok(found)
+}

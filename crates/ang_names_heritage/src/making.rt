@@ -1,0 +1,136 @@
+//! Tables that are made row by row, each behind those before it.
+ghost use Rattle.std.specs.Prelude.{ℕ, Bool, ◌≡◌, ◌==◌, ◌||◌, ◌++◌, ◌*◌, ◌<◌, ◌≤◌, Some, None, find, if◌then◌else◌, length, IfOk, OnOk};
+ghost use Rattle.std.specs.List.{list_any, range_with_len};
+ghost use Rattle.std.specs.Option.{option_or};
+ghost use Rattle.ang_names_heritage.specs.Graphs.{leads};
+ghost use Rattle.ang_names_heritage.specs.Tables.{Shows, edges_of};
+ghost use Rattle.ang_names_heritage.specs.Tables as tables;
+
+use crate::close;
+use crate::orders::{has_edge, is_reached};
+use std::alloc::{AllocError, Global};
+
+/// Puts a row of `n` entries behind those of a table, in which these places are marked.
+///
+/// The only error is want of memory.
+pub fn push_row(table: &mut Vec<bool>, n: usize, places: &[usize]) -> Result<(), AllocError>
+    ensures pushed { OnOk result (table.new.items
+        ≡ table.old.items ++ tables.row_below (λ j. list_any (λ k. k == j) places.now) n) }
+{
+    for j in 0..n {
+        table.push(places.contains(&j))?;
+    }
+    Ok(())
+}
+
+/// Puts a row behind those of a table, with all marks that these places have in their rows of another table.
+///
+/// The only error is want of memory.
+pub fn push_joined_row(
+    table: &mut Vec<bool>,
+    marks: &[bool],
+    n: usize,
+    places: &[usize],
+) -> Result<(), AllocError>
+    requires small { n ≤ 256 }
+    requires size { length marks.now ≡ n * n }
+    ensures pushed { OnOk result (table.new.items
+        ≡ table.old.items ++ tables.row_below (tables.is_reached marks.now n places.now) n) }
+{
+    for j in 0..n {
+        table.push(is_reached(marks, n, places, j))?;
+    }
+    Ok(())
+}
+
+/// Puts a row behind those of a table, with the marks of row `i` of another one, and with what leads to one of those by a
+/// table that `close` has closed.
+///
+/// The only error is want of memory.
+pub fn push_spread_row(
+    table: &mut Vec<bool>,
+    marks: &[bool],
+    closed: &[bool],
+    n: usize,
+    i: usize,
+) -> Result<(), AllocError>
+    requires small { n ≤ 256 }
+    requires marks { length marks.now ≡ n * n }
+    requires closed { length closed.now ≡ n * n }
+    ensures pushed { OnOk result (table.new.items
+        ≡ table.old.items ++ tables.row_below (tables.is_spread marks.now closed.now n i) n) }
+{
+    for j in 0..n {
+        table.push(is_spread(marks, closed, n, i, j))?;
+    }
+    Ok(())
+}
+
+/// Whether place `j` is marked in row `i`, or leads to a place that is.
+fn is_spread(marks: &[bool], closed: &[bool], n: usize, i: usize, j: usize) -> bool
+    requires small { n ≤ 256 }
+    requires marks { length marks.now ≡ n * n }
+    requires closed { length closed.now ≡ n * n }
+    ensures exact { result ≡ tables.is_spread marks.now closed.now n i j }
+{
+    for d in 0..n {
+        if has_edge(marks, n, i, d) && is_or_leads(closed, n, j, d) {
+            return true;
+        }
+    }
+    false
+}
+
+/// Whether place `j` is place `d`, or leads to it.
+fn is_or_leads(closed: &[bool], n: usize, j: usize, d: usize) -> bool
+    requires small { n ≤ 256 }
+    requires closed { length closed.now ≡ n * n }
+    ensures exact { result ≡ (j == d || edges_of closed.now n j d) }
+{
+    j == d || has_edge(closed, n, j, d)
+}
+
+/// A copy of a table that is closed: where the table shows some edges, the copy shows what leads to what by them.
+///
+/// The only error is want of memory.
+pub fn closed(alloc: Global, table: &[bool], n: usize) -> Result<Vec<bool>, AllocError>
+    requires small { n ≤ 256 }
+    requires size { length table.now ≡ n * n }
+    ensures exact { (e : ℕ → ℕ → Bool) → Shows table.now n e →
+        IfOk result (λ t. Shows t.items n (leads e n)) }
+{
+    let mut copy = Vec::from_slice(alloc, table)?;
+    close_all(&mut copy, n);
+    Ok(copy)
+}
+
+fn close_all(table: &mut Vec<bool>, n: usize)
+    requires small { n ≤ 256 }
+    requires size { length table.old.items ≡ n * n }
+    ensures exact { Shows table.new.items n (leads (edges_of table.old.items n) n) }
+{
+    close(table.as_mut_slice(), n);
+}
+
+/// The first place that an edge leads to from place `i`. It takes no memory.
+pub fn first_of(edges: &[bool], n: usize, i: usize) -> Option<usize>
+    requires small { n ≤ 256 }
+    requires there { i < n }
+    requires size { length edges.now ≡ n * n }
+    ensures exact { (e : ℕ → ℕ → Bool) → Shows edges.now n e → result ≡ find (e i) (range_with_len 0 n) }
+{
+    let mut first = None;
+    for j in 0..n {
+        first = first_with(first, has_edge(edges, n, i, j), j);
+    }
+    first
+}
+
+fn first_with(first: Option<usize>, is_edge: bool, j: usize) -> Option<usize>
+    ensures exact { result ≡ option_or first (if is_edge then Some j else None) }
+{
+    match first {
+        Some(place) => Some(place),
+        None => { if is_edge { Some(j) } else { None } }
+    }
+}
