@@ -57,7 +57,7 @@ one_silent : (script : ℕ) (text : List ℕ) (n : ℕ) (d : Decl) (ds : List De
     → filter_map declaring_of (declared_at script text n d ++ ds) ≡ []
 one_silent script text n (class final word x bases left members right) ds e h = cc
 one_silent script text n (interface word x bases left methods right) ds e h = cc
-one_silent script text n (import word y x ps from module_name semicolon) ds e h = cc
+one_silent script text n (import word y x ps from module_name semicolon) ds e h = h
 one_silent script text n (function y x ps b) ds e h = h
 one_silent script text n (globals vs) ds e h = globals_silent script text n vs.declared_type 0 vs.items ds h
 one_silent script text n (empty semicolon) ds e h = h

@@ -23,8 +23,8 @@ ghost use Rattle.ang_check_sound.specs.Built.{IsBuiltContext, HasThis};
 /// The resolved tree of scripts without errors, with the names that `declare` gives for them, is sound: its
 /// locals are alive, its functions and globals are there, each call has an argument for each parameter, and what
 /// it asks the host for is an entity of the view, of the kind that is asked: a function, a factory or a method
-/// that is called, or a property, which is not written where it is declared `const`. Classes, interfaces and
-/// imports are beyond what is built, and errors of their declarations (`ang_names_written::not_yet_errors`).
+/// that is called, or a property, which is not written where it is declared `const`. Classes and interfaces
+/// are beyond what is built, and errors of their declarations (`ang_names_written::not_yet_errors`).
 /// What a registry shows takes values alone, in at most 1,024 entries (`Registry::seen`): no host type has the
 /// number of a class.
 #[tactic(auto, using(crate::proofs::Program::program_is_sound))]

@@ -24,56 +24,28 @@ use Rattle.ang_engine.proofs.Worlds.{states_length, states_at, states_put, state
 
 -- ---- where it stands
 
--- a module that was found, counted from k
-record IsFoundFrom (k : ℕ) (name : List ℕ) (ms : List ModuleState) (i : ℕ) : Type 0 where
-  offset : ℕ
-  index : i ≡ k + offset
-  within : offset < length ms
-  named : (slice_index_or ms offset no_module).name ≡ name
+prefix_same : (name : List ℕ) (ms : List (Option Module)) (ls : List (Option LoadedModule)) → position_or_len (has_name name) (places_of ms ls) ≡ position_or_len (is_named name) ms
+prefix_same name [] ls = refl
+prefix_same name (None ∷ ms) [] = ap (λ n. 1 + n) (prefix_same name ms [])
+prefix_same name (Some m ∷ ms) [] = ap (λ n. cond (not (bytes_eq m.name name)) (1 + n) 0) (prefix_same name ms [])
+prefix_same name (None ∷ ms) (l ∷ ls) = ap (λ n. 1 + n) (prefix_same name ms ls)
+prefix_same name (Some m ∷ ms) (l ∷ ls) = ap (λ n. cond (not (bytes_eq m.name name)) (1 + n) 0) (prefix_same name ms ls)
 
-found_here : (k : ℕ) (name : List ℕ) (m : ModuleState) (ms : List ModuleState) (b : Bool) (i : ℕ) → bytes_eq m.name name ≡ b
-    → ((j : ℕ) → index_from (k + 1) name ms ≡ Some j → IsFoundFrom (k + 1) name ms j)
-    → (if b then Some k else index_from (k + 1) name ms) ≡ Some i → IsFoundFrom k name (m ∷ ms) i
-found_here k name m ms true i e more h =
-    let same : k ≡ i = cc in
-    record { offset = 0; index = omega arith; within = omega arith; named = (bytes_eq-Decides m.name name).0 e }
-found_here k name m ms false i e more h =
-    let r = more i h in
-    record { offset = suc r.offset; index = omega (arith, r.index); within = omega (arith, r.within); named = r.named }
+-- a module is found by its name, whatever is built
+pub named_same : (name : List ℕ) (ms : List (Option Module)) (ls : List (Option LoadedModule)) → position (is_named name) ms ≡ position (has_name name) (places_of ms ls)
+named_same name ms ls =
+    ap (λ n. cond (nat_lt n (length ms)) (Some n) None) (sym (prefix_same name ms ls))
+    ∙ ap (λ k. cond (nat_lt (position_or_len (has_name name) (places_of ms ls)) k) (Some (position_or_len (has_name name) (places_of ms ls))) None) (sym (places_length ms ls))
 
-index_from-found : (k : ℕ) (name : List ℕ) (ms : List ModuleState) (i : ℕ) → index_from k name ms ≡ Some i → IsFoundFrom k name ms i
-index_from-found k name [] i h = cc
-index_from-found k name (m ∷ ms) i h = found_here k name m ms (bytes_eq m.name name) i refl (λ j e. index_from-found (k + 1) name ms j e) h
+is_there : (name : List ℕ) (o : Option Module) → is_named name o ≡ true → IsSome o
+is_there name None e = absurd (cc)
+is_there name (Some m) e = tt
 
-pub module_named-found : (name : List ℕ) (w : World) (i : ℕ) → module_named name w ≡ Some i → (i < length w.modules) × ((module_at w i).name ≡ name)
-module_named-found name w i h =
-    let r = index_from-found 0 name w.modules i h in
-    let e : r.offset ≡ i = omega (arith, r.index) in
-    (subst (λ n. n < length w.modules) e r.within, subst (λ n. (module_at w n).name ≡ name) e r.named)
-
--- ---- looking for it
-
-drop_none : {A : Type 0} (i : ℕ) → drop {A = A} i [] ≡ []
-drop_none zero = refl
-drop_none (suc i) = refl
-
-turn_from : (k : ℕ) (name : List ℕ) (ms : List Module) (ls : List (Option LoadedModule)) (i : ℕ) (d : Module) → i < length ms → bytes_eq (slice_index_or ms i d).name name ≡ false
-    → index_from k name (module_states (drop i ms) (drop i ls)) ≡ index_from (k + 1) name (module_states (drop (suc i) ms) (drop (suc i) ls))
-turn_from k name [] ls i d lt e = absurd (omega (arith, lt))
-turn_from k name (m ∷ ms) [] zero d lt e =
-    ap (λ b. if b then Some k else (index_from (k + 1) name (module_states ms []))) e
-turn_from k name (m ∷ ms) (l ∷ ls) zero d lt e =
-    ap (λ b. if b then Some k else (index_from (k + 1) name (module_states ms ls))) e
-turn_from k name (m ∷ ms) [] (suc i) d lt e =
-    ap (λ c. index_from k name (module_states (drop i ms) c)) (sym (drop_none i)) ∙ turn_from k name ms [] i d (omega (arith, lt)) e
-turn_from k name (m ∷ ms) (l ∷ ls) (suc i) d lt e = turn_from k name ms ls i d (omega (arith, lt)) e
-
--- a module of another name is passed
-pub find-turn : (name : List ℕ) (ms : List Module) (ls : List (Option LoadedModule)) (i : ℕ) (d : Module) → i < length ms → bytes_eq (slice_index_or ms i d).name name ≡ false
-    → index_from i name (module_states (drop i ms) (drop i ls)) ≡ index_from (i + 1) name (module_states (drop (i + 1) ms) (drop (i + 1) ls))
-find-turn name ms ls i d lt e =
-    let next : suc i ≡ i + 1 = omega arith in
-    turn_from i name ms ls i d lt e ∙ ap (λ k. index_from (i + 1) name (module_states (drop k ms) (drop k ls))) next
+-- where one is found there is a module
+pub found_there : (name : List ℕ) (ms : List (Option Module)) (i : ℕ) → position (is_named name) ms ≡ Some i → (i < length ms) × IsSome (slice_index_or ms i None)
+found_there name ms i e =
+    let p = position-passes (is_named name) ms i None e in
+    (p.0, is_there name (slice_index_or ms i None) p.1)
 
 -- ---- a command on it
 

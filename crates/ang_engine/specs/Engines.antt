@@ -1,5 +1,5 @@
 -- What contracts see of an engine.
-use Rattle.std.specs.Prelude.{List, [], ◌∷◌, Option, None, Vec, option_map}
+use Rattle.std.specs.Prelude.{ℕ, Bool, false, List, [], ◌∷◌, Option, Some, None, Vec, option_map, bytes_eq}
 use Rattle.std.specs.declared.alloc.Global.{Global}
 use Rattle.std.specs.declared.dyn_box.DynBox.{DynBox}
 use Rattle.ang_host.specs.declared.event.HostEvent.{HostEvent}
@@ -7,6 +7,9 @@ use Rattle.ang_host.specs.Boxes.{members}
 use Rattle.ang_host.specs.Meanings.{Meanings}
 use Rattle.ang_view.specs.Registration.{RegistrationList}
 use Rattle.ang_typed.specs.View.{view_typed}
+use Rattle.ang_meaning.specs.World.{World as RunWorld}
+use Rattle.ang_heap.specs.declared.globals.Globals.{Globals}
+use Rattle.ang_heap.specs.Globals.{values_in}
 use Rattle.ang_heap.specs.Stores.{world_of}
 use Rattle.ang_vm.specs.declared.machines.Machine.{Machine}
 use Rattle.ang_vm.specs.Machines.{lent}
@@ -15,7 +18,7 @@ use Rattle.ang_engine_modules.specs.declared.modules.LoadedModule.{LoadedModule}
 use Rattle.ang_engine.specs.declared.engine.Engine.{Engine}
 use Rattle.ang_engine.specs.declared.module.Module.{Module}
 use Rattle.ang_engine.specs.declared.module.ModuleList.{ModuleList}
-use Rattle.ang_engine.specs.World.{Program, ModuleState, World, left_to}
+use Rattle.ang_engine.specs.World.{Program, ModuleState, ModuleStates, World, left_to}
 
 -- what a module is built to
 abbrev pub resolved_in : LoadedModule → Resolved
@@ -34,14 +37,28 @@ state_of m l = record {
   program = option_map program_in l;
 }
 
--- each module, with what is built of it, by number
-abbrev pub module_states : List Module → List (Option LoadedModule) → List ModuleState
-module_states [] ls = []
-module_states (m ∷ ms) [] = state_of m None ∷ module_states ms []
-module_states (m ∷ ms) (l ∷ ls) = state_of m l ∷ module_states ms ls
+-- a module's place, with what is built of it
+abbrev pub place_of : Option Module → Option LoadedModule → Option ModuleState
+place_of None l = None
+place_of (Some m) l = Some (state_of m l)
 
-abbrev pub states_in : ModuleList → List ModuleState
-states_in x = module_states x.modules.items x.code
+-- each place, by number
+abbrev pub places_of : List (Option Module) → List (Option LoadedModule) → List (Option ModuleState)
+places_of [] ls = []
+places_of (m ∷ ms) [] = place_of m None ∷ places_of ms []
+places_of (m ∷ ms) (l ∷ ls) = place_of m l ∷ places_of ms ls
+
+abbrev pub states_in : ModuleList → ModuleStates
+states_in x = record { places = places_of x.places.items x.code; order = x.order.items }
+
+-- these modules, with these globals, beside what a run has left
+abbrev pub world_beside : ModuleList → Globals → RunWorld → World
+world_beside x gs r = left_to (states_in x) (record r { globals = values_in gs })
+
+-- whether the module in a place has this name
+abbrev pub is_named : List ℕ → Option Module → Bool
+is_named name None = false
+is_named name (Some m) = bytes_eq m.name name
 
 -- its registration list, which no command changes
 abbrev pub registrations : {V : Type 0} {P : V → Type 0} → Engine V P → RegistrationList

@@ -6,3 +6,4 @@ pub mod Sound
 pub mod Asked
 pub mod Applied
 pub mod Ending
+pub mod Alike

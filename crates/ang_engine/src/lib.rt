@@ -1,6 +1,7 @@
 //! The engine: modules of scripts, each of which sees the registrations that its mask meets.
 #![tactic(auto)]
 
+mod binding;
 mod building;
 mod calling;
 mod command;

@@ -5,7 +5,7 @@ use ang_engine_modules::Modules;
 use ang_kinds::{List, Mask};
 
 /// How many modules one engine can have.
-pub const MOST_MODULES: usize = 1;
+pub const MOST_MODULES: usize = 64;
 
 /// How many sections can wait in one module.
 pub const MOST_SECTIONS: usize = 64;
@@ -25,11 +25,15 @@ pub struct Module {
     ghost few: { length sections.items ≤ 64 },
 }
 
-/// The modules of an engine, in the order in which they were made.
+/// The modules of an engine, by number. A module keeps its number for as long as it is there: code and globals go
+/// by it.
 #[derive(Drop)]
 pub struct ModuleList {
-    /// Their names, masks and waiting sections.
-    pub modules: Vec<Module>,
-    /// What is built of them, by number.
+    /// Their names, masks and waiting sections. The place that a discarded module leaves is empty until a new one
+    /// takes it.
+    pub places: Vec<Option<Module>>,
+    /// What is built of them.
     pub code: Modules,
+    /// The numbers of those that are there, in the order in which they were made.
+    pub order: Vec<u32>,
 }

@@ -38,9 +38,9 @@ pub enum Refusal {
     BadName,
     /// There is a module of that name.
     ModuleExists,
-    /// A second module: this version takes one. Or a 65th waiting section.
+    /// A 65th module, or a 65th waiting section.
     Limit,
-    /// There is no module of that name.
+    /// There is no module of that name. `Bind` looks for both of its modules.
     NoModule,
     /// The module is not built.
     NotBuilt,
@@ -54,6 +54,11 @@ pub enum Refusal {
     InitFailed(Fault),
     /// The module has no function of that declaration.
     NoFunction,
+    /// The module has no import of that number.
+    NoImport,
+    /// The function has other parameters or another result than the import: in type, in `const` or in passing. An
+    /// object type is the same only as the same registered entry.
+    SignatureDiffers,
     /// The function has a parameter that is a reference: only numbers and truth values pass, by value.
     NotCallable,
     /// Another number of values than there are parameters, or one that is not of its parameter's type

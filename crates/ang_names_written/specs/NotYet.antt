@@ -1,5 +1,5 @@
 -- Declarations beyond what is built so far (docs/LANGUAGE.md, "What is built so far"; what comes when is this profile's own):
--- classes, interfaces and imports.
+-- classes and interfaces.
 use Rattle.std.specs.Prelude.{◌≡◌, Bool, true, false, if◌then◌else◌, List, [], ◌∷◌, Option, Some, None}
 use Rattle.std.specs.List.{flat_map}
 use Rattle.ang_kinds.specs.declared.error.Error.{Error}
@@ -37,7 +37,7 @@ beyond d = fault_at kind.NotYet (first_token d).place
 abbrev pub is_beyond : Decl → Bool
 is_beyond (class final word x bases left members right) = true
 is_beyond (interface word x bases left methods right) = true
-is_beyond (import word y x ps from module_name semicolon) = true
+is_beyond (import word y x ps from module_name semicolon) = false
 is_beyond (function y x ps b) = false
 is_beyond (globals vs) = false
 is_beyond (empty semicolon) = false

@@ -1,4 +1,4 @@
-//! Declarations beyond what is built so far: classes, interfaces and imports.
+//! Declarations beyond what is built so far: classes and interfaces.
 ghost use Rattle.std.specs.Prelude.{◌≡◌, ◌++◌, false, IfOk, IfSome, IfNone, OnOk, map as list_map};
 ghost use Rattle.ang_tree.specs.View.{view_decl};
 ghost use Rattle.ang_names_written.specs.NotYet as spec;
@@ -19,8 +19,10 @@ fn beyond_at(declaration: &Declaration) -> Option<Token>
     match declaration {
         Declaration::Class(class) => Some(class.final_word.unwrap_or(class.word)),
         Declaration::Interface(interface) => Some(interface.word),
-        Declaration::Import(import) => Some(import.word),
-        Declaration::Function(_) | Declaration::Globals(_) | Declaration::Empty(_) => None,
+        Declaration::Import(_)
+        | Declaration::Function(_)
+        | Declaration::Globals(_)
+        | Declaration::Empty(_) => None,
     }
 }
 

@@ -23,7 +23,7 @@ use Rattle.asrun_session.specs.declared.ending.Status.{Status}
 use Rattle.asrun_session.specs.declared.ending.Status.TheVariants.{BadInput}
 use Rattle.asrun_session.specs.declared.ending.Stop.{Stop}
 use Rattle.asrun_session.specs.declared.ending.Stop.TheVariants.{Memory}
-use Rattle.asrun_session.specs.Lines.{lines_of}
+use Rattle.asrun_lines.specs.Lines.{lines_of}
 use Rattle.asrun_session.specs.Session.{session_from}
 use Rattle.asrun_session.proofs.Doing.{cut_nothing, follow_nothing}
 use Rattle.asrun_session.proofs.LastEnds.{last_ends}

@@ -13,7 +13,7 @@ use Rattle.ang_view.specs.Registration.{RegistrationList}
 use Rattle.ang_engine.specs.World.{World, no_modules}
 use Rattle.asrun_session.specs.Deeds.{IsDone, IsCut}
 use Rattle.asrun_session.specs.Drivers.{EngineRefusal, IsRefused, engine_text, WasDiscarded, DidNothing}
-use Rattle.asrun_session.specs.Lines.{lines_of}
+use Rattle.asrun_lines.specs.Lines.{lines_of}
 use Rattle.asrun_session.specs.Profile.{loaded}
 use Rattle.asrun_session.specs.Session.{session_from}
 use Rattle.asrun_session.specs.Writing.{HasFront}

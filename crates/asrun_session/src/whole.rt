@@ -7,7 +7,7 @@ ghost use Rattle.ang_engine.specs.Sound.{IsSound};
 ghost use Rattle.ang_engine.specs.World.{no_modules};
 ghost use Rattle.asrun_session.specs.Drivers.{kinds_of, AreListed, AreRefused, AreBack, NotListed, NoDriver, engine_text};
 ghost use Rattle.asrun_session.specs.Engines.{RunsText, StopsText};
-ghost use Rattle.asrun_session.specs.Lines.{lines_of};
+ghost use Rattle.asrun_lines.specs.Lines.{lines_of};
 ghost use Rattle.asrun_session.specs.Profile.{loaded};
 ghost use Rattle.asrun_session.specs.Reading.{unread, IsReadThrough};
 ghost use Rattle.asrun_session.specs.Whole.{profile_fault_text, registered_by, most_profile, most_session, start_of, Starts, Tells, StartStops, Ends, Stops, Unread, outcome_of, fresh};

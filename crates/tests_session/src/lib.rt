@@ -8,6 +8,8 @@ mod errors;
 #[cfg(test)]
 mod harness;
 #[cfg(test)]
+mod modules;
+#[cfg(test)]
 mod objects;
 #[cfg(test)]
 mod sessions;

@@ -27,7 +27,7 @@ const RUNS: [(&str, &str, &str, Status); 30] = [
     ),
     (
         PROFILE,
-        "module a 00000001\nsection a 1\nvoid m() {}\nsection a 1\n; import void f() from \"b\";\nbuild a\n",
+        "module a 00000001\nsection a 1\nvoid m() {}\nsection a 1\n; interface I {}\nbuild a\n",
         "ok\nok\nok\nerror NotYet 1:1:3 -\nrefused BuildErrors\n",
         Status::SomeRefused,
     ),
@@ -143,7 +143,7 @@ const RUNS: [(&str, &str, &str, Status); 30] = [
     ),
     (
         PROFILE,
-        "module a 00000001\nmask a 00000002\n",
+        "module a 00000001\nmask a 0000002\n",
         "ok\nline 2 BadLine\n",
         Status::BadInput,
     ),
