@@ -1,5 +1,5 @@
 -- The denials of a build are the rows of its refused uses.
-use Rattle.std.specs.Prelude.{ℕ, zero, suc, Bool, true, false, ◌≡◌, ◌<◌, ◌≤◌, ◌+◌, ◌⊎◌, ◌↔◌, cond, Contains, List, [], ◌∷◌, ◌++◌, length, map, filter, flat_map, slice_index_or, Option, Some, None}
+use Rattle.std.specs.Prelude.{ℕ, zero, suc, Bool, true, false, ◌≡◌, ◌<◌, ◌≤◌, ◌+◌, ◌⊎◌, ◌↔◌, cond, Contains, List, [], ◌∷◌, length, map, filter, flat_map, slice_index_or, Option, Some, None}
 use Rattle.std.specs.List.{range_with_len}
 use Rattle.std.proofs.Common.{arith, refl, sym, subst, ap, inl, inr, ◌∙◌}
 use Rattle.std.proofs.lemmas.List.Elements.{Contains-append_left, Contains-append_right, Contains-append_cases}
@@ -9,7 +9,8 @@ use Rattle.ang_types.specs.declared.asks.Refused.{Refused}
 use Rattle.ang_view.specs.Registration.{RegistrationList, seen}
 use Rattle.ang_names_written.specs.Sources.{Source}
 use Rattle.ang_check_uses.specs.Uses.{Scope}
-use Rattle.ang_check.specs.Denials.{script_refusals, scope_over, denied, row, rows_asked, rows_for, denials_of, IsRowOf}
+use Rattle.ang_check_denials.specs.Denials.{denied, row, rows_asked, rows_for}
+use Rattle.ang_check.specs.Denials.{script_refusals, scope_over, denials_of, IsRowOf}
 
 -- ---- what is in a list
 

@@ -4,7 +4,7 @@ ghost use Rattle.ang_typed.specs.View.{view_typed};
 ghost use Rattle.ang_check_bodies.specs.Bodies as bodies;
 ghost use Rattle.ang_names_listed.specs.Declarations.{declarations_of};
 ghost use Rattle.ang_names.specs.Phases.{IsRefused, errors_in, refusals_of};
-ghost use Rattle.ang_names.specs.Resolved.{names_of};
+ghost use Rattle.ang_names_resolved.specs.Resolved.{names_of};
 ghost use Rattle.ang_names_written.specs.Sources.{source_of};
 
 use ang_check_bodies::{Judged, judge};

@@ -7,7 +7,8 @@ ghost use Rattle.ang_view.specs.Hidden.{is_unmet, is_with};
 ghost use Rattle.ang_view.specs.Registration.{RegistrationList};
 ghost use Rattle.ang_check_uses.specs.Uses.{Scope};
 ghost use Rattle.ang_names_written.specs.Sources.{Source};
-ghost use Rattle.ang_check.specs.Denials.{denied, helps, denials_of, IsRowOf};
+ghost use Rattle.ang_check_denials.specs.Denials.{denied, helps};
+ghost use Rattle.ang_check.specs.Denials.{denials_of, IsRowOf};
 
 /// Entry y has a row for a refused use just where its own mask is not met, and it comes with a hidden entry that helps the
 /// use: that entry itself, or a type that its declaration names.

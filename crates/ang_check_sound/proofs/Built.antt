@@ -9,7 +9,7 @@ use Rattle.ang_names_known.specs.declared.names.Names.{Names}
 use Rattle.ang_names_known.specs.Spaces.{first_family}
 use Rattle.ang_names_written.specs.Sources.{Source}
 use Rattle.ang_names_listed.specs.Declarations.{declarations_of}
-use Rattle.ang_names.specs.Resolved.{names_of}
+use Rattle.ang_names_resolved.specs.Resolved.{names_of}
 use Rattle.ang_check_context.specs.declared.scope.Within.{Within}
 use Rattle.ang_check_bodies.specs.Bodies.{context_in}
 use Rattle.ang_check_sound.specs.Checked.{module_in}

@@ -15,8 +15,8 @@ use Rattle.ang_names_written.specs.Sources.{Source}
 use Rattle.ang_names_heritage.specs.Graphs.{leads, numbers_below, above}
 use Rattle.ang_names_listed.specs.declared.listed.Declared.{Declared}
 use Rattle.ang_names_listed.specs.Declarations.{Declaring, declarations_of, families_of}
-use Rattle.ang_names.specs.Meant.{space_of_declared}
-use Rattle.ang_names.specs.Resolved.{is_parent, is_base, families_after, signatures_of, functions_in, families_in, names_of}
+use Rattle.ang_names_resolved.specs.Resolved.{space_of_declared}
+use Rattle.ang_names_resolved.specs.Resolved.{is_parent, is_base, families_after, signatures_of, functions_in, families_in, names_of}
 use Rattle.ang_check_bodies.specs.Bodies.{slot_and_body, typed_class, typed_classes}
 use Rattle.ang_source.specs.Sound.{Module, IsChosen, AreChosen, SoundClasses}
 use Rattle.ang_check_sound.specs.Checked.{with_this}

@@ -22,7 +22,7 @@ use Rattle.ang_names_known.specs.Items.{each_after}
 use Rattle.ang_names_known.specs.Spaces.{first_family}
 use Rattle.ang_names_written.specs.Sources.{Source}
 use Rattle.ang_names_listed.specs.Declarations.{declarations_of}
-use Rattle.ang_names.specs.Resolved.{names_of}
+use Rattle.ang_names_resolved.specs.Resolved.{names_of}
 use Rattle.ang_check_operand.specs.Refusals.{Typing}
 use Rattle.ang_check_context.specs.declared.scope.Within.{Within}
 use Rattle.ang_check_body.specs.Typing.{Base, typed_parameters, function_typing, method_body_typing, constructor_typing, global_typing, implicit_super}

@@ -8,7 +8,7 @@ ghost use Rattle.ang_names_written.specs.Sources.{Source};
 ghost use Rattle.ang_names_known.specs.declared.names.Names.{Names};
 ghost use Rattle.ang_names_known.specs.Spaces.{first_family};
 ghost use Rattle.ang_names_listed.specs.Declarations.{declarations_of};
-ghost use Rattle.ang_names.specs.Resolved.{names_of};
+ghost use Rattle.ang_names_resolved.specs.Resolved.{names_of};
 ghost use Rattle.ang_check_context.specs.declared.scope.LocalVariable.{LocalVariable};
 ghost use Rattle.ang_check_context.specs.declared.scope.Within.{Within};
 ghost use Rattle.ang_check_context.specs.Scope.{BodyContext};

@@ -12,7 +12,7 @@ use Rattle.ang_names_known.specs.Items.{list_or}
 use Rattle.ang_names_written.specs.Sources.{Source}
 use Rattle.ang_names_listed.specs.Declarations.{declarations_of}
 use Rattle.ang_names.specs.Phases.{IsRefused, errors_in, refusals_of}
-use Rattle.ang_names.specs.Resolved.{names_of}
+use Rattle.ang_names_resolved.specs.Resolved.{names_of}
 use Rattle.ang_check_bodies.specs.Bodies.{body_refusals, program_of}
 use Rattle.ang_check.specs.Denials.{script_refusals}
 use Rattle.ang_engine_build.specs.declared.program.Program.{Program}

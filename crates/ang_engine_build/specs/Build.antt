@@ -9,7 +9,7 @@ use Rattle.ang_names_written.specs.Sources.{Source}
 use Rattle.ang_names_known.specs.declared.names.Names.{Names}
 use Rattle.ang_names_listed.specs.Declarations.{declarations_of}
 use Rattle.ang_names.specs.Phases.{errors_in}
-use Rattle.ang_names.specs.Resolved.{names_of}
+use Rattle.ang_names_resolved.specs.Resolved.{names_of}
 use Rattle.ang_check_bodies.specs.Bodies.{program_of}
 use Rattle.ang_check.specs.Denials.{script_refusals}
 use Rattle.ang_engine_build.specs.declared.program.Program.{Program}

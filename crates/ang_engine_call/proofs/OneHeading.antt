@@ -19,10 +19,10 @@ use Rattle.ang_names_listed.specs.declared.listed.Part.TheVariants as part
 use Rattle.ang_names_listed.specs.Declarations.{Declaring, declarations_of, declared_name, families_of}
 use Rattle.ang_names_listed.specs.Taken.{excludes, clashes, clashes_with_host, is_taken, is_first_above, name_refusal, plain_refusal}
 use Rattle.ang_names.specs.declared.phase.Phase.TheVariants as phase
-use Rattle.ang_names.specs.Meant.{parameter_limit, parameters_refusal, parameter_list_refusal, part_refusal, space_of_declared, type_refusal, type_refusal_of}
+use Rattle.ang_names.specs.Meant.{parameter_limit, parameters_refusal, parameter_list_refusal, part_refusal, type_refusal, type_refusal_of}
 use Rattle.ang_names_written.specs.declared.role.Role.TheVariants as role
 use Rattle.ang_names.specs.Phases.{all_phases, first_refusals, refusals, refusals_of}
-use Rattle.ang_names.specs.Resolved.{function_by, function_of, heading_of as meant_heading, names_of}
+use Rattle.ang_names_resolved.specs.Resolved.{function_by, function_of, heading_of as meant_heading, names_of, space_of_declared}
 use Rattle.ang_engine_call.specs.Headings.{Heading, heading_of}
 use Rattle.ang_engine_call.specs.Named.{IsNamedBy, function_named_by}
 use Rattle.ang_engine_call.proofs.Found.{found, only}

@@ -16,9 +16,8 @@ use Rattle.ang_names_listed.proofs.Few as listed
 use Rattle.ang_names_written.specs.NotYet.{not_yet}
 use Rattle.ang_names_written.specs.Sources.{Source}
 use Rattle.ang_names.specs.declared.phase.Phase.TheVariants as phase
-use Rattle.ang_names.specs.Meant.{space_of_declared}
 use Rattle.ang_names.specs.Phases.{all_phases, errors_in, first_refusals, refusals_of}
-use Rattle.ang_names.specs.Resolved.{families_after, families_in, functions_in, is_parent, names_of, signatures_of}
+use Rattle.ang_names_resolved.specs.Resolved.{families_after, families_in, functions_in, is_parent, names_of, signatures_of, space_of_declared}
 
 module _ {A B : Type 0} (f : List A → A → List B) where
   -- where each item gives one there are as many
@@ -52,7 +51,7 @@ module _ (E : Space) (ds : List Declared) where
   abbrev made : List Declaring → Declaring → List Family
   made = families_after E (families_of ds) (signatures_of E (families_of ds)) (length (functions_in E ds))
 
-  family_number : length (families_in E ds) ≡ length (families_of ds)
+  pub family_number : length (families_in E ds) ≡ length (families_of ds)
   unfolding families_in
   family_number = as_many made (λ before d. refl) [] (families_of ds)
 

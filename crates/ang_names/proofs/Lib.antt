@@ -1,2 +1,4 @@
 pub mod Few
-pub mod NoFamilies
+pub mod Inherited
+pub mod Named
+pub mod Numbered

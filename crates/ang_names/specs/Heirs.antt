@@ -18,7 +18,7 @@ use Rattle.ang_names_known.specs.Lookup.{Numbered, FoundMethod, families_at, met
 use Rattle.ang_names_known.specs.Items.{is_empty}
 use Rattle.ang_names_known.specs.Spaces.{Space}
 use Rattle.ang_names_listed.specs.Declarations.{Declaring}
-use Rattle.ang_names.specs.Resolved.{is_parent, holds}
+use Rattle.ang_names_resolved.specs.Resolved.{is_parent, holds}
 
 abbrev pub refused_at : ErrorKind → Place → List ℕ → Refused
 refused_at why place name = record { error = record { kind = why; place = place; name = name }; asks = None; is_there = false }

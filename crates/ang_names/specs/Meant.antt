@@ -1,14 +1,13 @@
 -- Types, bases and members that can't stand where they stand, and too many of them (docs/LANGUAGE.md, "Names of a build"; the
 -- AngelScript manual, "Data types", "Parameter references" and "Inheritance"; the limits are this profile's own). Of a declaration the
 -- first refusal in the order of the text counts.
-use Rattle.std.specs.Prelude.{ℕ, nat_lt, Bool, true, false, not, ◌&&◌, ◌||◌, if◌then◌else◌, List, [], ◌∷◌, ◌++◌, map, length, Option, Some, None, Ok, Err, bytes_eq}
+use Rattle.std.specs.Prelude.{ℕ, nat_lt, Bool, true, false, not, ◌&&◌, ◌||◌, if◌then◌else◌, List, [], ◌∷◌, ◌++◌, length, Option, Some, None, Ok, Err, bytes_eq}
 use Rattle.std.specs.List.{list_any}
 use Rattle.std.specs.Option.{option_or}
 use Rattle.std.proofs.Math.Bool.{beq}
 use Rattle.ang_kinds.specs.declared.error.ErrorKind.{ErrorKind}
 use Rattle.ang_kinds.specs.declared.error.ErrorKind.TheVariants as kind
 use Rattle.ang_lex.specs.declared.token.Token.{Token}
-use Rattle.ang_view.specs.Registration.{RegistrationList}
 use Rattle.ang_tree.specs.declared.declaration.Parameter.{Parameter}
 use Rattle.ang_tree.specs.declared.type_name.TypeName.{TypeName}
 use Rattle.ang_types.specs.declared.asks.Asks.TheVariants as asks
@@ -28,15 +27,8 @@ use Rattle.ang_names_listed.specs.Declarations.{Declaring, families_of, family_n
 use Rattle.ang_names_listed.specs.Taken.{plain_refusal}
 use Rattle.ang_names_written.specs.Sources.{text_of, error_at}
 use Rattle.ang_names_written.specs.Spellings.{same_spellings}
-use Rattle.ang_names_written.specs.Types.{TypeOrError, type_in, is_unknown_type, own_role, imported_role}
-
--- a view, and these families
-abbrev pub space_over : RegistrationList → List Declaring → Space
-space_over V families = record { view = V; families = map family_name families }
-
--- the view, and the families of all declarations, whether before or behind
-abbrev pub space_of_declared : RegistrationList → List Declared → Space
-space_of_declared V all = space_over V (families_of all)
+use Rattle.ang_names_written.specs.Types.{TypeOrError, type_in, is_unknown_type}
+use Rattle.ang_names_resolved.specs.Resolved.{parameter_role}
 
 abbrev pub refusal_if : Bool → ErrorKind → List ℕ → Token → Option Refused
 refusal_if true why text t = Some (plain_refusal (error_at why text t))
@@ -65,10 +57,6 @@ most_parameters = 32
 -- more parameters than a function can have, at its name
 abbrev pub parameter_limit : List ℕ → Token → List Parameter → Option Refused
 parameter_limit text name ps = refusal_if (nat_lt most_parameters (length ps)) kind.Limit text name
-
--- the role of a parameter of an import, or of any other function
-abbrev pub parameter_role : Bool → Parameter → Role
-parameter_role imported p = if imported then imported_role p else own_role p
 
 -- In the space of a build, in a section of these bytes:
 module _ (E : Space) (text : List ℕ) where

@@ -16,8 +16,8 @@ use Rattle.ang_names.specs.declared.phase.Phase.TheVariants as phase
 use Rattle.ang_names_listed.specs.Declarations.{declarations_of, families_of}
 use Rattle.ang_names_listed.specs.Taken.{name_refusal, plain_refusal, each_refused}
 use Rattle.ang_names.specs.Heirs.{ancestor_refusal, heir_refusal, cycle_refusal}
-use Rattle.ang_names.specs.Meant.{space_of_declared, type_refusal}
-use Rattle.ang_names.specs.Resolved.{families_in}
+use Rattle.ang_names.specs.Meant.{type_refusal}
+use Rattle.ang_names_resolved.specs.Resolved.{families_in, space_of_declared}
 use Rattle.ang_names_written.specs.NotYet.{not_yet}
 use Rattle.ang_names_written.specs.Sources.{Source}
 

@@ -8,7 +8,8 @@ ghost use Rattle.ang_names.specs.Meant as spec;
 use ang_kinds::ErrorKind;
 use ang_lex::Token;
 use ang_names_known::Space;
-use ang_names_written::{Role, error_at, pass_of, type_in};
+use ang_names_resolved::parameter_role;
+use ang_names_written::{Role, error_at, type_in};
 use ang_tree::{Parameter, TypeName};
 use ang_types::{ArgType, Asks, Refused};
 use std::alloc::{AllocError, Global};
@@ -98,18 +99,6 @@ pub fn type_refusal_of(
 {
     let meaning = type_in(space, role, text, declared);
     why_refused(alloc, text, &declared.name, meaning)
-}
-
-/// The role of a parameter of an import, or of any other function.
-pub fn parameter_role(imported: bool, parameter: &Parameter) -> Role
-    ensures exact { result ≡ spec.parameter_role imported parameter.now }
-{
-    let pass = pass_of(&parameter.reference);
-    if imported {
-        Role::ImportParameter(pass)
-    } else {
-        Role::Parameter(pass)
-    }
 }
 
 /// The first refusal of a parameter, of an import's or of another function's.

@@ -7,7 +7,7 @@ ghost use Rattle.ang_names_written.specs.Sources.{Source};
 ghost use Rattle.ang_names_listed.specs.declared.listed.Declared.{Declared};
 ghost use Rattle.ang_names_listed.specs.Declarations.{declarations_of, families_of};
 ghost use Rattle.ang_names.specs.Phases.{refusals_of};
-ghost use Rattle.ang_names.specs.Resolved.{names_of};
+ghost use Rattle.ang_names_resolved.specs.Resolved.{names_of};
 
 /// The families of a build are few enough for each to have a number as a type, and what stands above one is among them:
 /// where there are few, as the first phase sees to (`ang_names_listed::laws::few_families`), so of all that is accepted, and

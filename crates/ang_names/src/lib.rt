@@ -8,18 +8,19 @@
 mod declaring;
 mod families;
 mod headings;
+mod heirs;
 pub mod laws;
 mod members;
 mod phase;
 mod phases;
-mod resolved;
+mod rings;
 
 pub use ang_kinds::Unbuilt;
 pub use ang_names_known::{
     Access, Constructor, Family, Field, Method, Names, Origin, ScriptFunction, ScriptGlobal,
     ScriptParameter, Written,
 };
+pub use ang_names_resolved::heading_of;
 pub use declaring::{declare, names_over, phase_refusals};
 pub use headings::function_refusal;
 pub use phase::Phase;
-pub use resolved::heading_of;

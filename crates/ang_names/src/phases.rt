@@ -1,19 +1,22 @@
 //! The phases of a build over the declarations.
-ghost use Rattle.std.specs.Prelude.{◌≡◌, ◌≤◌, ◌++◌, [], ◌∷◌, length, map as list_map, option_to_list, IfOk, OnOk};
+ghost use Rattle.std.specs.Prelude.{◌≡◌, ◌≤◌, ◌*◌, [], ◌∷◌, length, map as list_map, IfOk};
 ghost use Rattle.ang_names_listed.specs.Declarations.{declarations_of, families_of};
 ghost use Rattle.ang_names_listed.specs.Taken as taken;
 ghost use Rattle.ang_names_written.specs.NotYet.{not_yet};
 ghost use Rattle.ang_names_written.specs.Sources.{source_of};
 ghost use Rattle.ang_names.specs.Meant as meant;
+ghost use Rattle.ang_names.specs.Numbered as numbered;
 ghost use Rattle.ang_names.specs.Phases as spec;
 ghost use Rattle.ang_names.specs.declared.phase.Phase.TheVariants as phase;
 
-use crate::families::{has_families, space_of};
 use crate::headings::{function_refusal, import_refusal, type_refusal_of};
+use crate::heirs::heir_refusals;
 use crate::members::family_refusal;
-use ang_kinds::{Error, List};
-use ang_names_known::Space;
+use crate::rings::{push_refused, ring_refusals};
+use ang_kinds::{Error, ErrorKind, List};
+use ang_names_known::{Family, Space};
 use ang_names_listed::{Declared, Part, name_refusals};
+use ang_names_resolved::{Tables, families_among, space_of};
 use ang_names_written::{Role, not_yet_errors};
 use ang_tree::Script;
 use ang_types::Refused;
@@ -41,15 +44,6 @@ fn type_refusal(
         Part::Import(ty, params) => import_refusal(alloc, space, text, name, ty, params.items()),
         Part::Global(ty) => type_refusal_of(alloc, space, text, Role::Variable, ty),
     }
-}
-
-fn push_refused(found: &mut Vec<Refused>, refused: Option<Refused>) -> Result<(), AllocError>
-    ensures pushed { OnOk result (found.new.items ≡ found.old.items ++ option_to_list refused) }
-{
-    if let Some(refused) = refused {
-        found.push(refused)?;
-    }
-    Ok(())
 }
 
 fn type_refusals_in(
@@ -82,8 +76,74 @@ fn type_refusals<'a>(
     type_refusals_in(alloc, &space, all)
 }
 
-/// What the phases after the first one refuse. Those over classes and interfaces together are not built yet: where there are
-/// some this answers want of memory, and where there are none they refuse nothing.
+/// The members that don't fit with what is inherited; where all fit, the classes that reach themselves.
+fn heirs_or_cycles(
+    alloc: Global,
+    reach: &[bool],
+    families: &[Family],
+) -> Result<Vec<Refused>, AllocError>
+    requires few { length families.now ≤ 256 }
+    requires size { length reach.now ≡ length families.now * length families.now }
+    ensures exact { IfOk result
+        (λ found. found.items ≡ numbered.heirs_or_cycles reach.now families.now) }
+{
+    let found = heir_refusals(alloc, families)?;
+    if !found.is_empty() {
+        return Ok(found);
+    }
+    ring_refusals(alloc, ErrorKind::Cyclic, reach, families)
+}
+
+/// What the phases over classes and interfaces together refuse, by what stands above what and what reaches what.
+fn heritage_by(
+    alloc: Global,
+    above: &[bool],
+    reach: &[bool],
+    families: &[Family],
+) -> Result<Vec<Refused>, AllocError>
+    requires few { length families.now ≤ 256 }
+    requires above { length above.now ≡ length families.now * length families.now }
+    requires reach { length reach.now ≡ length families.now * length families.now }
+    ensures exact { IfOk result (λ found. found.items
+        ≡ numbered.heritage_refusals above.now reach.now families.now) }
+{
+    let found = ring_refusals(alloc, ErrorKind::BadBase, above, families)?;
+    if !found.is_empty() {
+        return Ok(found);
+    }
+    heirs_or_cycles(alloc, reach, families)
+}
+
+fn heritage_in(
+    alloc: Global,
+    tables: &Tables,
+    families: &List<Family>,
+) -> Result<Vec<Refused>, AllocError>
+    requires few { length families.now ≤ 256 }
+    requires above { length tables.now.above.items ≡ length families.now * length families.now }
+    requires reach { length tables.now.reach.items ≡ length families.now * length families.now }
+    ensures exact { IfOk result (λ found. found.items ≡ numbered.heritage_refusals
+        tables.now.above.items tables.now.reach.items families.now) }
+{
+    heritage_by(alloc, &tables.above, &tables.reach, families.as_slice())
+}
+
+/// What the phases over classes and interfaces together refuse.
+fn heritage_refusals<'a>(
+    alloc: Global,
+    view: &'a View,
+    all: &[Declared<'a>],
+) -> Result<Vec<Refused>, AllocError>
+    requires few { length (families_of all.now) ≤ 256 }
+    ensures exact { IfOk result (λ found. found.items ≡ spec.first_refusals view.now all.now
+        (phase.Ancestors ∷ phase.Heirs ∷ phase.Cycles ∷ [])) }
+{
+    let space = space_of(alloc, view, all)?;
+    let (families, tables) = families_among(alloc, &space, all)?;
+    heritage_in(alloc, &tables, &families)
+}
+
+/// What the phases after the first one refuse.
 fn later_refusals<'a>(
     alloc: Global,
     view: &'a View,
@@ -97,10 +157,7 @@ fn later_refusals<'a>(
     if !found.is_empty() {
         return Ok(found);
     }
-    if has_families(all) {
-        return Err(AllocError);
-    }
-    Ok(found)
+    heritage_refusals(alloc, view, all)
 }
 
 /// What the first phase that refuses some declarations refuses.

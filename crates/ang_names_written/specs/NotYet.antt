@@ -1,5 +1,5 @@
 -- Declarations beyond what is built so far (docs/LANGUAGE.md, "What is built so far"; what comes when is this profile's own):
--- classes, interfaces and imports.
+-- imports.
 use Rattle.std.specs.Prelude.{◌≡◌, Bool, true, false, if◌then◌else◌, List, [], ◌∷◌, Option, Some, None}
 use Rattle.std.specs.List.{flat_map}
 use Rattle.ang_kinds.specs.declared.error.Error.{Error}
@@ -35,8 +35,8 @@ abbrev pub beyond : Decl → Error
 beyond d = fault_at kind.NotYet (first_token d).place
 
 abbrev pub is_beyond : Decl → Bool
-is_beyond (class final word x bases left members right) = true
-is_beyond (interface word x bases left methods right) = true
+is_beyond (class final word x bases left members right) = false
+is_beyond (interface word x bases left methods right) = false
 is_beyond (import word y x ps from module_name semicolon) = true
 is_beyond (function y x ps b) = false
 is_beyond (globals vs) = false

@@ -1,4 +1,4 @@
-//! Declarations beyond what is built so far: classes, interfaces and imports.
+//! Declarations beyond what is built so far: imports.
 ghost use Rattle.std.specs.Prelude.{◌≡◌, ◌++◌, false, IfOk, IfSome, IfNone, OnOk, map as list_map};
 ghost use Rattle.ang_tree.specs.View.{view_decl};
 ghost use Rattle.ang_names_written.specs.NotYet as spec;
@@ -17,10 +17,12 @@ fn beyond_at(declaration: &Declaration) -> Option<Token>
     ensures built { IfNone result (spec.is_beyond (view_decl declaration.now) ≡ false) }
 {
     match declaration {
-        Declaration::Class(class) => Some(class.final_word.unwrap_or(class.word)),
-        Declaration::Interface(interface) => Some(interface.word),
         Declaration::Import(import) => Some(import.word),
-        Declaration::Function(_) | Declaration::Globals(_) | Declaration::Empty(_) => None,
+        Declaration::Class(_)
+        | Declaration::Interface(_)
+        | Declaration::Function(_)
+        | Declaration::Globals(_)
+        | Declaration::Empty(_) => None,
     }
 }
 

@@ -5,6 +5,8 @@
 #[cfg(test)]
 mod arguments;
 #[cfg(test)]
+mod denials;
+#[cfg(test)]
 mod errors;
 #[cfg(test)]
 mod headings;

@@ -10,10 +10,14 @@ const SECTIONS: [(&str, &str, &str); 32] = [
     (PROFILE, "void m(){ 1x; }", "error BadNumber 0:1:11 -\n"),
     (PROFILE, "void m() { return }", "error Syntax 0:1:19 }\n"),
     (PROFILE, "int f(", "error Syntax 0:1:7 -\n"),
-    (PROFILE, "int a, b; class C {}", "error NotYet 0:1:11 -\n"),
     (
         PROFILE,
-        "int a; int a; class C {}",
+        "int a, b; import void f() from \"b\";",
+        "error NotYet 0:1:11 -\n",
+    ),
+    (
+        PROFILE,
+        "int a; int a; import void f() from \"b\";",
         "error NotYet 0:1:15 -\n",
     ),
     (PROFILE, "int a; int a;", "error Duplicate 0:1:12 a\n"),

@@ -2,7 +2,7 @@ use Rattle.std.proofs.Common.{sym, subst, ◌∙◌}
 use Rattle.std.specs.Prelude.{length, ◌≤◌}
 use Rattle.ang_names_listed.specs.Declarations.{families_of}
 use Rattle.ang_names.proofs.Few.{accepted_few}
-use Rattle.ang_names.proofs.NoFamilies.{none_left}
+use Rattle.ang_names.proofs.Named.{none_left}
 use Rattle.ang_names.proofs.declaring.declared_by.Goals as goal
 
 pub names_of-requires : goal.names_of-requires

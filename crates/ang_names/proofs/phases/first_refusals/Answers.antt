@@ -1,6 +1,6 @@
 use Rattle.std.proofs.Common.{sym, ◌∙◌}
 use Rattle.ang_names.proofs.Few.{few_where_none}
-use Rattle.ang_names.proofs.NoFamilies.{none_left}
+use Rattle.ang_names.proofs.Named.{none_left}
 use Rattle.ang_names.proofs.phases.first_refusals.Goals as goal
 
 pub later_refusals-requires : goal.later_refusals-requires

@@ -1,6 +1,6 @@
 use Rattle.std.proofs.Common.{sym, ◌∙◌}
 use Rattle.ang_names.proofs.Few.{nothing_beyond}
-use Rattle.ang_names.proofs.NoFamilies.{found_as, none_left}
+use Rattle.ang_names.proofs.Named.{found_as, none_left}
 use Rattle.ang_names.proofs.phases.refusals_over.Goals as goal
 
 pub returns : goal.returns

@@ -1,4 +1,4 @@
-use Rattle.ang_names.proofs.NoFamilies.{found_as, second_phase}
+use Rattle.ang_names.proofs.Named.{found_as, second_phase}
 use Rattle.ang_names.proofs.phases.type_refusals.Goals as goal
 
 pub returns : goal.returns

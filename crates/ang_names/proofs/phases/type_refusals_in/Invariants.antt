@@ -1,5 +1,5 @@
 use Rattle.std.proofs.Common.{◌≡◌, [], ◌++◌, take, drop}
-use Rattle.ang_names.proofs.NoFamilies.{refused_after}
+use Rattle.ang_names.proofs.Named.{refused_after}
 use Rattle.ang_names.proofs.phases.type_refusals_in.Given as goal
 
 abbrev pub invariant-loop-declared : goal.invariant-loop-declared

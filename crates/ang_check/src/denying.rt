@@ -1,0 +1,125 @@
+//! The denials of a build that was refused.
+ghost use Rattle.std.specs.Prelude.{◌≡◌, [], IfOk, option_copied, map as list_map};
+ghost use Rattle.std.specs.List.{flat_map};
+ghost use Rattle.ang_view.specs.Registration.{seen};
+ghost use Rattle.ang_names_listed.specs.Declarations.{declarations_of};
+ghost use Rattle.ang_names_known.specs.Spaces.{AreFamilies};
+ghost use Rattle.ang_names_written.specs.Sources.{source_of};
+ghost use Rattle.ang_names.specs.Phases.{refusals_of};
+ghost use Rattle.ang_names_resolved.specs.Resolved.{names_of};
+ghost use Rattle.ang_check_bodies.specs.Bodies.{body_refusals};
+ghost use Rattle.ang_check_denials.specs.Denials.{rows_for};
+ghost use Rattle.ang_check.specs.Denials as spec;
+
+use ang_check_bodies::judge;
+use ang_check_denials::{Masked, denied};
+use ang_check_uses::Scope;
+use ang_kinds::{Denial, Error, Mask};
+use ang_names::{names_over, phase_refusals};
+use ang_names_known::{Names, lineage_of};
+use ang_registry::Registry;
+use ang_tree::Script;
+use ang_types::Refused;
+use ang_view::View;
+use std::alloc::{AllocError, Global};
+
+/// Whether some refused use asks for a name where an entry of the host could help.
+fn some_ask(refused: &[Refused]) -> bool
+    ensures exact { result ≡ spec.some_ask refused.now }
+{
+    refused.iter().any(|one| one.asks.is_some())
+}
+
+/// The rows of refused uses of scripts with these names.
+fn rows_over(
+    alloc: Global,
+    masked: &Masked<'_>,
+    view: &View,
+    names: &Names,
+    refused: &[Refused],
+) -> Result<Vec<Denial>, AllocError>
+    requires view { view.now ≡ seen masked.now.list masked.now.mask }
+    requires families { AreFamilies names.now.families }
+    ensures exact { IfOk result (λ rows. rows.items ≡ flat_map (rows_for masked.now.list
+        masked.now.mask (spec.scope_of view.now names.now)) refused.now) }
+{
+    let lineage = lineage_of(alloc, names)?;
+    let scope = Scope::new(view, names, &lineage);
+    denied(alloc, masked, &scope, refused)
+}
+
+/// The rows of what is refused of declarations.
+#[tactic(auto, using(crate::proofs::Asking::no_rows, crate::proofs::Asking::few_where_asked, ang_names::proofs::Few::are_families))]
+fn rows_of_phases(
+    alloc: Global,
+    masked: &Masked<'_>,
+    view: &View,
+    scripts: &[Script],
+) -> Result<Vec<Denial>, AllocError>
+    requires view { view.now ≡ seen masked.now.list masked.now.mask }
+    ensures exact { IfOk result (λ rows. rows.items ≡ flat_map
+        (rows_for masked.now.list masked.now.mask
+        (spec.scope_over view.now (list_map source_of scripts.now)))
+        (refusals_of view.now (list_map source_of scripts.now))) }
+{
+    let refused = phase_refusals(alloc, view, scripts)?;
+    if !some_ask(refused.as_slice()) {
+        return Ok(Vec::new(alloc));
+    }
+    let names = names_over(alloc, view, scripts)?;
+    rows_over(alloc, masked, view, &names, refused.as_slice())
+}
+
+/// The rows of what is refused of bodies and initializers.
+#[tactic(auto, using(ang_names::proofs::Few::accepted_families))]
+fn rows_of_bodies(
+    alloc: Global,
+    masked: &Masked<'_>,
+    view: &View,
+    names: &Names,
+    scripts: &[Script],
+) -> Result<Vec<Denial>, AllocError>
+    requires view { view.now ≡ seen masked.now.list masked.now.mask }
+    requires accepted { refusals_of view.now (list_map source_of scripts.now) ≡ [] }
+    requires names { names.now ≡ names_of view.now (declarations_of (list_map source_of scripts.now)) }
+    ensures exact { IfOk result (λ rows. rows.items ≡ flat_map
+        (rows_for masked.now.list masked.now.mask
+        (spec.scope_over view.now (list_map source_of scripts.now)))
+        (body_refusals view.now names.now (list_map source_of scripts.now))) }
+{
+    let judged = judge(alloc, view, names, scripts)?;
+    rows_over(alloc, masked, view, names, judged.refused.as_slice())
+}
+
+/// The denials of a build of these scripts for a module of this mask: for each refused use the hidden entries by which it
+/// would have been resolved, and the types that come with them, in the order of the errors, and of each in the order of
+/// entries (docs/LANGUAGE.md, "Denials").
+///
+/// `names` are those that `declare` gave, if it did; the errors are those of `declare`, or else those of `check`, over what
+/// the mask shows. The only error is want of memory.
+#[tactic(auto, unfolding(crate::specs::Denials::denials_of), using(crate::proofs::Asking::phases_refuse, crate::proofs::Asking::bodies_refuse))]
+pub fn denials(
+    alloc: Global,
+    registry: &Registry,
+    mask: Mask,
+    scripts: &[Script],
+    names: Option<&Names>,
+    errors: &[Error],
+) -> Result<Vec<Denial>, AllocError>
+    requires errors { spec.AreErrors (seen registry.now.entries mask.0)
+        (list_map source_of scripts.now) (option_copied names) errors.now }
+    ensures exact { IfOk result (λ rows. rows.items
+        ≡ spec.denials_of registry.now.entries mask.0 (list_map source_of scripts.now)) }
+{
+    if errors.is_empty() {
+        return Ok(Vec::new(alloc));
+    }
+    let view = registry.seen(alloc, mask)?;
+    let hidden = registry.hidden(alloc, mask)?;
+    let whole = registry.whole(alloc)?;
+    let masked = Masked::new(&whole, &hidden, mask);
+    match names {
+        None => rows_of_phases(alloc, &masked, &view, scripts),
+        Some(names) => rows_of_bodies(alloc, &masked, &view, names, scripts),
+    }
+}

@@ -1,0 +1,5 @@
+pub mod Helping
+pub mod Kept
+pub mod Meaning
+pub mod Places
+pub mod Types

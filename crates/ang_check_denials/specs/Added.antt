@@ -1,0 +1,162 @@
+-- What a use means where a hidden entry is added to what a module sees, told from the entry and from what is seen alone
+-- (docs/LANGUAGE.md, "Denials"). No view with an entry more is made.
+use Rattle.std.specs.Prelude.{ℕ, ◌+◌, ◌==◌, Bool, false, not, ◌&&◌, ◌||◌, if◌then◌else◌, List, [], ◌∷◌, ◌++◌, map, is_some, slice_get, Option, Some, None}
+use Rattle.ang_kinds.specs.declared.mask.EntityNo.{EntityNo}
+use Rattle.ang_kinds.specs.declared.types.Pass.TheVariants as pass
+use Rattle.ang_types.specs.declared.arg_type.ArgType.{ArgType}
+use Rattle.ang_types.specs.declared.arg_type.ArgType.TheVariants as type
+use Rattle.ang_types.specs.declared.asks.Asks.{Asks}
+use Rattle.ang_types.specs.declared.asks.Asks.TheVariants as asks
+use Rattle.ang_types.specs.declared.candidate.Candidate.{Candidate}
+use Rattle.ang_types.specs.Best.{is_best}
+use Rattle.ang_types.specs.Ranks.{Ancestors}
+use Rattle.ang_view.specs.declared.entry.Entry.{Entry}
+use Rattle.ang_view.specs.Hidden.{is_with, seen_with}
+use Rattle.ang_view.specs.Registration.{RegistrationList, entry_at, is_function_named}
+use Rattle.ang_view.specs.Types.{is_type_named}
+use Rattle.ang_names_known.specs.declared.host.HostFunction.{HostFunction}
+use Rattle.ang_names_known.specs.declared.host.HostProperty.{HostProperty}
+use Rattle.ang_names_known.specs.declared.host.Wanted.{Wanted}
+use Rattle.ang_names_known.specs.declared.host.Wanted.TheVariants as wanted
+use Rattle.ang_names_known.specs.declared.host.WantedProperty.{WantedProperty}
+use Rattle.ang_names_known.specs.declared.host.WantedProperty.TheVariants as property
+use Rattle.ang_names_known.specs.declared.names.ScriptGlobal.{ScriptGlobal}
+use Rattle.ang_names_known.specs.declared.space.Named.{Named}
+use Rattle.ang_names_known.specs.declared.space.Named.TheVariants as named
+use Rattle.ang_names_known.specs.Added.{added_property}
+use Rattle.ang_names_known.specs.Host.{found, host_where, is_factory, property_found, property_where}
+use Rattle.ang_names_known.specs.Items.{is_empty}
+use Rattle.ang_names_known.specs.Lookup.{global_named}
+use Rattle.ang_names_known.specs.Spaces.{family_of_type, space_of_names, type_of_name}
+use Rattle.ang_check_uses.specs.Uses.{Scope, candidates_of, functions_of, host_methods}
+use Rattle.ang_check_denials.specs.Denials.{is_call}
+
+-- ---- what is seen beside the entry that is added
+
+-- a function or a factory, and a method with its receiver in front, as candidates
+abbrev pub plain : HostFunction → Candidate
+plain f = record { params = f.params }
+
+abbrev pub with_receiver : ℕ → HostFunction → Candidate
+with_receiver n f = record { params = (type.Object n f.read_only, pass.RefInOut) ∷ f.params }
+
+abbrev pub factories : RegistrationList → ℕ → List Candidate
+factories V n = map plain (host_where (wanted.Factory n) V)
+
+-- the candidates that are seen, beside which the one that is added has to be the best
+abbrev pub candidates_for : Scope → List ℕ → Asks → List Candidate
+candidates_for s name asks.Value = []
+candidates_for s name asks.Type = []
+candidates_for s name (asks.Call args) = candidates_of (functions_of s name)
+candidates_for s name (asks.Make n args) = factories s.view n
+candidates_for s name (asks.Default n) = factories s.view n
+candidates_for s name (asks.Property n) = []
+candidates_for s name (asks.Method n c args) = candidates_of (host_methods s.view n name)
+
+-- the types of all arguments, a receiver's in front
+abbrev pub types_of : Asks → List ArgType
+types_of asks.Value = []
+types_of asks.Type = []
+types_of (asks.Call args) = args
+types_of (asks.Make n args) = args
+types_of (asks.Default n) = []
+types_of (asks.Property n) = []
+types_of (asks.Method n c args) = type.Object n c ∷ args
+
+-- the property that is seen
+abbrev pub property_for : Scope → List ℕ → Asks → Option HostProperty
+property_for s name asks.Value = property_where (property.Global name) s.view
+property_for s name asks.Type = None
+property_for s name (asks.Call args) = None
+property_for s name (asks.Make n args) = None
+property_for s name (asks.Default n) = None
+property_for s name (asks.Property n) = property_where (property.Member n name) s.view
+property_for s name (asks.Method n c args) = None
+
+-- whether there are functions of the name that a hidden one would join
+abbrev pub is_joined : Scope → List ℕ → Asks → Bool
+is_joined s name a = is_call a && not (is_empty (functions_of s name))
+
+-- the numbers that are kept, of the entries from number n on
+abbrev pub kept_from : (ℕ → Bool) → ℕ → RegistrationList → List ℕ
+kept_from p n [] = []
+kept_from p n (o ∷ os) = (if p n then n ∷ [] else []) ++ kept_from p (n + 1) os
+
+-- ---- types by name
+
+-- an entry is a type of this name that is seen, or one that comes with entry x
+abbrev pub is_type_with : RegistrationList → RegistrationList → ℕ → List ℕ → ℕ → Bool
+is_type_with R V x name k = is_type_named name (entry_at R k) && (is_some (entry_at V k) || is_with R x k)
+
+-- the first number that passes, of the entries from number n on
+abbrev pub first_number : (ℕ → Bool) → ℕ → RegistrationList → Option ℕ
+first_number p n [] = None
+first_number p n (o ∷ os) = if p n then Some n else first_number p (n + 1) os
+
+-- what a name means as a type where entry x is added
+abbrev pub named_with : RegistrationList → ℕ → Scope → ℕ → List ℕ → Named
+named_with R m s x name = type_of_name (space_of_names (seen_with R m x) s.names) name
+
+-- ---- what entry x would be
+
+abbrev pub has_place : {A : Type 0} → List A → Option ℕ → Bool
+has_place xs None = false
+has_place xs (Some n) = is_some (slice_get xs n)
+
+-- the script has a global of this name
+abbrev pub has_global : List ScriptGlobal → List ℕ → Bool
+has_global gs name = has_place gs (global_named gs name)
+
+abbrev pub is_property_of : ℕ → Option HostProperty → Bool
+is_property_of x None = false
+is_property_of x (Some h) = h.entity.0 == x
+
+-- the property that is wanted would be that of entry x, beside the one that is seen
+abbrev pub property_wins : RegistrationList → ℕ → WantedProperty → Option HostProperty → Bool
+property_wins R x w seen = is_property_of x (added_property (property_found w R x (entry_at R x)) seen)
+
+-- a function that is found would be the best beside some candidates
+abbrev pub wins : Ancestors → (HostFunction → Candidate) → List Candidate → List ArgType → Option HostFunction → Bool
+wins ancestors candidate cs args None = false
+wins ancestors candidate cs args (Some f) = is_best ancestors (candidate f ∷ cs) args 0
+
+abbrev pub found_in : RegistrationList → ℕ → Wanted → Option HostFunction
+found_in R x w = found w R x (entry_at R x)
+
+abbrev pub is_number_of : ℕ → Named → Bool
+is_number_of x named.Unknown = false
+is_number_of x (named.Object n) = n == x
+
+abbrev pub factory_wins : RegistrationList → Scope → List ArgType → ℕ → ℕ → Option ℕ → Bool
+factory_wins R s args x n (Some c) = false
+factory_wins R s args x n None = wins s.ancestors plain (factories s.view n) args (found_in R x (wanted.Factory n))
+
+-- a call of a name: entry x makes an object of the type of the name, or is the best function of it
+abbrev pub call_wins : RegistrationList → Scope → List ℕ → List ArgType → ℕ → Named → Bool
+call_wins R s name args x named.Unknown =
+    wins s.ancestors plain (candidates_of (functions_of s name)) args (found_in R x (wanted.Function name))
+call_wins R s name args x (named.Object n) = factory_wins R s args x n (family_of_type n)
+
+abbrev pub is_type_number : RegistrationList → List ℕ → Option EntityNo → Bool
+is_type_number R name None = false
+is_type_number R name (Some n) = is_type_named name (entry_at R n.0)
+
+abbrev pub is_factory_of : RegistrationList → List ℕ → Option Entry → Bool
+is_factory_of R name None = false
+is_factory_of R name (Some x) = is_factory x.kind && is_type_number R name x.owner
+
+-- entry x is a function of the name, or a factory of a type of the name
+abbrev pub is_called_by : RegistrationList → List ℕ → ℕ → Bool
+is_called_by R name x = is_function_named name (entry_at R x) || is_factory_of R name (entry_at R x)
+
+-- The use would mean entry x, where its name means this as a type.
+abbrev pub adds : RegistrationList → Scope → List ℕ → ℕ → Named → Asks → Bool
+adds R s name x as_type asks.Value =
+    not (has_global s.names.globals name) && property_wins R x (property.Global name) (property_for s name asks.Value)
+adds R s name x as_type asks.Type = is_type_named name (entry_at R x) && is_number_of x as_type
+adds R s name x as_type (asks.Call args) = is_called_by R name x && call_wins R s name args x as_type
+adds R s name x as_type (asks.Make n args) = wins s.ancestors plain (factories s.view n) args (found_in R x (wanted.Factory n))
+adds R s name x as_type (asks.Default n) = wins s.ancestors plain (factories s.view n) [] (found_in R x (wanted.Factory n))
+adds R s name x as_type (asks.Property n) = property_wins R x (property.Member n name) (property_for s name (asks.Property n))
+adds R s name x as_type (asks.Method n c args) =
+    wins s.ancestors (with_receiver n) (candidates_of (host_methods s.view n name)) (type.Object n c ∷ args) (found_in R x (wanted.Method n name))

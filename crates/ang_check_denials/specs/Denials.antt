@@ -1,0 +1,107 @@
+-- The rows of denials of one refused use (docs/LANGUAGE.md, "Denials"; the AngelScript manual, "Access masks and exposing different
+-- interfaces"): the hidden entries by which it would have been resolved, told by the same resolver over a larger view.
+use Rattle.std.specs.Prelude.{ℕ, ◌==◌, Bool, true, false, not, ◌&&◌, ◌||◌, List, [], map, filter, Option, Some, None}
+use Rattle.std.specs.List.{list_any}
+use Rattle.ang_kinds.specs.declared.error.Denial.{Denial}
+use Rattle.ang_kinds.specs.declared.mask.Mask.{Mask}
+use Rattle.ang_types.specs.declared.asks.Asks.{Asks}
+use Rattle.ang_types.specs.declared.asks.Asks.TheVariants as asks
+use Rattle.ang_types.specs.declared.asks.Refused.{Refused}
+use Rattle.ang_typed.specs.declared.expression.Variable.{Variable}
+use Rattle.ang_typed.specs.declared.expression.Variable.TheVariants as variable
+use Rattle.ang_view.specs.declared.entry.Entry.{Entry}
+use Rattle.ang_view.specs.Hidden.{is_hidden, is_unmet, is_with, numbers_of, seen_with}
+use Rattle.ang_view.specs.Registration.{RegistrationList, entry_at, is_function}
+use Rattle.ang_check_uses.specs.declared.uses.Called.{Called}
+use Rattle.ang_check_uses.specs.declared.uses.Called.TheVariants as calls
+use Rattle.ang_check_uses.specs.declared.uses.Resolution.{Resolution}
+use Rattle.ang_check_uses.specs.declared.uses.Resolution.TheVariants as resolution
+use Rattle.ang_names_known.specs.Lookup.{is_declared}
+use Rattle.ang_names_known.specs.Items.{is_empty}
+use Rattle.ang_check_uses.specs.Uses.{Scope, resolution_of, functions_of}
+
+-- ---- what a use means
+
+abbrev pub is_variable : ℕ → Variable → Bool
+is_variable x (variable.Local n) = false
+is_variable x (variable.Global n) = false
+is_variable x (variable.Property h) = h.entity.0 == x
+is_variable x (variable.Field i) = false
+
+abbrev pub is_called : ℕ → Called → Bool
+is_called x (calls.Script f) = false
+is_called x (calls.Host h) = h.entity.0 == x
+is_called x (calls.Makes c k) = false
+
+-- the use means entry x
+abbrev pub means_entry : ℕ → Resolution → Bool
+means_entry x (resolution.Variable v ty read_only) = is_variable x v
+means_entry x (resolution.Property h) = h.entity.0 == x
+means_entry x (resolution.Call c) = is_called x c.called
+means_entry x (resolution.Type n) = n == x
+means_entry x (resolution.Refused why) = false
+
+-- ---- names that stay the script's
+
+-- the use of a bare name, a type's in a declaration that makes an object included
+abbrev pub is_bare : Asks → Bool
+is_bare asks.Value = true
+is_bare asks.Type = true
+is_bare (asks.Call args) = true
+is_bare (asks.Make n args) = true
+is_bare (asks.Default n) = true
+is_bare (asks.Property n) = false
+is_bare (asks.Method n c args) = false
+
+abbrev pub is_call : Asks → Bool
+is_call asks.Value = false
+is_call asks.Type = false
+is_call (asks.Call args) = true
+is_call (asks.Make n args) = false
+is_call (asks.Default n) = false
+is_call (asks.Property n) = false
+is_call (asks.Method n c args) = false
+
+abbrev pub is_function_entry : Option Entry → Bool
+is_function_entry None = false
+is_function_entry (Some x) = is_function x.kind
+
+-- an added function joins functions of the name, the script's or those that are seen
+abbrev pub joins : Scope → Refused → Asks → Option Entry → Bool
+joins s r a x = is_call a && (is_function_entry x && not (is_empty (functions_of s r.error.name)))
+
+-- A name that the script declares, or has there as a local or a member, stays the script's, but that a function joins functions of it.
+abbrev pub stays : Scope → Refused → Asks → Option Entry → Bool
+stays s r a x = is_bare a && ((is_declared s.names.declared r.error.name || r.is_there) && not (joins s r a x))
+
+-- ---- the rows
+
+-- x is hidden, and with it and its types added the use means x
+abbrev pub helps : RegistrationList → ℕ → Scope → Refused → Asks → ℕ → Bool
+helps R m s r a x =
+    is_hidden R m x && (not (stays s r a (entry_at R x))
+    && means_entry x (resolution_of (record s { view = seen_with R m x }) r.error.name a))
+
+-- entry y has a row: one that comes with such an x, and whose own mask is not met
+abbrev pub denied : RegistrationList → ℕ → Scope → Refused → Asks → ℕ → Bool
+denied R m s r a y = is_unmet R m y && list_any (λ x. helps R m s r a x && is_with R x y) (numbers_of R)
+
+abbrev pub mask_of : Option Entry → Mask
+mask_of None = record { 0 = 0 }
+mask_of (Some y) = y.mask
+
+abbrev pub row : RegistrationList → ℕ → Refused → ℕ → Denial
+row R m r y = record {
+  place = r.error.place;
+  entity = record { 0 = y };
+  entity_mask = mask_of (entry_at R y);
+  module_mask = record { 0 = m };
+}
+
+abbrev pub rows_asked : RegistrationList → ℕ → Scope → Refused → Option Asks → List Denial
+rows_asked R m s r None = []
+rows_asked R m s r (Some a) = map (row R m r) (filter (denied R m s r a) (numbers_of R))
+
+-- the rows of one refusal, in the order of entries, none twice
+abbrev pub rows_for : RegistrationList → ℕ → Scope → Refused → List Denial
+rows_for R m s r = rows_asked R m s r r.asks

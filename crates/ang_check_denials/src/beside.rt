@@ -1,0 +1,193 @@
+//! What a module sees beside an entry that is added, for one use.
+ghost use Rattle.std.specs.Prelude.{◌≡◌, [], ◌∷◌, None, false, not, IfOk};
+ghost use Rattle.ang_types.specs.declared.arg_type.ArgType.TheVariants.{Object};
+ghost use Rattle.ang_types.specs.Rivals.{AreRivals};
+ghost use Rattle.ang_names_known.specs.Items.{is_empty};
+ghost use Rattle.ang_check_uses.specs.Uses as uses;
+ghost use Rattle.ang_check_denials.specs.Added as spec;
+
+use ang_check_uses::{Scope, functions_of, host_methods};
+use ang_names_known::{HostProperty, Text, Wanted, WantedProperty, host_where, property_where};
+use ang_types::{ArgType, Asks, Candidate, Rivals};
+use ang_view::View;
+use std::alloc::{AllocError, Global};
+
+/// What is kept, for one use, of what a module sees.
+#[derive(Drop)]
+pub struct Beside {
+    /// The candidates that are seen.
+    pub rivals: Rivals,
+    /// The types of all arguments, a receiver's in front.
+    pub types: Vec<ArgType>,
+    /// The property that is seen.
+    pub property: Option<HostProperty>,
+    /// Whether there are functions of the name, which a hidden one would join.
+    pub joined: bool,
+}
+
+/// The factories of the host type of this number that are seen, as candidates.
+///
+/// The only error is want of memory.
+pub fn factories(alloc: Global, view: &View, number: u32) -> Result<Vec<Candidate>, AllocError>
+    ensures exact { IfOk result (λ found. found.items ≡ spec.factories view.now number) }
+{
+    let mut found = Vec::new(alloc);
+    for function in host_where(alloc, view, &Wanted::Factory(number))? {
+        let params = function.params;
+        found.push(Candidate { params })?;
+    }
+    Ok(found)
+}
+
+/// Some candidates, for arguments of these types.
+fn of_candidates(
+    alloc: Global,
+    scope: &Scope<'_>,
+    candidates: &[Candidate],
+    types: Vec<ArgType>,
+    joined: bool,
+) -> Result<Beside, AllocError>
+    ensures rivals { IfOk result
+        (λ b. AreRivals b.rivals scope.now.ancestors candidates.now types.items) }
+    ensures types { IfOk result (λ b. b.types.items ≡ types.items) }
+    ensures property { IfOk result (λ b. b.property ≡ None) }
+    ensures joined { IfOk result (λ b. b.joined ≡ joined) }
+{
+    let rivals = Rivals::of(alloc, scope.lineage(), candidates, types.as_slice())?;
+    Ok(Beside {
+        rivals,
+        types,
+        property: None,
+        joined,
+    })
+}
+
+/// No candidates, and a property that is seen.
+fn of_property(
+    alloc: Global,
+    scope: &Scope<'_>,
+    property: Option<HostProperty>,
+) -> Result<Beside, AllocError>
+    ensures rivals { IfOk result (λ b. AreRivals b.rivals scope.now.ancestors [] []) }
+    ensures types { IfOk result (λ b. b.types.items ≡ []) }
+    ensures property { IfOk result (λ b. b.property ≡ property) }
+    ensures joined { IfOk result (λ b. b.joined ≡ false) }
+{
+    let rivals = Rivals::of(alloc, scope.lineage(), &[], &[])?;
+    Ok(Beside {
+        rivals,
+        types: Vec::new(alloc),
+        property,
+        joined: false,
+    })
+}
+
+/// The functions of a name.
+fn of_functions(
+    alloc: Global,
+    scope: &Scope<'_>,
+    name: &[u8],
+    args: &[ArgType],
+) -> Result<Beside, AllocError>
+    ensures rivals { IfOk result (λ b. AreRivals b.rivals scope.now.ancestors
+        (uses.candidates_of (uses.functions_of scope.now name.now)) args.now) }
+    ensures types { IfOk result (λ b. b.types.items ≡ args.now) }
+    ensures property { IfOk result (λ b. b.property ≡ None) }
+    ensures joined { IfOk result
+        (λ b. b.joined ≡ not (is_empty (uses.functions_of scope.now name.now))) }
+{
+    let functions = functions_of(alloc, scope, name)?;
+    let types = Vec::from_slice(alloc, args)?;
+    let joined = !functions.is_empty();
+    of_candidates(alloc, scope, functions.candidates(), types, joined)
+}
+
+/// The factories of a host type.
+fn of_factories(
+    alloc: Global,
+    scope: &Scope<'_>,
+    number: u32,
+    args: &[ArgType],
+) -> Result<Beside, AllocError>
+    ensures rivals { IfOk result (λ b. AreRivals b.rivals scope.now.ancestors
+        (spec.factories scope.now.view number) args.now) }
+    ensures types { IfOk result (λ b. b.types.items ≡ args.now) }
+    ensures property { IfOk result (λ b. b.property ≡ None) }
+    ensures joined { IfOk result (λ b. b.joined ≡ false) }
+{
+    let candidates = factories(alloc, scope.view(), number)?;
+    let types = Vec::from_slice(alloc, args)?;
+    of_candidates(alloc, scope, candidates.as_slice(), types, false)
+}
+
+/// The types of a receiver of the host type of this number, and of the arguments after it.
+fn types_behind(
+    alloc: Global,
+    number: u32,
+    read_only: bool,
+    args: &[ArgType],
+) -> Result<Vec<ArgType>, AllocError>
+    ensures exact { IfOk result (λ types. types.items ≡ Object number read_only ∷ args.now) }
+{
+    let mut types = Vec::from_slice(alloc, args)?;
+    types.insert(0, ArgType::Object { number, read_only })?;
+    Ok(types)
+}
+
+/// The methods of a name of a host type, on a receiver that is read only or not.
+fn of_methods(
+    alloc: Global,
+    scope: &Scope<'_>,
+    name: &[u8],
+    receiver: (u32, bool),
+    args: &[ArgType],
+) -> Result<Beside, AllocError>
+    ensures rivals { IfOk result (λ b. AreRivals b.rivals scope.now.ancestors
+        (uses.candidates_of (uses.host_methods scope.now.view receiver.0 name.now))
+        (Object receiver.0 receiver.1 ∷ args.now)) }
+    ensures types { IfOk result
+        (λ b. b.types.items ≡ Object receiver.0 receiver.1 ∷ args.now) }
+    ensures property { IfOk result (λ b. b.property ≡ None) }
+    ensures joined { IfOk result (λ b. b.joined ≡ false) }
+{
+    let (number, read_only) = receiver;
+    let methods = host_methods(alloc, scope, number, name)?;
+    let types = types_behind(alloc, number, read_only, args)?;
+    of_candidates(alloc, scope, methods.candidates(), types, false)
+}
+
+/// What is kept, for a use of this name, of what a module sees.
+///
+/// The only error is want of memory.
+pub fn beside_of(
+    alloc: Global,
+    scope: &Scope<'_>,
+    name: &[u8],
+    asks: &Asks,
+) -> Result<Beside, AllocError>
+    ensures rivals { IfOk result (λ b. AreRivals b.rivals scope.now.ancestors
+        (spec.candidates_for scope.now name.now asks.now) (spec.types_of asks.now)) }
+    ensures types { IfOk result (λ b. b.types.items ≡ spec.types_of asks.now) }
+    ensures property { IfOk result
+        (λ b. b.property ≡ spec.property_for scope.now name.now asks.now) }
+    ensures joined { IfOk result (λ b. b.joined ≡ spec.is_joined scope.now name.now asks.now) }
+{
+    match asks {
+        Asks::Value => {
+            let wanted = WantedProperty::Global(Text::new(name));
+            of_property(alloc, scope, property_where(scope.view(), &wanted))
+        }
+        Asks::Type => of_property(alloc, scope, None),
+        Asks::Call(args) => of_functions(alloc, scope, name, args.as_slice()),
+        Asks::Make(number, args) => of_factories(alloc, scope, *number, args.as_slice()),
+        Asks::Default(number) => of_factories(alloc, scope, *number, &[]),
+        Asks::Property(number) => {
+            let wanted = WantedProperty::Member(*number, Text::new(name));
+            of_property(alloc, scope, property_where(scope.view(), &wanted))
+        }
+        Asks::Method(number, read_only, args) => {
+            let receiver = (*number, *read_only);
+            of_methods(alloc, scope, name, receiver, args.as_slice())
+        }
+    }
+}

@@ -1,0 +1,17 @@
+//! The rows of denials: the hidden entries by which refused uses would have been resolved (docs/LANGUAGE.md, "Denials").
+//!
+//! `denied` gives them for some refused uses. No view with an entry more is made: the law of an added entry
+//! (`ang_names_known::laws::one_is_added`) says what is found there, and a function that is added is compared with those
+//! that are seen once for each use (`ang_types::Rivals`).
+#![tactic(auto)]
+
+mod beside;
+mod helpers;
+mod masked;
+mod meanings;
+mod named;
+mod rows;
+
+pub use ang_kinds::Denial;
+pub use masked::Masked;
+pub use rows::denied;

@@ -1,0 +1,136 @@
+//! A registration list, and what a module of a mask does not see of it.
+ghost use Rattle.std.specs.Prelude.{◌≡◌, ◌≤◌, length, Some};
+ghost use Rattle.ang_view.specs.Hidden as spec;
+ghost use Rattle.ang_view.specs.Registration as registration;
+ghost use Rattle.ang_view.specs.Registration.{entry_at};
+ghost use Rattle.ang_check_denials.specs.Denials as denials;
+
+use ang_kinds::{EntityNo, Mask};
+use ang_view::{Entry, EntryKind, View, mentions_type};
+use std::marker::Model;
+
+/// A registration list, and what a module of a mask does not see of it.
+#[derive(Drop)]
+pub struct Masked<'a> {
+    whole: &'a View,
+    hidden: &'a View,
+    mask: Mask,
+}
+
+impl<'a> Model for Masked<'a> {
+    ghost use Rattle.std.specs.Prelude.{◌≡◌};
+    ghost use Rattle.ang_view.specs.Hidden as views;
+    ghost use Rattle.ang_check_denials.specs.Masked as value;
+
+    ghost Value = { value.Masked };
+
+    ghost view = { λ r. record { list = r.whole.now; mask = r.mask.0 } };
+
+    ghost invariant = { λ r. r.hidden.now ≡ views.hidden r.whole.now r.mask.0 };
+}
+
+impl<'a> Masked<'a> {
+    /// Borrows a whole list, and what a module of this mask does not see of it.
+    pub fn new(whole: &'a View, hidden: &'a View, mask: Mask) -> Masked<'a>
+        requires hidden { hidden.now ≡ spec.hidden whole.now mask.0 }
+        ensures list { result.list ≡ whole.now }
+        ensures mask { result.mask ≡ mask.0 }
+    {
+        Masked {
+            whole,
+            hidden,
+            mask,
+        }
+    }
+
+    /// The whole list.
+    pub fn whole(&self) -> &'a View
+        ensures same { result.now ≡ self.now.list }
+    {
+        self.whole
+    }
+
+    /// The mask of the module.
+    pub fn mask(&self) -> Mask
+        ensures same { result.0 ≡ self.now.mask }
+    {
+        self.mask
+    }
+
+    /// The number of entries, blanks included: at most 1,024.
+    pub fn len(&self) -> u32
+        ensures exact { result ≡ length self.now.list }
+        ensures most { result ≤ 1024 }
+    {
+        self.whole.len() as u32
+    }
+
+    /// Whether the entry of this number is there and not seen.
+    pub fn hides(&self, number: u32) -> bool
+        ensures exact { result ≡ spec.is_hidden self.now.list self.now.mask number }
+    {
+        self.hidden.get(EntityNo(number)).is_some()
+    }
+
+    /// Whether the entry of this number is there, and its own mask does not meet the module's.
+    pub fn is_unmet(&self, number: u32) -> bool
+        ensures exact { result ≡ spec.is_unmet self.now.list self.now.mask number }
+    {
+        match self.whole.get(EntityNo(number)) {
+            None => false,
+            Some(entry) => !entry.mask.meets(self.mask),
+        }
+    }
+
+    /// The mask of the entry of this number, or 0 where none is there.
+    pub fn mask_of(&self, number: u32) -> Mask
+        ensures exact { result ≡ denials.mask_of (entry_at self.now.list number) }
+    {
+        match self.whole.get(EntityNo(number)) {
+            None => Mask(0),
+            Some(entry) => entry.mask,
+        }
+    }
+
+    /// Whether an entry comes with another one that is added to what is seen: it is that entry, or a type that its
+    /// declaration names.
+    pub fn comes_with(&self, added: u32, number: u32) -> bool
+        ensures exact { result ≡ spec.is_with self.now.list added number }
+    {
+        number == added || self.names(added, number)
+    }
+
+    /// Whether the declaration of an entry names the other one.
+    fn names(&self, naming: u32, number: u32) -> bool
+        ensures exact { result ≡ spec.names_entry
+            (entry_at self.now.list naming) number (entry_at self.now.list number) }
+    {
+        let Some(entry) = self.whole.get(EntityNo(naming)) else {
+            return false;
+        };
+        match self.whole.get(EntityNo(number)) {
+            None => false,
+            Some(other) => is_named_by(entry, number, other),
+        }
+    }
+}
+
+/// Whether the declaration of an entry names the one of this number.
+fn is_named_by(entry: &Entry, number: u32, other: &Entry) -> bool
+    ensures exact { result ≡ registration.is_named_by entry.now number (Some other.now) }
+{
+    !matches!(entry.kind, EntryKind::HostType)
+        && matches!(other.kind, EntryKind::HostType)
+        && (belongs_to(entry.owner, number)
+            || mentions_type(&entry.signature, other.signature.name.as_slice()))
+}
+
+/// Whether the owner of an entry is the one of this number.
+pub fn belongs_to(owner: Option<EntityNo>, number: u32) -> bool
+    ensures exact { result ≡ registration.is_number number owner }
+{
+    match owner {
+        None => false,
+        Some(EntityNo(own)) => own == number,
+    }
+}

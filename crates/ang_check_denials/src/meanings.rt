@@ -1,0 +1,312 @@
+//! What a use would mean, where a hidden entry is added to what a module sees.
+ghost use Rattle.std.specs.Prelude.{◌≡◌, ◌∷◌, not, ◌&&◌, length, List, IfOk};
+ghost use Rattle.ang_kinds.specs.declared.types.Pass.TheVariants.{RefInOut};
+ghost use Rattle.ang_types.specs.declared.arg_type.ArgType.TheVariants.{Object};
+ghost use Rattle.ang_types.specs.declared.asks.Asks.TheVariants as asks_of;
+ghost use Rattle.ang_types.specs.declared.candidate.Candidate.{Candidate};
+ghost use Rattle.ang_types.specs.Rivals.{AreRivals};
+ghost use Rattle.ang_view.specs.Registration.{seen};
+ghost use Rattle.ang_names_known.specs.declared.host.Wanted.TheVariants as sought;
+ghost use Rattle.ang_names_known.specs.declared.host.WantedProperty.TheVariants as sought_property;
+ghost use Rattle.ang_names_known.specs.Added.{added_property};
+ghost use Rattle.ang_names_known.specs.Spaces as spaces;
+ghost use Rattle.ang_check_uses.specs.Uses.{candidates_of, functions_of};
+ghost use Rattle.ang_check_denials.specs.Added as spec;
+
+use crate::beside::{Beside, factories};
+use crate::masked::Masked;
+use crate::named::{is_called_by, is_type_named, named_with};
+use ang_check_uses::{Scope, family_of_type};
+use ang_kinds::{EntityNo, List, Pass};
+use ang_names_known::{
+    HostProperty, Named, ScriptGlobal, Text, Wanted, WantedProperty, found_at, global_named,
+    property_at,
+};
+use ang_types::{ArgType, Asks, Lineage, Rivals};
+use std::alloc::{AllocError, Global};
+
+/// Whether the script has a global of this name.
+fn has_global(globals: &[ScriptGlobal], name: &[u8]) -> bool
+    ensures exact { result ≡ spec.has_global globals.now name.now }
+{
+    match global_named(globals, name) {
+        None => false,
+        Some(number) => globals.get(number).is_some(),
+    }
+}
+
+/// Of the property of the entry that is added, and of the one that is seen, the one of the lower number.
+fn first_property(added: Option<HostProperty>, seen: Option<HostProperty>) -> Option<HostProperty>
+    ensures exact { result ≡ added_property added seen }
+{
+    match (added, seen) {
+        (None, seen) => seen,
+        (Some(added), None) => Some(added),
+        (Some(added), Some(seen)) => {
+            if added.entity.0 < seen.entity.0 {
+                Some(added)
+            } else {
+                Some(seen)
+            }
+        }
+    }
+}
+
+/// Whether a property is that of the entry of this number.
+fn is_property_of(property: Option<HostProperty>, number: u32) -> bool
+    ensures exact { result ≡ spec.is_property_of number property }
+{
+    match property {
+        None => false,
+        Some(property) => property.entity.0 == number,
+    }
+}
+
+/// Whether the property that is wanted would be that of the entry that is added, beside the one that is seen.
+fn property_wins(
+    masked: &Masked<'_>,
+    added: u32,
+    wanted: &WantedProperty<'_>,
+    seen: Option<HostProperty>,
+) -> bool
+    ensures exact { result ≡ spec.property_wins masked.now.list added wanted.now seen }
+{
+    let found = property_at(masked.whole(), wanted, EntityNo(added));
+    is_property_of(first_property(found, seen), added)
+}
+
+/// Whether a bare name would mean the global property that is added.
+fn value_wins(
+    masked: &Masked<'_>,
+    scope: &Scope<'_>,
+    added: u32,
+    name: &[u8],
+    seen: Option<HostProperty>,
+) -> bool
+    ensures exact { result ≡ (not (spec.has_global scope.now.names.globals name.now)
+        && spec.property_wins masked.now.list added (sought_property.Global name.now) seen) }
+{
+    let wanted = WantedProperty::Global(Text::new(name));
+    !has_global(scope.names().globals.as_slice(), name)
+        && property_wins(masked, added, &wanted, seen)
+}
+
+/// Whether a type's name would mean the type that is added.
+fn type_wins(masked: &Masked<'_>, scope: &Scope<'_>, added: u32, name: &[u8]) -> bool
+    requires view { scope.now.view ≡ seen masked.now.list masked.now.mask }
+    ensures exact { result ≡ spec.adds masked.now.list scope.now name.now added
+        (spec.named_with masked.now.list masked.now.mask scope.now added name.now) asks_of.Type }
+{
+    is_type_named(masked.whole(), added, name)
+        && is_number_of(added, named_with(masked, scope, added, name))
+}
+
+fn is_number_of(number: u32, named: Named) -> bool
+    ensures exact { result ≡ spec.is_number_of number named }
+{
+    match named {
+        Named::Unknown => false,
+        Named::Object(own) => own == number,
+    }
+}
+
+/// Whether the function or factory that is added, where it is wanted, would be the best of all.
+fn wins(
+    alloc: Global,
+    masked: &Masked<'_>,
+    lineage: &Lineage,
+    added: u32,
+    wanted: &Wanted<'_>,
+    rivals: &Rivals,
+    types: &[ArgType],
+) -> Result<bool, AllocError>
+    requires size { length rivals.now.0 ≡ length types.now }
+    ensures exact { IfOk result (λ won. (cs : List Candidate) →
+        AreRivals rivals.now lineage.now cs types.now → won ≡ spec.wins lineage.now spec.plain
+        cs types.now (spec.found_in masked.now.list added wanted.now)) }
+{
+    match found_at(alloc, masked.whole(), wanted, EntityNo(added))? {
+        None => Ok(false),
+        Some(function) => Ok(rivals.would_win(lineage, function.params.as_slice(), types)),
+    }
+}
+
+/// The parameters of a method, with its receiver in front.
+fn with_receiver(
+    number: u32,
+    read_only: bool,
+    params: List<(ArgType, Pass)>,
+) -> Result<List<(ArgType, Pass)>, AllocError>
+    ensures exact { IfOk result
+        (λ all. all ≡ (Object number read_only, RefInOut) ∷ params) }
+{
+    let receiver = (ArgType::Object { number, read_only }, Pass::RefInOut);
+    let mut all = params.into_vec();
+    all.insert(0, receiver)?;
+    Ok(List::from_vec(all))
+}
+
+/// Whether the method that is added, where it is wanted, would be the best of all.
+fn method_wins(
+    alloc: Global,
+    masked: &Masked<'_>,
+    lineage: &Lineage,
+    added: u32,
+    number: u32,
+    name: &[u8],
+    rivals: &Rivals,
+    types: &[ArgType],
+) -> Result<bool, AllocError>
+    requires size { length rivals.now.0 ≡ length types.now }
+    ensures exact { IfOk result (λ won. (cs : List Candidate) →
+        AreRivals rivals.now lineage.now cs types.now → won ≡ spec.wins lineage.now
+        (spec.with_receiver number) cs types.now
+        (spec.found_in masked.now.list added (sought.Method number name.now))) }
+{
+    let wanted = Wanted::Method(number, Text::new(name));
+    match found_at(alloc, masked.whole(), &wanted, EntityNo(added))? {
+        None => Ok(false),
+        Some(function) => {
+            let params = with_receiver(number, function.read_only, function.params)?;
+            Ok(rivals.would_win(lineage, params.as_slice(), types))
+        }
+    }
+}
+
+/// Whether the factory that is added would be the best that makes an object of the type of this number.
+fn factory_wins(
+    alloc: Global,
+    masked: &Masked<'_>,
+    scope: &Scope<'_>,
+    added: u32,
+    number: u32,
+    types: &[ArgType],
+) -> Result<bool, AllocError>
+    ensures exact { IfOk result (λ won. won ≡ spec.factory_wins masked.now.list scope.now
+        types.now added number (spaces.family_of_type number)) }
+{
+    if family_of_type(number).is_some() {
+        return Ok(false);
+    }
+    let seen = factories(alloc, scope.view(), number)?;
+    let rivals = Rivals::of(alloc, scope.lineage(), seen.as_slice(), types)?;
+    let wanted = Wanted::Factory(number);
+    wins(
+        alloc,
+        masked,
+        scope.lineage(),
+        added,
+        &wanted,
+        &rivals,
+        types,
+    )
+}
+
+/// Whether a call of a name would mean the entry that is added, which is a function or a factory.
+fn call_wins(
+    alloc: Global,
+    masked: &Masked<'_>,
+    scope: &Scope<'_>,
+    added: u32,
+    name: &[u8],
+    beside: &Beside,
+) -> Result<bool, AllocError>
+    requires view { scope.now.view ≡ seen masked.now.list masked.now.mask }
+    requires rivals { AreRivals beside.now.rivals scope.now.ancestors
+        (candidates_of (functions_of scope.now name.now)) beside.now.types.items }
+    ensures exact { IfOk result (λ won. won ≡ spec.call_wins masked.now.list scope.now name.now
+        beside.now.types.items added
+        (spec.named_with masked.now.list masked.now.mask scope.now added name.now)) }
+{
+    let types = beside.types.as_slice();
+    match named_with(masked, scope, added, name) {
+        Named::Object(number) => factory_wins(alloc, masked, scope, added, number, types),
+        Named::Unknown => {
+            let wanted = Wanted::Function(Text::new(name));
+            let lineage = scope.lineage();
+            wins(
+                alloc,
+                masked,
+                lineage,
+                added,
+                &wanted,
+                &beside.rivals,
+                types,
+            )
+        }
+    }
+}
+
+/// Whether a call of a name would mean the entry that is added: most entries are neither functions of the name nor
+/// factories of a type of it.
+fn call_means(
+    alloc: Global,
+    masked: &Masked<'_>,
+    scope: &Scope<'_>,
+    added: u32,
+    name: &[u8],
+    beside: &Beside,
+) -> Result<bool, AllocError>
+    requires view { scope.now.view ≡ seen masked.now.list masked.now.mask }
+    requires rivals { AreRivals beside.now.rivals scope.now.ancestors
+        (candidates_of (functions_of scope.now name.now)) beside.now.types.items }
+    ensures exact { IfOk result (λ won. won ≡ (spec.is_called_by masked.now.list name.now added
+        && spec.call_wins masked.now.list scope.now name.now beside.now.types.items added
+        (spec.named_with masked.now.list masked.now.mask scope.now added name.now))) }
+{
+    if is_called_by(masked.whole(), name, added) {
+        call_wins(alloc, masked, scope, added, name, beside)
+    } else {
+        Ok(false)
+    }
+}
+
+/// Whether a use of this name would mean the entry that is added to what a module sees, where `beside` is what is kept
+/// for that use.
+///
+/// The only error is want of memory.
+pub fn adds(
+    alloc: Global,
+    masked: &Masked<'_>,
+    scope: &Scope<'_>,
+    name: &[u8],
+    asks: &Asks,
+    beside: &Beside,
+    added: u32,
+) -> Result<bool, AllocError>
+    requires view { scope.now.view ≡ seen masked.now.list masked.now.mask }
+    requires rivals { AreRivals beside.now.rivals scope.now.ancestors
+        (spec.candidates_for scope.now name.now asks.now) beside.now.types.items }
+    requires types { beside.now.types.items ≡ spec.types_of asks.now }
+    requires property { beside.now.property ≡ spec.property_for scope.now name.now asks.now }
+    ensures exact { IfOk result (λ won. won ≡ spec.adds masked.now.list scope.now name.now added
+        (spec.named_with masked.now.list masked.now.mask scope.now added name.now) asks.now) }
+{
+    let lineage = scope.lineage();
+    let types = beside.types.as_slice();
+    match asks {
+        Asks::Value => Ok(value_wins(masked, scope, added, name, beside.property)),
+        Asks::Type => Ok(type_wins(masked, scope, added, name)),
+        Asks::Call(_) => call_means(alloc, masked, scope, added, name, beside),
+        Asks::Make(number, _) | Asks::Default(number) => {
+            let wanted = Wanted::Factory(*number);
+            wins(
+                alloc,
+                masked,
+                lineage,
+                added,
+                &wanted,
+                &beside.rivals,
+                types,
+            )
+        }
+        Asks::Property(number) => {
+            let wanted = WantedProperty::Member(*number, Text::new(name));
+            Ok(property_wins(masked, added, &wanted, beside.property))
+        }
+        Asks::Method(number, _, _) => {
+            let rivals = &beside.rivals;
+            method_wins(alloc, masked, lineage, added, *number, name, rivals, types)
+        }
+    }
+}

@@ -1,0 +1,128 @@
+//! The rows of denials.
+ghost use Rattle.std.specs.Prelude.{◌≡◌, ◌++◌, ◌&&◌, filter, map as list_map, IfOk, OnOk};
+ghost use Rattle.std.specs.List.{list_any, flat_map};
+ghost use Rattle.ang_view.specs.Hidden.{is_unmet, is_with, numbers_of};
+ghost use Rattle.ang_view.specs.Registration.{seen};
+ghost use Rattle.ang_check_denials.specs.Added.{kept_from};
+ghost use Rattle.ang_check_denials.specs.Denials as spec;
+
+use crate::helpers::{helpers, push_kept};
+use crate::masked::Masked;
+use ang_check_uses::Scope;
+use ang_kinds::{Denial, EntityNo};
+use ang_types::{Asks, Refused};
+use std::alloc::{AllocError, Global};
+
+/// Whether an entry comes with one of these.
+fn comes_with_one(masked: &Masked<'_>, helpers: &[u32], number: u32) -> bool
+    ensures exact { result ≡ list_any (λ x. is_with masked.now.list x number) helpers.now }
+{
+    helpers
+        .iter()
+        .any(|added| masked.comes_with(*added, number))
+}
+
+/// Whether an entry, whose own mask does not meet the module's, comes with one of these.
+fn is_denied(masked: &Masked<'_>, helpers: &[u32], number: u32) -> bool
+    ensures exact { result ≡ (is_unmet masked.now.list masked.now.mask number
+        && list_any (λ x. is_with masked.now.list x number) helpers.now) }
+{
+    masked.is_unmet(number) && comes_with_one(masked, helpers, number)
+}
+
+/// The numbers of the entries that come with one of these and whose own masks do not meet the module's, rising.
+fn denied_with(alloc: Global, masked: &Masked<'_>, helpers: &[u32]) -> Result<Vec<u32>, AllocError>
+    ensures exact { IfOk result (λ numbers. numbers.items ≡ kept_from
+        (λ y. is_unmet masked.now.list masked.now.mask y
+        && list_any (λ x. is_with masked.now.list x y) helpers.now) 0 masked.now.list) }
+{
+    let mut numbers = Vec::new(alloc);
+    for number in 0..masked.len() {
+        push_kept(&mut numbers, is_denied(masked, helpers, number), number)?;
+    }
+    Ok(numbers)
+}
+
+/// The numbers of the entries that a refused use is denied, rising.
+fn denied_numbers(
+    alloc: Global,
+    masked: &Masked<'_>,
+    scope: &Scope<'_>,
+    refused: &Refused,
+    asks: &Asks,
+) -> Result<Vec<u32>, AllocError>
+    requires view { scope.now.view ≡ seen masked.now.list masked.now.mask }
+    ensures exact { IfOk result (λ numbers. numbers.items ≡ filter
+        (spec.denied masked.now.list masked.now.mask scope.now refused.now asks.now)
+        (numbers_of masked.now.list)) }
+{
+    let helpers = helpers(alloc, masked, scope, refused, asks)?;
+    denied_with(alloc, masked, helpers.as_slice())
+}
+
+fn row(masked: &Masked<'_>, refused: &Refused, number: u32) -> Denial
+    ensures exact { result ≡ spec.row masked.now.list masked.now.mask refused.now number }
+{
+    Denial {
+        place: refused.error.place,
+        entity: EntityNo(number),
+        entity_mask: masked.mask_of(number),
+        module_mask: masked.mask(),
+    }
+}
+
+/// Puts the rows of these entries at the end.
+fn push_rows(
+    rows: &mut Vec<Denial>,
+    masked: &Masked<'_>,
+    refused: &Refused,
+    numbers: &[u32],
+) -> Result<(), AllocError>
+    ensures pushed { OnOk result (rows.new.items ≡ rows.old.items
+        ++ list_map (spec.row masked.now.list masked.now.mask refused.now) numbers.now) }
+{
+    for number in numbers {
+        rows.push(row(masked, refused, *number))?;
+    }
+    Ok(())
+}
+
+/// Puts the rows of a refused use at the end.
+fn push_denied(
+    alloc: Global,
+    rows: &mut Vec<Denial>,
+    masked: &Masked<'_>,
+    scope: &Scope<'_>,
+    refused: &Refused,
+) -> Result<(), AllocError>
+    requires view { scope.now.view ≡ seen masked.now.list masked.now.mask }
+    ensures pushed { OnOk result (rows.new.items ≡ rows.old.items
+        ++ spec.rows_for masked.now.list masked.now.mask scope.now refused.now) }
+{
+    let Some(asks) = &refused.asks else {
+        return Ok(());
+    };
+    let numbers = denied_numbers(alloc, masked, scope, refused, asks)?;
+    push_rows(rows, masked, refused, numbers.as_slice())
+}
+
+/// The rows of these refused uses, where `scope` has what the module sees of the list and what its scripts declare: of each
+/// in turn one row for each entry that is denied, in the order of entries.
+///
+/// The only error is want of memory.
+pub fn denied(
+    alloc: Global,
+    masked: &Masked<'_>,
+    scope: &Scope<'_>,
+    refused: &[Refused],
+) -> Result<Vec<Denial>, AllocError>
+    requires view { scope.now.view ≡ seen masked.now.list masked.now.mask }
+    ensures exact { IfOk result (λ rows. rows.items ≡ flat_map
+        (spec.rows_for masked.now.list masked.now.mask scope.now) refused.now) }
+{
+    let mut rows = Vec::new(alloc);
+    for one in refused {
+        push_denied(alloc, &mut rows, masked, scope, one)?;
+    }
+    Ok(rows)
+}

@@ -1,0 +1,105 @@
+-- The first method of a signature stands in the row of its name's hash.
+use Rattle.std.specs.Prelude.{ℕ, zero, suc, ◌≡◌, ◌<◌, ◌≤◌, ◌+◌, ◌%◌, ◌==◌, Bool, true, false, not, ◌&&◌, if◌then◌else◌, cond, List, [], ◌∷◌, ◌++◌, length, find, Some, None, nat_lt, slice_get, unwrap_or}
+use Rattle.std.specs.List.{position_or_len}
+use Rattle.std.proofs.Common.{arith, refl, sym, ap, ◌∙◌}
+use Rattle.std.proofs.lemmas.Nat.{mod_below}
+use Rattle.std.proofs.lemmas.Slice.Eq.{bytes_eq-Decides}
+use Rattle.ang_names_known.specs.declared.names.ScriptFunction.{ScriptFunction}
+use Rattle.ang_names_resolved.specs.Resolved.{same_signature, slot_of}
+use Rattle.ang_names_resolved.specs.Hashes.{is_same_at, is_same_in, name_hash, name_hashes, numbers_of, rows_from, rows_of}
+
+-- ---- rows
+
+rows_by : (xs : List ℕ) (h n : ℕ) → rows_from xs h (suc n) ≡ rows_from xs h n ++ numbers_of (h + n) 0 xs ∷ []
+unfolding rows_from
+rows_by xs h zero = let e : h ≡ h + 0 = omega arith in ap (λ k. numbers_of k 0 xs ∷ []) e
+rows_by xs h (suc n) =
+    let e : (h + 1) + n ≡ h + suc n = omega arith in
+    ap (λ r. numbers_of h 0 xs ∷ r) (rows_by xs (h + 1) n ∙ ap (λ k. rows_from xs (h + 1) n ++ numbers_of k 0 xs ∷ []) e)
+
+pub rows_more : (xs : List ℕ) (n : ℕ) → rows_from xs 0 (n + 1) ≡ rows_from xs 0 n ++ numbers_of n 0 xs ∷ []
+rows_more xs n =
+    let up : n + 1 ≡ suc n = omega arith in
+    let first : 0 + n ≡ n = omega arith in
+    ap (rows_from xs 0) up ∙ rows_by xs 0 n ∙ ap (λ k. rows_from xs 0 n ++ numbers_of k 0 xs ∷ []) first
+
+row_at : (xs : List ℕ) (h n k : ℕ) → k < n → slice_get (rows_from xs h n) k ≡ Some (numbers_of (h + k) 0 xs)
+unfolding rows_from
+row_at xs h zero k lt = absurd (omega (arith, lt))
+row_at xs h (suc n) zero lt = let e : h ≡ h + 0 = omega arith in ap (λ k. Some (numbers_of k 0 xs)) e
+row_at xs h (suc n) (suc k) lt =
+    let e : (h + 1) + k ≡ h + suc k = omega arith in
+    row_at xs (h + 1) n k (omega (arith, lt)) ∙ ap (λ m. Some (numbers_of m 0 xs)) e
+
+pub row_of_hash : (all : List (ScriptFunction × Bool)) (rows : List (List ℕ)) (h : ℕ) → rows ≡ rows_of all → h < 256
+    → unwrap_or (slice_get rows h) [] ≡ numbers_of h 0 (name_hashes all)
+row_of_hash all rows h same lt =
+    let first : 0 + h ≡ h = omega arith in
+    ap (λ rs. unwrap_or (slice_get rs h) []) same ∙ ap (λ o. unwrap_or o []) (row_at (name_hashes all) 0 256 h lt)
+    ∙ ap (λ k. numbers_of k 0 (name_hashes all)) first
+
+pub hash_small : (n : ℕ) → n % 256 < 256
+hash_small n = mod_below n 256 (omega arith)
+
+-- ---- the first
+
+both : (a b c : Bool) → (a && b && c) ≡ true → a ≡ true
+both true b c h = refl
+both false b c h = cc
+
+equal : (n : ℕ) → (n == n) ≡ true
+equal n = search arith
+
+module _ (all : List (ScriptFunction × Bool)) (s : ScriptFunction × Bool) where
+  abbrev hash : ℕ
+  hash = name_hash s.0.name
+
+  -- methods of one signature have names of one hash
+  same_hash : (t : ScriptFunction × Bool) → same_signature s t ≡ true → (name_hash t.0.name == hash) ≡ true
+  same_hash t h =
+      let same : s.0.name ≡ t.0.name = (bytes_eq-Decides s.0.name t.0.name).0 (both _ _ _ h) in
+      ap (λ name. name_hash t.0.name == name_hash name) same ∙ equal (name_hash t.0.name)
+
+  one : (b q : Bool) (i past at : ℕ) (row : List ℕ) → (q ≡ true → b ≡ true) → is_same_at all s i ≡ q
+      → unwrap_or (find (is_same_at all s) row) past ≡ (i + 1) + at
+      → unwrap_or (find (is_same_at all s) (if b then i ∷ row else row)) past ≡ i + cond (not q) (1 + at) 0
+  one true true i past at row h here rest = ap (λ c. unwrap_or (cond c (Some i) (find (is_same_at all s) row)) past) here ∙ omega arith
+  one true false i past at row h here rest = ap (λ c. unwrap_or (cond c (Some i) (find (is_same_at all s) row)) past) here ∙ rest ∙ omega arith
+  one false true i past at row h here rest = cc (h refl)
+  one false false i past at row h here rest = rest ∙ omega arith
+
+  from_here : (xs : List (ScriptFunction × Bool)) (i past : ℕ) → ((k : ℕ) → slice_get all (i + k) ≡ slice_get xs k) → past ≡ i + length xs
+      → unwrap_or (find (is_same_at all s) (numbers_of hash i (name_hashes xs))) past ≡ i + position_or_len (same_signature s) xs
+  from_here [] i past stands e = e
+  from_here (x ∷ xs) i past stands e =
+      let first : i + 0 ≡ i = omega arith in
+      let here : is_same_at all s i ≡ same_signature s x = ap (is_same_at all s) (sym first) ∙ ap (is_same_in s) (stands 0) in
+      one (name_hash x.0.name == hash) (same_signature s x) i past (position_or_len (same_signature s) xs) (numbers_of hash (i + 1) (name_hashes xs))
+      (same_hash x) here
+      (from_here xs (i + 1) past (λ k. let up : (i + 1) + k ≡ i + suc k = omega arith in ap (slice_get all) up ∙ stands (suc k)) (omega (arith, e)))
+
+  within : (at n : ℕ) → (b : Bool) → nat_lt at n ≡ b → (b ≡ false → n ≡ at) → unwrap_or (cond b (Some at) None) n ≡ at
+  within at n true e h = refl
+  within at n false e h = h refl
+
+  at_most : (xs : List (ScriptFunction × Bool)) → position_or_len (same_signature s) xs ≤ length xs
+  at_most [] = omega arith
+  at_most (x ∷ xs) = by (same_signature s x) (at_most xs)
+    where
+      by : (q : Bool) → position_or_len (same_signature s) xs ≤ length xs → cond (not q) (1 + position_or_len (same_signature s) xs) 0 ≤ suc (length xs)
+      by true h = omega arith
+      by false h = omega (arith, h)
+
+  not_below : (at n : ℕ) → nat_lt at n ≡ false → n ≤ at
+  not_below at n h = search arith
+
+  short : (xs : List (ScriptFunction × Bool)) → nat_lt (position_or_len (same_signature s) xs) (length xs) ≡ false → length xs ≡ position_or_len (same_signature s) xs
+  short xs e =
+      let most = at_most xs in
+      let least = not_below (position_or_len (same_signature s) xs) (length xs) e in
+      omega (arith, most, least)
+
+  pub first_in_row : unwrap_or (find (is_same_at all s) (numbers_of hash 0 (name_hashes all))) (length all) ≡ slot_of all s
+  first_in_row =
+      from_here all 0 (length all) (λ k. let first : 0 + k ≡ k = omega arith in ap (slice_get all) first) (omega arith)
+      ∙ omega arith ∙ sym (within (position_or_len (same_signature s) all) (length all) (nat_lt (position_or_len (same_signature s) all) (length all)) refl (short all))

@@ -1,0 +1,6 @@
+pub mod Counts
+pub mod Hashed
+pub mod Holding
+pub mod Marked
+pub mod Numbered
+pub mod Spaced

@@ -1,0 +1,247 @@
+//! The classes and interfaces of a build, with what stands above each.
+ghost use Rattle.std.specs.Prelude.{◌≡◌, ◌≤◌, ◌<◌, [], drop, length, slice_get, IfOk};
+ghost use Rattle.ang_names_heritage.specs.Graphs as graphs;
+ghost use Rattle.ang_names_heritage.specs.Graphs.{leads};
+ghost use Rattle.ang_names_heritage.specs.Tables.{Shows};
+ghost use Rattle.ang_names_known.specs.Items.{each_after};
+ghost use Rattle.ang_names_known.specs.Spaces as spaces;
+ghost use Rattle.ang_names_resolved.specs.Resolved as spec;
+ghost use Rattle.ang_names_resolved.specs.Tables as tables;
+
+use crate::held::field_count;
+use crate::members::{body_after, constructors_of, fields_of, methods_of};
+use crate::slots::{Signatures, signatures_of};
+use crate::tables::Tables;
+use ang_kinds::List;
+use ang_names_heritage::{above_of, first_of, order_of, reach_of};
+use ang_names_known::{Family, Space};
+use ang_names_listed::Declaring;
+use ang_names_written::copy_at;
+use std::alloc::{AllocError, Global};
+
+/// The base class of a class or an interface, by the table of base classes.
+fn base_of(families: &[Declaring<'_, '_>], bases: &[bool], number: usize) -> Option<usize>
+    requires few { length families.now ≤ 256 }
+    requires there { number < length families.now }
+    requires bases { Shows bases.now (length families.now) (spec.is_base families.now) }
+    ensures exact { result ≡ spec.first_below (spec.is_base families.now number) (length families.now) }
+{
+    first_of(bases, families.len(), number)
+}
+
+/// All that stands above one, by the table of it.
+fn all_above(
+    alloc: Global,
+    families: &[Declaring<'_, '_>],
+    above: &[bool],
+    number: usize,
+) -> Result<Vec<usize>, AllocError>
+    requires few { length families.now ≤ 256 }
+    requires there { number < length families.now }
+    requires above { Shows above.now (length families.now)
+        (leads (spec.is_parent families.now) (length families.now)) }
+    ensures exact { IfOk result (λ places. places.items
+        ≡ graphs.above (spec.is_parent families.now) (length families.now) number) }
+{
+    above_of(alloc, above, families.len(), number)
+}
+
+/// Itself and the base classes of a class or an interface, the nearest first, by the table of base classes.
+fn chain_of(
+    alloc: Global,
+    families: &[Declaring<'_, '_>],
+    bases: &[bool],
+    number: usize,
+) -> Result<Vec<usize>, AllocError>
+    requires few { length families.now ≤ 256 }
+    requires there { number < length families.now }
+    requires bases { Shows bases.now (length families.now) (spec.is_base families.now) }
+    ensures exact { IfOk result (λ places. places.items
+        ≡ graphs.order_of (spec.is_base families.now) (length families.now) number) }
+{
+    order_of(alloc, bases, families.len(), number)
+}
+
+/// Itself and all that stands above one, the nearest first, by the table of bases.
+fn ancestors_of(
+    alloc: Global,
+    families: &[Declaring<'_, '_>],
+    parents: &[bool],
+    number: usize,
+) -> Result<Vec<usize>, AllocError>
+    requires few { length families.now ≤ 256 }
+    requires there { number < length families.now }
+    requires parents { Shows parents.now (length families.now) (spec.is_parent families.now) }
+    ensures exact { IfOk result (λ places. places.items
+        ≡ graphs.order_of (spec.is_parent families.now) (length families.now) number) }
+{
+    order_of(alloc, parents, families.len(), number)
+}
+
+/// Itself and the families from which it has methods, the nearest first.
+fn order_in(
+    alloc: Global,
+    space: &Space<'_>,
+    families: &[Declaring<'_, '_>],
+    known: &Tables,
+    is_class: bool,
+    number: usize,
+) -> Result<Vec<usize>, AllocError>
+    requires few { length families.now ≤ 256 }
+    requires there { number < length families.now }
+    requires known { tables.AreTables space.now families.now known.now }
+    ensures exact { IfOk result (λ places. places.items ≡ graphs.order_of
+        (spec.gives_members families.now is_class) (length families.now) number) }
+{
+    if is_class {
+        chain_of(alloc, families, &known.bases, number)
+    } else {
+        ancestors_of(alloc, families, &known.parents, number)
+    }
+}
+
+/// To how many it leads through what its fields can hold, by the table of what each one reaches.
+fn rank_of(
+    space: &Space<'_>,
+    families: &[Declaring<'_, '_>],
+    reach: &[bool],
+    number: usize,
+) -> usize
+    requires few { length families.now ≤ 256 }
+    requires there { number < length families.now }
+    requires reach { Shows reach.now (length families.now)
+        (leads (spec.holds space.now families.now) (length families.now)) }
+    ensures exact { result
+        ≡ graphs.reach_of (spec.holds space.now families.now) (length families.now) number }
+{
+    reach_of(reach, families.len(), number)
+}
+
+/// How many fields the class or interface of this number declares itself.
+fn field_count_at(families: &[Declaring<'_, '_>], number: usize) -> usize
+    ensures exact { (E : spaces.Space) → result ≡ length (spec.field_types_in E (slice_get families.now number)) }
+{
+    match families.get(number) {
+        None => 0,
+        Some(family) => field_count(family),
+    }
+}
+
+/// How many fields the classes and interfaces of these numbers declare. Memory holds each of them.
+fn field_counts(families: &[Declaring<'_, '_>], places: &[usize]) -> Result<usize, AllocError>
+    ensures exact { (E : spaces.Space) → IfOk result
+        (λ count. count ≡ length (spec.field_types_at E families.now places.now)) }
+{
+    let mut count: usize = 0;
+    for place in places {
+        count = count
+            .checked_add(field_count_at(families, *place))
+            .ok_or(AllocError)?;
+    }
+    Ok(count)
+}
+
+/// All but the first of some numbers.
+fn behind_first(places: &[usize]) -> &[usize]
+    ensures exact { result.now ≡ drop 1 places.now }
+{
+    places.get(1..).unwrap_or(&[])
+}
+
+/// How many fields the base classes of a class have.
+fn inherited_fields(
+    alloc: Global,
+    families: &[Declaring<'_, '_>],
+    bases: &[bool],
+    number: usize,
+) -> Result<usize, AllocError>
+    requires few { length families.now ≤ 256 }
+    requires there { number < length families.now }
+    requires bases { Shows bases.now (length families.now) (spec.is_base families.now) }
+    ensures exact { (E : spaces.Space) → IfOk result
+        (λ count. count ≡ spec.inherited_fields E families.now [] number) }
+{
+    let chain = chain_of(alloc, families, bases, number)?;
+    field_counts(families, behind_first(&chain))
+}
+
+/// The class or interface of this number, the first of whose bodies has the number `first`.
+fn family_with(
+    alloc: Global,
+    space: &Space<'_>,
+    families: &[Declaring<'_, '_>],
+    known: &Tables,
+    signatures: &Signatures,
+    number: usize,
+    first: usize,
+    family: &Declaring<'_, '_>,
+) -> Result<Family, AllocError>
+    requires few { length families.now ≤ 256 }
+    requires there { number < length families.now }
+    requires known { tables.AreTables space.now families.now known.now }
+    ensures exact { IfOk result (λ f. f
+        ≡ spec.family_with space.now families.now signatures.now number first family.now) }
+{
+    let is_class = family.shape().is_class;
+    let inherited = inherited_fields(alloc, families, &known.bases, number)?;
+    let name = copy_at(alloc, family.text(), &family.name())?;
+    let above = all_above(alloc, families, &known.above, number)?;
+    let order = order_in(alloc, space, families, known, is_class, number)?;
+    let fields = fields_of(alloc, space, family, inherited)?;
+    let methods = methods_of(alloc, space, signatures, family, first)?;
+    let constructors = constructors_of(alloc, space, family, first)?;
+    Ok(Family {
+        name,
+        place: family.name().place,
+        is_class,
+        base: base_of(families, &known.bases, number),
+        above: List::from_vec(above),
+        order: List::from_vec(order),
+        rank: rank_of(space, families, &known.reach, number),
+        fields,
+        methods,
+        constructors,
+        origin: family.origin(),
+    })
+}
+
+/// The classes and interfaces of these declarations, whose tables these are. Their bodies come behind those of the functions.
+pub fn families_in(
+    alloc: Global,
+    space: &Space<'_>,
+    families: &[Declaring<'_, '_>],
+    known: &Tables,
+    functions: usize,
+) -> Result<List<Family>, AllocError>
+    requires few { length families.now ≤ 256 }
+    requires known { tables.AreTables space.now families.now known.now }
+    ensures exact { IfOk result (λ fs. fs ≡ each_after (spec.families_after
+        space.now families.now (spec.signatures_of space.now families.now) functions) [] families.now) }
+{
+    let signatures = signatures_of(alloc, space, families)?;
+    families_of(alloc, space, families, known, &signatures, functions)
+}
+
+fn families_of(
+    alloc: Global,
+    space: &Space<'_>,
+    families: &[Declaring<'_, '_>],
+    known: &Tables,
+    signatures: &Signatures,
+    functions: usize,
+) -> Result<List<Family>, AllocError>
+    requires few { length families.now ≤ 256 }
+    requires known { tables.AreTables space.now families.now known.now }
+    ensures exact { IfOk result (λ fs. fs ≡ each_after (spec.families_after
+        space.now families.now signatures.now functions) [] families.now) }
+{
+    let mut found = Vec::new(alloc);
+    let mut first = functions;
+    for (number, family) in families.iter().enumerate() {
+        found.push(family_with(
+            alloc, space, families, known, signatures, number, first, family,
+        )?)?;
+        first = body_after(family, first)?;
+    }
+    Ok(List::from_vec(found))
+}

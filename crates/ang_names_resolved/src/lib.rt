@@ -1,0 +1,18 @@
+//! The names of declarations, with what their types mean: functions, imports, globals, and the classes and interfaces with
+//! what stands above each (docs/LANGUAGE.md, "Names of a build").
+#![tactic(auto)]
+
+mod families;
+mod headings;
+mod held;
+mod members;
+mod resolved;
+mod signatures;
+mod slots;
+mod space;
+mod tables;
+
+pub use headings::{heading_of, parameter_role};
+pub use resolved::{families_among, names_of};
+pub use space::space_of;
+pub use tables::Tables;

@@ -1,0 +1,176 @@
+//! Denials of refused builds, by the calls of a host: which rows a refused use has.
+
+use crate::errors::scripts_of;
+use ang_check::{check, denials};
+use ang_kinds::{Denial, Mask, Unbuilt};
+use ang_names::declare;
+use ang_registry::{RegError, Registry};
+use ang_tree::Script;
+use std::alloc::{AllocError, Global};
+
+/// What of the host is registered.
+#[derive(Clone, Copy)]
+enum Host {
+    /// A function.
+    Print,
+    /// A type under one mask, and a function that takes it under another one.
+    Pick,
+    /// Two functions of one name.
+    Log,
+    /// A type and its factory.
+    Counter,
+    /// A type, and a method of it under one mask, `const` under another one.
+    Cell,
+}
+
+fn register(registry: &mut Registry, host: Host) -> Result<(), RegError> {
+    match host {
+        Host::Print => {
+            registry.function(0, 0, b"void print(int)")?;
+        }
+        Host::Pick => {
+            registry.type_(b"Cell", 2)?;
+            registry.set_default_mask(Mask(2));
+            registry.function(2, 2, b"Cell@+ pick(Cell@+)")?;
+        }
+        Host::Log => {
+            registry.function(0, 0, b"void log(int)")?;
+            registry.function(0, 1, b"void log(int,int)")?;
+        }
+        Host::Counter => {
+            registry.type_(b"Counter", 1)?;
+            registry.factory(b"Counter", 1, b"Counter@ f(int)")?;
+        }
+        Host::Cell => {
+            registry.set_default_mask(Mask(3));
+            registry.type_(b"Cell", 2)?;
+            registry.set_default_mask(Mask(2));
+            registry.method(b"Cell", 0, b"int get()")?;
+            registry.set_default_mask(Mask(1));
+            registry.method(b"Cell", 0, b"int get() const")?;
+        }
+    }
+    Ok(())
+}
+
+/// The denials of scripts that are refused; none where they are built or memory is short.
+fn denied(
+    alloc: Global,
+    registry: &Registry,
+    mask: Mask,
+    scripts: &[Script],
+) -> Result<Vec<Denial>, AllocError> {
+    let view = registry.seen(alloc, mask)?;
+    match declare(alloc, &view, scripts) {
+        Err(Unbuilt::Memory) => Err(AllocError),
+        Err(Unbuilt::Errors(errors)) => {
+            denials(alloc, registry, mask, scripts, None, errors.as_slice())
+        }
+        Ok(names) => match check(alloc, &view, &names, scripts) {
+            Err(Unbuilt::Errors(errors)) => {
+                let errors = errors.as_slice();
+                denials(alloc, registry, mask, scripts, Some(&names), errors)
+            }
+            _ => Err(AllocError),
+        },
+    }
+}
+
+/// A row as it is wanted: column, entry, and the masks of the entry and of the module.
+type Row = (u32, u32, u32, u32);
+
+fn is_row(denial: &Denial, want: &Row) -> bool {
+    denial.place.sect == 0
+        && denial.place.line == 1
+        && denial.place.column == want.0
+        && denial.entity.0 == want.1
+        && denial.entity_mask.0 == want.2
+        && denial.module_mask.0 == want.3
+}
+
+fn are_rows(denials: &[Denial], wanted: &[Row]) -> bool {
+    if denials.len() != wanted.len() {
+        return false;
+    }
+    for (denial, want) in denials.iter().zip(wanted) {
+        if !is_row(denial, want) {
+            return false;
+        }
+    }
+    true
+}
+
+fn has_rows(alloc: Global, host: Host, mask: u32, text: &str, wanted: &[Row]) -> bool {
+    let mut registry = Registry::new(alloc);
+    if register(&mut registry, host).is_err() {
+        return false;
+    }
+    let Some(scripts) = scripts_of(alloc, text.as_bytes()) else {
+        return false;
+    };
+    match denied(alloc, &registry, Mask(mask), &scripts) {
+        Ok(found) => are_rows(&found, wanted),
+        Err(_) => false,
+    }
+}
+
+const DENIED: [(Host, u32, &str, &[Row]); 7] = [
+    (
+        Host::Print,
+        2,
+        "void main(){ print(1+2); }",
+        &[(14, 0, 1, 2)],
+    ),
+    (
+        Host::Print,
+        0,
+        "void main(){ print(1+2); }",
+        &[(14, 0, 1, 0)],
+    ),
+    (
+        Host::Pick,
+        2,
+        "void main(){ pick(null); }",
+        &[(14, 0, 1, 2)],
+    ),
+    (Host::Log, 2, "void main(){ log(1); }", &[(14, 0, 1, 2)]),
+    (
+        Host::Counter,
+        2,
+        "void m(){ Counter(5); }",
+        &[(11, 0, 1, 2), (11, 1, 1, 2)],
+    ),
+    (
+        Host::Counter,
+        2,
+        "void m(){ Counter c(5); }",
+        &[(11, 0, 1, 2)],
+    ),
+    (
+        Host::Cell,
+        2,
+        "void m(const Cell@ c) { c.get(); }",
+        &[(27, 2, 1, 2)],
+    ),
+];
+
+#[test]
+fn hidden_entries_that_would_resolve_a_use_are_told(rt: HostRuntime) {
+    for (host, mask, text, wanted) in DENIED {
+        assert!(rt; has_rows(rt.alloc(), host, mask, text, wanted), "{text}");
+    }
+}
+
+/// Names that stay the script's, and a name that nothing has.
+const OWN: [(Host, u32, &str); 3] = [
+    (Host::Print, 2, "void main(){ int print = 1; print(2); }"),
+    (Host::Log, 2, "int log; void main(){ log(1); }"),
+    (Host::Log, 2, "void main(){ lag(1); }"),
+];
+
+#[test]
+fn names_of_the_script_have_no_rows(rt: HostRuntime) {
+    for (host, mask, text) in OWN {
+        assert!(rt; has_rows(rt.alloc(), host, mask, text, &[]), "{text}");
+    }
+}

@@ -1,0 +1,15 @@
+//! Tests of scripts with classes and interfaces, by the public call `session`.
+#![tactic(auto)]
+
+#[cfg(test)]
+mod bodies;
+#[cfg(test)]
+mod declarations;
+#[cfg(test)]
+mod harness;
+#[cfg(test)]
+mod lives;
+#[cfg(test)]
+mod masks;
+#[cfg(test)]
+mod runs;
