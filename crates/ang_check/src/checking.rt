@@ -41,7 +41,8 @@ pub fn check(
     scripts: &[Script],
 ) -> Result<Typed, Unbuilt>
     requires accepted { refusals_of view.now (list_map source_of scripts.now) ≡ [] }
-    requires names { names.now ≡ names_of view.now (declarations_of (list_map source_of scripts.now)) }
+    requires names { names.now ≡ names_of view.now
+        (declarations_of (list_map source_of scripts.now)) }
     ensures accepted { OnOk result
         (bodies.body_refusals view.now names.now (list_map source_of scripts.now) ≡ []) }
     ensures typed { IfOk result (λ t. view_typed t

@@ -81,7 +81,8 @@ fn rows_of_bodies(
 ) -> Result<Vec<Denial>, AllocError>
     requires view { view.now ≡ seen masked.now.list masked.now.mask }
     requires accepted { refusals_of view.now (list_map source_of scripts.now) ≡ [] }
-    requires names { names.now ≡ names_of view.now (declarations_of (list_map source_of scripts.now)) }
+    requires names { names.now ≡ names_of view.now
+        (declarations_of (list_map source_of scripts.now)) }
     ensures exact { IfOk result (λ rows. rows.items ≡ flat_map
         (rows_for masked.now.list masked.now.mask
         (spec.scope_over view.now (list_map source_of scripts.now)))

@@ -157,7 +157,8 @@ pub fn prefix(
 /// The refusals that `prefix` has for `++` and `--`. `Memory` where a growth was refused.
 #[tactic(auto, unfolding(crate::specs::Operations::postfix_typing))]
 pub fn postfix(alloc: Global, operand: Operand, operator: TokenKind) -> Result<Operand, Stop>
-    ensures exact { Gives view_operand result (spec.postfix_typing (view_operand operand) operator) }
+    ensures exact { Gives view_operand result
+        (spec.postfix_typing (view_operand operand) operator) }
 {
     let place = operand.place;
     match operator {

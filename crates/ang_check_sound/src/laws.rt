@@ -42,7 +42,8 @@ pub fn program_is_sound()
 pub fn program_has_the_names()
     ensures declared { (V : RegistrationList) (names : Names) (sources : List Source)
         → names ≡ names_of V (declarations_of sources)
-        → body_refusals V names sources ≡ [] → HasNames V names sources (program_of V names sources) }
+        → body_refusals V names sources ≡ [] →
+        HasNames V names sources (program_of V names sources) }
 {}
 
 /// Each expression that was typed is sound, where these parameters and locals are alive, over any names whose
@@ -52,7 +53,8 @@ pub fn expression_is_sound()
     ensures sound { (s : BodyContext) (locals : List LocalVariable) (e : Tree)
         → IsBuiltContext s
         → HasThis s (length locals)
-        → IfOk (typing_of s locals e) (λ a. Sound (module_in s.view s.names) (length locals) a.tree) }
+        → IfOk (typing_of s locals e)
+        (λ a. Sound (module_in s.view s.names) (length locals) a.tree) }
 {}
 
 /// Of the names that `declare` gives the module has all methods and constructors, whatever is refused: so what was
@@ -61,7 +63,8 @@ pub fn each_context_is_built()
     ensures built { (V : RegistrationList) (values : TakesValues V) (few : length V ≤ first_family)
         (names : Names) (sources : List Source)
         → names ≡ names_of V (declarations_of sources)
-        → (text : List ℕ) (within : Option Within) → IsBuiltContext (context_in V names text within) }
+        → (text : List ℕ) (within : Option Within) →
+        IsBuiltContext (context_in V names text within) }
 {}
 
 /// Of the names that `declare` gives each function, method and constructor has the body that stands at its own name, and each

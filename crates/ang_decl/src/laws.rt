@@ -27,13 +27,18 @@ pub fn one_declaration()
 /// declares, or that the text is a declaration that is left out, or that it is none of the form.
 pub fn one_answer()
     ensures types { (text : List ℕ) →
-        IsAnswer SpellsType spec.is_type_left_out spec.type_signature text (declared_type_alone text) }
+        IsAnswer SpellsType spec.is_type_left_out spec.type_signature text
+        (declared_type_alone text) }
     ensures properties { (text : List ℕ) →
-        IsAnswer SpellsProperty spec.is_property_left_out spec.property_signature text (declared_property text) }
+        IsAnswer SpellsProperty spec.is_property_left_out spec.property_signature text
+        (declared_property text) }
     ensures methods { (text : List ℕ) →
-        IsAnswer SpellsMethod spec.is_function_left_out spec.function_signature text (declared_method text) }
+        IsAnswer SpellsMethod spec.is_function_left_out spec.function_signature text
+        (declared_method text) }
     ensures functions { (text : List ℕ) →
-        IsAnswer SpellsFunction spec.is_function_left_out spec.function_signature text (declared_function text) }
+        IsAnswer SpellsFunction spec.is_function_left_out spec.function_signature text
+        (declared_function text) }
     ensures factories { (text : List ℕ) →
-        IsAnswer SpellsFactory spec.is_factory_left_out spec.function_signature text (declared_factory text) }
+        IsAnswer SpellsFactory spec.is_factory_left_out spec.function_signature text
+        (declared_factory text) }
 {}

@@ -22,7 +22,8 @@ use std::alloc::Global;
 #[tactic(auto, unfolding(crate::specs::Parsed::declared_type_alone))]
 fn type_in(alloc: Global, text: &[u8]) -> Result<Signature, DeclError>
     ensures exact { IfOk result (λ s. declared_type_alone text.now ≡ Ok s) }
-    ensures fault { IfErr result (λ e. e ≢ DeclError.Memory → declared_type_alone text.now ≡ Err e) }
+    ensures fault { IfErr result (λ e. e ≢ DeclError.Memory →
+        declared_type_alone text.now ≡ Err e) }
 {
     let tokens = lex(alloc, text, 0)?;
     let host_type = whole_type(&tokens)?;
@@ -41,12 +42,16 @@ fn type_in(alloc: Global, text: &[u8]) -> Result<Signature, DeclError>
 /// `Syntax` where the text is no type. `Unsupported` where it is one that no declaration of a host can
 /// have, as `Cell`, `Cell@ const` or `int@`. `Memory` only where a growth was refused.
 pub fn parse_type(alloc: Global, text: &[u8]) -> Result<Signature, DeclError>
-    ensures signature { IfOk result (Declares SpellsType spec.is_type_left_out spec.type_signature text.now) }
-    ensures unsupported { IfErr result (λ e. e ≡ DeclError.Unsupported → IsLeftOut SpellsType spec.is_type_left_out text.now) }
-    ensures syntax { IfErr result (λ e. e ≡ DeclError.Syntax → (x : HostType) → IsWritten SpellsType text.now x → ⊥) }
+    ensures signature { IfOk result
+        (Declares SpellsType spec.is_type_left_out spec.type_signature text.now) }
+    ensures unsupported { IfErr result
+        (λ e. e ≡ DeclError.Unsupported → IsLeftOut SpellsType spec.is_type_left_out text.now) }
+    ensures syntax { IfErr result (λ e. e ≡ DeclError.Syntax → (x : HostType) →
+        IsWritten SpellsType text.now x → ⊥) }
     // the same as an equation, for the crates above
     ensures exact { IfOk result (λ s. declared_type_alone text.now ≡ Ok s) }
-    ensures fault { IfErr result (λ e. e ≢ DeclError.Memory → declared_type_alone text.now ≡ Err e) }
+    ensures fault { IfErr result (λ e. e ≢ DeclError.Memory →
+        declared_type_alone text.now ≡ Err e) }
 {
     type_in(alloc, text)
 }
@@ -77,9 +82,13 @@ fn function_in(alloc: Global, text: &[u8]) -> Result<Signature, DeclError>
 /// is no primitive by value, `T@+` or `const T@+`, or the result is none of these and not `void`. `Memory`
 /// only where a growth was refused.
 pub fn parse_function(alloc: Global, text: &[u8]) -> Result<Signature, DeclError>
-    ensures signature { IfOk result (Declares SpellsFunction spec.is_function_left_out spec.function_signature text.now) }
-    ensures unsupported { IfErr result (λ e. e ≡ DeclError.Unsupported → IsLeftOut SpellsFunction spec.is_function_left_out text.now) }
-    ensures syntax { IfErr result (λ e. e ≡ DeclError.Syntax → (x : HostFunction) → IsWritten SpellsFunction text.now x → ⊥) }
+    ensures signature { IfOk result
+        (Declares SpellsFunction spec.is_function_left_out spec.function_signature text.now) }
+    ensures unsupported { IfErr result
+        (λ e. e ≡ DeclError.Unsupported →
+        IsLeftOut SpellsFunction spec.is_function_left_out text.now) }
+    ensures syntax { IfErr result (λ e. e ≡ DeclError.Syntax → (x : HostFunction) →
+        IsWritten SpellsFunction text.now x → ⊥) }
     // the same as an equation, for the crates above
     ensures exact { IfOk result (λ s. declared_function text.now ≡ Ok s) }
     ensures fault { IfErr result (λ e. e ≢ DeclError.Memory → declared_function text.now ≡ Err e) }
@@ -109,9 +118,13 @@ fn method_in(alloc: Global, text: &[u8]) -> Result<Signature, DeclError>
 /// `Syntax` where the text is of another form. `Unsupported` where it is of that form, and a parameter
 /// or the result is none that a function can have. `Memory` only where a growth was refused.
 pub fn parse_method(alloc: Global, text: &[u8]) -> Result<Signature, DeclError>
-    ensures signature { IfOk result (Declares SpellsMethod spec.is_function_left_out spec.function_signature text.now) }
-    ensures unsupported { IfErr result (λ e. e ≡ DeclError.Unsupported → IsLeftOut SpellsMethod spec.is_function_left_out text.now) }
-    ensures syntax { IfErr result (λ e. e ≡ DeclError.Syntax → (x : HostFunction) → IsWritten SpellsMethod text.now x → ⊥) }
+    ensures signature { IfOk result
+        (Declares SpellsMethod spec.is_function_left_out spec.function_signature text.now) }
+    ensures unsupported { IfErr result
+        (λ e. e ≡ DeclError.Unsupported →
+        IsLeftOut SpellsMethod spec.is_function_left_out text.now) }
+    ensures syntax { IfErr result (λ e. e ≡ DeclError.Syntax → (x : HostFunction) →
+        IsWritten SpellsMethod text.now x → ⊥) }
     // the same as an equation, for the crates above
     ensures exact { IfOk result (λ s. declared_method text.now ≡ Ok s) }
     ensures fault { IfErr result (λ e. e ≢ DeclError.Memory → declared_method text.now ≡ Err e) }
@@ -141,9 +154,13 @@ fn property_in(alloc: Global, text: &[u8]) -> Result<Signature, DeclError>
 /// `Syntax` where the text is of another form. `Unsupported` where it is of that form, and its type is
 /// no primitive one, with or without `const`. `Memory` only where a growth was refused.
 pub fn parse_property(alloc: Global, text: &[u8]) -> Result<Signature, DeclError>
-    ensures signature { IfOk result (Declares SpellsProperty spec.is_property_left_out spec.property_signature text.now) }
-    ensures unsupported { IfErr result (λ e. e ≡ DeclError.Unsupported → IsLeftOut SpellsProperty spec.is_property_left_out text.now) }
-    ensures syntax { IfErr result (λ e. e ≡ DeclError.Syntax → (x : HostProperty) → IsWritten SpellsProperty text.now x → ⊥) }
+    ensures signature { IfOk result
+        (Declares SpellsProperty spec.is_property_left_out spec.property_signature text.now) }
+    ensures unsupported { IfErr result
+        (λ e. e ≡ DeclError.Unsupported →
+        IsLeftOut SpellsProperty spec.is_property_left_out text.now) }
+    ensures syntax { IfErr result (λ e. e ≡ DeclError.Syntax → (x : HostProperty) →
+        IsWritten SpellsProperty text.now x → ⊥) }
     // the same as an equation, for the crates above
     ensures exact { IfOk result (λ s. declared_property text.now ≡ Ok s) }
     ensures fault { IfErr result (λ e. e ≢ DeclError.Memory → declared_property text.now ≡ Err e) }
@@ -175,9 +192,13 @@ fn factory_in(alloc: Global, text: &[u8]) -> Result<Signature, DeclError>
 /// where it is of that form, and a parameter is none that a function can have. `Memory` only where a
 /// growth was refused.
 pub fn parse_factory(alloc: Global, text: &[u8]) -> Result<Signature, DeclError>
-    ensures signature { IfOk result (Declares SpellsFactory spec.is_factory_left_out spec.function_signature text.now) }
-    ensures unsupported { IfErr result (λ e. e ≡ DeclError.Unsupported → IsLeftOut SpellsFactory spec.is_factory_left_out text.now) }
-    ensures syntax { IfErr result (λ e. e ≡ DeclError.Syntax → (x : HostFunction) → IsWritten SpellsFactory text.now x → ⊥) }
+    ensures signature { IfOk result
+        (Declares SpellsFactory spec.is_factory_left_out spec.function_signature text.now) }
+    ensures unsupported { IfErr result
+        (λ e. e ≡ DeclError.Unsupported →
+        IsLeftOut SpellsFactory spec.is_factory_left_out text.now) }
+    ensures syntax { IfErr result (λ e. e ≡ DeclError.Syntax → (x : HostFunction) →
+        IsWritten SpellsFactory text.now x → ⊥) }
     // the same as an equation, for the crates above
     ensures exact { IfOk result (λ s. declared_factory text.now ≡ Ok s) }
     ensures fault { IfErr result (λ e. e ≢ DeclError.Memory → declared_factory text.now ≡ Err e) }

@@ -145,7 +145,8 @@ fn another_parameter<'a>(
     comma: Token,
     tokens: &'a [Token],
 ) -> Result<((Vec<HostParameter>, bool), &'a [Token]), ReadError<'a>>
-    ensures reads { Gives (λ x. ((x.0.0.items, x.0.1), x.1.now)) result (read.another_param first.items comma tokens.now) }
+    ensures reads { Gives (λ x. ((x.0.0.items, x.0.1), x.1.now)) result
+        (read.another_param first.items comma tokens.now) }
 {
     let (parameter, rest) = parameter(Some(comma), tokens)?;
     let mut longer = first;
@@ -159,7 +160,8 @@ fn other_parameter(
     first: Vec<HostParameter>,
     tokens: &[Token],
 ) -> Result<((Vec<HostParameter>, bool), &[Token]), ReadError<'_>>
-    ensures reads { Gives (λ x. ((x.0.0.items, x.0.1), x.1.now)) result (read.other_param first.items tokens.now) }
+    ensures reads { Gives (λ x. ((x.0.0.items, x.0.1), x.1.now)) result
+        (read.other_param first.items tokens.now) }
 {
     match tokens {
         [comma, rest @ ..] if matches!(comma.kind, TokenKind::Comma) => {
@@ -174,7 +176,8 @@ fn other_parameters(
     tokens: &[Token],
     limit: usize,
 ) -> Result<(Vec<HostParameter>, &[Token]), ReadError<'_>>
-    ensures reads { Gives (λ x. (x.0.items, x.1.now)) result (repeat read.other_param limit first.items tokens.now) }
+    ensures reads { Gives (λ x. (x.0.items, x.1.now)) result
+        (repeat read.other_param limit first.items tokens.now) }
 {
     let mut found = first;
     let mut rest = tokens;

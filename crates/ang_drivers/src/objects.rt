@@ -93,7 +93,8 @@ impl<T: Copy> Objects<T> {
     // The key of the new object.
     fn insert(&mut self, value: T) -> Result<u64, AllocError>
         requires asking_left { (ledger self.old).tally.made < (ledger self.old).tally.asked }
-        ensures inserted { IfOk result (λ key. Inserts (ledger self.old) value key (ledger self.new)) }
+        ensures inserted { IfOk result
+            (λ key. Inserts (ledger self.old) value key (ledger self.new)) }
         ensures unchanged { OnErr result (ledger self.new ≡ ledger self.old) }
     {
         let key = self.made;
@@ -178,7 +179,8 @@ fn object_at<T: Copy>(live: &BTreeMap<u64, Counted<T>>, key: u64) -> Counted<T>
 // Puts an object in the place of that of a live key.
 fn replace<T: Copy>(live: &mut BTreeMap<u64, Counted<T>>, key: u64, object: Counted<T>)
     requires held { IsSome (get nat_cmp live.old key) }
-    ensures replaced { (q : ℕ) → get nat_cmp live.new q ≡ cond (is_at (nat_cmp key) q) (Some object) (get nat_cmp live.old q) }
+    ensures replaced { (q : ℕ) → get nat_cmp live.new q
+        ≡ cond (is_at (nat_cmp key) q) (Some object) (get nat_cmp live.old q) }
 {
     match live.get_mut(&key) {
         Some(place) => *place = object,

@@ -26,7 +26,8 @@ fn arguments_for(
     values: &[Value],
 ) -> Result<Option<Vec<Slot>>, AllocError>
     requires as_many { length values.now ≡ length params.now }
-    ensures exact { IfOk result (λ found. spec.AreArguments found (spec.arguments_for params.now values.now)) }
+    ensures exact { IfOk result (λ found. spec.AreArguments found
+        (spec.arguments_for params.now values.now)) }
 {
     let mut slots = Vec::with_capacity(alloc, values.len())?;
     for (i, value) in values.iter().enumerate() {
@@ -50,7 +51,8 @@ pub fn arguments(
     function: &ScriptFunction,
     values: &[Value],
 ) -> Result<Option<Vec<Slot>>, AllocError>
-    ensures exact { IfOk result (λ found. spec.AreArguments found (spec.arguments_of function.now values.now)) }
+    ensures exact { IfOk result (λ found. spec.AreArguments found
+        (spec.arguments_of function.now values.now)) }
 {
     let params = function.params.as_slice();
     if values.len() != params.len() {

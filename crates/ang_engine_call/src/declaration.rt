@@ -29,7 +29,8 @@ fn with_empty_body(alloc: Global, decl: &[u8]) -> Result<Vec<u8>, AllocError>
 /// The text as a script, if it is one.
 #[tactic(auto, unfolding(crate::specs::Declaration::declarations_in))]
 fn script_in(alloc: Global, text: &[u8]) -> Result<Option<Script>, AllocError>
-    ensures exact { IfOk result (λ found. spec.IsScript found text.now (spec.declarations_in text.now)) }
+    ensures exact { IfOk result (λ found. spec.IsScript found text.now
+        (spec.declarations_in text.now)) }
 {
     let tokens = match lex(alloc, text, 0) {
         Ok(tokens) => tokens,

@@ -29,7 +29,8 @@ pub fn find_function(
 ) -> Result<Option<usize>, AllocError>
     requires few { length names.now.families ≤ 256 }
     ensures exact { IfOk result (λ found. found ≡ function_named_by view.now names.now decl.now) }
-    ensures within { IfOk result (λ found. IfSome found (λ number. number < length names.now.functions)) }
+    ensures within { IfOk result (λ found. IfSome found
+        (λ number. number < length names.now.functions)) }
 {
     let space = Space::of_names(view, names);
     match declared_function(alloc, &space, decl)? {

@@ -13,7 +13,8 @@ ghost use Rattle.ang_engine_call.specs.Named.{IsNamedBy, function_named_by};
 
 /// The test by which headings are compared says whether they are equal.
 pub fn headings_are_compared()
-    ensures same { (f g : ScriptFunction) → (same_heading f g ≡ true) ↔ (heading_of f ≡ heading_of g) }
+    ensures same { (f g : ScriptFunction) →
+        (same_heading f g ≡ true) ↔ (heading_of f ≡ heading_of g) }
 {}
 
 /// The number that a text names is that of a function with the heading of the function that the text
@@ -31,12 +32,15 @@ pub fn first_of_its_heading()
 /// no more entries than a registration list has. So the function with the heading of the one that a text
 /// declares is the one that the text names.
 pub fn one_of_each_heading()
-    ensures apart { (V : RegistrationList) (sources : List Source) (n k : ℕ) (f g : ScriptFunction) →
+    ensures apart { (V : RegistrationList) (sources : List Source) (n k : ℕ)
+        (f g : ScriptFunction) →
         length V ≤ 1024 → refusals_of V sources ≡ [] →
         slice_get (names_of V (declarations_of sources)).functions n ≡ Some f →
         slice_get (names_of V (declarations_of sources)).functions k ≡ Some g →
         heading_of f ≡ heading_of g → n ≡ k }
-    ensures named { (V : RegistrationList) (sources : List Source) (names : Names) (decl : List ℕ) (n : ℕ) →
-        length V ≤ 1024 → refusals_of V sources ≡ [] → names ≡ names_of V (declarations_of sources) →
+    ensures named { (V : RegistrationList) (sources : List Source) (names : Names) (decl : List ℕ)
+        (n : ℕ) →
+        length V ≤ 1024 → refusals_of V sources ≡ [] →
+        names ≡ names_of V (declarations_of sources) →
         IsNamedBy V names decl n → function_named_by V names decl ≡ Some n }
 {}

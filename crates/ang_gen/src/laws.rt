@@ -16,11 +16,13 @@ ghost use Rattle.ang_gen.specs.Behaves.{HasCodes, IsModule, sources_of, BehavesA
 /// methods lead where they may, the machine ends as the source means: for every function, budget, arguments
 /// and inputs, and for every initializer. The modules are given by their numbers, or as a list.
 pub fn behaves()
-    ensures same { (z : Setting) (view : ℕ → RegistrationList) (program : ℕ → Program) (code : Texts)
+    ensures same { (z : Setting) (view : ℕ → RegistrationList) (program : ℕ → Program)
+        (code : Texts)
         → ((m : ℕ) → IsModule z m (view m) (program m) code)
         → LinksFit z
         → BehavesAsSource z (sources_of program) code }
-    ensures listed { (z : Setting) (view : ℕ → RegistrationList) (programs : List Program) (code : Texts)
+    ensures listed { (z : Setting) (view : ℕ → RegistrationList) (programs : List Program)
+        (code : Texts)
         → ((m : ℕ) → IsModule z m (view m) (slice_index_or programs m nothing) code)
         → LinksFit z
         → BehavesAsSource z (codes_in programs) code }
@@ -28,7 +30,8 @@ pub fn behaves()
 
 /// The texts of several modules have each module's codes under its number.
 pub fn texts_there()
-    ensures there { (modules : List (Vec RoutineCode Global)) (m : ℕ) (codes : Vec RoutineCode Global)
+    ensures there { (modules : List (Vec RoutineCode Global)) (m : ℕ)
+        (codes : Vec RoutineCode Global)
         → slice_get modules m ≡ Some codes
         → HasCodes m codes.items (texts_of modules) }
 {}
@@ -36,7 +39,8 @@ pub fn texts_there()
 /// In compiled modules of which no import is bound, imports and methods lead where they may: a class of a
 /// sound tree has methods that fit their slots.
 pub fn unbound_imports_fit()
-    ensures of_modules { (z : Setting) (view : ℕ → RegistrationList) (program : ℕ → Program) (code : Texts)
+    ensures of_modules { (z : Setting) (view : ℕ → RegistrationList) (program : ℕ → Program)
+        (code : Texts)
         → ((m : ℕ) → IsModule z m (view m) (program m) code)
         → ((m i : ℕ) → z.linked m i ≡ None)
         → LinksFit z }

@@ -32,7 +32,8 @@ pub type Code = Vec<RoutineCode>;
 pub fn generate(alloc: Global, program: &Typed) -> Result<Code, AllocError>
     ensures means { IfOk result (λ code. MeansProgram (view_typed program.now) code.items) }
     ensures code { IfOk result (λ code. IsCompiled (view_typed program.now) code.items) }
-    ensures params { IfOk result (λ code. list_map (λ c. c.params.items) code.items ≡ passings_in (view_typed program.now)) }
+    ensures params { IfOk result (λ code. list_map (λ c. c.params.items) code.items
+        ≡ passings_in (view_typed program.now)) }
 {
     let bodies = lower(alloc, program)?;
     let codes = generate_module(alloc, bodies.as_slice())?;

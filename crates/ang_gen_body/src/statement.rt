@@ -79,7 +79,8 @@ fn write_past(text: &mut Text, n: usize) -> Result<(), AllocError>
 // A test, which passes what was written since the mark where it is false.
 fn write_test(text: &mut Text, mark: usize, test: &Expression) -> Result<(), AllocError>
     requires mark { mark ≤ length text.old }
-    ensures code { OnOk result (text.new ≡ expr_code 0 test.now ++ (SkipBy (length text.old - mark) ∷ text.old)) }
+    ensures code { OnOk result (text.new ≡ expr_code 0 test.now
+        ++ (SkipBy (length text.old - mark) ∷ text.old)) }
 {
     let here = text.len();
     text.put(Instruction::SkipIfFalse(here - mark))?;
@@ -90,9 +91,11 @@ fn write_test(text: &mut Text, mark: usize, test: &Expression) -> Result<(), All
 // instructions behind it.
 fn begin_loop(text: &mut Text, behind: usize, test: &Expression) -> Result<(), AllocError>
     requires behind { behind < length text.old }
-    ensures code { (body step rest : List Instruction) → text.old ≡ body ++ (step ++ BackBy 0 ∷ rest) → length rest ≡ behind
+    ensures code { (body step rest : List Instruction) →
+        text.old ≡ body ++ (step ++ BackBy 0 ∷ rest) → length rest ≡ behind
         → OnOk result (text.new ≡ while_code (expr_code 0 test.now) body step ++ rest) }
-    ensures longer { OnOk result (length text.new ≡ length text.old + length (expr_code 0 test.now) + 2) }
+    ensures longer { OnOk result (length text.new
+        ≡ length text.old + length (expr_code 0 test.now) + 2) }
 {
     write_test(text, behind, test)?;
     let start = text.len();
@@ -103,8 +106,10 @@ fn begin_loop(text: &mut Text, behind: usize, test: &Expression) -> Result<(), A
 // The same of a loop without a step that goes to its body first.
 fn begin_at_body(text: &mut Text, behind: usize, test: &Expression) -> Result<(), AllocError>
     requires behind { behind < length text.old }
-    ensures code { (body rest : List Instruction) → text.old ≡ body ++ BackBy 0 ∷ rest → length rest ≡ behind
-        → OnOk result (text.new ≡ GoOnBy (length (expr_code 0 test.now) + 2) ∷ (while_code (expr_code 0 test.now) body [] ++ rest)) }
+    ensures code { (body rest : List Instruction) → text.old ≡ body ++ BackBy 0 ∷ rest →
+        length rest ≡ behind
+        → OnOk result (text.new ≡ GoOnBy (length (expr_code 0 test.now) + 2)
+        ∷ (while_code (expr_code 0 test.now) body [] ++ rest)) }
 {
     let body = text.len();
     begin_loop(text, behind, test)?;
@@ -115,7 +120,8 @@ fn begin_at_body(text: &mut Text, behind: usize, test: &Expression) -> Result<()
 // So many locals are given up, and the run goes on where so many instructions stand behind.
 fn write_way_out(text: &mut Text, n: usize, behind: usize) -> Result<(), AllocError>
     requires behind { behind ≤ length text.old }
-    ensures code { OnOk result (text.new ≡ (leave_code n ++ GoOnBy (length text.old - behind) ∷ []) ++ text.old) }
+    ensures code { OnOk result (text.new ≡ (leave_code n ++ GoOnBy (length text.old - behind) ∷ [])
+        ++ text.old) }
 {
     let here = text.len();
     text.put(Instruction::GoOn(here - behind))?;
@@ -136,7 +142,8 @@ fn write_block(
     requires again { exits.again ≤ length text.old }
     ensures code { OnOk result (text.new ≡ block_code (stmt_code exits.params locals exits.alive
         (length text.old - exits.exit + length (leave_code (declared s.now)))
-        (length text.old - exits.again + length (leave_code (declared s.now))) s.now) (declared s.now) ++ text.old) }
+        (length text.old - exits.again + length (leave_code (declared s.now))) s.now)
+        (declared s.now) ++ text.old) }
 {
     write_leave(text, declared_by(s))?;
     write_statement(text, exits, locals, s)
@@ -151,7 +158,8 @@ fn write_step(
     s: &Statement,
 ) -> Result<(), AllocError>
     requires within { params ≤ locals }
-    ensures code { OnOk result (text.new ≡ block_code (stmt_code params locals 0 0 0 s.now) (declared s.now) ++ text.old) }
+    ensures code { OnOk result (text.new ≡ block_code (stmt_code params locals 0 0 0 s.now)
+        (declared s.now) ++ text.old) }
 {
     write_leave(text, declared_by(s))?;
     let end = text.len();

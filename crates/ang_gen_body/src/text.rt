@@ -57,7 +57,8 @@ impl Text {
     /// others stay.
     pub fn set_back(&mut self, behind: usize, distance: usize)
         requires there { behind < length self.old }
-        ensures set { (front rest : List Instruction) (i : Instruction) → self.old ≡ front ++ i ∷ rest → length rest ≡ behind
+        ensures set { (front rest : List Instruction) (i : Instruction) →
+            self.old ≡ front ++ i ∷ rest → length rest ≡ behind
             → self.new ≡ front ++ Back distance ∷ rest }
     {
         self.reversed[behind] = Instruction::Back(distance);

@@ -97,8 +97,10 @@ fn tokens_from(
     requires within { at ≤ length text.now }
     requires line { place.line ≤ at + 1 }
     requires column { place.column ≤ at + 1 }
-    ensures tokens { IfOk result (λ v. spec.tokens_from (length text.now) at place (drop at text.now) ≡ Ok v.items) }
-    ensures fault { IfErr result (λ e. e ≢ LexError.Memory → spec.tokens_from (length text.now) at place (drop at text.now) ≡ Err e) }
+    ensures tokens { IfOk result (λ v. spec.tokens_from (length text.now) at place
+        (drop at text.now) ≡ Ok v.items) }
+    ensures fault { IfErr result (λ e. e ≢ LexError.Memory →
+        spec.tokens_from (length text.now) at place (drop at text.now) ≡ Err e) }
 {
     let mut tokens = Vec::new(alloc);
     while at < text.len() {

@@ -13,7 +13,8 @@ use crate::words::words_of_length;
 /// The text is one of the spellings.
 #[tactic(auto, unfolding(crate::specs::Words::is_listed))]
 fn is_listed(mut entries: &[(&[u8], TokenKind)], text: &[u8]) -> bool
-    ensures exact { result ≡ words.is_listed (map (λ e. (e.0.now, e.1)) entries.entry.now) text.now }
+    ensures exact { result ≡ words.is_listed
+        (map (λ e. (e.0.now, e.1)) entries.entry.now) text.now }
 {
     while let [entry, rest @ ..] = entries {
         if entry.0 == text {

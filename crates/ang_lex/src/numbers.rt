@@ -76,7 +76,8 @@ fn with_digit(value: u64, base: u8, digit: u8) -> Option<u64>
 /// What the digits stand for, if it is below 2^64.
 fn value_of(base: u8, digits: &[u8]) -> Option<u64>
     requires base { 2 ≤ base }
-    ensures exact { SomeIff result (digits_value base digits.now < 2 ^ 64) (digits_value base digits.now) }
+    ensures exact { SomeIff result (digits_value base digits.now < 2 ^ 64)
+        (digits_value base digits.now) }
 {
     let mut value = 0;
     for b in digits {

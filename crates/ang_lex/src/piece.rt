@@ -44,7 +44,8 @@ fn is_bad_number(kind: TokenKind, text: &[u8], after: &[u8]) -> bool
 
 fn token_piece(rest: &[u8]) -> Result<Piece, Fault>
     ensures value { result ≡ spec.longest_piece (longest rest.now) rest.now }
-    ensures within { IfOk result (λ p. (1 ≤ spec.piece_len p) × (spec.piece_len p ≤ length rest.now)) }
+    ensures within { IfOk result (λ p. (1 ≤ spec.piece_len p)
+        × (spec.piece_len p ≤ length rest.now)) }
 {
     let (kind, len) = longest_token(rest);
     if len == 0 {
@@ -63,7 +64,8 @@ fn token_piece(rest: &[u8]) -> Result<Piece, Fault>
 fn block_piece(rest: &[u8]) -> Result<Piece, Fault>
     requires opened { 2 ≤ length rest.now }
     ensures value { result ≡ spec.block_piece (spec.closing_len (drop 2 rest.now)) }
-    ensures within { IfOk result (λ p. (1 ≤ spec.piece_len p) × (spec.piece_len p ≤ length rest.now)) }
+    ensures within { IfOk result (λ p. (1 ≤ spec.piece_len p)
+        × (spec.piece_len p ≤ length rest.now)) }
 {
     match closing_len(&rest[2..]) {
         None => Err(Fault::OpenComment),
@@ -85,7 +87,8 @@ fn begins_white(rest: &[u8]) -> bool
 #[tactic(auto, unfolding(crate::specs::Tokens::piece_of))]
 pub fn piece(rest: &[u8]) -> Result<Piece, Fault>
     ensures value { result ≡ spec.piece_of rest.now }
-    ensures within { IfOk result (λ p. (1 ≤ spec.piece_len p) × (spec.piece_len p ≤ length rest.now)) }
+    ensures within { IfOk result (λ p. (1 ≤ spec.piece_len p)
+        × (spec.piece_len p ≤ length rest.now)) }
 {
     if begins_white(rest) {
         return Ok(Piece::Gap(1));

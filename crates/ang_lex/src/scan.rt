@@ -75,7 +75,8 @@ fn text_len(rest: &[u8]) -> usize
 /// The kind of the spelling among the entries, and of any other text the kind `other`.
 #[tactic(auto, unfolding(crate::specs::Words::lookup))]
 fn lookup(mut entries: &[(&[u8], TokenKind)], text: &[u8], other: TokenKind) -> TokenKind
-    ensures exact { result ≡ words.lookup (map (λ e. (e.0.now, e.1)) entries.entry.now) text.now other }
+    ensures exact { result ≡ words.lookup
+        (map (λ e. (e.0.now, e.1)) entries.entry.now) text.now other }
 {
     while let [entry, rest @ ..] = entries {
         if entry.0 == text {
@@ -108,7 +109,8 @@ fn begins_not_is(rest: &[u8]) -> bool
 /// The first entry that the rest begins with.
 #[tactic(auto, unfolding(crate::specs::Fronts::first_of_entries))]
 fn first_of_entries(mut entries: &[(&[u8], TokenKind)], rest: &[u8]) -> (TokenKind, usize)
-    ensures value { result ≡ spec.entry_token (spec.first_of_entries (map (λ e. (e.0.now, e.1)) entries.entry.now) rest.now) }
+    ensures value { result ≡ spec.entry_token
+        (spec.first_of_entries (map (λ e. (e.0.now, e.1)) entries.entry.now) rest.now) }
     ensures within { result.1 ≤ length rest.now }
 {
     while let [entry, more @ ..] = entries {

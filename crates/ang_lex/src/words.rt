@@ -87,7 +87,8 @@ static WORDS_OF_9: [(&[u8], TokenKind); 3] = [
 
 /// The reserved words of a length.
 pub fn words_of_length(len: usize) -> &'static [(&'static [u8], TokenKind)]
-    ensures exact { map (λ e. (e.0.now, e.1)) result.now ≡ filter (λ e. nat_eq (length e.0) len) spec.reserved_words }
+    ensures exact { map (λ e. (e.0.now, e.1)) result.now
+        ≡ filter (λ e. nat_eq (length e.0) len) spec.reserved_words }
 {
     match len {
         2 => &WORDS_OF_2,
@@ -189,7 +190,8 @@ static SINGLE_SIGNS: [(&[u8], TokenKind); 10] = [
 /// The signs that may stand where this byte stands, the longest first.
 pub fn signs_from(first: u8) -> &'static [(&'static [u8], TokenKind)]
     ensures complete { (rest : List ℕ) → begins (λ b. b == first) rest ≡ true →
-        first_of_entries (map (λ e. (e.0.now, e.1)) result.now) rest ≡ first_of_entries spec.signs rest }
+        first_of_entries (map (λ e. (e.0.now, e.1)) result.now) rest
+        ≡ first_of_entries spec.signs rest }
 {
     match first {
         b'>' => &GREATER_SIGNS,

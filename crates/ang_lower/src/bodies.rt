@@ -58,7 +58,8 @@ pub fn passings(alloc: Global, parameters: &[Parameter]) -> Result<Vec<Passing>,
 }
 
 fn function_body(alloc: Global, function: &Function) -> Result<Body, AllocError>
-    ensures exact { IfOk result (λ b. plain_body b ≡ spec.lowered_function (view_function function.now)) }
+    ensures exact { IfOk result (λ b. plain_body b
+        ≡ spec.lowered_function (view_function function.now)) }
 {
     let parameters = function.parameters.as_slice();
     let params = passings(alloc, parameters)?;
@@ -69,7 +70,9 @@ fn function_body(alloc: Global, function: &Function) -> Result<Body, AllocError>
 /// The body that stores the value into the global of that number.
 fn initializer_body(alloc: Global, number: usize, value: &Expression) -> Result<Body, AllocError>
     ensures params { IfOk result (λ b. b.params.items ≡ []) }
-    ensures statement { IfOk result (λ b. plain_stmt b.statement ≡ spec.lowered_code 0 (of_global number (view_expr value.now))) }
+    ensures statement { IfOk result
+        (λ b. plain_stmt b.statement
+        ≡ spec.lowered_code 0 (of_global number (view_expr value.now))) }
 {
     let value = lower_expression(alloc, 0, value)?;
     let whole = store(alloc, 0, &Variable::Global(number), value)?;
@@ -85,7 +88,8 @@ fn add_functions(
     bodies: &mut Vec<Body>,
 ) -> Result<(), AllocError>
     ensures exact { OnOk result (list_map plain_body bodies.new.items
-        ≡ list_map plain_body bodies.old.items ++ list_map spec.lowered_function (list_map view_function functions.now)) }
+        ≡ list_map plain_body bodies.old.items
+        ++ list_map spec.lowered_function (list_map view_function functions.now)) }
 {
     for function in functions {
         let body = function_body(alloc, function)?;
@@ -102,7 +106,8 @@ fn add_global(
     bodies: &mut Vec<Body>,
 ) -> Result<(), AllocError>
     ensures exact { OnOk result (list_map plain_body bodies.new.items
-        ≡ list_map plain_body bodies.old.items ++ spec.lowered_initializer number (view_global global.now).initializer) }
+        ≡ list_map plain_body bodies.old.items
+        ++ spec.lowered_initializer number (view_global global.now).initializer) }
 {
     match &global.initializer {
         Some(value) => {
@@ -120,7 +125,8 @@ fn add_globals(
     bodies: &mut Vec<Body>,
 ) -> Result<(), AllocError>
     ensures exact { OnOk result (list_map plain_body bodies.new.items
-        ≡ list_map plain_body bodies.old.items ++ spec.lowered_globals 0 (list_map view_global globals.now)) }
+        ≡ list_map plain_body bodies.old.items
+        ++ spec.lowered_globals 0 (list_map view_global globals.now)) }
 {
     for (number, global) in globals.iter().enumerate() {
         add_global(alloc, number, global, bodies)?;
@@ -129,7 +135,8 @@ fn add_globals(
 }
 
 fn bodies_of(alloc: Global, program: &Typed) -> Result<Vec<Body>, AllocError>
-    ensures exact { IfOk result (λ bodies. list_map plain_body bodies.items ≡ spec.lowered_module (view_typed program.now)) }
+    ensures exact { IfOk result (λ bodies. list_map plain_body bodies.items
+        ≡ spec.lowered_module (view_typed program.now)) }
 {
     let mut bodies = Vec::new(alloc);
     add_functions(alloc, program.functions.as_slice(), &mut bodies)?;
@@ -147,8 +154,10 @@ fn bodies_of(alloc: Global, program: &Typed) -> Result<Vec<Body>, AllocError>
 /// Want of memory. It is also answered where a local is not alive, a host property is passed for `&out`, or
 /// a number has more than 32 bits, which no checked module has.
 pub fn lower(alloc: Global, program: &Typed) -> Result<Vec<Body>, AllocError>
-    ensures exact { IfOk result (λ bodies. list_map plain_body bodies.items ≡ spec.lowered_module (view_typed program.now)) }
-    ensures params { IfOk result (λ bodies. list_map (λ b. b.params.items) bodies.items ≡ passings_in (view_typed program.now)) }
+    ensures exact { IfOk result (λ bodies. list_map plain_body bodies.items
+        ≡ spec.lowered_module (view_typed program.now)) }
+    ensures params { IfOk result (λ bodies. list_map (λ b. b.params.items) bodies.items
+        ≡ passings_in (view_typed program.now)) }
     ensures lowered { IfOk result (λ bodies. LowersProgram (view_typed program.now) bodies.items) }
     ensures sound { IfOk result (λ bodies. KeepsSound (view_typed program.now) bodies.items) }
 {

@@ -107,7 +107,8 @@ pub fn let_go_of_list(_list: Vec<Statement>) {}
 
 /// One more statement at the end.
 pub fn add(found: &mut Vec<Statement>, statement: Statement) -> Result<(), AllocError>
-    ensures exact { OnOk result (list_map plain_stmt found.new.items ≡ list_map plain_stmt found.old.items ++ (plain_stmt statement ∷ [])) }
+    ensures exact { OnOk result (list_map plain_stmt found.new.items
+        ≡ list_map plain_stmt found.old.items ++ (plain_stmt statement ∷ [])) }
 {
     found.push(statement)?;
     Ok(())

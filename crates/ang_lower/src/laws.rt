@@ -18,7 +18,8 @@ ghost use Rattle.ang_lower.specs.Same.{AreLowered, AreSoundIn, AreCodes, HasProg
 /// A build's initializers in turn end as their sources say, if each of them does.
 #[tactic(auto, using(crate::proofs::Follows::all_same))]
 pub fn initializers_same()
-    ensures same { (z : Setting) (bodies : Bodies) (codes : Codes) (gs : List Routine) (t : ℕ) (w : World)
+    ensures same { (z : Setting) (bodies : Bodies) (codes : Codes) (gs : List Routine) (t : ℕ)
+        (w : World)
         → AllMeanSame z bodies codes gs
         → core.initialized_all z bodies gs t w ≡ source.initialized_all z codes gs t w }
 {}
@@ -67,7 +68,8 @@ pub fn sound_together()
 /// The code of several modules has each of them under its number.
 #[tactic(auto, using(crate::proofs::Modules::codes_there))]
 pub fn codes_there()
-    ensures there { (ps : List Program) (m : ℕ) (p : Program) → slice_get ps m ≡ Some p → AreCodes m p (codes_in ps) }
+    ensures there { (ps : List Program) (m : ℕ) (p : Program) → slice_get ps m ≡ Some p →
+        AreCodes m p (codes_in ps) }
 {}
 
 /// What a module asks is an entry of its view, which is no type, asked as that is declared.

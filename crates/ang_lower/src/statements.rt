@@ -38,7 +38,8 @@ fn add_locals(
     found: &mut Vec<Statement>,
 ) -> Result<usize, AllocError>
     ensures exact { OnOk result (list_map plain_stmt found.new.items
-        ≡ list_map plain_stmt found.old.items ++ spec.lowered_locals alive (list_map view_local locals.now)) }
+        ≡ list_map plain_stmt found.old.items
+        ++ spec.lowered_locals alive (list_map view_local locals.now)) }
     ensures count { IfOk result (λ n. n ≡ length locals.now + alive) }
 {
     let mut here = alive;
@@ -53,7 +54,8 @@ fn add_locals(
 /// An expression whose value nobody takes, or nothing.
 #[inline(never)]
 fn simple(alloc: Global, alive: usize, e: &Option<Box<Expression>>) -> Result<Statement, AllocError>
-    ensures exact { IfOk result (λ s. plain_stmt s ≡ spec.lowered_simple alive (view_option e.now)) }
+    ensures exact { IfOk result (λ s. plain_stmt s
+        ≡ spec.lowered_simple alive (view_option e.now)) }
 {
     match e {
         Some(e) => {
@@ -66,7 +68,8 @@ fn simple(alloc: Global, alive: usize, e: &Option<Box<Expression>>) -> Result<St
 
 /// Expressions whose values nobody takes.
 fn each(alloc: Global, alive: usize, items: &[Expression]) -> Result<Vec<Statement>, AllocError>
-    ensures exact { IfOk result (λ v. list_map plain_stmt v.items ≡ spec.lowered_each alive (list_map view_expr items.now)) }
+    ensures exact { IfOk result (λ v. list_map plain_stmt v.items
+        ≡ spec.lowered_each alive (list_map view_expr items.now)) }
 {
     let mut found = Vec::new(alloc);
     for item in items {
@@ -78,7 +81,8 @@ fn each(alloc: Global, alive: usize, items: &[Expression]) -> Result<Vec<Stateme
 
 /// The steps of a loop.
 fn steps(alloc: Global, alive: usize, items: &[Expression]) -> Result<Statement, AllocError>
-    ensures exact { IfOk result (λ s. plain_stmt s ≡ spec.lowered_steps alive (list_map view_expr items.now)) }
+    ensures exact { IfOk result (λ s. plain_stmt s
+        ≡ spec.lowered_steps alive (list_map view_expr items.now)) }
 {
     if items.is_empty() {
         return Ok(Statement::Skip);
@@ -150,7 +154,8 @@ fn add_one(
 #[cycle(statement)]
 #[inline(never)]
 pub fn lower_block(alloc: Global, alive: usize, written: &Block) -> Result<Statement, AllocError>
-    ensures exact { IfOk result (λ s. plain_stmt s ≡ spec.lowered_block (spec.lowered_all alive (view_block written.now))) }
+    ensures exact { IfOk result (λ s. plain_stmt s
+        ≡ spec.lowered_block (spec.lowered_all alive (view_block written.now))) }
 {
     let mut found = Vec::new(alloc);
     match add_all(alloc, alive, written.statements.as_slice(), &mut found) {

@@ -10,14 +10,16 @@ use std::alloc::{AllocError, Global};
 
 /// An operation on these operands.
 pub fn apply(operation: Operation, operands: Vec<Expression>) -> Expression
-    ensures exact { plain_expr result ≡ tree.apply operation (tree.exprs (list_map plain_expr operands.items)) }
+    ensures exact { plain_expr result
+        ≡ tree.apply operation (tree.exprs (list_map plain_expr operands.items)) }
 {
     Expression::Apply(operation, operands)
 }
 
 /// A call with these arguments and targets.
 pub fn call(callee: Callee, arguments: Vec<Expression>, targets: Vec<Target>) -> Expression
-    ensures exact { plain_expr result ≡ tree.call callee (tree.exprs (list_map plain_expr arguments.items)) targets.items }
+    ensures exact { plain_expr result
+        ≡ tree.call callee (tree.exprs (list_map plain_expr arguments.items)) targets.items }
 {
     Expression::Call(callee, arguments, targets)
 }
@@ -27,7 +29,8 @@ pub fn with_operand(
     first: Vec<Expression>,
     operand: Expression,
 ) -> Result<Vec<Expression>, AllocError>
-    ensures exact { IfOk result (λ v. list_map plain_expr v.items ≡ list_map plain_expr first.items ++ (plain_expr operand ∷ [])) }
+    ensures exact { IfOk result (λ v. list_map plain_expr v.items ≡ list_map plain_expr first.items
+        ++ (plain_expr operand ∷ [])) }
 {
     let mut found = first;
     found.push(operand)?;
@@ -36,7 +39,8 @@ pub fn with_operand(
 
 /// One more operand at the end.
 pub fn add_operand(found: &mut Vec<Expression>, operand: Expression) -> Result<(), AllocError>
-    ensures exact { OnOk result (list_map plain_expr found.new.items ≡ list_map plain_expr found.old.items ++ (plain_expr operand ∷ [])) }
+    ensures exact { OnOk result (list_map plain_expr found.new.items
+        ≡ list_map plain_expr found.old.items ++ (plain_expr operand ∷ [])) }
 {
     found.push(operand)?;
     Ok(())
@@ -72,7 +76,8 @@ pub struct Pair {
 
 /// An operation on two operands.
 pub fn binary(alloc: Global, operation: Operation, pair: Pair) -> Result<Expression, AllocError>
-    ensures exact { IfOk result (λ x. plain_expr x ≡ spec.binary operation (plain_expr pair.left) (plain_expr pair.right)) }
+    ensures exact { IfOk result (λ x. plain_expr x
+        ≡ spec.binary operation (plain_expr pair.left) (plain_expr pair.right)) }
 {
     let Pair { left, right } = pair;
     let first = with_operand(Vec::new(alloc), left)?;
@@ -82,7 +87,8 @@ pub fn binary(alloc: Global, operation: Operation, pair: Pair) -> Result<Express
 
 /// A choice by a test: the left one where it is true.
 pub fn choice(alloc: Global, test: Expression, pair: Pair) -> Result<Expression, AllocError>
-    ensures exact { IfOk result (λ x. plain_expr x ≡ tree.choose (plain_expr test) (plain_expr pair.left) (plain_expr pair.right)) }
+    ensures exact { IfOk result (λ x. plain_expr x
+        ≡ tree.choose (plain_expr test) (plain_expr pair.left) (plain_expr pair.right)) }
 {
     let Pair { left, right } = pair;
     let test = Box::new(alloc, test)?;

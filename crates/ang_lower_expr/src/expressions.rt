@@ -227,7 +227,8 @@ fn store_at(
     site: &Site,
     value: Expression,
 ) -> Result<Expression, AllocError>
-    ensures exact { IfOk result (λ x. plain_expr x ≡ spec.lowered_store alive (view_site site.now) (plain_expr value)) }
+    ensures exact { IfOk result (λ x. plain_expr x
+        ≡ spec.lowered_store alive (view_site site.now) (plain_expr value)) }
 {
     match site {
         Site::Named(variable) => store(alloc, alive, variable, value),
@@ -249,7 +250,8 @@ fn change_at(
     by: Change,
     value: Expression,
 ) -> Result<Expression, AllocError>
-    ensures exact { IfOk result (λ x. plain_expr x ≡ spec.lowered_change alive (view_site site.now) by (plain_expr value)) }
+    ensures exact { IfOk result (λ x. plain_expr x
+        ≡ spec.lowered_change alive (view_site site.now) by (plain_expr value)) }
 {
     match site {
         Site::Named(variable) => change(alloc, alive, variable, by, value),
@@ -371,7 +373,8 @@ fn lower_arguments(
     alive: usize,
     arguments: &[Argument],
 ) -> Result<Vec<Expression>, AllocError>
-    ensures exact { IfOk result (λ v. list_map plain_expr v.items ≡ spec.lowered_args alive (view_args arguments.now)) }
+    ensures exact { IfOk result (λ v. list_map plain_expr v.items
+        ≡ spec.lowered_args alive (view_args arguments.now)) }
 {
     let mut found = Vec::new(alloc);
     add_arguments(alloc, alive, arguments, &mut found)?;
@@ -387,7 +390,8 @@ fn add_arguments(
     found: &mut Vec<Expression>,
 ) -> Result<(), AllocError>
     ensures exact { OnOk result (list_map plain_expr found.new.items
-        ≡ list_map plain_expr found.old.items ++ spec.lowered_args alive (view_args arguments.now)) }
+        ≡ list_map plain_expr found.old.items
+        ++ spec.lowered_args alive (view_args arguments.now)) }
 {
     for argument in arguments {
         let value = lower_argument(alloc, alive, argument)?;
@@ -402,7 +406,8 @@ fn lower_argument(
     alive: usize,
     argument: &Argument,
 ) -> Result<Expression, AllocError>
-    ensures exact { IfOk result (λ x. plain_expr x ≡ spec.lowered_arg alive (view_arg argument.now)) }
+    ensures exact { IfOk result (λ x. plain_expr x
+        ≡ spec.lowered_arg alive (view_arg argument.now)) }
 {
     match argument {
         Argument::Value { value, .. } => lower_expression(alloc, alive, value),

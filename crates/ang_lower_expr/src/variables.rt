@@ -49,7 +49,8 @@ fn with_this(
     operation: Operation,
     value: Expression,
 ) -> Result<Expression, AllocError>
-    ensures exact { IfOk result (λ x. plain_expr x ≡ spec.binary operation (plain_expr value) (spec.this_at alive)) }
+    ensures exact { IfOk result (λ x. plain_expr x
+        ≡ spec.binary operation (plain_expr value) (spec.this_at alive)) }
 {
     let left = value;
     let right = this(alive)?;
@@ -124,7 +125,8 @@ pub fn store(
     variable: &Variable,
     value: Expression,
 ) -> Result<Expression, AllocError>
-    ensures exact { IfOk result (λ x. plain_expr x ≡ spec.stored alive variable.now (plain_expr value)) }
+    ensures exact { IfOk result (λ x. plain_expr x
+        ≡ spec.stored alive variable.now (plain_expr value)) }
 {
     match variable {
         Variable::Local(i) => {
@@ -152,7 +154,8 @@ pub fn change(
     by: Change,
     value: Expression,
 ) -> Result<Expression, AllocError>
-    ensures exact { IfOk result (λ x. plain_expr x ≡ spec.changed alive variable.now by (plain_expr value)) }
+    ensures exact { IfOk result (λ x. plain_expr x
+        ≡ spec.changed alive variable.now by (plain_expr value)) }
 {
     match variable {
         Variable::Local(i) => {
@@ -197,7 +200,8 @@ fn spot(alive: usize, variable: &Variable) -> Result<Spot, AllocError>
 
 // The target of one argument behind those that there are, if it is an `&out` one.
 fn add_target(alive: usize, argument: &Argument, found: &mut Vec<Target>) -> Result<(), AllocError>
-    ensures exact { OnOk result (reverse found.new.items ≡ spec.with_target alive (view_arg argument.now) (reverse found.old.items)) }
+    ensures exact { OnOk result (reverse found.new.items
+        ≡ spec.with_target alive (view_arg argument.now) (reverse found.old.items)) }
 {
     match argument {
         Argument::Value { .. } => Ok(()),

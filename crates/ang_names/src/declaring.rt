@@ -36,7 +36,8 @@ fn declared_by<'a>(
     all: &[Declared<'a>],
 ) -> Result<Names, Unbuilt>
     requires listed { all.now ≡ listed.declarations_of (list_map source_of scripts.now) }
-    ensures accepted { OnOk result (spec.refusals_of view.now (list_map source_of scripts.now) ≡ []) }
+    ensures accepted { OnOk result (spec.refusals_of view.now (list_map source_of scripts.now)
+        ≡ []) }
     ensures names { IfOk result (λ names. names ≡ resolved.names_of view.now all.now) }
     ensures refused { IfErr result (λ why. spec.IsRefused why
         (spec.errors_in (spec.refusals_of view.now (list_map source_of scripts.now)))) }
@@ -58,7 +59,8 @@ fn declared_by<'a>(
 ///
 /// `Errors` are those, of which there is one at least; `Memory` is want of memory.
 pub fn declare<'a>(alloc: Global, view: &'a View, scripts: &'a [Script]) -> Result<Names, Unbuilt>
-    ensures accepted { OnOk result (spec.refusals_of view.now (list_map source_of scripts.now) ≡ []) }
+    ensures accepted { OnOk result (spec.refusals_of view.now (list_map source_of scripts.now)
+        ≡ []) }
     ensures names { IfOk result (λ names. names
         ≡ resolved.names_of view.now (listed.declarations_of (list_map source_of scripts.now))) }
     ensures refused { IfErr result (λ why. spec.IsRefused why
@@ -79,7 +81,8 @@ pub fn names_over<'a>(
     view: &'a View,
     scripts: &'a [Script],
 ) -> Result<Names, AllocError>
-    requires few { length (families_of (listed.declarations_of (list_map source_of scripts.now))) ≤ 256 }
+    requires few { length (families_of
+        (listed.declarations_of (list_map source_of scripts.now))) ≤ 256 }
     ensures exact { IfOk result (λ names. names
         ≡ resolved.names_of view.now (listed.declarations_of (list_map source_of scripts.now))) }
 {

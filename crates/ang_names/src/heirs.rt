@@ -228,7 +228,8 @@ fn is_refused_by(methods: &[Method], method: &Method) -> bool
 /// Whether one of these classes has a method of this slot.
 fn is_inherited(families: &[Family], above: &[usize], slot: usize) -> bool
     ensures exact { result ≡ list_any
-        (λ n. list_any (λ x. x.slot == slot) (numbered.methods_in (slice_get families.now n))) above.now }
+        (λ n. list_any (λ x. x.slot == slot)
+        (numbered.methods_in (slice_get families.now n))) above.now }
 {
     above
         .iter()

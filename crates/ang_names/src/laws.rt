@@ -18,5 +18,6 @@ pub fn few_families()
     ensures accepted { (V : RegistrationList) (ss : List Source) →
         refusals_of V ss ≡ [] → AreFamilies (names_of V (declarations_of ss)).families }
     ensures asked { (V : RegistrationList) (ss : List Source) (r : Refused) →
-        Contains (refusals_of V ss) r → IsSome r.asks → length (families_of (declarations_of ss)) ≤ 256 }
+        Contains (refusals_of V ss) r → IsSome r.asks →
+        length (families_of (declarations_of ss)) ≤ 256 }
 {}

@@ -97,7 +97,8 @@ fn misnamed(
     name: &Token,
 ) -> Result<Option<Refused>, AllocError>
     ensures exact { IfOk result (λ r. r ≡ spec.refusal_if
-        (not (bytes_eq (text_of text.now name.now) family.now)) ErrorKind.BadType text.now name.now) }
+        (not (bytes_eq (text_of text.now name.now) family.now)) ErrorKind.BadType text.now
+        name.now) }
 {
     let is_refused = text_at(text, name) != family;
     refusal_if(alloc, is_refused, ErrorKind::BadType, text, name)

@@ -117,7 +117,8 @@ pub fn first_of(edges: &[bool], n: usize, i: usize) -> Option<usize>
     requires small { n ≤ 256 }
     requires there { i < n }
     requires size { length edges.now ≡ n * n }
-    ensures exact { (e : ℕ → ℕ → Bool) → Shows edges.now n e → result ≡ find (e i) (range_with_len 0 n) }
+    ensures exact { (e : ℕ → ℕ → Bool) → Shows edges.now n e →
+        result ≡ find (e i) (range_with_len 0 n) }
 {
     let mut first = None;
     for j in 0..n {

@@ -36,7 +36,8 @@ pub fn reach_of(closed: &[bool], n: usize, i: usize) -> usize
     requires small { n ≤ 256 }
     requires there { i < n }
     requires size { length closed.now ≡ n * n }
-    ensures exact { (e : ℕ → ℕ → Bool) → Shows closed.now n (leads e n) → result ≡ spec.reach_of e n i }
+    ensures exact { (e : ℕ → ℕ → Bool) → Shows closed.now n (leads e n) →
+        result ≡ spec.reach_of e n i }
     ensures most { result ≤ n }
 {
     let mut count = 0;

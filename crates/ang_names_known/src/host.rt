@@ -115,7 +115,8 @@ fn function_in(
     entity: EntityNo,
     entry: &Entry,
 ) -> Result<Option<HostFunction>, AllocError>
-    ensures exact { IfOk result (λ found. found ≡ spec.function_of_entry view.now entity.0 entry.now) }
+    ensures exact { IfOk result (λ found. found
+        ≡ spec.function_of_entry view.now entity.0 entry.now) }
 {
     let Some(result) = host_type(view, &entry.signature.result) else {
         return Ok(None);
@@ -230,7 +231,8 @@ fn is_wanted_property(wanted: &WantedProperty<'_>, entry: &Entry) -> bool
 
 fn property_in(view: &View, entity: EntityNo, entry: &Entry) -> Option<HostProperty>
     ensures exact { result
-        ≡ spec.property_with entity.0 entry.now (spec.host_type view.now entry.now.signature.result) }
+        ≡ spec.property_with entity.0 entry.now
+        (spec.host_type view.now entry.now.signature.result) }
 {
     let ty = host_type(view, &entry.signature.result)?;
     Some(HostProperty {

@@ -12,8 +12,10 @@ ghost use Rattle.ang_names_known.specs.Host.{found, host_where, property_found, 
 /// With an entry added that a module does not see, what is looked for is what was found without it, and the entry at its
 /// place where it is wanted. Its types are looked up in the whole list, so no view with an entry more has to be made.
 pub fn one_is_added()
-    ensures function { (R : RegistrationList) (m x : ℕ) (w : Wanted) → entry_at (seen R m) x ≡ None →
-        host_where w (seen_with R m x) ≡ added (found w R x (entry_at R x)) (host_where w (seen R m)) }
+    ensures function { (R : RegistrationList) (m x : ℕ) (w : Wanted) →
+        entry_at (seen R m) x ≡ None →
+        host_where w (seen_with R m x)
+        ≡ added (found w R x (entry_at R x)) (host_where w (seen R m)) }
     ensures property { (R : RegistrationList) (m x : ℕ) (w : WantedProperty) →
         entry_at (seen R m) x ≡ None → property_where w (seen_with R m x)
         ≡ added_property (property_found w R x (entry_at R x)) (property_where w (seen R m)) }
@@ -22,8 +24,12 @@ pub fn one_is_added()
 /// The types that a seen declaration names keep their numbers in the larger view, which are those of the whole list, and so
 /// have the types that the added one names.
 pub fn types_stay()
-    ensures seen { (R : RegistrationList) (m x : ℕ) (y : Entry) → is_seen R m y ≡ true → is_type y.kind ≡ false →
-        (name : List ℕ) → mentions y.signature name ≡ true → type_named (seen_with R m x) name ≡ type_named R name }
-    ensures own { (R : RegistrationList) (m x : ℕ) (y : Entry) → entry_at R x ≡ Some y → is_type y.kind ≡ false →
-        (name : List ℕ) → mentions y.signature name ≡ true → type_named (seen_with R m x) name ≡ type_named R name }
+    ensures seen { (R : RegistrationList) (m x : ℕ) (y : Entry) → is_seen R m y ≡ true →
+        is_type y.kind ≡ false →
+        (name : List ℕ) → mentions y.signature name ≡ true →
+        type_named (seen_with R m x) name ≡ type_named R name }
+    ensures own { (R : RegistrationList) (m x : ℕ) (y : Entry) → entry_at R x ≡ Some y →
+        is_type y.kind ≡ false →
+        (name : List ℕ) → mentions y.signature name ≡ true →
+        type_named (seen_with R m x) name ≡ type_named R name }
 {}

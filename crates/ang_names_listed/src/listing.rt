@@ -190,7 +190,8 @@ fn list_script<'a>(
     found: &mut Vec<Declared<'a>>,
 ) -> Result<(), AllocError>
     ensures listed { OnOk result (found.new.items
-        ≡ found.old.items ++ spec.declared_from number script.now.source.items 0 (view_script script.now)) }
+        ≡ found.old.items ++ spec.declared_from number script.now.source.items 0
+        (view_script script.now)) }
 {
     let text = script.source.as_slice();
     for (place, declaration) in script.declarations.iter().enumerate() {

@@ -24,7 +24,8 @@ fn base_of(families: &[Declaring<'_, '_>], bases: &[bool], number: usize) -> Opt
     requires few { length families.now ≤ 256 }
     requires there { number < length families.now }
     requires bases { Shows bases.now (length families.now) (spec.is_base families.now) }
-    ensures exact { result ≡ spec.first_below (spec.is_base families.now number) (length families.now) }
+    ensures exact { result ≡ spec.first_below (spec.is_base families.now number)
+        (length families.now) }
 {
     first_of(bases, families.len(), number)
 }
@@ -119,7 +120,8 @@ fn rank_of(
 
 /// How many fields the class or interface of this number declares itself.
 fn field_count_at(families: &[Declaring<'_, '_>], number: usize) -> usize
-    ensures exact { (E : spaces.Space) → result ≡ length (spec.field_types_in E (slice_get families.now number)) }
+    ensures exact { (E : spaces.Space) →
+        result ≡ length (spec.field_types_in E (slice_get families.now number)) }
 {
     match families.get(number) {
         None => 0,
@@ -216,7 +218,8 @@ pub fn families_in(
     requires few { length families.now ≤ 256 }
     requires known { tables.AreTables space.now families.now known.now }
     ensures exact { IfOk result (λ fs. fs ≡ each_after (spec.families_after
-        space.now families.now (spec.signatures_of space.now families.now) functions) [] families.now) }
+        space.now families.now (spec.signatures_of space.now families.now)
+        functions) [] families.now) }
 {
     let signatures = signatures_of(alloc, space, families)?;
     families_of(alloc, space, families, known, &signatures, functions)

@@ -193,7 +193,8 @@ pub fn methods_of(
     first: usize,
 ) -> Result<List<Method>, AllocError>
     ensures exact { IfOk result (λ ms. ms ≡ each_after
-        (spec.methods_after space.now signatures.now family.now first) [] family.now.shape.members) }
+        (spec.methods_after space.now signatures.now family.now
+        first) [] family.now.shape.members) }
 {
     let members = family.shape().members.as_slice();
     let mut found = Vec::new(alloc);
@@ -215,7 +216,8 @@ fn push_constructor(
     found: &mut Vec<Constructor>,
 ) -> Result<(), AllocError>
     ensures pushed { (all : List (known.ScriptFunction × Bool)) → OnOk result (found.new.items
-        ≡ found.old.items ++ spec.constructors_by space.now all family.now member.now body member.now.kind) }
+        ≡ found.old.items ++ spec.constructors_by space.now all family.now member.now body
+        member.now.kind) }
 {
     match &member.kind {
         MemberKind::Constructor(params) => {

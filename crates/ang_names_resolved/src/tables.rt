@@ -190,7 +190,8 @@ fn holding_of(
     above: &[bool],
 ) -> Result<Vec<bool>, AllocError>
     requires few { length families.now ≤ 256 }
-    requires carried { Shows carried.now (length families.now) (tables.carries space.now families.now) }
+    requires carried { Shows carried.now (length families.now)
+        (tables.carries space.now families.now) }
     requires above { Shows above.now (length families.now)
         (leads (spec.is_parent families.now) (length families.now)) }
     ensures exact { IfOk result (λ table.

@@ -8,5 +8,6 @@ ghost use Rattle.ang_names_written.specs.NotYet.{BeginsWith, beyond, declaration
 /// token is the first of those that spell the declaration.
 pub fn first_tokens()
     ensures places { (d : Decl) → All (λ e. e ≡ beyond d) (declaration_errors d) }
-    ensures first { (d : Decl) (after : List Token) → BeginsWith (first_token d) (spelled_decl d after) }
+    ensures first { (d : Decl) (after : List Token) →
+        BeginsWith (first_token d) (spelled_decl d after) }
 {}

@@ -58,7 +58,8 @@ fn refuse_section(alloc: Global, script: &Script, errors: &mut Vec<Error>) -> Re
 /// The only error is want of memory.
 #[tactic(auto, unfolding(crate::specs::NotYet::not_yet))]
 pub fn not_yet_errors(alloc: Global, scripts: &[Script]) -> Result<Vec<Error>, AllocError>
-    ensures exact { IfOk result (λ errors. errors.items ≡ spec.not_yet (list_map source_of scripts.now)) }
+    ensures exact { IfOk result (λ errors. errors.items
+        ≡ spec.not_yet (list_map source_of scripts.now)) }
 {
     let mut errors = Vec::new(alloc);
     for script in scripts {

@@ -157,7 +157,8 @@ fn is_same(one: &Spelling<'_>, other: &Spelling<'_>) -> bool
 
 fn is_same_parameter(text: &[u8], one: &Parameter, other_text: &[u8], other: &Parameter) -> bool
     ensures exact { result
-        ≡ spec.same_spelling (spec.spelling_of text.now one.now) (spec.spelling_of other_text.now other.now) }
+        ≡ spec.same_spelling (spec.spelling_of text.now one.now)
+        (spec.spelling_of other_text.now other.now) }
 {
     is_same(&spelling_of(text, one), &spelling_of(other_text, other))
 }

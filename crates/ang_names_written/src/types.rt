@@ -36,7 +36,8 @@ fn object_type(named: Named, read_only: bool, handle: &Option<Handle>) -> Result
 }
 
 fn written_type(space: &Space<'_>, text: &[u8], declared: &TypeName) -> Result<ArgType, ErrorKind>
-    ensures exact { result ≡ spec.written_type space.now text.now declared.now declared.now.name.kind }
+    ensures exact { result ≡ spec.written_type space.now text.now declared.now
+        declared.now.name.kind }
 {
     match declared.name.kind {
         TokenKind::Primitive(primitive) => {

@@ -43,7 +43,8 @@ pub(crate) fn syntax_error(
 ) -> Result<ParseError, AllocError>
     requires within { All (IsWithin (length text.now)) rest.now }
     requires columns { All HasColumns tokens.now }
-    ensures exact { IfOk result (λ f. f ≡ ParseError.Syntax (place_at tokens.now rest.now) (name_at text.now rest.now)) }
+    ensures exact { IfOk result (λ f. f ≡ ParseError.Syntax (place_at tokens.now rest.now)
+        (name_at text.now rest.now)) }
 {
     let Some(first) = rest.first() else {
         let name = List::from_vec(Vec::new(alloc));

@@ -10,7 +10,8 @@ ghost use Rattle.ang_parse.specs.Answers.{script_of, IsSyntaxError};
 
 /// No tokens are spelled by two scripts.
 pub fn one_script()
-    ensures unique { (x y : List Decl) (tokens : List Token) → SpellsScript x tokens → SpellsScript y tokens → x ≡ y }
+    ensures unique { (x y : List Decl) (tokens : List Token) → SpellsScript x tokens →
+        SpellsScript y tokens → x ≡ y }
 {}
 
 /// What `script_of` computes is what the grammar says: the script that the tokens spell, if there is
@@ -20,9 +21,12 @@ pub fn one_answer()
         (script_of text tokens ≡ Ok ds) ↔ SpellsScript ds tokens }
     ensures deep { (text : List ℕ) (tokens rest : List Token) → too_deep tokens ≡ Some rest →
         script_of text tokens ≡ Err (error.TooDeep (place_at tokens rest)) }
-    ensures deep_only { (text : List ℕ) (tokens : List Token) (place : Place) → too_deep tokens ≡ None →
+    ensures deep_only { (text : List ℕ) (tokens : List Token) (place : Place) →
+        too_deep tokens ≡ None →
         script_of text tokens ≢ Err (error.TooDeep place) }
     ensures syntax { (text : List ℕ) (tokens : List Token) (place : Place) (name : List ℕ) →
-        script_of text tokens ≡ Err (error.Syntax place name) → IsSyntaxError text tokens place name }
-    ensures memory { (text : List ℕ) (tokens : List Token) → script_of text tokens ≢ Err error.Memory }
+        script_of text tokens ≡ Err (error.Syntax place name) →
+        IsSyntaxError text tokens place name }
+    ensures memory { (text : List ℕ) (tokens : List Token) →
+        script_of text tokens ≢ Err error.Memory }
 {}

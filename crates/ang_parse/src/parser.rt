@@ -23,7 +23,8 @@ use std::alloc::Global;
 /// The declarations that the tokens spell, all of them.
 #[tactic(auto, unfolding(ang_parse_read::specs::Law::all_of))]
 fn all(alloc: Global, tokens: &[Token]) -> Result<Vec<Declaration>, ReadError<'_>>
-    ensures reads { Gives (λ x. (map view_decl x.items, [])) result (all_of read.script tokens.now) }
+    ensures reads { Gives (λ x. (map view_decl x.items, [])) result
+        (all_of read.script tokens.now) }
 {
     let (found, rest) = script(alloc, tokens, tokens.len() + 1)?;
     if !rest.is_empty() {
@@ -42,8 +43,10 @@ fn declarations(
     requires within { All (IsWithin (length text.now)) tokens.now }
     requires columns { All HasColumns tokens.now }
     ensures script { IfOk result (λ v. script_of text.now tokens.now ≡ Ok (map view_decl v.items)) }
-    ensures fault { IfErr result (λ f. f ≢ ParseError.Memory → script_of text.now tokens.now ≡ Err f) }
-    ensures deep { (rest : List Token) → depth.too_deep tokens.now ≡ Some rest → result ≡ Err (ParseError.TooDeep (place_at tokens.now rest)) }
+    ensures fault { IfErr result (λ f. f ≢ ParseError.Memory →
+        script_of text.now tokens.now ≡ Err f) }
+    ensures deep { (rest : List Token) → depth.too_deep tokens.now ≡ Some rest →
+        result ≡ Err (ParseError.TooDeep (place_at tokens.now rest)) }
 {
     if let Some(place) = too_deep(tokens) {
         return Err(ParseError::TooDeep(place));
@@ -78,14 +81,18 @@ pub fn parse(alloc: Global, text: &[u8], tokens: &[Token]) -> Result<Script, Par
     ensures found { IfOk result (λ s. SpellsScript (view_script s) tokens.now) }
     ensures source { IfOk result (λ s. s.source.items ≡ text.now) }
     // What is spelled by the tokens is read, unless memory runs out.
-    ensures only { (ds : List Decl) → SpellsScript ds tokens.now → MatchResult result (λ s. view_script s ≡ ds) (λ f. f ≡ ParseError.Memory) }
+    ensures only { (ds : List Decl) → SpellsScript ds tokens.now →
+        MatchResult result (λ s. view_script s ≡ ds) (λ f. f ≡ ParseError.Memory) }
     // Tokens that lie too deep are refused, at the first that does, and no others are.
-    ensures deep { MatchOption (depth.too_deep tokens.now) ((place : Place) → result ≢ Err (ParseError.TooDeep place)) (λ rest. result ≡ Err (ParseError.TooDeep (place_at tokens.now rest))) }
+    ensures deep { MatchOption (depth.too_deep tokens.now)
+        ((place : Place) → result ≢ Err (ParseError.TooDeep place))
+        (λ rest. result ≡ Err (ParseError.TooDeep (place_at tokens.now rest))) }
     // A syntax error comes only where no script has the tokens, nor others behind the one it is at.
     ensures syntax { IfErr result (λ f. IfSyntax f (IsSyntaxError text.now tokens.now)) }
     // So the answer is a function of the tokens and their text, unless memory runs out.
     ensures script { IfOk result (λ s. script_of text.now tokens.now ≡ Ok (view_script s)) }
-    ensures fault { IfErr result (λ f. f ≢ ParseError.Memory → script_of text.now tokens.now ≡ Err f) }
+    ensures fault { IfErr result (λ f. f ≢ ParseError.Memory →
+        script_of text.now tokens.now ≡ Err f) }
 {
     let declarations = declarations(alloc, text, tokens)?;
     let source = Vec::from_slice(alloc, text)?;

@@ -19,7 +19,8 @@ fn with_declaration(
     first: Vec<Declaration>,
     next: Declaration,
 ) -> Result<Vec<Declaration>, AllocError>
-    ensures exact { IfOk result (λ v. map view_decl v.items ≡ map view_decl first.items ++ view_decl next ∷ []) }
+    ensures exact { IfOk result (λ v. map view_decl v.items ≡ map view_decl first.items
+        ++ view_decl next ∷ []) }
 {
     let mut found = first;
     found.push(next)?;
@@ -33,7 +34,8 @@ fn declaration(
     tokens: &[Token],
     limit: usize,
 ) -> Result<(Declaration, &[Token]), ReadError<'_>>
-    ensures reads { Gives (λ x. (view_decl x.0, x.1.now)) result (read.declaration limit tokens.now) }
+    ensures reads { Gives (λ x. (view_decl x.0, x.1.now)) result
+        (read.declaration limit tokens.now) }
 {
     let [token, rest @ ..] = tokens else {
         return function_or_globals(alloc, tokens, limit, limit);
@@ -56,7 +58,8 @@ fn other_declaration(
     tokens: &[Token],
     limit: usize,
 ) -> Result<((Vec<Declaration>, bool), &[Token]), ReadError<'_>>
-    ensures reads { Gives (λ x. ((map view_decl x.0.0.items, x.0.1), x.1.now)) result (read.other_declaration limit (map view_decl first.items) tokens.now) }
+    ensures reads { Gives (λ x. ((map view_decl x.0.0.items, x.0.1), x.1.now)) result
+        (read.other_declaration limit (map view_decl first.items) tokens.now) }
 {
     if tokens.is_empty() {
         return Ok(((first, false), tokens));
@@ -73,7 +76,8 @@ pub(crate) fn script(
     tokens: &[Token],
     limit: usize,
 ) -> Result<(Vec<Declaration>, &[Token]), ReadError<'_>>
-    ensures reads { Gives (λ x. (map view_decl x.0.items, x.1.now)) result (read.script limit tokens.now) }
+    ensures reads { Gives (λ x. (map view_decl x.0.items, x.1.now)) result
+        (read.script limit tokens.now) }
 {
     let mut found = Vec::new(alloc);
     let mut rest = tokens;

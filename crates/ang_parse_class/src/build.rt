@@ -38,7 +38,8 @@ pub(crate) fn with_word(first: Vec<Token>, next: Token) -> Result<Vec<Token>, Al
 
 /// The list with one more member of a class.
 pub(crate) fn with_member(first: Vec<Member>, next: Member) -> Result<Vec<Member>, AllocError>
-    ensures exact { IfOk result (λ v. map view_member v.items ≡ map view_member first.items ++ view_member next ∷ []) }
+    ensures exact { IfOk result (λ v. map view_member v.items ≡ map view_member first.items
+        ++ view_member next ∷ []) }
 {
     let mut found = first;
     found.push(next)?;
@@ -50,7 +51,8 @@ pub(crate) fn with_method(
     first: Vec<InterfaceMethod>,
     next: InterfaceMethod,
 ) -> Result<Vec<InterfaceMethod>, AllocError>
-    ensures exact { IfOk result (λ v. map view_method v.items ≡ map view_method first.items ++ view_method next ∷ []) }
+    ensures exact { IfOk result (λ v. map view_method v.items ≡ map view_method first.items
+        ++ view_method next ∷ []) }
 {
     let mut found = first;
     found.push(next)?;

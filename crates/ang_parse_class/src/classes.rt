@@ -25,7 +25,8 @@ fn other_member(
     depth: usize,
     limit: usize,
 ) -> Result<((Vec<Member>, bool), &[Token]), ReadError<'_>>
-    ensures reads { Gives (λ x. ((map view_member x.0.0.items, x.0.1), x.1.now)) result (read.other_member depth limit (map view_member first.items) tokens.now) }
+    ensures reads { Gives (λ x. ((map view_member x.0.0.items, x.0.1), x.1.now)) result
+        (read.other_member depth limit (map view_member first.items) tokens.now) }
 {
     if let [token, ..] = tokens
         && matches!(token.kind, TokenKind::RightBrace)
@@ -44,7 +45,8 @@ fn members(
     depth: usize,
     limit: usize,
 ) -> Result<(Vec<Member>, &[Token]), ReadError<'_>>
-    ensures reads { Gives (λ x. (map view_member x.0.items, x.1.now)) result (read.members depth limit tokens.now) }
+    ensures reads { Gives (λ x. (map view_member x.0.items, x.1.now)) result
+        (read.members depth limit tokens.now) }
 {
     let mut found = Vec::new(alloc);
     let mut rest = tokens;
@@ -75,7 +77,8 @@ pub fn class(
     depth: usize,
     limit: usize,
 ) -> Result<(Declaration, &[Token]), ReadError<'_>>
-    ensures reads { Gives (λ x. (view_decl x.0, x.1.now)) result (read.class depth limit final_word word tokens.now) }
+    ensures reads { Gives (λ x. (view_decl x.0, x.1.now)) result
+        (read.class depth limit final_word word tokens.now) }
 {
     let (heading, rest) = heading(alloc, tokens, limit)?;
     let (members, rest) = members(alloc, rest, depth, limit)?;
@@ -106,7 +109,8 @@ pub fn final_class<'a>(
     depth: usize,
     limit: usize,
 ) -> Result<(Declaration, &'a [Token]), ReadError<'a>>
-    ensures reads { Gives (λ x. (view_decl x.0, x.1.now)) result (read.final_class depth limit final_word tokens.now) }
+    ensures reads { Gives (λ x. (view_decl x.0, x.1.now)) result
+        (read.final_class depth limit final_word tokens.now) }
 {
     match tokens {
         [word, rest @ ..] if matches!(word.kind, TokenKind::Class) => {

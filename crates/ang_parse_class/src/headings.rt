@@ -21,7 +21,8 @@ fn another_base(
     separator: Token,
     tokens: &[Token],
 ) -> Result<((Vec<BaseName>, bool), &[Token]), ReadError<'_>>
-    ensures reads { Gives (λ x. ((x.0.0.items, x.0.1), x.1.now)) result (read.another_base first.items separator tokens.now) }
+    ensures reads { Gives (λ x. ((x.0.0.items, x.0.1), x.1.now)) result
+        (read.another_base first.items separator tokens.now) }
 {
     let (name, rest) = a_name(tokens)?;
     let longer = with_base(first, BaseName { separator, name })?;
@@ -34,7 +35,8 @@ fn other_base(
     first: Vec<BaseName>,
     tokens: &[Token],
 ) -> Result<((Vec<BaseName>, bool), &[Token]), ReadError<'_>>
-    ensures reads { Gives (λ x. ((x.0.0.items, x.0.1), x.1.now)) result (read.other_base first.items tokens.now) }
+    ensures reads { Gives (λ x. ((x.0.0.items, x.0.1), x.1.now)) result
+        (read.other_base first.items tokens.now) }
 {
     match tokens {
         [comma, rest @ ..] if matches!(comma.kind, TokenKind::Comma) => {
@@ -49,7 +51,8 @@ fn other_bases(
     tokens: &[Token],
     limit: usize,
 ) -> Result<(Vec<BaseName>, &[Token]), ReadError<'_>>
-    ensures reads { Gives (λ x. (x.0.items, x.1.now)) result (repeat read.other_base limit first.items tokens.now) }
+    ensures reads { Gives (λ x. (x.0.items, x.1.now)) result
+        (repeat read.other_base limit first.items tokens.now) }
 {
     let mut found = first;
     let mut rest = tokens;
@@ -72,7 +75,8 @@ fn some_bases<'a>(
     tokens: &'a [Token],
     limit: usize,
 ) -> Result<(Vec<BaseName>, &'a [Token]), ReadError<'a>>
-    ensures reads { Gives (λ x. (x.0.items, x.1.now)) result (read.some_bases limit separator tokens.now) }
+    ensures reads { Gives (λ x. (x.0.items, x.1.now)) result
+        (read.some_bases limit separator tokens.now) }
 {
     let (name, rest) = a_name(tokens)?;
     let first = with_base(Vec::new(alloc), BaseName { separator, name })?;
@@ -103,7 +107,8 @@ pub(crate) fn heading(
     tokens: &[Token],
     limit: usize,
 ) -> Result<(Heading, &[Token]), ReadError<'_>>
-    ensures reads { Gives (λ x. (view_heading x.0, x.1.now)) result (read.heading limit tokens.now) }
+    ensures reads { Gives (λ x. (view_heading x.0, x.1.now)) result
+        (read.heading limit tokens.now) }
 {
     let (name, rest) = a_name(tokens)?;
     let (bases, rest) = bases(alloc, rest, limit)?;

@@ -50,7 +50,8 @@ fn next_method(
     tokens: &[Token],
     limit: usize,
 ) -> Result<((Vec<InterfaceMethod>, bool), &[Token]), ReadError<'_>>
-    ensures reads { Gives (λ x. ((map view_method x.0.0.items, x.0.1), x.1.now)) result (read.next_method limit (map view_method first.items) tokens.now) }
+    ensures reads { Gives (λ x. ((map view_method x.0.0.items, x.0.1), x.1.now)) result
+        (read.next_method limit (map view_method first.items) tokens.now) }
 {
     let (next, rest) = method(alloc, tokens, limit)?;
     let longer = with_method(first, next)?;
@@ -65,7 +66,8 @@ fn other_method(
     tokens: &[Token],
     limit: usize,
 ) -> Result<((Vec<InterfaceMethod>, bool), &[Token]), ReadError<'_>>
-    ensures reads { Gives (λ x. ((map view_method x.0.0.items, x.0.1), x.1.now)) result (read.other_method limit (map view_method first.items) tokens.now) }
+    ensures reads { Gives (λ x. ((map view_method x.0.0.items, x.0.1), x.1.now)) result
+        (read.other_method limit (map view_method first.items) tokens.now) }
 {
     match tokens {
         [token, ..] if matches!(token.kind, TokenKind::RightBrace) => Ok(((first, false), tokens)),
@@ -79,7 +81,8 @@ fn methods(
     tokens: &[Token],
     limit: usize,
 ) -> Result<(Vec<InterfaceMethod>, &[Token]), ReadError<'_>>
-    ensures reads { Gives (λ x. (map view_method x.0.items, x.1.now)) result (read.methods limit tokens.now) }
+    ensures reads { Gives (λ x. (map view_method x.0.items, x.1.now)) result
+        (read.methods limit tokens.now) }
 {
     let mut found = Vec::new(alloc);
     let mut rest = tokens;
@@ -107,7 +110,8 @@ pub fn interface<'a>(
     tokens: &'a [Token],
     limit: usize,
 ) -> Result<(Declaration, &'a [Token]), ReadError<'a>>
-    ensures reads { Gives (λ x. (view_decl x.0, x.1.now)) result (read.interface limit word tokens.now) }
+    ensures reads { Gives (λ x. (view_decl x.0, x.1.now)) result
+        (read.interface limit word tokens.now) }
 {
     let (heading, rest) = heading(alloc, tokens, limit)?;
     let (methods, rest) = methods(alloc, rest, limit)?;

@@ -29,7 +29,8 @@ fn another_field(
     comma: Token,
     tokens: &[Token],
 ) -> Result<((Vec<FieldName>, bool), &[Token]), ReadError<'_>>
-    ensures reads { Gives (λ x. ((x.0.0.items, x.0.1), x.1.now)) result (read.another_field first.items comma tokens.now) }
+    ensures reads { Gives (λ x. ((x.0.0.items, x.0.1), x.1.now)) result
+        (read.another_field first.items comma tokens.now) }
 {
     let (name, rest) = a_name(tokens)?;
     let comma = Some(comma);
@@ -43,7 +44,8 @@ fn other_field(
     first: Vec<FieldName>,
     tokens: &[Token],
 ) -> Result<((Vec<FieldName>, bool), &[Token]), ReadError<'_>>
-    ensures reads { Gives (λ x. ((x.0.0.items, x.0.1), x.1.now)) result (read.other_field first.items tokens.now) }
+    ensures reads { Gives (λ x. ((x.0.0.items, x.0.1), x.1.now)) result
+        (read.other_field first.items tokens.now) }
 {
     match tokens {
         [comma, rest @ ..] if matches!(comma.kind, TokenKind::Comma) => {
@@ -58,7 +60,8 @@ fn other_fields(
     tokens: &[Token],
     limit: usize,
 ) -> Result<(Vec<FieldName>, &[Token]), ReadError<'_>>
-    ensures reads { Gives (λ x. (x.0.items, x.1.now)) result (repeat read.other_field limit first.items tokens.now) }
+    ensures reads { Gives (λ x. (x.0.items, x.1.now)) result
+        (repeat read.other_field limit first.items tokens.now) }
 {
     let mut found = first;
     let mut rest = tokens;
@@ -81,7 +84,8 @@ fn fields(
     tokens: &[Token],
     limit: usize,
 ) -> Result<(Member, &[Token]), ReadError<'_>>
-    ensures reads { Gives (λ x. (view_member x.0, x.1.now)) result (read.fields limit start tokens.now) }
+    ensures reads { Gives (λ x. (view_member x.0, x.1.now)) result
+        (read.fields limit start tokens.now) }
 {
     let MemberStart {
         access,
@@ -108,7 +112,8 @@ fn attribute(
     first: Vec<Token>,
     tokens: &[Token],
 ) -> Result<((Vec<Token>, bool), &[Token]), ReadError<'_>>
-    ensures reads { Gives (λ x. ((x.0.0.items, x.0.1), x.1.now)) result (read.attribute first.items tokens.now) }
+    ensures reads { Gives (λ x. ((x.0.0.items, x.0.1), x.1.now)) result
+        (read.attribute first.items tokens.now) }
 {
     match tokens {
         [word, rest @ ..] if is_attribute(word.kind) => {
@@ -148,7 +153,8 @@ fn method_end(
     depth: usize,
     limit: usize,
 ) -> Result<(MethodEnd, &[Token]), ReadError<'_>>
-    ensures reads { Gives (λ x. (view_method_end x.0, x.1.now)) result (read.method_end depth limit tokens.now) }
+    ensures reads { Gives (λ x. (view_method_end x.0, x.1.now)) result
+        (read.method_end depth limit tokens.now) }
 {
     let (constant, rest) = perhaps_const(tokens);
     let (attributes, rest) = attributes(alloc, rest, limit)?;
@@ -174,7 +180,8 @@ fn method<'a>(
     depth: usize,
     limit: usize,
 ) -> Result<(Member, &'a [Token]), ReadError<'a>>
-    ensures reads { Gives (λ x. (view_member x.0, x.1.now)) result (read.method_of depth limit start «open» tokens.now) }
+    ensures reads { Gives (λ x. (view_member x.0, x.1.now)) result
+        (read.method_of depth limit start «open» tokens.now) }
 {
     let (parameters, rest) = parameters(alloc, open, tokens, limit)?;
     let (end, rest) = method_end(alloc, rest, depth, limit)?;
@@ -204,7 +211,8 @@ fn super_called<'a>(
     tokens: &'a [Token],
     limit: usize,
 ) -> Result<(Option<SuperCall>, &'a [Token]), ReadError<'a>>
-    ensures reads { Gives (λ x. (option_map view_super x.0, x.1.now)) result (read.super_called limit word tokens.now) }
+    ensures reads { Gives (λ x. (option_map view_super x.0, x.1.now)) result
+        (read.super_called limit word tokens.now) }
 {
     let (open, rest) = a_left_paren(tokens)?;
     let (arguments, rest) = arguments(alloc, open, rest, limit)?;
@@ -226,7 +234,8 @@ fn super_call(
     tokens: &[Token],
     limit: usize,
 ) -> Result<(Option<SuperCall>, &[Token]), ReadError<'_>>
-    ensures reads { Gives (λ x. (option_map view_super x.0, x.1.now)) result (read.super_call limit tokens.now) }
+    ensures reads { Gives (λ x. (option_map view_super x.0, x.1.now)) result
+        (read.super_call limit tokens.now) }
 {
     match tokens {
         [word, rest @ ..] if matches!(word.kind, TokenKind::Super) => {
@@ -244,7 +253,8 @@ fn constructor_end(
     depth: usize,
     limit: usize,
 ) -> Result<(ConstructorEnd, &[Token]), ReadError<'_>>
-    ensures reads { Gives (λ x. (view_constructor_end x.0, x.1.now)) result (read.constructor_end depth limit tokens.now) }
+    ensures reads { Gives (λ x. (view_constructor_end x.0, x.1.now)) result
+        (read.constructor_end depth limit tokens.now) }
 {
     let (super_call, rest) = super_call(alloc, tokens, limit)?;
     let (statements, rest) = statements(alloc, rest, depth, limit)?;
@@ -269,7 +279,8 @@ fn constructor<'a>(
     depth: usize,
     limit: usize,
 ) -> Result<(Member, &'a [Token]), ReadError<'a>>
-    ensures reads { Gives (λ x. (view_member x.0, x.1.now)) result (read.constructor_of depth limit name paren tokens.now) }
+    ensures reads { Gives (λ x. (view_member x.0, x.1.now)) result
+        (read.constructor_of depth limit name paren tokens.now) }
 {
     let (parameters, rest) = parameters(alloc, paren, tokens, limit)?;
     let (open, rest) = a_left_brace(rest)?;
@@ -300,7 +311,8 @@ fn started(
     depth: usize,
     limit: usize,
 ) -> Result<(Member, &[Token]), ReadError<'_>>
-    ensures reads { Gives (λ x. (view_member x.0, x.1.now)) result (read.started depth limit start tokens.now) }
+    ensures reads { Gives (λ x. (view_member x.0, x.1.now)) result
+        (read.started depth limit start tokens.now) }
 {
     match tokens {
         [open, rest @ ..] if matches!(open.kind, TokenKind::LeftParen) => {
@@ -320,7 +332,8 @@ fn typed(
     depth: usize,
     limit: usize,
 ) -> Result<(Member, &[Token]), ReadError<'_>>
-    ensures reads { Gives (λ x. (view_member x.0, x.1.now)) result (read.typed depth limit access declared_type tokens.now) }
+    ensures reads { Gives (λ x. (view_member x.0, x.1.now)) result
+        (read.typed depth limit access declared_type tokens.now) }
 {
     let (name, rest) = a_name(tokens)?;
     let start = MemberStart {
@@ -340,7 +353,8 @@ fn accessed(
     depth: usize,
     limit: usize,
 ) -> Result<(Member, &[Token]), ReadError<'_>>
-    ensures reads { Gives (λ x. (view_member x.0, x.1.now)) result (read.accessed depth limit access tokens.now) }
+    ensures reads { Gives (λ x. (view_member x.0, x.1.now)) result
+        (read.accessed depth limit access tokens.now) }
 {
     let (declared_type, rest) = type_name(tokens)?;
     typed(alloc, access, declared_type, rest, depth, limit)
@@ -356,7 +370,8 @@ fn named<'a>(
     depth: usize,
     limit: usize,
 ) -> Result<(Member, &'a [Token]), ReadError<'a>>
-    ensures reads { Gives (λ x. (view_member x.0, x.1.now)) result (read.named depth limit name tokens.now) }
+    ensures reads { Gives (λ x. (view_member x.0, x.1.now)) result
+        (read.named depth limit name tokens.now) }
 {
     if let [open, rest @ ..] = tokens
         && matches!(open.kind, TokenKind::LeftParen)
@@ -375,7 +390,8 @@ pub(crate) fn member(
     depth: usize,
     limit: usize,
 ) -> Result<(Member, &[Token]), ReadError<'_>>
-    ensures reads { Gives (λ x. (view_member x.0, x.1.now)) result (read.member depth limit tokens.now) }
+    ensures reads { Gives (λ x. (view_member x.0, x.1.now)) result
+        (read.member depth limit tokens.now) }
 {
     let [token, rest @ ..] = tokens else {
         return accessed(alloc, None, tokens, depth, limit);

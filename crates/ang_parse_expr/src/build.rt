@@ -13,7 +13,8 @@ pub(crate) fn with_argument(
     comma: Option<Token>,
     value: Expression,
 ) -> Result<Vec<Argument>, AllocError>
-    ensures exact { IfOk result (λ v. view_items v.items ≡ tree.added (view_items first.items) comma (view_expr value)) }
+    ensures exact { IfOk result (λ v. view_items v.items
+        ≡ tree.added (view_items first.items) comma (view_expr value)) }
 {
     let mut found = first;
     found.push(Argument { comma, value })?;
@@ -22,7 +23,8 @@ pub(crate) fn with_argument(
 
 /// The list of one expression, with room for that one alone.
 pub(crate) fn only_argument(alloc: Global, value: Expression) -> Result<Vec<Argument>, AllocError>
-    ensures exact { IfOk result (λ v. view_items v.items ≡ tree.more None (view_expr value) tree.none) }
+    ensures exact { IfOk result (λ v. view_items v.items
+        ≡ tree.more None (view_expr value) tree.none) }
 {
     let room = Vec::with_capacity(alloc, 1)?;
     with_argument(room, None, value)
@@ -35,7 +37,8 @@ pub(crate) fn binary(
     operator: Token,
     right: Expression,
 ) -> Result<Expression, AllocError>
-    ensures exact { IfOk result (λ e. view_expr e ≡ tree.binary (view_expr left) operator (view_expr right)) }
+    ensures exact { IfOk result (λ e. view_expr e
+        ≡ tree.binary (view_expr left) operator (view_expr right)) }
 {
     let left = Box::new(alloc, left)?;
     let right = Box::new(alloc, right)?;
@@ -55,7 +58,9 @@ pub(crate) fn conditional(
     colon: Token,
     otherwise: Expression,
 ) -> Result<Expression, AllocError>
-    ensures exact { IfOk result (λ e. view_expr e ≡ tree.conditional (view_expr condition) question (view_expr «then») colon (view_expr otherwise)) }
+    ensures exact { IfOk result (λ e. view_expr e
+        ≡ tree.conditional (view_expr condition) question (view_expr «then») colon
+        (view_expr otherwise)) }
 {
     let condition = Box::new(alloc, condition)?;
     let then = Box::new(alloc, then)?;
@@ -76,7 +81,8 @@ pub(crate) fn assignment(
     operator: Token,
     value: Expression,
 ) -> Result<Expression, AllocError>
-    ensures exact { IfOk result (λ e. view_expr e ≡ tree.assignment (view_expr target) operator (view_expr value)) }
+    ensures exact { IfOk result (λ e. view_expr e
+        ≡ tree.assignment (view_expr target) operator (view_expr value)) }
 {
     let target = Box::new(alloc, target)?;
     let value = Box::new(alloc, value)?;

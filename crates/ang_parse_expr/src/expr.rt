@@ -26,7 +26,8 @@ fn another<'a>(
     tokens: &'a [Token],
     depth: usize,
 ) -> Result<((Vec<Argument>, bool), &'a [Token]), ReadError<'a>>
-    ensures reads { Gives (λ x. ((view_items x.0.0.items, x.0.1), x.1.now)) result (read.another (read.expr depth) depth (view_items first.items) comma tokens.now) }
+    ensures reads { Gives (λ x. ((view_items x.0.0.items, x.0.1), x.1.now)) result
+        (read.another (read.expr depth) depth (view_items first.items) comma tokens.now) }
 {
     let (value, rest) = expression(alloc, tokens, depth, 0)?;
     let longer = with_argument(first, Some(comma), value)?;
@@ -42,7 +43,8 @@ fn other_expression(
     tokens: &[Token],
     depth: usize,
 ) -> Result<((Vec<Argument>, bool), &[Token]), ReadError<'_>>
-    ensures reads { Gives (λ x. ((view_items x.0.0.items, x.0.1), x.1.now)) result (read.other_expression (read.expr depth) depth (view_items first.items) tokens.now) }
+    ensures reads { Gives (λ x. ((view_items x.0.0.items, x.0.1), x.1.now)) result
+        (read.other_expression (read.expr depth) depth (view_items first.items) tokens.now) }
 {
     match tokens {
         [comma, rest @ ..] if matches!(comma.kind, TokenKind::Comma) => {
@@ -59,7 +61,9 @@ fn other_expressions(
     tokens: &[Token],
     depth: usize,
 ) -> Result<(Vec<Argument>, &[Token]), ReadError<'_>>
-    ensures reads { Gives (λ x. (view_items x.0.items, x.1.now)) result (repeat (read.other_expression (read.expr depth) depth) depth (view_items first.items) tokens.now) }
+    ensures reads { Gives (λ x. (view_items x.0.items, x.1.now)) result
+        (repeat (read.other_expression (read.expr depth) depth) depth
+        (view_items first.items) tokens.now) }
 {
     let mut found = first;
     let mut rest = tokens;
@@ -90,7 +94,8 @@ pub fn expressions(
     tokens: &[Token],
     depth: usize,
 ) -> Result<(Vec<Argument>, &[Token]), ReadError<'_>>
-    ensures reads { Gives (λ x. (view_items x.0.items, x.1.now)) result (read.expressions (read.expr depth) depth tokens.now) }
+    ensures reads { Gives (λ x. (view_items x.0.items, x.1.now)) result
+        (read.expressions (read.expr depth) depth tokens.now) }
 {
     let (value, rest) = expression(alloc, tokens, depth, 0)?;
     let first = only_argument(alloc, value)?;
@@ -115,7 +120,8 @@ pub fn arguments<'a>(
     tokens: &'a [Token],
     depth: usize,
 ) -> Result<(Arguments, &'a [Token]), ReadError<'a>>
-    ensures reads { Gives (λ x. (view_args x.0, x.1.now)) result (read.args (read.expr depth) depth «open» tokens.now) }
+    ensures reads { Gives (λ x. (view_args x.0, x.1.now)) result
+        (read.args (read.expr depth) depth «open» tokens.now) }
 {
     if let [close, rest @ ..] = tokens
         && matches!(close.kind, TokenKind::RightParen)
@@ -145,7 +151,8 @@ fn scoped<'a>(
     tokens: &'a [Token],
     depth: usize,
 ) -> Result<(Expression, &'a [Token]), ReadError<'a>>
-    ensures reads { Gives (λ x. (view_expr x.0, x.1.now)) result (read.scoped (read.expr depth) depth class scope tokens.now) }
+    ensures reads { Gives (λ x. (view_expr x.0, x.1.now)) result
+        (read.scoped (read.expr depth) depth class scope tokens.now) }
 {
     let (name, rest) = a_name(tokens)?;
     let (open, rest) = a_left_paren(rest)?;
@@ -170,7 +177,8 @@ fn named<'a>(
     tokens: &'a [Token],
     depth: usize,
 ) -> Result<(Expression, &'a [Token]), ReadError<'a>>
-    ensures reads { Gives (λ x. (view_expr x.0, x.1.now)) result (read.named (read.expr depth) depth name tokens.now) }
+    ensures reads { Gives (λ x. (view_expr x.0, x.1.now)) result
+        (read.named (read.expr depth) depth name tokens.now) }
 {
     let [token, rest @ ..] = tokens else {
         return Ok((Expression::Name(name), tokens));
@@ -193,7 +201,8 @@ fn inside(
     tokens: &[Token],
     depth: usize,
 ) -> Result<((Expression, Token), &[Token]), ReadError<'_>>
-    ensures reads { Gives (λ x. ((view_expr x.0.0, x.0.1), x.1.now)) result (read.inside (read.expr depth) depth tokens.now) }
+    ensures reads { Gives (λ x. ((view_expr x.0.0, x.0.1), x.1.now)) result
+        (read.inside (read.expr depth) depth tokens.now) }
 {
     let (inner, rest) = expression(alloc, tokens, depth, 0)?;
     let (close, rest) = a_right_paren(rest)?;
@@ -209,7 +218,8 @@ fn converted<'a>(
     tokens: &'a [Token],
     depth: usize,
 ) -> Result<(Expression, &'a [Token]), ReadError<'a>>
-    ensures reads { Gives (λ x. (view_expr x.0, x.1.now)) result (read.converted (read.expr depth) depth primitive tokens.now) }
+    ensures reads { Gives (λ x. (view_expr x.0, x.1.now)) result
+        (read.converted (read.expr depth) depth primitive tokens.now) }
 {
     let (open, rest) = a_left_paren(tokens)?;
     let ((operand, close), rest) = inside(alloc, rest, depth)?;
@@ -234,7 +244,8 @@ fn casted<'a>(
     tokens: &'a [Token],
     depth: usize,
 ) -> Result<(Expression, &'a [Token]), ReadError<'a>>
-    ensures reads { Gives (λ x. (view_expr x.0, x.1.now)) result (read.casted (read.expr depth) depth word tokens.now) }
+    ensures reads { Gives (λ x. (view_expr x.0, x.1.now)) result
+        (read.casted (read.expr depth) depth word tokens.now) }
 {
     let (less, rest) = a_less(tokens)?;
     let (target, rest) = type_name(rest)?;
@@ -265,7 +276,8 @@ fn grouped<'a>(
     tokens: &'a [Token],
     depth: usize,
 ) -> Result<(Expression, &'a [Token]), ReadError<'a>>
-    ensures reads { Gives (λ x. (view_expr x.0, x.1.now)) result (read.grouped (read.expr depth) depth «open» tokens.now) }
+    ensures reads { Gives (λ x. (view_expr x.0, x.1.now)) result
+        (read.grouped (read.expr depth) depth «open» tokens.now) }
 {
     let ((inner, close), rest) = inside(alloc, tokens, depth)?;
     let inner = Box::new(alloc, inner)?;
@@ -279,7 +291,8 @@ fn primary(
     tokens: &[Token],
     depth: usize,
 ) -> Result<(Expression, &[Token]), ReadError<'_>>
-    ensures reads { Gives (λ x. (view_expr x.0, x.1.now)) result (read.primary (read.expr depth) depth tokens.now) }
+    ensures reads { Gives (λ x. (view_expr x.0, x.1.now)) result
+        (read.primary (read.expr depth) depth tokens.now) }
 {
     let [token, rest @ ..] = tokens else {
         return Err(ReadError::Syntax(tokens));
@@ -304,7 +317,8 @@ fn membered<'a>(
     tokens: &'a [Token],
     depth: usize,
 ) -> Result<(Expression, &'a [Token]), ReadError<'a>>
-    ensures reads { Gives (λ x. (view_expr x.0, x.1.now)) result (read.membered (read.expr depth) depth (view_expr object) dot tokens.now) }
+    ensures reads { Gives (λ x. (view_expr x.0, x.1.now)) result
+        (read.membered (read.expr depth) depth (view_expr object) dot tokens.now) }
 {
     let (name, rest) = a_name(tokens)?;
     if let [open, rest @ ..] = rest
@@ -335,7 +349,8 @@ fn suffix(
     tokens: &[Token],
     depth: usize,
 ) -> Result<((Expression, bool), &[Token]), ReadError<'_>>
-    ensures reads { Gives (λ x. ((view_expr x.0.0, x.0.1), x.1.now)) result (read.suffix (read.expr depth) depth (view_expr first) tokens.now) }
+    ensures reads { Gives (λ x. ((view_expr x.0.0, x.0.1), x.1.now)) result
+        (read.suffix (read.expr depth) depth (view_expr first) tokens.now) }
 {
     let [token, rest @ ..] = tokens else {
         return Ok(((first, false), tokens));
@@ -361,7 +376,8 @@ fn suffixes(
     tokens: &[Token],
     depth: usize,
 ) -> Result<(Expression, &[Token]), ReadError<'_>>
-    ensures reads { Gives (λ x. (view_expr x.0, x.1.now)) result (repeat (read.suffix (read.expr depth) depth) depth (view_expr first) tokens.now) }
+    ensures reads { Gives (λ x. (view_expr x.0, x.1.now)) result
+        (repeat (read.suffix (read.expr depth) depth) depth (view_expr first) tokens.now) }
 {
     let mut found = first;
     let mut rest = tokens;
@@ -383,7 +399,8 @@ fn unary(
     tokens: &[Token],
     depth: usize,
 ) -> Result<(Expression, &[Token]), ReadError<'_>>
-    ensures reads { Gives (λ x. (view_expr x.0, x.1.now)) result (read.unary (read.expr depth) depth tokens.now) }
+    ensures reads { Gives (λ x. (view_expr x.0, x.1.now)) result
+        (read.unary (read.expr depth) depth tokens.now) }
 {
     if let [operator, rest @ ..] = tokens
         && is_prefix(operator.kind)
@@ -407,7 +424,8 @@ fn operated<'a>(
     tokens: &'a [Token],
     depth: usize,
 ) -> Result<((Expression, bool), &'a [Token]), ReadError<'a>>
-    ensures reads { Gives (λ x. ((view_expr x.0.0, x.0.1), x.1.now)) result (read.operated (read.expr depth) depth (view_expr left) operator tokens.now) }
+    ensures reads { Gives (λ x. ((view_expr x.0.0, x.0.1), x.1.now)) result
+        (read.operated (read.expr depth) depth (view_expr left) operator tokens.now) }
 {
     let (right, rest) = expression(alloc, tokens, depth, precedence(operator.kind) + 1)?;
     let whole = binary(alloc, left, operator, right)?;
@@ -424,7 +442,8 @@ fn operation(
     depth: usize,
     least: u32,
 ) -> Result<((Expression, bool), &[Token]), ReadError<'_>>
-    ensures reads { Gives (λ x. ((view_expr x.0.0, x.0.1), x.1.now)) result (read.operation (read.expr depth) depth least (view_expr left) tokens.now) }
+    ensures reads { Gives (λ x. ((view_expr x.0.0, x.0.1), x.1.now)) result
+        (read.operation (read.expr depth) depth least (view_expr left) tokens.now) }
 {
     match tokens {
         [operator, rest @ ..] if binds(least, precedence(operator.kind)) => {
@@ -442,7 +461,8 @@ fn operations(
     depth: usize,
     least: u32,
 ) -> Result<(Expression, &[Token]), ReadError<'_>>
-    ensures reads { Gives (λ x. (view_expr x.0, x.1.now)) result (repeat (read.operation (read.expr depth) depth least) depth (view_expr first) tokens.now) }
+    ensures reads { Gives (λ x. (view_expr x.0, x.1.now)) result
+        (repeat (read.operation (read.expr depth) depth least) depth (view_expr first) tokens.now) }
 {
     let mut left = first;
     let mut rest = tokens;
@@ -465,7 +485,8 @@ fn branches(
     tokens: &[Token],
     depth: usize,
 ) -> Result<((Expression, Token, Expression), &[Token]), ReadError<'_>>
-    ensures reads { Gives (λ x. ((view_expr x.0.0, x.0.1, view_expr x.0.2), x.1.now)) result (read.branches (read.expr depth) depth tokens.now) }
+    ensures reads { Gives (λ x. ((view_expr x.0.0, x.0.1, view_expr x.0.2), x.1.now)) result
+        (read.branches (read.expr depth) depth tokens.now) }
 {
     let (then, rest) = expression(alloc, tokens, depth, 0)?;
     let (colon, rest) = a_colon(rest)?;
@@ -483,7 +504,8 @@ fn conditioned<'a>(
     tokens: &'a [Token],
     depth: usize,
 ) -> Result<(Expression, &'a [Token]), ReadError<'a>>
-    ensures reads { Gives (λ x. (view_expr x.0, x.1.now)) result (read.conditioned (read.expr depth) depth (view_expr condition) question tokens.now) }
+    ensures reads { Gives (λ x. (view_expr x.0, x.1.now)) result
+        (read.conditioned (read.expr depth) depth (view_expr condition) question tokens.now) }
 {
     let ((then, colon, otherwise), rest) = branches(alloc, tokens, depth)?;
     let whole = conditional(alloc, condition, question, then, colon, otherwise)?;
@@ -500,7 +522,8 @@ fn assigned<'a>(
     tokens: &'a [Token],
     depth: usize,
 ) -> Result<(Expression, &'a [Token]), ReadError<'a>>
-    ensures reads { Gives (λ x. (view_expr x.0, x.1.now)) result (read.assigned (read.expr depth) depth (view_expr target) operator tokens.now) }
+    ensures reads { Gives (λ x. (view_expr x.0, x.1.now)) result
+        (read.assigned (read.expr depth) depth (view_expr target) operator tokens.now) }
 {
     let (value, rest) = expression(alloc, tokens, depth, 0)?;
     let whole = assignment(alloc, target, operator, value)?;
@@ -516,7 +539,8 @@ fn tail(
     tokens: &[Token],
     depth: usize,
 ) -> Result<(Expression, &[Token]), ReadError<'_>>
-    ensures reads { Gives (λ x. (view_expr x.0, x.1.now)) result (read.tail (read.expr depth) depth (view_expr first) tokens.now) }
+    ensures reads { Gives (λ x. (view_expr x.0, x.1.now)) result
+        (read.tail (read.expr depth) depth (view_expr first) tokens.now) }
 {
     let [token, rest @ ..] = tokens else {
         return Ok((first, tokens));
@@ -546,7 +570,8 @@ pub fn expression(
     depth: usize,
     least: u32,
 ) -> Result<(Expression, &[Token]), ReadError<'_>>
-    ensures reads { Gives (λ x. (view_expr x.0, x.1.now)) result (read.expr depth least tokens.now) }
+    ensures reads { Gives (λ x. (view_expr x.0, x.1.now)) result
+        (read.expr depth least tokens.now) }
 {
     if depth == 0 {
         return Err(ReadError::Deep);

@@ -35,7 +35,8 @@ pub fn parse_expression(alloc: Global, tokens: &[Token]) -> Result<Expression, R
     // What is read is spelled so.
     ensures found { IfOk result (λ x. Spells (view_expr x) tokens.now) }
     // What is spelled so is read, unless memory runs out.
-    ensures only { (x : Tree) → Spells x tokens.now → Gives (λ x. (view_expr x, [])) result (Ok (x, [])) }
+    ensures only { (x : Tree) → Spells x tokens.now →
+        Gives (λ x. (view_expr x, [])) result (Ok (x, [])) }
     // Where nothing is read, no tree spells the tokens.
     ensures fault { IfErr result (λ f. Faulty Spells tokens.now f) }
 {
@@ -44,5 +45,6 @@ pub fn parse_expression(alloc: Global, tokens: &[Token]) -> Result<Expression, R
 
 /// No tokens are spelled by two expressions.
 pub fn one_tree()
-    ensures unique { (x y : Tree) (tokens : List Token) → Spells x tokens → Spells y tokens → x ≡ y }
+    ensures unique { (x y : Tree) (tokens : List Token) → Spells x tokens → Spells y tokens →
+        x ≡ y }
 {}

@@ -27,7 +27,9 @@ fn constructed(
     tokens: &[Token],
     limit: usize,
 ) -> Result<(Declaration, &[Token]), ReadError<'_>>
-    ensures reads { Gives (λ x. (view_decl x.0, x.1.now)) result (read.perhaps_constructed limit declared_type name (option_map view_args arguments) tokens.now) }
+    ensures reads { Gives (λ x. (view_decl x.0, x.1.now)) result
+        (read.perhaps_constructed limit declared_type name
+        (option_map view_args arguments) tokens.now) }
 {
     let Some(arguments) = arguments else {
         return Err(ReadError::Syntax(tokens));
@@ -52,7 +54,8 @@ fn declared(
     tokens: &[Token],
     limit: usize,
 ) -> Result<(Declaration, &[Token]), ReadError<'_>>
-    ensures reads { Gives (λ x. (view_decl x.0, x.1.now)) result (read.declared limit declared_type name tokens.now) }
+    ensures reads { Gives (λ x. (view_decl x.0, x.1.now)) result
+        (read.declared limit declared_type name tokens.now) }
 {
     let (variables, rest) = variables_named(alloc, declared_type, name, tokens, limit)?;
     let variables = Box::new(alloc, variables)?;
@@ -71,7 +74,8 @@ fn told(
     depth: usize,
     limit: usize,
 ) -> Result<(Declaration, &[Token]), ReadError<'_>>
-    ensures reads { Gives (λ x. (view_decl x.0, x.1.now)) result (read.told depth limit declared_type name (view_group group) tokens.now) }
+    ensures reads { Gives (λ x. (view_decl x.0, x.1.now)) result
+        (read.told depth limit declared_type name (view_group group) tokens.now) }
 {
     let [open, rest @ ..] = tokens else {
         let arguments = group.into_arguments();
@@ -113,7 +117,8 @@ fn named(
     depth: usize,
     limit: usize,
 ) -> Result<(Declaration, &[Token]), ReadError<'_>>
-    ensures reads { Gives (λ x. (view_decl x.0, x.1.now)) result (read.named depth limit declared_type name tokens.now) }
+    ensures reads { Gives (λ x. (view_decl x.0, x.1.now)) result
+        (read.named depth limit declared_type name tokens.now) }
 {
     match tokens {
         [open, rest @ ..] if matches!(open.kind, TokenKind::LeftParen) => {
@@ -137,7 +142,8 @@ pub fn function_or_globals(
     depth: usize,
     limit: usize,
 ) -> Result<(Declaration, &[Token]), ReadError<'_>>
-    ensures reads { Gives (λ x. (view_decl x.0, x.1.now)) result (read.function_or_globals depth limit tokens.now) }
+    ensures reads { Gives (λ x. (view_decl x.0, x.1.now)) result
+        (read.function_or_globals depth limit tokens.now) }
 {
     let (declared_type, rest) = type_name(tokens)?;
     let (name, rest) = a_name(rest)?;

@@ -69,7 +69,8 @@ fn whole_parameters<'a>(
     tokens: &'a [Token],
     limit: usize,
 ) -> Result<Parameters, ReadError<'a>>
-    ensures reads { Gives (λ x. (view_params x, [])) result (read.whole_params limit «open» tokens.now) }
+    ensures reads { Gives (λ x. (view_params x, [])) result
+        (read.whole_params limit «open» tokens.now) }
 {
     let (found, rest) = parameters(alloc, open, tokens, limit)?;
     if !rest.is_empty() {
@@ -86,7 +87,8 @@ fn whole_arguments<'a>(
     tokens: &'a [Token],
     limit: usize,
 ) -> Result<Arguments, ReadError<'a>>
-    ensures reads { Gives (λ x. (view_args x, [])) result (read.whole_args limit «open» tokens.now) }
+    ensures reads { Gives (λ x. (view_args x, [])) result
+        (read.whole_args limit «open» tokens.now) }
 {
     let (found, rest) = arguments(alloc, open, tokens, limit)?;
     if !rest.is_empty() {
@@ -104,7 +106,9 @@ fn with_parameters<'a>(
     behind: &'a [Token],
     limit: usize,
 ) -> Result<(Group, &'a [Token]), ReadError<'a>>
-    ensures reads { Gives (λ x. (view_group x.0, x.1.now)) result (groups.merged (Ok (view_params parameters, [])) (read.whole_args limit «open» inside.now) behind.now) }
+    ensures reads { Gives (λ x. (view_group x.0, x.1.now)) result
+        (groups.merged (Ok (view_params parameters, []))
+        (read.whole_args limit «open» inside.now) behind.now) }
 {
     let parameters = Some(parameters);
     match whole_arguments(alloc, open, inside, limit) {
@@ -145,7 +149,9 @@ fn without_parameters<'a>(
     requires left { «open».kind ≡ LeftParen }
     requires within { len ≤ length tokens.now }
     requires end { From (take len tokens.now) fault.now }
-    ensures reads { Gives (λ x. (view_group x.0, x.1.now)) result (groups.merged (Err (at fault.now)) (read.whole_args limit «open» (take len tokens.now)) (drop len tokens.now)) }
+    ensures reads { Gives (λ x. (view_group x.0, x.1.now)) result
+        (groups.merged (Err (at fault.now)) (read.whole_args limit «open» (take len tokens.now))
+        (drop len tokens.now)) }
 {
     let (inside, behind) = tokens.split_at(len);
     match whole_arguments(alloc, open, inside, limit) {
@@ -177,7 +183,8 @@ pub(crate) fn grouped<'a>(
     limit: usize,
 ) -> Result<(Group, &'a [Token]), ReadError<'a>>
     requires paren { «open».kind ≡ LeftParen }
-    ensures reads { Gives (λ x. (view_group x.0, x.1.now)) result (read.group limit «open» tokens.now) }
+    ensures reads { Gives (λ x. (view_group x.0, x.1.now)) result
+        (read.group limit «open» tokens.now) }
 {
     let len = group_len(tokens);
     let (inside, behind) = tokens.split_at(len);

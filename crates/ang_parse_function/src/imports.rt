@@ -37,7 +37,8 @@ pub fn import<'a>(
     tokens: &'a [Token],
     limit: usize,
 ) -> Result<(Declaration, &'a [Token]), ReadError<'a>>
-    ensures reads { Gives (λ x. (view_decl x.0, x.1.now)) result (read.import limit word tokens.now) }
+    ensures reads { Gives (λ x. (view_decl x.0, x.1.now)) result
+        (read.import limit word tokens.now) }
 {
     let (result_type, rest) = type_name(tokens)?;
     let (name, rest) = a_name(rest)?;

@@ -118,7 +118,8 @@ fn another_parameter(
     comma: Token,
     tokens: &[Token],
 ) -> Result<((Vec<Parameter>, bool), &[Token]), ReadError<'_>>
-    ensures reads { Gives (λ x. ((x.0.0.items, x.0.1), x.1.now)) result (read.another_param first.items comma tokens.now) }
+    ensures reads { Gives (λ x. ((x.0.0.items, x.0.1), x.1.now)) result
+        (read.another_param first.items comma tokens.now) }
 {
     let (next, rest) = parameter(Some(comma), tokens)?;
     let longer = with_parameter(first, next)?;
@@ -131,7 +132,8 @@ fn other_parameter(
     first: Vec<Parameter>,
     tokens: &[Token],
 ) -> Result<((Vec<Parameter>, bool), &[Token]), ReadError<'_>>
-    ensures reads { Gives (λ x. ((x.0.0.items, x.0.1), x.1.now)) result (read.other_param first.items tokens.now) }
+    ensures reads { Gives (λ x. ((x.0.0.items, x.0.1), x.1.now)) result
+        (read.other_param first.items tokens.now) }
 {
     match tokens {
         [comma, rest @ ..] if matches!(comma.kind, TokenKind::Comma) => {
@@ -146,7 +148,8 @@ fn other_parameters(
     tokens: &[Token],
     limit: usize,
 ) -> Result<(Vec<Parameter>, &[Token]), ReadError<'_>>
-    ensures reads { Gives (λ x. (x.0.items, x.1.now)) result (repeat read.other_param limit first.items tokens.now) }
+    ensures reads { Gives (λ x. (x.0.items, x.1.now)) result
+        (repeat read.other_param limit first.items tokens.now) }
 {
     let mut found = first;
     let mut rest = tokens;
@@ -170,7 +173,8 @@ fn parameters_behind<'a>(
     tokens: &'a [Token],
     limit: usize,
 ) -> Result<(Parameters, &'a [Token]), ReadError<'a>>
-    ensures reads { Gives (λ x. (view_params x.0, x.1.now)) result (read.params_behind limit «open» first tokens.now) }
+    ensures reads { Gives (λ x. (view_params x.0, x.1.now)) result
+        (read.params_behind limit «open» first tokens.now) }
 {
     let room = Vec::with_capacity(alloc, 1)?;
     let found = with_parameter(room, first)?;
@@ -197,7 +201,8 @@ fn voided<'a>(
     tokens: &'a [Token],
     limit: usize,
 ) -> Result<(Parameters, &'a [Token]), ReadError<'a>>
-    ensures reads { Gives (λ x. (view_params x.0, x.1.now)) result (read.voided limit «open» word tokens.now) }
+    ensures reads { Gives (λ x. (view_params x.0, x.1.now)) result
+        (read.voided limit «open» word tokens.now) }
 {
     if let [close, rest @ ..] = tokens
         && matches!(close.kind, TokenKind::RightParen)
@@ -228,7 +233,8 @@ fn some_parameters<'a>(
     tokens: &'a [Token],
     limit: usize,
 ) -> Result<(Parameters, &'a [Token]), ReadError<'a>>
-    ensures reads { Gives (λ x. (view_params x.0, x.1.now)) result (read.some_params limit «open» tokens.now) }
+    ensures reads { Gives (λ x. (view_params x.0, x.1.now)) result
+        (read.some_params limit «open» tokens.now) }
 {
     let (first, rest) = parameter(None, tokens)?;
     parameters_behind(alloc, open, first, rest, limit)
@@ -250,7 +256,8 @@ pub fn parameters<'a>(
     tokens: &'a [Token],
     limit: usize,
 ) -> Result<(Parameters, &'a [Token]), ReadError<'a>>
-    ensures reads { Gives (λ x. (view_params x.0, x.1.now)) result (read.params limit «open» tokens.now) }
+    ensures reads { Gives (λ x. (view_params x.0, x.1.now)) result
+        (read.params limit «open» tokens.now) }
 {
     let [token, rest @ ..] = tokens else {
         return some_parameters(alloc, open, tokens, limit);
@@ -276,7 +283,8 @@ pub fn a_parameters(
     tokens: &[Token],
     limit: usize,
 ) -> Result<(Parameters, &[Token]), ReadError<'_>>
-    ensures reads { Gives (λ x. (view_params x.0, x.1.now)) result (read.a_params limit tokens.now) }
+    ensures reads { Gives (λ x. (view_params x.0, x.1.now)) result
+        (read.a_params limit tokens.now) }
 {
     let (open, rest) = a_left_paren(tokens)?;
     parameters(alloc, open, rest, limit)

@@ -36,7 +36,8 @@ pub fn parse_parameters(alloc: Global, tokens: &[Token]) -> Result<Parameters, R
     // What is read is spelled so.
     ensures found { IfOk result (λ x. SpellsParams (view_params x) tokens.now) }
     // What is spelled so is read, unless memory runs out.
-    ensures only { (x : Params) → SpellsParams x tokens.now → Gives (λ x. (view_params x, [])) result (Ok (x, [])) }
+    ensures only { (x : Params) → SpellsParams x tokens.now →
+        Gives (λ x. (view_params x, [])) result (Ok (x, [])) }
     // Where nothing is read, no tree spells the tokens.
     ensures fault { IfErr result (λ f. Faulty SpellsParams tokens.now f) }
 {
@@ -45,5 +46,6 @@ pub fn parse_parameters(alloc: Global, tokens: &[Token]) -> Result<Parameters, R
 
 /// No tokens are spelled by two lists of parameters.
 pub fn one_tree()
-    ensures unique { (x y : Params) (tokens : List Token) → SpellsParams x tokens → SpellsParams y tokens → x ≡ y }
+    ensures unique { (x y : Params) (tokens : List Token) → SpellsParams x tokens →
+        SpellsParams y tokens → x ≡ y }
 {}

@@ -14,7 +14,8 @@ pub(crate) fn with_statement(
     first: Vec<Statement>,
     next: Statement,
 ) -> Result<Vec<Statement>, AllocError>
-    ensures exact { IfOk result (λ v. view_stmts v.items ≡ tree.added_stmt (view_stmts first.items) (view_stmt next)) }
+    ensures exact { IfOk result (λ v. view_stmts v.items
+        ≡ tree.added_stmt (view_stmts first.items) (view_stmt next)) }
 {
     let mut found = first;
     found.push(next)?;
@@ -63,7 +64,9 @@ pub(crate) fn conditional(
     then: Box<Statement>,
     otherwise: Option<Box<Else>>,
 ) -> Statement
-    ensures exact { view_stmt result ≡ guarded_of head.value (view_stmt «then».value) (option_map (λ e. view_else e.value) otherwise) }
+    ensures exact { view_stmt result
+        ≡ guarded_of head.value (view_stmt «then».value)
+        (option_map (λ e. view_else e.value) otherwise) }
 {
     Statement::If {
         head,

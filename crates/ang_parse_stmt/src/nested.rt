@@ -32,7 +32,8 @@ fn guard<'a>(
     tokens: &'a [Token],
     limit: usize,
 ) -> Result<(Box<Guard>, &'a [Token]), ReadError<'a>>
-    ensures reads { Gives (λ x. (view_condition x.0.value, x.1.now)) result (read.condition limit tokens.now) }
+    ensures reads { Gives (λ x. (view_condition x.0.value, x.1.now)) result
+        (read.condition limit tokens.now) }
     ensures same { IfOk result (λ x. x.0.value.word ≡ word.now) }
 {
     let (open, rest) = a_left_paren(tokens)?;
@@ -60,7 +61,8 @@ fn ending<'a>(
     tokens: &'a [Token],
     limit: usize,
 ) -> Result<(Box<Ending>, &'a [Token]), ReadError<'a>>
-    ensures reads { Gives (λ x. (view_ending x.0.value, x.1.now)) result (read.ending limit tokens.now) }
+    ensures reads { Gives (λ x. (view_ending x.0.value, x.1.now)) result
+        (read.ending limit tokens.now) }
     ensures same { IfOk result (λ x. x.0.value.word ≡ word.now) }
 {
     let (while_word, rest) = a_while(tokens)?;
@@ -89,7 +91,8 @@ fn some_steps(
     tokens: &[Token],
     limit: usize,
 ) -> Result<((Vec<Argument>, Token), &[Token]), ReadError<'_>>
-    ensures reads { Gives (λ x. ((view_items x.0.0.items, x.0.1), x.1.now)) result (read.some_steps limit tokens.now) }
+    ensures reads { Gives (λ x. ((view_items x.0.0.items, x.0.1), x.1.now)) result
+        (read.some_steps limit tokens.now) }
 {
     let (steps, rest) = expressions(alloc, tokens, limit)?;
     let (close, rest) = a_right_paren(rest)?;
@@ -103,7 +106,8 @@ fn steps(
     tokens: &[Token],
     limit: usize,
 ) -> Result<((Vec<Argument>, Token), &[Token]), ReadError<'_>>
-    ensures reads { Gives (λ x. ((view_items x.0.0.items, x.0.1), x.1.now)) result (read.steps limit tokens.now) }
+    ensures reads { Gives (λ x. ((view_items x.0.0.items, x.0.1), x.1.now)) result
+        (read.steps limit tokens.now) }
 {
     match tokens {
         [close, rest @ ..] if matches!(close.kind, TokenKind::RightParen) => {
@@ -122,7 +126,8 @@ fn head<'a>(
     tokens: &'a [Token],
     limit: usize,
 ) -> Result<(Box<Head>, &'a [Token]), ReadError<'a>>
-    ensures reads { Gives (λ x. (view_head x.0.value, x.1.now)) result (read.head limit tokens.now) }
+    ensures reads { Gives (λ x. (view_head x.0.value, x.1.now)) result
+        (read.head limit tokens.now) }
     ensures same { IfOk result (λ x. x.0.value.word ≡ word.now) }
 {
     let (open, rest) = a_left_paren(tokens)?;
@@ -187,7 +192,8 @@ fn continued<'a>(
     word: &Token,
     tokens: &'a [Token],
 ) -> Result<(Statement, &'a [Token]), ReadError<'a>>
-    ensures reads { Gives (λ x. (view_stmt x.0, x.1.now)) result (read.continued word.now tokens.now) }
+    ensures reads { Gives (λ x. (view_stmt x.0, x.1.now)) result
+        (read.continued word.now tokens.now) }
 {
     let (semicolon, rest) = a_semicolon(tokens)?;
     let found = Box::new(
@@ -209,7 +215,8 @@ fn returned<'a>(
     tokens: &'a [Token],
     limit: usize,
 ) -> Result<(Statement, &'a [Token]), ReadError<'a>>
-    ensures reads { Gives (λ x. (view_stmt x.0, x.1.now)) result (read.returned limit word.now tokens.now) }
+    ensures reads { Gives (λ x. (view_stmt x.0, x.1.now)) result
+        (read.returned limit word.now tokens.now) }
 {
     let ((value, semicolon), rest) = ended(alloc, tokens, limit)?;
     let found = Box::new(
@@ -233,7 +240,8 @@ fn other_statement(
     depth: usize,
     limit: usize,
 ) -> Result<((Vec<Statement>, bool), &[Token]), ReadError<'_>>
-    ensures reads { Gives (λ x. ((view_stmts x.0.0.items, x.0.1), x.1.now)) result (read.other_statement (read.stmt depth limit) limit (view_stmts first.items) tokens.now) }
+    ensures reads { Gives (λ x. ((view_stmts x.0.0.items, x.0.1), x.1.now)) result
+        (read.other_statement (read.stmt depth limit) limit (view_stmts first.items) tokens.now) }
 {
     if let [token, ..] = tokens
         && matches!(token.kind, TokenKind::RightBrace)
@@ -254,7 +262,8 @@ pub(crate) fn statements(
     depth: usize,
     limit: usize,
 ) -> Result<(Vec<Statement>, &[Token]), ReadError<'_>>
-    ensures reads { Gives (λ x. (view_stmts x.0.items, x.1.now)) result (read.statements (read.stmt depth limit) limit tokens.now) }
+    ensures reads { Gives (λ x. (view_stmts x.0.items, x.1.now)) result
+        (read.statements (read.stmt depth limit) limit tokens.now) }
 {
     let mut found = Vec::new(alloc);
     let mut rest = tokens;
@@ -279,7 +288,8 @@ pub(crate) fn block<'a>(
     depth: usize,
     limit: usize,
 ) -> Result<(Block, &'a [Token]), ReadError<'a>>
-    ensures reads { Gives (λ x. (view_body x.0, x.1.now)) result (read.a_body (read.stmt depth limit) limit «open» tokens.now) }
+    ensures reads { Gives (λ x. (view_body x.0, x.1.now)) result
+        (read.a_body (read.stmt depth limit) limit «open» tokens.now) }
 {
     let (statements, rest) = statements(alloc, tokens, depth, limit)?;
     let (close, rest) = a_right_brace(rest)?;
@@ -301,7 +311,8 @@ fn inner_statement(
     depth: usize,
     limit: usize,
 ) -> Result<(Box<Statement>, &[Token]), ReadError<'_>>
-    ensures reads { Gives (λ x. (view_stmt x.0.value, x.1.now)) result (read.stmt depth limit tokens.now) }
+    ensures reads { Gives (λ x. (view_stmt x.0.value, x.1.now)) result
+        (read.stmt depth limit tokens.now) }
 {
     let (found, rest) = statement(alloc, tokens, depth, limit)?;
     let found = Box::new(alloc, found)?;
@@ -318,7 +329,8 @@ fn guarded<'a>(
     depth: usize,
     limit: usize,
 ) -> Result<(Guarded, &'a [Token]), ReadError<'a>>
-    ensures reads { Gives (λ x. (view_guarded x.0, x.1.now)) result (read.guarded (read.stmt depth limit) limit tokens.now) }
+    ensures reads { Gives (λ x. (view_guarded x.0, x.1.now)) result
+        (read.guarded (read.stmt depth limit) limit tokens.now) }
     ensures same { IfOk result (λ x. x.0.head.value.word ≡ word.now) }
 {
     let (head, rest) = guard(alloc, word, tokens, limit)?;
@@ -340,7 +352,8 @@ fn otherwise(
     depth: usize,
     limit: usize,
 ) -> Result<(Option<Box<Else>>, &[Token]), ReadError<'_>>
-    ensures reads { Gives (λ x. (option_map (λ e. view_else e.value) x.0, x.1.now)) result (read.otherwise (read.stmt depth limit) limit tokens.now) }
+    ensures reads { Gives (λ x. (option_map (λ e. view_else e.value) x.0, x.1.now)) result
+        (read.otherwise (read.stmt depth limit) limit tokens.now) }
 {
     match tokens {
         [word, rest @ ..] if matches!(word.kind, TokenKind::Else) => {
@@ -361,7 +374,8 @@ fn conditional<'a>(
     depth: usize,
     limit: usize,
 ) -> Result<(Statement, &'a [Token]), ReadError<'a>>
-    ensures reads { Gives (λ x. (view_stmt x.0, x.1.now)) result (read.conditional (read.stmt depth limit) limit word.now tokens.now) }
+    ensures reads { Gives (λ x. (view_stmt x.0, x.1.now)) result
+        (read.conditional (read.stmt depth limit) limit word.now tokens.now) }
 {
     let (guarded, rest) = guarded(alloc, word, tokens, depth, limit)?;
     match otherwise(alloc, rest, depth, limit) {
@@ -386,7 +400,8 @@ fn while_loop<'a>(
     depth: usize,
     limit: usize,
 ) -> Result<(Statement, &'a [Token]), ReadError<'a>>
-    ensures reads { Gives (λ x. (view_stmt x.0, x.1.now)) result (read.while_loop (read.stmt depth limit) limit word.now tokens.now) }
+    ensures reads { Gives (λ x. (view_stmt x.0, x.1.now)) result
+        (read.while_loop (read.stmt depth limit) limit word.now tokens.now) }
 {
     let (Guarded { head, statement }, rest) = guarded(alloc, word, tokens, depth, limit)?;
     Ok((build::while_loop(head, statement), rest))
@@ -402,7 +417,8 @@ fn do_loop<'a>(
     depth: usize,
     limit: usize,
 ) -> Result<(Statement, &'a [Token]), ReadError<'a>>
-    ensures reads { Gives (λ x. (view_stmt x.0, x.1.now)) result (read.do_loop (read.stmt depth limit) limit word.now tokens.now) }
+    ensures reads { Gives (λ x. (view_stmt x.0, x.1.now)) result
+        (read.do_loop (read.stmt depth limit) limit word.now tokens.now) }
 {
     let (body, rest) = inner_statement(alloc, tokens, depth, limit)?;
     let (ending, rest) = ending(alloc, word, rest, limit)?;
@@ -419,7 +435,8 @@ fn for_loop<'a>(
     depth: usize,
     limit: usize,
 ) -> Result<(Statement, &'a [Token]), ReadError<'a>>
-    ensures reads { Gives (λ x. (view_stmt x.0, x.1.now)) result (read.for_loop (read.stmt depth limit) limit word.now tokens.now) }
+    ensures reads { Gives (λ x. (view_stmt x.0, x.1.now)) result
+        (read.for_loop (read.stmt depth limit) limit word.now tokens.now) }
 {
     let (head, rest) = head(alloc, word, tokens, limit)?;
     match inner_statement(alloc, rest, depth, limit) {
@@ -441,7 +458,8 @@ fn braced<'a>(
     depth: usize,
     limit: usize,
 ) -> Result<(Statement, &'a [Token]), ReadError<'a>>
-    ensures reads { Gives (λ x. (view_stmt x.0, x.1.now)) result (read.braced (read.stmt depth limit) limit open.now tokens.now) }
+    ensures reads { Gives (λ x. (view_stmt x.0, x.1.now)) result
+        (read.braced (read.stmt depth limit) limit open.now tokens.now) }
 {
     let (whole, rest) = block(alloc, *open, tokens, depth, limit)?;
     Ok((build::whole_block(alloc, whole)?, rest))
@@ -456,7 +474,8 @@ fn chosen<'a>(
     depth: usize,
     limit: usize,
 ) -> Result<(Statement, &'a [Token]), ReadError<'a>>
-    ensures reads { Gives (λ x. (view_stmt x.0, x.1.now)) result (read.statement (read.stmt depth limit) limit tokens.now) }
+    ensures reads { Gives (λ x. (view_stmt x.0, x.1.now)) result
+        (read.statement (read.stmt depth limit) limit tokens.now) }
 {
     let [token, rest @ ..] = tokens else {
         return simple(alloc, tokens, limit);
@@ -483,7 +502,8 @@ pub(crate) fn statement(
     depth: usize,
     limit: usize,
 ) -> Result<(Statement, &[Token]), ReadError<'_>>
-    ensures reads { Gives (λ x. (view_stmt x.0, x.1.now)) result (read.stmt depth limit tokens.now) }
+    ensures reads { Gives (λ x. (view_stmt x.0, x.1.now)) result
+        (read.stmt depth limit tokens.now) }
 {
     if depth == 0 {
         return Err(ReadError::Deep);

@@ -32,7 +32,8 @@ pub fn statement(
     depth: usize,
     limit: usize,
 ) -> Result<(Statement, &[Token]), ReadError<'_>>
-    ensures reads { Gives (λ x. (view_stmt x.0, x.1.now)) result (read.stmt depth limit tokens.now) }
+    ensures reads { Gives (λ x. (view_stmt x.0, x.1.now)) result
+        (read.stmt depth limit tokens.now) }
 {
     nested::statement(alloc, tokens, depth, limit)
 }
@@ -53,7 +54,8 @@ pub fn statements(
     depth: usize,
     limit: usize,
 ) -> Result<(Vec<Statement>, &[Token]), ReadError<'_>>
-    ensures reads { Gives (λ x. (view_stmts x.0.items, x.1.now)) result (read.statements (read.stmt depth limit) limit tokens.now) }
+    ensures reads { Gives (λ x. (view_stmts x.0.items, x.1.now)) result
+        (read.statements (read.stmt depth limit) limit tokens.now) }
 {
     nested::statements(alloc, tokens, depth, limit)
 }
@@ -76,7 +78,8 @@ pub fn block<'a>(
     depth: usize,
     limit: usize,
 ) -> Result<(Block, &'a [Token]), ReadError<'a>>
-    ensures reads { Gives (λ x. (view_body x.0, x.1.now)) result (read.a_body (read.stmt depth limit) limit «open» tokens.now) }
+    ensures reads { Gives (λ x. (view_body x.0, x.1.now)) result
+        (read.a_body (read.stmt depth limit) limit «open» tokens.now) }
 {
     nested::block(alloc, open, tokens, depth, limit)
 }

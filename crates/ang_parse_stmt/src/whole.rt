@@ -43,7 +43,8 @@ pub fn parse_statement(alloc: Global, tokens: &[Token]) -> Result<Statement, Rea
     // What is read is spelled so.
     ensures found { IfOk result (λ x. SpellsStmt (view_stmt x) tokens.now) }
     // What is spelled so is read, unless memory runs out.
-    ensures only { (x : Stmt) → SpellsStmt x tokens.now → Gives (λ x. (view_stmt x, [])) result (Ok (x, [])) }
+    ensures only { (x : Stmt) → SpellsStmt x tokens.now →
+        Gives (λ x. (view_stmt x, [])) result (Ok (x, [])) }
     // Where nothing is read, no tree spells the tokens.
     ensures fault { IfErr result (λ f. Faulty SpellsStmt tokens.now f) }
 {
@@ -52,5 +53,6 @@ pub fn parse_statement(alloc: Global, tokens: &[Token]) -> Result<Statement, Rea
 
 /// No tokens are spelled by two statements.
 pub fn one_tree()
-    ensures unique { (x y : Stmt) (tokens : List Token) → SpellsStmt x tokens → SpellsStmt y tokens → x ≡ y }
+    ensures unique { (x y : Stmt) (tokens : List Token) → SpellsStmt x tokens →
+        SpellsStmt y tokens → x ≡ y }
 {}

@@ -18,7 +18,8 @@ use std::alloc::{AllocError, Global};
 
 /// The list with one more variable at its end.
 fn with_variable(first: Vec<Variable>, next: Variable) -> Result<Vec<Variable>, AllocError>
-    ensures exact { IfOk result (λ v. map view_var v.items ≡ map view_var first.items ++ view_var next ∷ []) }
+    ensures exact { IfOk result (λ v. map view_var v.items ≡ map view_var first.items
+        ++ view_var next ∷ []) }
 {
     let mut found = first;
     found.push(next)?;
@@ -88,7 +89,8 @@ pub fn variable_named<'a>(
     tokens: &'a [Token],
     limit: usize,
 ) -> Result<(Variable, &'a [Token]), ReadError<'a>>
-    ensures reads { Gives (λ x. (view_var x.0, x.1.now)) result (read.variable_named limit comma name tokens.now) }
+    ensures reads { Gives (λ x. (view_var x.0, x.1.now)) result
+        (read.variable_named limit comma name tokens.now) }
 {
     let (initializer, rest) = initializer(alloc, tokens, limit)?;
     Ok((
@@ -110,7 +112,8 @@ fn another_variable<'a>(
     tokens: &'a [Token],
     limit: usize,
 ) -> Result<((Vec<Variable>, bool), &'a [Token]), ReadError<'a>>
-    ensures reads { Gives (λ x. ((map view_var x.0.0.items, x.0.1), x.1.now)) result (read.another_variable limit (map view_var first.items) comma tokens.now) }
+    ensures reads { Gives (λ x. ((map view_var x.0.0.items, x.0.1), x.1.now)) result
+        (read.another_variable limit (map view_var first.items) comma tokens.now) }
 {
     let (name, rest) = a_name(tokens)?;
     let (variable, rest) = variable_named(alloc, Some(comma), name, rest, limit)?;
@@ -126,7 +129,8 @@ fn other_variable(
     tokens: &[Token],
     limit: usize,
 ) -> Result<((Vec<Variable>, bool), &[Token]), ReadError<'_>>
-    ensures reads { Gives (λ x. ((map view_var x.0.0.items, x.0.1), x.1.now)) result (read.other_variable limit (map view_var first.items) tokens.now) }
+    ensures reads { Gives (λ x. ((map view_var x.0.0.items, x.0.1), x.1.now)) result
+        (read.other_variable limit (map view_var first.items) tokens.now) }
 {
     match tokens {
         [comma, rest @ ..] if matches!(comma.kind, TokenKind::Comma) => {
@@ -142,7 +146,8 @@ fn other_variables(
     tokens: &[Token],
     limit: usize,
 ) -> Result<(Vec<Variable>, &[Token]), ReadError<'_>>
-    ensures reads { Gives (λ x. (map view_var x.0.items, x.1.now)) result (repeat (read.other_variable limit) limit (map view_var first.items) tokens.now) }
+    ensures reads { Gives (λ x. (map view_var x.0.items, x.1.now)) result
+        (repeat (read.other_variable limit) limit (map view_var first.items) tokens.now) }
 {
     let mut found = first;
     let mut rest = tokens;
@@ -174,7 +179,8 @@ pub fn variables_behind(
     tokens: &[Token],
     limit: usize,
 ) -> Result<(Variables, &[Token]), ReadError<'_>>
-    ensures reads { Gives (λ x. (view_vars x.0, x.1.now)) result (read.variables_behind limit declared_type (view_var first) tokens.now) }
+    ensures reads { Gives (λ x. (view_vars x.0, x.1.now)) result
+        (read.variables_behind limit declared_type (view_var first) tokens.now) }
 {
     let found = only_variable(alloc, first)?;
     let (items, rest) = other_variables(alloc, found, tokens, limit)?;
@@ -206,7 +212,8 @@ pub fn variables_named(
     tokens: &[Token],
     limit: usize,
 ) -> Result<(Variables, &[Token]), ReadError<'_>>
-    ensures reads { Gives (λ x. (view_vars x.0, x.1.now)) result (read.variables_named limit declared_type name tokens.now) }
+    ensures reads { Gives (λ x. (view_vars x.0, x.1.now)) result
+        (read.variables_named limit declared_type name tokens.now) }
 {
     let (first, rest) = variable_named(alloc, None, name, tokens, limit)?;
     variables_behind(alloc, declared_type, first, rest, limit)
@@ -219,7 +226,8 @@ fn some_ended(
     tokens: &[Token],
     limit: usize,
 ) -> Result<((Option<Box<Expression>>, Token), &[Token]), ReadError<'_>>
-    ensures reads { Gives (λ x. ((view_option x.0.0, x.0.1), x.1.now)) result (read.some_ended limit tokens.now) }
+    ensures reads { Gives (λ x. ((view_option x.0.0, x.0.1), x.1.now)) result
+        (read.some_ended limit tokens.now) }
 {
     let (value, rest) = expression(alloc, tokens, limit, 0)?;
     let (semicolon, rest) = a_semicolon(rest)?;
@@ -242,7 +250,8 @@ pub fn ended(
     tokens: &[Token],
     limit: usize,
 ) -> Result<((Option<Box<Expression>>, Token), &[Token]), ReadError<'_>>
-    ensures reads { Gives (λ x. ((view_option x.0.0, x.0.1), x.1.now)) result (read.ended limit tokens.now) }
+    ensures reads { Gives (λ x. ((view_option x.0.0, x.0.1), x.1.now)) result
+        (read.ended limit tokens.now) }
 {
     match tokens {
         [semicolon, rest @ ..] if matches!(semicolon.kind, TokenKind::Semicolon) => {
@@ -269,7 +278,8 @@ fn declared(
     tokens: &[Token],
     limit: usize,
 ) -> Result<(ForStart, &[Token]), ReadError<'_>>
-    ensures reads { Gives (λ x. (view_start x.0, x.1.now)) result (read.declared limit declared_type name tokens.now) }
+    ensures reads { Gives (λ x. (view_start x.0, x.1.now)) result
+        (read.declared limit declared_type name tokens.now) }
 {
     let (variables, rest) = variables_named(alloc, declared_type, name, tokens, limit)?;
     Ok((ForStart::Variables(variables), rest))
@@ -283,7 +293,8 @@ fn declared_of(
     tokens: &[Token],
     limit: usize,
 ) -> Result<(ForStart, &[Token]), ReadError<'_>>
-    ensures reads { Gives (λ x. (view_start x.0, x.1.now)) result (read.declared_of limit declared_type tokens.now) }
+    ensures reads { Gives (λ x. (view_start x.0, x.1.now)) result
+        (read.declared_of limit declared_type tokens.now) }
 {
     let (name, rest) = a_name(tokens)?;
     declared(alloc, declared_type, name, rest, limit)
@@ -298,7 +309,8 @@ fn typed(
     tokens: &[Token],
     limit: usize,
 ) -> Result<(ForStart, &[Token]), ReadError<'_>>
-    ensures reads { Gives (λ x. (view_start x.0, x.1.now)) result (read.typed limit constant name tokens.now) }
+    ensures reads { Gives (λ x. (view_start x.0, x.1.now)) result
+        (read.typed limit constant name tokens.now) }
 {
     let (declared_type, rest) = type_named(constant, name, tokens);
     declared_of(alloc, declared_type, rest, limit)
@@ -312,7 +324,8 @@ fn constant_typed(
     tokens: &[Token],
     limit: usize,
 ) -> Result<(ForStart, &[Token]), ReadError<'_>>
-    ensures reads { Gives (λ x. (view_start x.0, x.1.now)) result (read.constant_typed limit word tokens.now) }
+    ensures reads { Gives (λ x. (view_start x.0, x.1.now)) result
+        (read.constant_typed limit word tokens.now) }
 {
     match tokens {
         [name, rest @ ..] if is_type_name(name.kind) => {
@@ -331,7 +344,8 @@ fn handled(
     tokens: &[Token],
     limit: usize,
 ) -> Result<(ForStart, &[Token]), ReadError<'_>>
-    ensures reads { Gives (λ x. (view_start x.0, x.1.now)) result (read.handled limit name at tokens.now) }
+    ensures reads { Gives (λ x. (view_start x.0, x.1.now)) result
+        (read.handled limit name at tokens.now) }
 {
     let (constant, rest) = perhaps_const(tokens);
     let handle = Some(Handle { at, constant });
@@ -355,7 +369,8 @@ fn named<'a>(
     limit: usize,
 ) -> Result<(ForStart, &'a [Token]), ReadError<'a>>
     requires behind { tokens.now ≡ name ∷ behind.now }
-    ensures reads { Gives (λ x. (view_start x.0, x.1.now)) result (read.named limit name behind.now) }
+    ensures reads { Gives (λ x. (view_start x.0, x.1.now)) result
+        (read.named limit name behind.now) }
 {
     let [second, rest @ ..] = behind else {
         return ran(alloc, tokens, limit);
@@ -387,7 +402,8 @@ fn primitive<'a>(
     limit: usize,
 ) -> Result<(ForStart, &'a [Token]), ReadError<'a>>
     requires behind { tokens.now ≡ word ∷ behind.now }
-    ensures reads { Gives (λ x. (view_start x.0, x.1.now)) result (read.primitive limit word behind.now) }
+    ensures reads { Gives (λ x. (view_start x.0, x.1.now)) result
+        (read.primitive limit word behind.now) }
 {
     match behind {
         [open, ..] if matches!(open.kind, TokenKind::LeftParen) => ran(alloc, tokens, limit),

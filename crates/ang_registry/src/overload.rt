@@ -17,7 +17,8 @@ pub fn is_duplicate(entries: &[Option<Entry>], entry: &Entry) -> bool
 }
 
 fn clash(entry: &Entry, other: &Option<Entry>) -> bool
-    ensures exact { result ≡ spec.clashes entry.now.kind entry.now.owner entry.now.signature other.now }
+    ensures exact { result ≡ spec.clashes entry.now.kind entry.now.owner entry.now.signature
+        other.now }
 {
     match other {
         None => false,

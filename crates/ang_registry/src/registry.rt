@@ -112,7 +112,8 @@ impl Registry {
             (self.new ≡ with_factory self.old type_name.now f (spec.declared_factory decl.now)) }
 
         ensures first_refusal { IfErr result (λ why. why ≢ RegError.Memory
-            → refusal_of_factory self.old type_name.now (spec.declared_factory decl.now) ≡ Some why) }
+            → refusal_of_factory self.old type_name.now (spec.declared_factory decl.now)
+            ≡ Some why) }
         ensures unchanged { OnErr result (self.new ≡ self.old) }
     {
         let declared = declared_factory(self.alloc, decl)?;
@@ -166,7 +167,8 @@ impl Registry {
             (self.new ≡ with_property self.old type_name.now f (spec.declared_property decl.now)) }
 
         ensures first_refusal { IfErr result (λ why. why ≢ RegError.Memory
-            → refusal_of_property self.old type_name.now (spec.declared_property decl.now) ≡ Some why) }
+            → refusal_of_property self.old type_name.now (spec.declared_property decl.now)
+            ≡ Some why) }
         ensures unchanged { OnErr result (self.new ≡ self.old) }
     {
         let declared = declared_property(self.alloc, decl)?;

@@ -26,7 +26,8 @@ pub fn common(a: Prim, b: Prim) -> Prim
     // An operand counts as signed where it is, or where it is narrower than the result.
     ensures wide { width result ≡ max 32 (max (width a) (width b)) }
     ensures signed { is_signed result ≡
-        ((is_signed a || nat_lt (width (raised a)) (width result)) && (is_signed b || nat_lt (width (raised b)) (width result))) }
+        ((is_signed a || nat_lt (width (raised a)) (width result)) &&
+        (is_signed b || nat_lt (width (raised b)) (width result))) }
 {
     wider_of(raise(a), raise(b))
 }

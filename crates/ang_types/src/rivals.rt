@@ -50,7 +50,8 @@ impl Rivals {
     pub fn would_win(&self, lineage: &Lineage, params: &[(ArgType, Pass)], args: &[ArgType]) -> bool
         requires size { length self.now.0 ≡ length args.now }
         ensures exact { (candidates : List Candidate) →
-            AreRivals self.now lineage.now candidates args.now → (c : Candidate) → c.params ≡ params.now →
+            AreRivals self.now lineage.now candidates args.now → (c : Candidate) →
+            c.params ≡ params.now →
             result ≡ is_best lineage.now (c ∷ candidates) args.now 0 }
     {
         is_abreast(lineage, params, args, self.least.as_slice(), self.tied)

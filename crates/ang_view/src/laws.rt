@@ -11,6 +11,7 @@ pub fn types_are_seen()
         entry_at (seen list m) n ≡ Some x → is_named_by x k (entry_at list k) ≡ true →
         entry_at (seen list m) k ≡ entry_at list k }
     ensures numbers { (list : RegistrationList) (m n : ℕ) (x : Entry) (name : List ℕ) →
-        entry_at (seen list m) n ≡ Some x → is_type x.kind ≡ false → mentions x.signature name ≡ true →
+        entry_at (seen list m) n ≡ Some x → is_type x.kind ≡ false →
+        mentions x.signature name ≡ true →
         type_named (seen list m) name ≡ type_named list name }
 {}

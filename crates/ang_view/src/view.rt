@@ -188,7 +188,8 @@ fn sees(entries: &[Option<Entry>], mask: Mask, entry: &Entry) -> bool
 
 fn sees_types(entries: &[Option<Entry>], mask: Mask, entry: &Entry) -> bool
     ensures exact { result
-        ≡ list_all (λ n. has_mask_for mask.0 (entry_at entries.now n)) (named entries.now entry.now) }
+        ≡ list_all (λ n. has_mask_for mask.0 (entry_at entries.now n))
+        (named entries.now entry.now) }
 {
     for (number, other) in entries.iter().enumerate() {
         if names(entry, number, other) && !meets(other, mask) {

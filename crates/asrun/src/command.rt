@@ -73,12 +73,20 @@ fn budget_of(text: Option<&str>) -> Option<u64>
 
 /// The options of a command line that was read. None where the budget is no number from 1 to the most.
 pub fn chosen(alloc: Global, matches: &ArgMatches<'_>) -> Result<Option<Options>, AllocError>
-    ensures profile { IfOk result (λ r. IfSome r (λ o. first_value (found_of matches.now) (codes "profile") ≡ Some (string_bytes o.profile))) }
-    ensures session { IfOk result (λ r. IfSome r (λ o. first_value (found_of matches.now) (codes "session") ≡ Some (string_bytes o.session))) }
-    ensures budget { IfOk result (λ r. IfSome r (λ o. budget_given (first_value (found_of matches.now) (codes "budget")) ≡ Some o.budget)) }
+    ensures profile { IfOk result (λ r. IfSome r
+        (λ o. first_value (found_of matches.now) (codes "profile")
+        ≡ Some (string_bytes o.profile))) }
+    ensures session { IfOk result (λ r. IfSome r
+        (λ o. first_value (found_of matches.now) (codes "session")
+        ≡ Some (string_bytes o.session))) }
+    ensures budget { IfOk result (λ r. IfSome r
+        (λ o. budget_given (first_value (found_of matches.now) (codes "budget")) ≡ Some o.budget)) }
     ensures least { IfOk result (λ r. IfSome r (λ o. 1 ≤ o.budget)) }
     ensures most { IfOk result (λ r. IfSome r (λ o. o.budget ≤ 2147483647)) }
-    ensures complete { IfOk result (λ r. is_some r ≡ is_complete (first_value (found_of matches.now) (codes "profile")) (first_value (found_of matches.now) (codes "session")) (budget_given (first_value (found_of matches.now) (codes "budget")))) }
+    ensures complete { IfOk result (λ r. is_some r
+        ≡ is_complete (first_value (found_of matches.now) (codes "profile"))
+        (first_value (found_of matches.now) (codes "session"))
+        (budget_given (first_value (found_of matches.now) (codes "budget")))) }
 {
     let Some(budget) = budget_of(matches.get_str("budget")) else {
         return Ok(None);

@@ -16,12 +16,16 @@ use std::alloc::Global;
 /// The error of `clap`: an option that is missing, unknown, given twice or without a value, a budget
 /// that is no number from 1 to 2,147,483,647, a wish for help, or want of memory.
 pub fn options<'a>(alloc: Global, words: &'a [&'a str]) -> Result<command::Options, Error>
-    ensures profile { IfOk result (λ o. given (codes "profile") (map (λ w. w.now) words.now) ≡ Some (string_bytes o.profile)) }
-    ensures session { IfOk result (λ o. given (codes "session") (map (λ w. w.now) words.now) ≡ Some (string_bytes o.session)) }
-    ensures budget { IfOk result (λ o. budget_given (given (codes "budget") (map (λ w. w.now) words.now)) ≡ Some o.budget) }
+    ensures profile { IfOk result (λ o. given (codes "profile") (map (λ w. w.now) words.now)
+        ≡ Some (string_bytes o.profile)) }
+    ensures session { IfOk result (λ o. given (codes "session") (map (λ w. w.now) words.now)
+        ≡ Some (string_bytes o.session)) }
+    ensures budget { IfOk result (λ o. budget_given
+        (given (codes "budget") (map (λ w. w.now) words.now)) ≡ Some o.budget) }
     ensures most { IfOk result (λ o. o.budget ≤ 2147483647) }
     ensures least { IfOk result (λ o. 1 ≤ o.budget) }
-    ensures refused { IfErr result (λ e. is_right (map (λ w. w.now) words.now) ≡ true → kind_of e ≡ OutOfMemory) }
+    ensures refused { IfErr result (λ e. is_right (map (λ w. w.now) words.now) ≡ true →
+        kind_of e ≡ OutOfMemory) }
 {
     let mut command = command_line(alloc)?;
     let matches = command.try_get_matches_from_mut(words)?;

@@ -138,7 +138,8 @@ fn push_bytes(out: &mut Vec<u8>, bytes: &[u8]) -> Result<(), AllocError>
 
 #[tactic(auto, using(crate::proofs::Texts::texts))]
 fn push_more_values(out: &mut Vec<u8>, values: &[Value]) -> Result<(), AllocError>
-    ensures added { OnOk result (out.new.items ≡ out.old.items ++ flat_map (λ w. codes "," ++ value_text w) values.now) }
+    ensures added { OnOk result (out.new.items ≡ out.old.items
+        ++ flat_map (λ w. codes "," ++ value_text w) values.now) }
 {
     for value in values {
         push_text(out, ",")?;
@@ -223,7 +224,8 @@ fn push_asked(
     driver: u32,
     object: Option<u64>,
 ) -> Result<(), AllocError>
-    ensures added { OnOk result (out.new.items ≡ out.old.items ++ (decimal entity ++ codes " " ++ decimal driver ++ codes " " ++ object_text object)) }
+    ensures added { OnOk result (out.new.items ≡ out.old.items
+        ++ (decimal entity ++ codes " " ++ decimal driver ++ codes " " ++ object_text object)) }
 {
     push_number(out, u64::from(entity))?;
     push_text(out, " ")?;
@@ -322,7 +324,8 @@ fn push_denial(out: &mut Vec<u8>, denial: Denial) -> Result<(), AllocError>
 
 #[tactic(auto, using(crate::proofs::Texts::texts))]
 fn push_init_failed(out: &mut Vec<u8>, fault: Fault) -> Result<(), AllocError>
-    ensures added { OnOk result (out.new.items ≡ out.old.items ++ (codes "InitFailed " ++ fault_text fault)) }
+    ensures added { OnOk result (out.new.items ≡ out.old.items
+        ++ (codes "InitFailed " ++ fault_text fault)) }
 {
     push_text(out, "InitFailed ")?;
     push_fault(out, fault)
@@ -405,7 +408,8 @@ fn push_errors(out: &mut Vec<u8>, errors: &[Error]) -> Result<(), AllocError>
 }
 
 fn push_denials(out: &mut Vec<u8>, denials: &[Denial]) -> Result<(), AllocError>
-    ensures added { OnOk result (out.new.items ≡ out.old.items ++ flat_map denial_text denials.now) }
+    ensures added { OnOk result (out.new.items ≡ out.old.items
+        ++ flat_map denial_text denials.now) }
 {
     for denial in denials {
         push_denial(out, *denial)?;

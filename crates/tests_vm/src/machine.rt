@@ -39,7 +39,8 @@ fn has_drivers(code: &ModuleCode, count: usize) -> bool
 }
 
 fn have_drivers(table: &Table, count: usize) -> bool
-    ensures exact { result ≡ list_all (λ m. list_all (is_below count) m.entities.items) table.now.modules.items }
+    ensures exact { result ≡ list_all
+        (λ m. list_all (is_below count) m.entities.items) table.now.modules.items }
 {
     table
         .modules
@@ -73,7 +74,8 @@ fn are_empty(globals: &Vec<Slot>) -> bool
 
 /// Whether no global of any module holds an object.
 fn all_are_empty(modules: &Vec<Vec<Slot>>) -> bool
-    ensures exact { result ≡ list_all (λ globals. list_all names_nothing globals.items) modules.now.items }
+    ensures exact { result ≡ list_all
+        (λ globals. list_all names_nothing globals.items) modules.now.items }
 {
     modules.iter().all(|globals| are_empty(globals))
 }
@@ -81,8 +83,10 @@ fn all_are_empty(modules: &Vec<Vec<Slot>>) -> bool
 /// A machine on these drivers, with such globals.
 fn machine_of(alloc: Global, drivers: Drivers, modules: Vec<Vec<Slot>>) -> Machine
     requires fresh { AreFresh (states_of ⟦<dyn Driver as Driver>⟧ (members drivers)) }
-    requires empty { IsTrue (list_all (λ globals. list_all names_nothing globals.items) modules.items) }
-    ensures begins { (events : Vec HostEvent Global) → vec_len events ≡ 0 → MayBegin ⟦<dyn Driver as Driver>⟧ result events }
+    requires empty { IsTrue (list_all
+        (λ globals. list_all names_nothing globals.items) modules.items) }
+    ensures begins { (events : Vec HostEvent Global) → vec_len events ≡ 0 →
+        MayBegin ⟦<dyn Driver as Driver>⟧ result events }
 {
     let heap = Heap::new(alloc);
     let ends = Vec::new(alloc);
@@ -100,7 +104,9 @@ fn machine_of(alloc: Global, drivers: Drivers, modules: Vec<Vec<Slot>>) -> Machi
 
 /// The machine with a console, a counter and a cell, and with the globals of all modules.
 pub fn with_drivers(alloc: Global) -> Result<Option<Machine>, AllocError>
-    ensures begins { IfOk result (λ made. IfSome made (λ machine. (events : Vec HostEvent Global) → vec_len events ≡ 0 → MayBegin ⟦<dyn Driver as Driver>⟧ machine events)) }
+    ensures begins { IfOk result (λ made. IfSome made
+        (λ machine. (events : Vec HostEvent Global) → vec_len events ≡ 0 →
+        MayBegin ⟦<dyn Driver as Driver>⟧ machine events)) }
 {
     let globals = first_globals(alloc)?;
     if !all_are_empty(&globals) {
@@ -144,7 +150,8 @@ fn call_alone(
     requires drivers { DriversThere table.now (length (members machine.old.store.drivers)) }
     requires begins { MayBegin ⟦<dyn Driver as Driver>⟧ machine.old events.old }
     ensures ready { IsReady ⟦<dyn Driver as Driver>⟧ (lent machine.new events.new) }
-    ensures counted { result ≢ Err NullFault → IsCounted [] (world_of ⟦<dyn Driver as Driver>⟧ (lent machine.new events.new)) }
+    ensures counted { result ≢ Err NullFault →
+        IsCounted [] (world_of ⟦<dyn Driver as Driver>⟧ (lent machine.new events.new)) }
 {
     run(table, machine, entry, &[], budget, events)
 }
@@ -164,7 +171,8 @@ fn call_with(
     requires drivers { DriversThere table.now (length (members machine.old.store.drivers)) }
     requires begins { MayBegin ⟦<dyn Driver as Driver>⟧ machine.old events.old }
     ensures ready { IsReady ⟦<dyn Driver as Driver>⟧ (lent machine.new events.new) }
-    ensures counted { result ≢ Err NullFault → IsCounted [] (world_of ⟦<dyn Driver as Driver>⟧ (lent machine.new events.new)) }
+    ensures counted { result ≢ Err NullFault →
+        IsCounted [] (world_of ⟦<dyn Driver as Driver>⟧ (lent machine.new events.new)) }
 {
     run(table, machine, entry, &[Slot::Bits(number)], budget, events)
 }
@@ -199,7 +207,8 @@ pub fn call(
     events: &mut Vec<HostEvent>,
 ) -> Result<u64, Fault>
     requires begins { MayBegin ⟦<dyn Driver as Driver>⟧ machine.old events.old }
-    ensures begins { result ≢ Err NullFault → MayBegin ⟦<dyn Driver as Driver>⟧ machine.new events.new }
+    ensures begins { result ≢ Err NullFault →
+        MayBegin ⟦<dyn Driver as Driver>⟧ machine.new events.new }
 {
     if !drivers_are_there(table, machine.store.drivers.len()) {
         return Err(Fault::Null);
@@ -224,7 +233,8 @@ fn initialize_alone(
     requires drivers { DriversThere table.now (length (members machine.old.store.drivers)) }
     requires begins { MayBegin ⟦<dyn Driver as Driver>⟧ machine.old events.old }
     ensures ready { IsReady ⟦<dyn Driver as Driver>⟧ (lent machine.new events.new) }
-    ensures counted { result ≢ Err NullFault → IsCounted [] (world_of ⟦<dyn Driver as Driver>⟧ (lent machine.new events.new)) }
+    ensures counted { result ≢ Err NullFault →
+        IsCounted [] (world_of ⟦<dyn Driver as Driver>⟧ (lent machine.new events.new)) }
 {
     run_initializer(table, machine, entry, ticks, events)
 }
@@ -241,7 +251,8 @@ pub fn initialize(
     events: &mut Vec<HostEvent>,
 ) -> Result<u64, Fault>
     requires begins { MayBegin ⟦<dyn Driver as Driver>⟧ machine.old events.old }
-    ensures begins { result ≢ Err NullFault → MayBegin ⟦<dyn Driver as Driver>⟧ machine.new events.new }
+    ensures begins { result ≢ Err NullFault →
+        MayBegin ⟦<dyn Driver as Driver>⟧ machine.new events.new }
 {
     if !drivers_are_there(table, machine.store.drivers.len()) {
         return Err(Fault::Null);

@@ -91,7 +91,8 @@ fn run_once(
     events: &mut Vec<HostEvent>,
 ) -> Result<u64, Fault>
     requires begins { MayBegin ⟦<dyn Driver as Driver>⟧ machine.old events.old }
-    ensures begins { result ≢ Err NullFault → MayBegin ⟦<dyn Driver as Driver>⟧ machine.new events.new }
+    ensures begins { result ≢ Err NullFault →
+        MayBegin ⟦<dyn Driver as Driver>⟧ machine.new events.new }
 {
     if run.initializes {
         initialize(table, machine, run.entry, run.budget, events)
@@ -108,7 +109,8 @@ fn run_again(
     events: &mut Vec<HostEvent>,
 ) -> Result<u64, Fault>
     requires begins { MayBegin ⟦<dyn Driver as Driver>⟧ machine.old events.old }
-    ensures begins { result ≢ Err NullFault → MayBegin ⟦<dyn Driver as Driver>⟧ machine.new events.new }
+    ensures begins { result ≢ Err NullFault →
+        MayBegin ⟦<dyn Driver as Driver>⟧ machine.new events.new }
 {
     match run_once(table, machine, run, events) {
         Err(Fault::Memory) => run_once(table, machine, run, events),
@@ -131,7 +133,8 @@ fn verdict_on(ended: Result<u64, Fault>, want: Result<u64, Fault>) -> Verdict
 /// Takes a turn.
 fn take(table: &Table, machine: &mut Machine, run: Run, events: &mut Vec<HostEvent>) -> Verdict
     requires begins { MayBegin ⟦<dyn Driver as Driver>⟧ machine.old events.old }
-    ensures goes_on { result ≡ Verdict.Right → MayBegin ⟦<dyn Driver as Driver>⟧ machine.new events.new }
+    ensures goes_on { result ≡ Verdict.Right →
+        MayBegin ⟦<dyn Driver as Driver>⟧ machine.new events.new }
 {
     let ended = run_again(table, machine, run, events);
     verdict_on(ended, run.want)
