@@ -180,11 +180,13 @@ BOTTOMS = {
 }
 
 
+CLASS_HEAD = HEAD.replace("void f(){", "class C{void f(){")
+
 # Where the nest stands: what stands in front of it and behind, and what is answered where else all is well.
 PLACES = {
     "a function": (HEAD, "}", OK),
-    "a method": ("class C{void f(){", "}}", "refused BuildErrors NotYet"),
-    "a method before a wrong sign": ("class C{void f(){", "})}", REFUSED),
+    "a method": (CLASS_HEAD, "}}", OK),
+    "a method before a wrong sign": (CLASS_HEAD, "})}", REFUSED),
 }
 
 
@@ -197,8 +199,17 @@ def nested(nest, bottom, place="a function"):
     return head + before * levels + bottom + behind * levels + tail, levels
 
 
+def ranks(count):
+    """A session in which each object of a class holds one of the next class, and all are given up at once, at a handle's change."""
+    classes = [f"class C{n}{{C{n + 1}@ n;}}" for n in range(count - 1)] + [f"class C{count - 1}{{}}"]
+    made = [f"C{n}@ c{n}=C{n}();" for n in range(count)]
+    joined = [f"@c{n}.n=c{n + 1};" for n in range(count - 1)]
+    script = "".join(classes) + "C0@ g;void make(){" + "".join(made + joined) + "@g=c0;}void end(){@g=null;}"
+    return built(script, calls=["call m () void make()", "call m () void end()"])
+
+
 def deep(trials):
-    """The deepest sections, and the declarations of calls that are as long."""
+    """The deepest sections, objects inside one another, and the declarations of calls that are as long."""
 
     def least(nest, bottom, place):
         text, wanted = BOTTOMS[bottom]
@@ -219,6 +230,9 @@ def deep(trials):
         bottoms = list(BOTTOMS)[:3] if few else BOTTOMS
         print(f"\nIn {place}:\n")
         table(["Section of", "levels", *bottoms], rows(place, NESTS[1:5] if few else NESTS, bottoms))
+    for count, wanted in ((1, OK), (2, OK), (64, OK), (256, OK), (257, "refused NotBuilt Limit")):
+        trials.tried(f"objects of {count} classes, each inside the next", ranks(count), wanted)
+    print(f"\nObjects of 256 classes, each inside the next, are given up with {trials.least_stack(ranks(256), OK)} KiB of stack")
     decls = [HEAD + "for(;;)" * 9000 + ";}", "void f" + "(" * 60000, "void f(" + "(int a," * 9000 + ")"]
     decls += ["int " + "a," * 30000 + "a", "void f(){" + "{" * 60000, "f" * 60000, "x=" * 30000 + "x"]
     for decl in decls:
@@ -273,6 +287,10 @@ LIMITS = [
     Limit("functions", 4096, lambda n: built(named(n, "void f%d(){}")), OK, MANY),
     Limit("globals", 4096, lambda n: built(named(n, "int a%d;")), OK, MANY),
     Limit("globals of one list", 4096, lambda n: built(f"int a{named(n - 1, ',a%d')};"), OK, MANY),
+    Limit("classes", 256, lambda n: built(named(n, "class C%d{}")), OK, MANY),
+    Limit("classes in a chain", 256, lambda n: built("class C0{}" + "".join(f"class C{i}:C{i - 1}{{}}" for i in range(1, n))), OK, MANY),
+    Limit("members of a class", 256, lambda n: built("class C{" + named(n, "int a%d;") + "}"), OK, MANY),
+    Limit("methods of an interface", 256, lambda n: built("interface I{" + named(n, "void f%d();") + "}"), OK, MANY),
     Limit("parameters", 32, lambda n: built(f"void f({','.join(['int'] * n)}){{}}"), OK, MANY),
     Limit("locals alive at once", 1024, lambda n: built(f"void f(){{{named(n, 'int a%d;')}}}"), OK, MANY),
     Limit("locals of nested loops", 1024, lambda n: built("void f(){" + "for(int i;;)" * n + ";}"), OK, MANY),
