@@ -8,26 +8,13 @@ ghost use Rattle.ang_names_resolved.specs.Resolved.{names_of};
 ghost use Rattle.ang_names_written.specs.Sources.{source_of};
 
 use ang_check_bodies::{Judged, judge};
-use ang_kinds::{Error, List, Unbuilt};
+use ang_kinds::Unbuilt;
+use ang_names::unbuilt;
 use ang_names_known::Names;
 use ang_tree::Script;
 use ang_typed::Typed;
-use ang_types::Refused;
 use ang_view::View;
-use std::alloc::{AllocError, Global};
-
-/// The errors of what is refused, in their order.
-///
-/// The only error is want of memory.
-fn errors_of(alloc: Global, refused: List<Refused>) -> Result<Vec<Error>, AllocError>
-    ensures exact { IfOk result (λ v. v.items ≡ errors_in refused) }
-{
-    let mut errors = Vec::new(alloc);
-    for item in refused.into_vec() {
-        errors.push(item.error)?;
-    }
-    Ok(errors)
-}
+use std::alloc::Global;
 
 /// The resolved tree of the scripts of a build, where `names` are those that `declare` gives for them over the
 /// view; or the first error of each body and each initializer, in the order of the declarations.
@@ -57,8 +44,5 @@ pub fn check(
     if refused.as_slice().is_empty() {
         return Ok(typed);
     }
-    match errors_of(alloc, refused) {
-        Ok(errors) => Err(Unbuilt::Errors(List::from_vec(errors))),
-        Err(_) => Err(Unbuilt::Memory),
-    }
+    Err(unbuilt(alloc, refused.into_vec()))
 }

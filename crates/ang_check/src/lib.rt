@@ -5,6 +5,6 @@ mod checking;
 mod denying;
 pub mod laws;
 
-pub use ang_kinds::{Denial, Error, ErrorKind};
+pub use ang_kinds::{Denial, Error, ErrorKind, Unbuilt};
 pub use checking::check;
 pub use denying::denials;

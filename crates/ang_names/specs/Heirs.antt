@@ -8,7 +8,6 @@ use Rattle.ang_kinds.specs.declared.error.ErrorKind.{ErrorKind}
 use Rattle.ang_kinds.specs.declared.error.ErrorKind.TheVariants as kind
 use Rattle.ang_kinds.specs.declared.place.Place.{Place}
 use Rattle.ang_types.specs.declared.asks.Refused.{Refused}
-use Rattle.ang_names_heritage.specs.Graphs.{leads}
 use Rattle.ang_names_known.specs.declared.names.Access.{Access}
 use Rattle.ang_names_known.specs.declared.names.Access.TheVariants as access
 use Rattle.ang_names_known.specs.declared.names.Family.{Family}
@@ -18,10 +17,11 @@ use Rattle.ang_names_known.specs.Lookup.{Numbered, FoundMethod, families_at, met
 use Rattle.ang_names_known.specs.Items.{is_empty}
 use Rattle.ang_names_known.specs.Spaces.{Space}
 use Rattle.ang_names_listed.specs.Declarations.{Declaring}
-use Rattle.ang_names_resolved.specs.Resolved.{is_parent, holds}
+use Rattle.ang_names_listed.specs.Taken.{plain_refusal}
+use Rattle.ang_names_resolved.specs.Resolved.{stands_above, is_cyclic}
 
 abbrev pub refused_at : ErrorKind → Place → List ℕ → Refused
-refused_at why place name = record { error = record { kind = why; place = place; name = name }; asks = None; is_there = false }
+refused_at why place name = plain_refusal (record { kind = why; place = place; name = name })
 
 abbrev pub at_name : ErrorKind → Bool → Family → Option Refused
 at_name why false f = None
@@ -31,7 +31,7 @@ at_name why true f = Some (refused_at why f.place f.name)
 
 -- family c stands above itself
 abbrev pub ancestor_refusal : List Declaring → ℕ → Family → Option Refused
-ancestor_refusal ds c f = at_name kind.BadBase (leads (is_parent ds) (length ds) c c) f
+ancestor_refusal ds c f = at_name kind.BadBase (stands_above ds c c) f
 
 -- ---- methods of interfaces
 
@@ -57,14 +57,14 @@ abbrev pub missing_by : Family → Option Method → Option Refused
 missing_by f None = None
 missing_by f (Some m) = Some (refused_at kind.MissingMethod f.place m.function.name)
 
--- The first method, in order of sections and text, of an interface above the class that the class has not, with what it inherits.
+-- The first method, in order of sections and text, of an interface above the class that the class does not have, own or inherited.
 abbrev pub missing_method : List Family → ℕ → Family → Option Refused
 missing_method fs c f =
     missing_by f (find (λ (m : Method). not (has_public_method fs c m)) (of_interfaces (families_at fs f.above)))
 
 -- ---- members
 
--- the base class with all that it inherits, as far as there is one
+-- the base class, if there is one, has a member of this name, own or inherited
 abbrev pub inherits : List Family → Option ℕ → List ℕ → Bool
 inherits fs None name = false
 inherits fs (Some b) name = has_member fs b name
@@ -106,7 +106,8 @@ abbrev pub class_refusal : List Family → ℕ → Family → Option Refused
 class_refusal fs c f =
     option_or (missing_method fs c f) (earlier (first_refused (field_refusal fs f) f.fields) (first_refused (method_refusal fs f) f.methods))
 
--- Why the family of this number does not fit with what it inherits: first, at its name, what it is missing, then its members.
+-- Why the class of this number does not fit with what it inherits: first, at its name, what it is missing, then its members in the
+-- order of the text. Nothing is asked of an interface.
 unfoldable pub heir_refusal : List Family → ℕ → Family → Option Refused
 heir_refusal fs c f = if f.is_class then class_refusal fs c f else None
 
@@ -114,4 +115,4 @@ heir_refusal fs c f = if f.is_class then class_refusal fs c f else None
 
 -- class c reaches itself through what its fields can hold
 abbrev pub cycle_refusal : Space → List Declaring → ℕ → Family → Option Refused
-cycle_refusal E ds c f = at_name kind.Cyclic (leads (holds E ds) (length ds) c c) f
+cycle_refusal E ds c f = at_name kind.Cyclic (is_cyclic E ds c) f

@@ -82,8 +82,9 @@ module _ (E : Space) (text : List ℕ) where
 
 -- ---- members
 
-abbrev pub same_attributes : Attributes → Attributes → Bool
-same_attributes a b = beq a.read_only b.read_only
+-- both are `const`, or neither: `final` and `override` tell no methods apart
+abbrev pub same_const : Attributes → Attributes → Bool
+same_const a b = beq a.read_only b.read_only
 
 -- Of members of one family, in a section of these bytes:
 module _ (text : List ℕ) where
@@ -92,7 +93,7 @@ module _ (text : List ℕ) where
   abbrev pub excludes_member : MemberKind → MemberKind → Bool
   excludes_member (member.Field y) other = true
   excludes_member (member.Method y ps a) (member.Field z) = true
-  excludes_member (member.Method y ps a) (member.Method z qs b) = same_spellings text ps text qs && same_attributes a b
+  excludes_member (member.Method y ps a) (member.Method z qs b) = same_spellings text ps text qs && same_const a b
   excludes_member (member.Method y ps a) (member.Constructor qs) = false
   excludes_member (member.Constructor ps) (member.Field z) = true
   excludes_member (member.Constructor ps) (member.Method z qs b) = false

@@ -16,11 +16,11 @@ use ang_types::Refused;
 use ang_view::View;
 use std::alloc::{AllocError, Global};
 
-/// Why scripts declare nothing: these errors, or want of memory.
+/// Why scripts don't build of which something is refused: the errors of what is refused, in their order, or want of memory.
 #[tactic(auto, using(crate::proofs::Few::some_errors))]
-fn unbuilt(alloc: Global, refused: &[Refused]) -> Unbuilt
-    requires some { refused.now ≢ [] }
-    ensures exact { spec.IsRefused result (spec.errors_in refused.now) }
+pub fn unbuilt(alloc: Global, refused: Vec<Refused>) -> Unbuilt
+    requires some { refused.items ≢ [] }
+    ensures exact { spec.IsRefused result (spec.errors_in refused.items) }
 {
     match errors_in(alloc, refused) {
         Ok(errors) => Unbuilt::Errors(List::from_vec(errors)),
@@ -46,7 +46,7 @@ fn declared_by<'a>(
         return Err(Unbuilt::Memory);
     };
     if !refused.is_empty() {
-        return Err(unbuilt(alloc, refused.as_slice()));
+        return Err(unbuilt(alloc, refused));
     }
     match names_of(alloc, view, all) {
         Ok(names) => Ok(names),
@@ -54,8 +54,8 @@ fn declared_by<'a>(
     }
 }
 
-/// What scripts declare, over what their module sees of the host; or the errors of the first phase that refuses some of
-/// the declarations, in their order.
+/// What scripts declare, over what their module sees of the host; or the errors of what is not built yet, else those of the
+/// first phase that refuses some of the declarations, in their order.
 ///
 /// `Errors` are those, of which there is one at least; `Memory` is want of memory.
 pub fn declare<'a>(alloc: Global, view: &'a View, scripts: &'a [Script]) -> Result<Names, Unbuilt>
@@ -90,7 +90,8 @@ pub fn names_over<'a>(
     names_of(alloc, view, all.as_slice())
 }
 
-/// What the first phase that refuses some declarations refuses, with what each refused use asks. Denials ask it again.
+/// What is not built yet, else what the first phase that refuses some declarations refuses, with what each refused use asks.
+/// Denials ask it again.
 ///
 /// The only error is want of memory.
 pub fn phase_refusals<'a>(

@@ -18,6 +18,8 @@ use std::alloc::{AllocError, Global};
 const MOST_PARAMETERS: usize = 32;
 
 /// Where something holds, an error at this name, with which no entry of the host could help.
+///
+/// The only error is want of memory.
 pub fn refusal_if(
     alloc: Global,
     is_refused: bool,
@@ -87,6 +89,8 @@ fn why_refused(
 }
 
 /// Why the type that is written where it has this role is refused.
+///
+/// The only error is want of memory.
 pub fn type_refusal_of(
     alloc: Global,
     space: &Space<'_>,
@@ -134,6 +138,8 @@ fn parameter_limit(
 }
 
 /// What is refused of what stands after a function's name: too many parameters, at the name, or the first type.
+///
+/// The only error is want of memory.
 pub fn parameter_list_refusal(
     alloc: Global,
     space: &Space<'_>,
@@ -172,6 +178,8 @@ pub fn function_refusal(
 }
 
 /// What is refused of the heading of an import.
+///
+/// The only error is want of memory.
 pub fn import_refusal(
     alloc: Global,
     space: &Space<'_>,

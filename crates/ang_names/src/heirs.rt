@@ -372,6 +372,8 @@ fn heir_refusal(
 }
 
 /// Each class that does not fit with what it inherits, in order.
+///
+/// The only error is want of memory.
 pub fn heir_refusals(alloc: Global, families: &[Family]) -> Result<Vec<Refused>, AllocError>
     ensures exact { IfOk result (λ found. found.items
         ≡ numbered.refused_from (spec.heir_refusal families.now) 0 families.now) }

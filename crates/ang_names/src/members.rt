@@ -20,8 +20,8 @@ use std::alloc::{AllocError, Global};
 /// The members of one class or interface.
 const MOST_MEMBERS: usize = 256;
 
-fn same_attributes(one: Attributes, other: Attributes) -> bool
-    ensures exact { result ≡ spec.same_attributes one other }
+fn same_const(one: Attributes, other: Attributes) -> bool
+    ensures exact { result ≡ spec.same_const one other }
 {
     one.read_only == other.read_only
 }
@@ -34,8 +34,7 @@ fn excludes_member(text: &[u8], kind: &MemberKind<'_>, other: &MemberKind<'_>) -
         (MemberKind::Field(_), _) => true,
         (MemberKind::Method(_, _, _), MemberKind::Field(_)) => true,
         (MemberKind::Method(_, params, one), MemberKind::Method(_, others, other)) => {
-            have_same_types(text, params.items(), text, others.items())
-                && same_attributes(*one, *other)
+            have_same_types(text, params.items(), text, others.items()) && same_const(*one, *other)
         }
         (MemberKind::Method(_, _, _), MemberKind::Constructor(_)) => false,
         (MemberKind::Constructor(_), MemberKind::Field(_)) => true,
@@ -197,6 +196,8 @@ fn member_limit(
 }
 
 /// What is refused of a class or an interface, in the order of the text.
+///
+/// The only error is want of memory.
 pub fn family_refusal(
     alloc: Global,
     space: &Space<'_>,

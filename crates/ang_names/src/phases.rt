@@ -223,6 +223,8 @@ fn not_yet_refusals(alloc: Global, scripts: &[Script]) -> Result<Vec<Refused>, A
 }
 
 /// What is refused of the declarations of these scripts.
+///
+/// The only error is want of memory.
 #[tactic(auto, unfolding(crate::specs::Phases::refusals_of))]
 pub fn refusals_over<'a>(
     alloc: Global,
@@ -253,12 +255,14 @@ fn copied(alloc: Global, error: &Error) -> Result<Error, AllocError>
 }
 
 /// The errors of what is refused, in order.
-pub fn errors_in(alloc: Global, refused: &[Refused]) -> Result<Vec<Error>, AllocError>
-    ensures exact { IfOk result (λ errors. errors.items ≡ spec.errors_in refused.now) }
+///
+/// The only error is want of memory.
+pub fn errors_in(alloc: Global, refused: Vec<Refused>) -> Result<Vec<Error>, AllocError>
+    ensures exact { IfOk result (λ errors. errors.items ≡ spec.errors_in refused.items) }
 {
     let mut errors = Vec::new(alloc);
     for one in refused {
-        errors.push(copied(alloc, &one.error)?)?;
+        errors.push(one.error)?;
     }
     Ok(errors)
 }

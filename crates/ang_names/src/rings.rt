@@ -10,6 +10,8 @@ use ang_types::Refused;
 use std::alloc::{AllocError, Global};
 
 /// An error of this name at this place, with which no entry of the host could help.
+///
+/// The only error is want of memory.
 pub fn refused_at(
     alloc: Global,
     kind: ErrorKind,
@@ -48,6 +50,8 @@ fn at_name(
 }
 
 /// Puts what is refused, if anything is, behind what was refused before.
+///
+/// The only error is want of memory.
 pub fn push_refused(found: &mut Vec<Refused>, refused: Option<Refused>) -> Result<(), AllocError>
     ensures pushed { OnOk result (found.new.items ≡ found.old.items ++ option_to_list refused) }
 {
@@ -58,6 +62,8 @@ pub fn push_refused(found: &mut Vec<Refused>, refused: Option<Refused>) -> Resul
 }
 
 /// The classes and interfaces that lead to themselves by a table that is closed, each refused at its name.
+///
+/// The only error is want of memory.
 pub fn ring_refusals(
     alloc: Global,
     kind: ErrorKind,

@@ -1,6 +1,6 @@
 -- The names of declarations, with what their types mean (docs/LANGUAGE.md, "Names of a build"; the AngelScript manual, "Functions",
--- "Global variables", "Script classes" and "Inheritance"). All of it is said of any declarations: where a phase refuses some, its
--- types and its families are those of the others.
+-- "Global variables", "Script classes" and "Inheritance"). All of it is said of any declarations, refused ones too: these are
+-- families like the others, a name means the first of its name, and a type that is refused stands as `void`.
 use Rattle.std.specs.Prelude.{ℕ, ◌+◌, ◌==◌, nat_lt, Bool, true, false, ◌&&◌, ◌||◌, if◌then◌else◌, List, [], ◌∷◌, map, length, drop, filter, find, unwrap_or, Option, Some, None, bytes_eq, slice_get}
 use Rattle.std.specs.List.{list_any, filter_map, flat_map, position, range_with_len}
 use Rattle.std.proofs.Math.Bool.{beq}
@@ -10,7 +10,7 @@ use Rattle.ang_tree.specs.declared.declaration.Parameter.{Parameter}
 use Rattle.ang_tree.specs.declared.type_name.TypeName.{TypeName}
 use Rattle.ang_types.specs.declared.arg_type.ArgType.{ArgType}
 use Rattle.ang_types.specs.declared.arg_type.ArgType.TheVariants as type
-use Rattle.ang_names_heritage.specs.Graphs.{above, order_of, reach_of}
+use Rattle.ang_names_heritage.specs.Graphs.{above, leads, order_of, reach_of}
 use Rattle.ang_names_known.specs.declared.names.Constructor.{Constructor}
 use Rattle.ang_names_known.specs.declared.names.Family.{Family}
 use Rattle.ang_names_known.specs.declared.names.Field.{Field}
@@ -163,7 +163,7 @@ module _ (E : Space) where
 abbrev pub same_signature : ScriptFunction × Bool → ScriptFunction × Bool → Bool
 same_signature a b = bytes_eq a.0.name b.0.name && same_parameters a.0.params b.0.params && beq a.1 b.1
 
--- the number of the first method of this signature
+-- the number of the first method of this signature; how many there are, where none is
 abbrev pub slot_of : List (ScriptFunction × Bool) → ScriptFunction × Bool → ℕ
 slot_of all s = unwrap_or (position (same_signature s) all) (length all)
 
@@ -238,6 +238,10 @@ is_class_in (Some d) = d.shape.is_class
 abbrev pub is_class_at : List Declaring → ℕ → Bool
 is_class_at ds j = is_class_in (slice_get ds j)
 
+-- family d stands above family c
+abbrev pub stands_above : List Declaring → ℕ → ℕ → Bool
+stands_above ds c d = leads (is_parent ds) (length ds) c d
+
 -- class j is the base class of class i
 abbrev pub is_base : List Declaring → ℕ → ℕ → Bool
 is_base ds i j = is_parent ds i j && is_class_at ds j
@@ -279,6 +283,13 @@ unfoldable pub holds : Space → List Declaring → ℕ → ℕ → Bool
 holds E ds i j =
     nat_lt i (length ds) && nat_lt j (length ds)
     && list_any (λ (w : Written). is_under_or ds j (held_by w.ty)) (field_types_at E ds (order_of (is_base ds) (length ds) i))
+
+-- objects of family c can lead to one of family d through their fields
+abbrev pub reaches : Space → List Declaring → ℕ → ℕ → Bool
+reaches E ds c d = leads (holds E ds) (length ds) c d
+
+abbrev pub is_cyclic : Space → List Declaring → ℕ → Bool
+is_cyclic E ds c = reaches E ds c c
 
 -- ---- all of them
 

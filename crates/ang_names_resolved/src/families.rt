@@ -208,6 +208,8 @@ fn family_with(
 }
 
 /// The classes and interfaces of these declarations, whose tables these are. Their bodies come behind those of the functions.
+///
+/// The only error is want of memory.
 pub fn families_in(
     alloc: Global,
     space: &Space<'_>,

@@ -60,6 +60,8 @@ fn parameters_of(
 }
 
 /// A function whose result is known.
+///
+/// The only error is want of memory.
 pub fn function_as(
     alloc: Global,
     space: &Space<'_>,
@@ -104,6 +106,8 @@ pub fn heading_of(
 }
 
 /// The heading of a constructor, which gives nothing.
+///
+/// The only error is want of memory.
 pub fn maker_of(
     alloc: Global,
     space: &Space<'_>,

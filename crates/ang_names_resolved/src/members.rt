@@ -65,6 +65,8 @@ fn push_field(
 }
 
 /// The fields that a class declares itself, before which its objects have as many others as are inherited.
+///
+/// The only error is want of memory.
 pub fn fields_of(
     alloc: Global,
     space: &Space<'_>,
@@ -111,6 +113,8 @@ fn next_body(
 }
 
 /// The number of the first body after those of a class or an interface.
+///
+/// The only error is want of memory.
 pub fn body_after(family: &Declaring<'_, '_>, first: usize) -> Result<usize, AllocError>
     ensures exact { IfOk result (λ next. next ≡ first + length (spec.body_members family.now)) }
 {
@@ -185,6 +189,8 @@ fn push_method(
 }
 
 /// The methods that a class or an interface declares itself, the first of whose bodies has this number.
+///
+/// The only error is want of memory.
 pub fn methods_of(
     alloc: Global,
     space: &Space<'_>,
@@ -238,6 +244,8 @@ fn push_constructor(
 }
 
 /// The constructors of a class, among whose bodies the first has this number.
+///
+/// The only error is want of memory.
 pub fn constructors_of(
     alloc: Global,
     space: &Space<'_>,

@@ -1,6 +1,0 @@
-use Rattle.std.proofs.Common.{◌≡◌}
-use Rattle.ang_names.specs.Phases.{errors_in}
-use Rattle.ang_check.proofs.checking.errors_of.Given as goal
-
-abbrev pub invariant-loop-item : goal.invariant-loop-item
-invariant-loop-item l = l.errors.items ≡ errors_in l.yielded
