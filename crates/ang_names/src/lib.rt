@@ -9,6 +9,7 @@ mod declaring;
 mod families;
 mod headings;
 mod heirs;
+mod indexed;
 pub mod laws;
 mod members;
 mod phase;

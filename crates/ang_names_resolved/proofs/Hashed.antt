@@ -6,7 +6,7 @@ use Rattle.std.proofs.lemmas.Nat.{mod_below}
 use Rattle.std.proofs.lemmas.Slice.Eq.{bytes_eq-Decides}
 use Rattle.ang_names_known.specs.declared.names.ScriptFunction.{ScriptFunction}
 use Rattle.ang_names_resolved.specs.Resolved.{same_signature, slot_of}
-use Rattle.ang_names_resolved.specs.Hashes.{is_same_at, is_same_in, name_hash, name_hashes, numbers_of, rows_from, rows_of}
+use Rattle.ang_names_resolved.specs.Hashes.{is_same_at, is_same_in, name_hash, name_hashes, numbers_of, rows_from}
 
 -- ---- rows
 
@@ -31,12 +31,12 @@ row_at xs h (suc n) (suc k) lt =
     let e : (h + 1) + k ≡ h + suc k = omega arith in
     row_at xs (h + 1) n k (omega (arith, lt)) ∙ ap (λ m. Some (numbers_of m 0 xs)) e
 
-pub row_of_hash : (all : List (ScriptFunction × Bool)) (rows : List (List ℕ)) (h : ℕ) → rows ≡ rows_of all → h < 256
-    → unwrap_or (slice_get rows h) [] ≡ numbers_of h 0 (name_hashes all)
-row_of_hash all rows h same lt =
+pub row_of_hash : (xs : List ℕ) (rows : List (List ℕ)) (h : ℕ) → rows ≡ rows_from xs 0 256 → h < 256
+    → unwrap_or (slice_get rows h) [] ≡ numbers_of h 0 xs
+row_of_hash xs rows h same lt =
     let first : 0 + h ≡ h = omega arith in
-    ap (λ rs. unwrap_or (slice_get rs h) []) same ∙ ap (λ o. unwrap_or o []) (row_at (name_hashes all) 0 256 h lt)
-    ∙ ap (λ k. numbers_of k 0 (name_hashes all)) first
+    ap (λ rs. unwrap_or (slice_get rs h) []) same ∙ ap (λ o. unwrap_or o []) (row_at xs 0 256 h lt)
+    ∙ ap (λ k. numbers_of k 0 xs) first
 
 pub hash_small : (n : ℕ) → n % 256 < 256
 hash_small n = mod_below n 256 (omega arith)

@@ -24,10 +24,6 @@ unfoldable pub rows_from : List ℕ → ℕ → ℕ → List (List ℕ)
 rows_from xs h zero = []
 rows_from xs h (suc n) = numbers_of h 0 xs ∷ rows_from xs (h + 1) n
 
--- the rows of all hashes
-abbrev pub rows_of : List (ScriptFunction × Bool) → List (List ℕ)
-rows_of all = rows_from (name_hashes all) 0 256
-
 abbrev pub is_same_in : ScriptFunction × Bool → Option (ScriptFunction × Bool) → Bool
 is_same_in s None = false
 is_same_in s (Some t) = same_signature s t

@@ -1,59 +1,33 @@
 //! The number of the first method of a signature, which is found by the hash of its name.
-ghost use Rattle.std.specs.Prelude.{◌≡◌, ◌≤◌, ◌<◌, ◌+◌, ◌*◌, ◌%◌, [], find, slice_get, unwrap_or, IfOk};
+ghost use Rattle.std.specs.Prelude.{◌≡◌, ◌<◌, find, IfOk};
 ghost use Rattle.ang_names_resolved.specs.Hashes as hashed;
 ghost use Rattle.ang_names_resolved.specs.Resolved as spec;
 
+use crate::rows::{Rows, name_hash, rows_of};
 use crate::signatures::{Signature, all_signatures, is_same};
-use ang_kinds::List;
 use ang_names_known::{ScriptFunction, Space};
 use ang_names_listed::Declaring;
 use std::alloc::{AllocError, Global};
 use std::marker::Model;
 
-/// How many hashes a name can have.
-const HASHES: usize = 256;
-
-/// All methods of all classes and interfaces, in order, which contracts see as the list of them. Beside them stand their
-/// numbers, a row for each hash that a name can have.
+/// All methods of all classes and interfaces, in order, which contracts see as the list of them.
+/// Beside them stand their numbers, by the hashes of their names.
 #[derive(Drop)]
 pub struct Signatures {
     items: Vec<Signature>,
-    rows: Vec<List<usize>>,
+    rows: Rows,
 }
 
 impl Model for Signatures {
     ghost use Rattle.std.specs.Prelude.{◌≡◌, Bool, List};
     ghost use Rattle.ang_names_known.specs.declared.names.ScriptFunction.{ScriptFunction};
-    ghost use Rattle.ang_names_resolved.specs.Hashes.{rows_of};
+    ghost use Rattle.ang_names_resolved.specs.Hashes.{name_hashes};
 
     ghost Value = { List (ScriptFunction × Bool) };
 
     ghost view = { λ s. s.items.items };
 
-    ghost invariant = { λ s. s.rows.items ≡ rows_of s.items.items };
-}
-
-/// The hash of a name with one byte more.
-#[tactic(auto, using(crate::proofs::Hashed::hash_small))]
-fn mixed(hash: usize, byte: u8) -> usize
-    requires small { hash < 256 }
-    ensures exact { result ≡ (hash * 31 + byte) % 256 }
-    ensures small { result < 256 }
-{
-    (hash * 31 + byte as usize) % HASHES
-}
-
-/// The hash of a name.
-#[tactic(auto, unfolding(crate::specs::Hashes::name_hash))]
-fn name_hash(name: &[u8]) -> usize
-    ensures exact { result ≡ hashed.name_hash name.now }
-    ensures small { result < 256 }
-{
-    let mut hash: usize = 0;
-    for byte in name {
-        hash = mixed(hash, *byte);
-    }
-    hash
+    ghost invariant = { λ s. s.rows ≡ name_hashes s.items.items };
 }
 
 fn name_hashes(alloc: Global, signatures: &[Signature]) -> Result<Vec<usize>, AllocError>
@@ -64,31 +38,6 @@ fn name_hashes(alloc: Global, signatures: &[Signature]) -> Result<Vec<usize>, Al
         found.push(name_hash(signature.0.name.as_slice()))?;
     }
     Ok(found)
-}
-
-/// The numbers of what has a hash.
-fn numbers_of(alloc: Global, hashes: &[usize], hash: usize) -> Result<List<usize>, AllocError>
-    ensures exact { IfOk result (λ row. row ≡ hashed.numbers_of hash 0 hashes.now) }
-{
-    let mut row = Vec::new(alloc);
-    for (number, other) in hashes.iter().enumerate() {
-        if *other == hash {
-            row.push(number)?;
-        }
-    }
-    Ok(List::from_vec(row))
-}
-
-/// A row for each of so many hashes.
-#[tactic(auto, unfolding(crate::specs::Hashes::rows_from))]
-fn rows_of(alloc: Global, hashes: &[usize], count: usize) -> Result<Vec<List<usize>>, AllocError>
-    ensures exact { IfOk result (λ rows. rows.items ≡ hashed.rows_from hashes.now 0 count) }
-{
-    let mut rows = Vec::new(alloc);
-    for hash in 0..count {
-        rows.push(numbers_of(alloc, hashes, hash)?)?;
-    }
-    Ok(rows)
 }
 
 /// All methods of all classes and interfaces, in order: their places are their numbers.
@@ -103,7 +52,7 @@ pub fn signatures_of(
 {
     let items = all_signatures(alloc, space, families)?;
     let hashes = name_hashes(alloc, items.as_slice())?;
-    let rows = rows_of(alloc, hashes.as_slice(), HASHES)?;
+    let rows = rows_of(alloc, hashes)?;
     Ok(Signatures { items, rows })
 }
 
@@ -140,25 +89,15 @@ fn first_same(
     None
 }
 
-fn row_at(rows: &[List<usize>], hash: usize) -> &[usize]
-    ensures exact { result.now ≡ unwrap_or (slice_get rows.now hash) [] }
-{
-    match rows.get(hash) {
-        None => &[],
-        Some(row) => row.as_slice(),
-    }
-}
-
 impl Signatures {
     ghost use Rattle.std.specs.Prelude.{◌≡◌, ◌<◌};
 
     /// The numbers of the methods whose names have this hash, in order.
-    #[tactic(auto, using(crate::proofs::Hashed::row_of_hash))]
     fn row(&self, hash: usize) -> &[usize]
         requires small { hash < 256 }
         ensures exact { result.now ≡ hashed.numbers_of hash 0 (hashed.name_hashes self.now) }
     {
-        row_at(self.rows.as_slice(), hash)
+        self.rows.row(hash)
     }
 
     fn items(&self) -> &[Signature]

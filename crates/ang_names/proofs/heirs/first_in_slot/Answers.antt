@@ -13,7 +13,7 @@ returns-in-Some c =
     let i = c.loop-number.number-index in
     let n : ℕ = get_or order i 0 in
     let p : Method → Bool = λ m. m.slot == c.args.slot in
-    let here = ap (find p) (sym c.methods_of.ensures.exact) ∙ sym c.in-Some.ensures.exact in
+    let here = sym c.in-Some.ensures.exact in
     record {
       exact = sym (
           c.loop-number.invariant
@@ -28,8 +28,7 @@ loop-number-preserved c =
     let i = c.loop-number.number-index in
     let n : ℕ = get_or order i 0 in
     let p : Method → Bool = λ m. m.slot == c.args.slot in
-    let none : find p c.methods_of.result.now ≡ None = search rules in
-    let here : find p (methods_in (slice_get fs n)) ≡ None = ap (find p) (sym c.methods_of.ensures.exact) ∙ none in
+    let here : find p (methods_in (slice_get fs n)) ≡ None = search rules in
     c.loop-number.invariant
     ∙ first_from p (λ k. methods_in (slice_get fs k)) order i c.loop-number-test.true
     ∙ ap (λ o. option_or o (find p (methods_at fs (drop (i + 1) order)))) here

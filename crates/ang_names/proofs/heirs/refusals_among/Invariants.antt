@@ -1,8 +1,8 @@
 use Rattle.std.proofs.Common.{◌≡◌, ◌++◌, drop}
 use Rattle.ang_names.specs.Heirs.{heir_refusal}
 use Rattle.ang_names.specs.Numbered.{refused_from}
-use Rattle.ang_names.proofs.heirs.heir_refusals.Given as goal
+use Rattle.ang_names.proofs.heirs.refusals_among.Given as goal
 
 abbrev pub invariant-loop-number : goal.invariant-loop-number
 invariant-loop-number l =
-    refused_from (heir_refusal l.families) 0 l.families ≡ l.found.items ++ refused_from (heir_refusal l.families) l.number (drop l.number l.families)
+    refused_from (heir_refusal l.indexed) 0 l.families ≡ l.found.items ++ refused_from (heir_refusal l.indexed) l.number (drop l.number l.families)

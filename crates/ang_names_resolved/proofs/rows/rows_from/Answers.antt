@@ -2,7 +2,7 @@ use Rattle.std.specs.Prelude.{[], ◌∷◌, ◌++◌}
 use Rattle.std.proofs.Common.{ap, sym, ◌∙◌}
 use Rattle.ang_names_resolved.specs.Hashes.{numbers_of}
 use Rattle.ang_names_resolved.proofs.Hashed.{rows_more}
-use Rattle.ang_names_resolved.proofs.slots.rows_of.Goals as goal
+use Rattle.ang_names_resolved.proofs.rows.rows_from.Goals as goal
 
 pub loop-hash-preserved : goal.loop-hash-preserved
 loop-hash-preserved c =
