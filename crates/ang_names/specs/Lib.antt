@@ -1,5 +1,2 @@
-pub mod Heirs
 pub mod Meant
-pub mod Numbered
 pub mod Phases
-pub mod Rows

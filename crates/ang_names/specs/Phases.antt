@@ -15,7 +15,7 @@ use Rattle.ang_names.specs.declared.phase.Phase.{Phase}
 use Rattle.ang_names.specs.declared.phase.Phase.TheVariants as phase
 use Rattle.ang_names_listed.specs.Declarations.{declarations_of, families_of}
 use Rattle.ang_names_listed.specs.Taken.{name_refusal, plain_refusal, each_refused}
-use Rattle.ang_names.specs.Heirs.{ancestor_refusal, heir_refusal, cycle_refusal}
+use Rattle.ang_names_heirs.specs.Heirs.{ancestor_refusal, heir_refusal, cycle_refusal}
 use Rattle.ang_names.specs.Meant.{type_refusal}
 use Rattle.ang_names_resolved.specs.Resolved.{families_in, space_of_declared}
 use Rattle.ang_names_written.specs.NotYet.{not_yet}

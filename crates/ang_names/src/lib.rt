@@ -8,13 +8,10 @@
 mod declaring;
 mod families;
 mod headings;
-mod heirs;
-mod indexed;
 pub mod laws;
 mod members;
 mod phase;
 mod phases;
-mod rings;
 
 pub use ang_kinds::Unbuilt;
 pub use ang_names_known::{

@@ -5,15 +5,14 @@ ghost use Rattle.ang_names_listed.specs.Taken as taken;
 ghost use Rattle.ang_names_written.specs.NotYet.{not_yet};
 ghost use Rattle.ang_names_written.specs.Sources.{source_of};
 ghost use Rattle.ang_names.specs.Meant as meant;
-ghost use Rattle.ang_names.specs.Numbered as numbered;
+ghost use Rattle.ang_names_heirs.specs.Numbered as numbered;
 ghost use Rattle.ang_names.specs.Phases as spec;
 ghost use Rattle.ang_names.specs.declared.phase.Phase.TheVariants as phase;
 
 use crate::headings::{function_refusal, import_refusal, type_refusal_of};
-use crate::heirs::heir_refusals;
 use crate::members::family_refusal;
-use crate::rings::{push_refused, ring_refusals};
 use ang_kinds::{Error, ErrorKind, List};
+use ang_names_heirs::{heir_refusals, push_refused, ring_refusals};
 use ang_names_known::{Family, Space};
 use ang_names_listed::{Declared, Part, name_refusals};
 use ang_names_resolved::{Tables, families_among, space_of};

@@ -7,7 +7,6 @@ mod headings;
 mod held;
 mod members;
 mod resolved;
-mod rows;
 mod signatures;
 mod slots;
 mod space;
@@ -15,6 +14,5 @@ mod tables;
 
 pub use headings::{heading_of, parameter_role};
 pub use resolved::{families_among, names_of};
-pub use rows::{Rows, name_hash, number_hash, rows_of};
 pub use space::space_of;
 pub use tables::Tables;

@@ -1,12 +1,13 @@
 //! The number of the first method of a signature, which is found by the hash of its name.
 ghost use Rattle.std.specs.Prelude.{◌≡◌, ◌<◌, find, IfOk};
+ghost use Rattle.ang_names_rows.specs.Hashes.{numbers_of};
 ghost use Rattle.ang_names_resolved.specs.Hashes as hashed;
 ghost use Rattle.ang_names_resolved.specs.Resolved as spec;
 
-use crate::rows::{Rows, name_hash, rows_of};
 use crate::signatures::{Signature, all_signatures, is_same};
 use ang_names_known::{ScriptFunction, Space};
 use ang_names_listed::Declaring;
+use ang_names_rows::{Rows, name_hash, rows_of};
 use std::alloc::{AllocError, Global};
 use std::marker::Model;
 
@@ -95,7 +96,7 @@ impl Signatures {
     /// The numbers of the methods whose names have this hash, in order.
     fn row(&self, hash: usize) -> &[usize]
         requires small { hash < 256 }
-        ensures exact { result.now ≡ hashed.numbers_of hash 0 (hashed.name_hashes self.now) }
+        ensures exact { result.now ≡ numbers_of hash 0 (hashed.name_hashes self.now) }
     {
         self.rows.row(hash)
     }

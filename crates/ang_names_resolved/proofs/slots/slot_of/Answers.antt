@@ -1,6 +1,7 @@
 use Rattle.std.specs.Prelude.{◌≡◌, find, length, unwrap_or}
 use Rattle.std.proofs.Common.{rules, ◌∙◌}
-use Rattle.ang_names_resolved.specs.Hashes.{is_same_at, name_hash, name_hashes, numbers_of}
+use Rattle.ang_names_rows.specs.Hashes.{name_hash, numbers_of}
+use Rattle.ang_names_resolved.specs.Hashes.{is_same_at, name_hashes}
 use Rattle.ang_names_resolved.proofs.Hashed.{first_in_row}
 use Rattle.ang_names_resolved.proofs.slots.slot_of.Goals as goal
 

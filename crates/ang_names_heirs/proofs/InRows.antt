@@ -1,0 +1,182 @@
+-- What passes a test stands in the row of its hash.
+use Rattle.std.specs.Prelude.{ℕ, suc, ◌≡◌, ◌+◌, ◌%◌, ◌==◌, Bool, true, false, ◌&&◌, ◌||◌, if◌then◌else◌, List, [], ◌∷◌, find, is_some, map, bytes_eq, Option, Some, None, option_map, slice_get}
+use Rattle.std.specs.List.{list_any}
+use Rattle.std.specs.Option.{option_or}
+use Rattle.std.proofs.Common.{arith, refl, sym, ap, ◌∙◌}
+use Rattle.std.proofs.lemmas.Option.{slice_get-map}
+use Rattle.std.proofs.lemmas.Slice.Eq.{bytes_eq-Decides}
+use Rattle.ang_names_known.specs.declared.names.Family.{Family}
+use Rattle.ang_names_known.specs.declared.names.Field.{Field}
+use Rattle.ang_names_known.specs.declared.names.FoundField.{FoundField}
+use Rattle.ang_names_known.specs.declared.names.Method.{Method}
+use Rattle.ang_names_known.specs.Lookup.{Numbered, declares_method, families_at, fields_in, field_named, field_of, first_field, has_member, has_method, kin_of, own_field, with_family}
+use Rattle.ang_names_rows.specs.Hashes.{name_hash, numbers_of}
+use Rattle.ang_names_heirs.specs.Heirs.{cannot_override}
+use Rattle.ang_names_heirs.specs.Numbered.{methods_in}
+use Rattle.ang_names_heirs.specs.declared.indexed.MemberRows.{MemberRows}
+use Rattle.ang_names_heirs.specs.Rows.{declares, field_hashes, field_row, field_row_in, first_at, is_at, member_rows, method_hashes, method_row, method_row_in, passing, slot_hashes, slot_row, slot_row_in}
+
+-- ---- the rows of a family
+
+slot_row_of : (slot : ℕ) (o : Option Family) → slot_row_in slot (option_map member_rows o) ≡ slot_row slot (methods_in o)
+slot_row_of slot None = refl
+slot_row_of slot (Some f) = refl
+
+pub slot_row_known : (fs : List Family) (rows : List MemberRows) (n slot : ℕ) → rows ≡ map member_rows fs
+    → slot_row_in slot (slice_get rows n) ≡ slot_row slot (methods_in (slice_get fs n))
+slot_row_known fs rows n slot h =
+    ap (λ rs. slot_row_in slot (slice_get rs n)) h ∙ ap (slot_row_in slot) (slice_get-map member_rows fs n) ∙ slot_row_of slot (slice_get fs n)
+
+field_row_of : (name : List ℕ) (o : Option Family) → field_row_in name (option_map member_rows o) ≡ field_row name (fields_in o)
+field_row_of name None = refl
+field_row_of name (Some f) = refl
+
+pub field_row_known : (fs : List Family) (rows : List MemberRows) (n : ℕ) (name : List ℕ) → rows ≡ map member_rows fs
+    → field_row_in name (slice_get rows n) ≡ field_row name (fields_in (slice_get fs n))
+field_row_known fs rows n name h =
+    ap (λ rs. field_row_in name (slice_get rs n)) h ∙ ap (field_row_in name) (slice_get-map member_rows fs n) ∙ field_row_of name (slice_get fs n)
+
+method_row_of : (name : List ℕ) (o : Option Family) → method_row_in name (option_map member_rows o) ≡ method_row name (methods_in o)
+method_row_of name None = refl
+method_row_of name (Some f) = refl
+
+pub method_row_known : (fs : List Family) (rows : List MemberRows) (n : ℕ) (name : List ℕ) → rows ≡ map member_rows fs
+    → method_row_in name (slice_get rows n) ≡ method_row name (methods_in (slice_get fs n))
+method_row_known fs rows n name h =
+    ap (λ rs. method_row_in name (slice_get rs n)) h ∙ ap (method_row_in name) (slice_get-map member_rows fs n) ∙ method_row_of name (slice_get fs n)
+
+-- ---- all that pass are in the row of the hash
+
+one_any : (f : ℕ → Bool) (b q r : Bool) (i : ℕ) (row : List ℕ) → (q ≡ true → b ≡ true) → f i ≡ q → list_any f row ≡ r
+    → list_any f (if b then i ∷ row else row) ≡ (q || r)
+one_any f true q r i row h here rest = ap (λ c. c || list_any f row) here ∙ ap (λ c. q || c) rest
+one_any f false true r i row h here rest = cc (h refl)
+one_any f false false r i row h here rest = rest
+
+one_first : {A : Type 0} (p : A → Bool) (all : List A) (x : A) (b q : Bool) (r : Option A) (i : ℕ) (row : List ℕ) → (q ≡ true → b ≡ true)
+    → passing p (slice_get all i) ≡ (if q then Some x else None) → first_at p all row ≡ r
+    → first_at p all (if b then i ∷ row else row) ≡ (if q then Some x else r)
+one_first p all x true true r i row h here rest = ap (λ o. option_or o (first_at p all row)) here
+one_first p all x true false r i row h here rest = ap (λ o. option_or o (first_at p all row)) here ∙ rest
+one_first p all x false true r i row h here rest = cc (h refl)
+one_first p all x false false r i row h here rest = rest
+
+module _ {A : Type 0} (p : A → Bool) (k : A → ℕ) (h : ℕ) (all : List A) (kept : (x : A) → p x ≡ true → (k x == h) ≡ true) where
+  any_from : (xs : List A) (i : ℕ) → ((j : ℕ) → slice_get all (i + j) ≡ slice_get xs j)
+      → list_any (λ n. is_at p (slice_get all n)) (numbers_of h i (map k xs)) ≡ list_any p xs
+  any_from [] i stands = refl
+  any_from (x ∷ xs) i stands =
+      let first : i + 0 ≡ i = omega arith in
+      let here : is_at p (slice_get all i) ≡ p x = ap (λ n. is_at p (slice_get all n)) (sym first) ∙ ap (is_at p) (stands 0) in
+      one_any (λ n. is_at p (slice_get all n)) (k x == h) (p x) (list_any p xs) i (numbers_of h (i + 1) (map k xs)) (kept x) here
+      (any_from xs (i + 1) (λ j. let up : (i + 1) + j ≡ i + suc j = omega arith in ap (slice_get all) up ∙ stands (suc j)))
+
+  first_from : (xs : List A) (i : ℕ) → ((j : ℕ) → slice_get all (i + j) ≡ slice_get xs j)
+      → first_at p all (numbers_of h i (map k xs)) ≡ find p xs
+  first_from [] i stands = refl
+  first_from (x ∷ xs) i stands =
+      let first : i + 0 ≡ i = omega arith in
+      let here : passing p (slice_get all i) ≡ (if p x then Some x else None) = ap (λ n. passing p (slice_get all n)) (sym first) ∙ ap (passing p) (stands 0) in
+      one_first p all x (k x == h) (p x) (find p xs) i (numbers_of h (i + 1) (map k xs)) (kept x) here
+      (first_from xs (i + 1) (λ j. let up : (i + 1) + j ≡ i + suc j = omega arith in ap (slice_get all) up ∙ stands (suc j)))
+
+  at_once : (j : ℕ) → slice_get all (0 + j) ≡ slice_get all j
+  at_once j = let first : 0 + j ≡ j = omega arith in ap (slice_get all) first
+
+  any_in_row : list_any (λ n. is_at p (slice_get all n)) (numbers_of h 0 (map k all)) ≡ list_any p all
+  any_in_row = any_from all 0 at_once
+
+  first_in_row : first_at p all (numbers_of h 0 (map k all)) ≡ find p all
+  first_in_row = first_from all 0 at_once
+
+-- ---- slots
+
+equal : (n : ℕ) → (n == n) ≡ true
+equal n = search arith
+
+same_number : (a b : ℕ) → (a == b) ≡ true → a ≡ b
+same_number a b h = search arith
+
+left : (a b : Bool) → (a && b) ≡ true → a ≡ true
+left true b h = refl
+left false b h = cc
+
+same_slot_hash : (m : Method) (slot : ℕ) → (m.slot == slot) ≡ true → (m.slot % 256 == slot % 256) ≡ true
+same_slot_hash m slot h = ap (λ s. m.slot % 256 == s % 256) (sym (same_number m.slot slot h)) ∙ equal (m.slot % 256)
+
+pub first_in_slot_row : (ms : List Method) (slot : ℕ) → first_at (λ (m : Method). m.slot == slot) ms (slot_row slot ms) ≡ find (λ (m : Method). m.slot == slot) ms
+first_in_slot_row ms slot = first_in_row (λ (m : Method). m.slot == slot) (λ (m : Method). m.slot % 256) (slot % 256) ms (λ m h. same_slot_hash m slot h)
+
+pub slot_in_row : (ms : List Method) (slot : ℕ)
+    → list_any (λ n. is_at (λ (m : Method). m.slot == slot) (slice_get ms n)) (slot_row slot ms) ≡ list_any (λ (m : Method). m.slot == slot) ms
+slot_in_row ms slot = any_in_row (λ (m : Method). m.slot == slot) (λ (m : Method). m.slot % 256) (slot % 256) ms (λ m h. same_slot_hash m slot h)
+
+pub refused_in_row : (ms : List Method) (m : Method)
+    → list_any (λ n. is_at (λ (x : Method). x.slot == m.slot && cannot_override m x) (slice_get ms n)) (slot_row m.slot ms)
+    ≡ list_any (λ (x : Method). x.slot == m.slot && cannot_override m x) ms
+refused_in_row ms m =
+    any_in_row (λ (x : Method). x.slot == m.slot && cannot_override m x) (λ (x : Method). x.slot % 256) (m.slot % 256) ms
+    (λ x h. same_slot_hash x m.slot (left (x.slot == m.slot) (cannot_override m x) h))
+
+-- ---- names
+
+same_name_hash : (a name : List ℕ) → bytes_eq a name ≡ true → (name_hash a == name_hash name) ≡ true
+same_name_hash a name h = ap (λ n. name_hash a == name_hash n) (sym ((bytes_eq-Decides a name).0 h)) ∙ equal (name_hash a)
+
+pub field_in_row : (xs : List Field) (name : List ℕ)
+    → list_any (λ n. is_at (λ (x : Field). bytes_eq x.name name) (slice_get xs n)) (field_row name xs) ≡ list_any (λ (x : Field). bytes_eq x.name name) xs
+field_in_row xs name =
+    any_in_row (λ (x : Field). bytes_eq x.name name) (λ (x : Field). name_hash x.name) (name_hash name) xs (λ x h. same_name_hash x.name name h)
+
+pub method_in_row : (ms : List Method) (name : List ℕ)
+    → list_any (λ n. is_at (λ (x : Method). bytes_eq x.function.name name) (slice_get ms n)) (method_row name ms)
+    ≡ list_any (λ (x : Method). bytes_eq x.function.name name) ms
+method_in_row ms name =
+    any_in_row (λ (x : Method). bytes_eq x.function.name name) (λ (x : Method). name_hash x.function.name) (name_hash name) ms
+    (λ x h. same_name_hash x.function.name name h)
+
+-- ---- members of the families of some numbers
+
+found_some : (f : Field → FoundField) (p : Field → Bool) (xs : List Field) → is_some (option_map f (find p xs)) ≡ list_any p xs
+found_some f p [] = refl
+found_some f p (x ∷ xs) = by (p x) (found_some f p xs)
+  where
+    by : (b : Bool) → is_some (option_map f (find p xs)) ≡ list_any p xs → is_some (option_map f (if b then Some x else find p xs)) ≡ (b || list_any p xs)
+    by true h = refl
+    by false h = h
+
+either_some : {A : Type 0} (a b : Option A) → is_some (option_or a b) ≡ (is_some a || is_some b)
+either_some None b = refl
+either_some (Some x) b = refl
+
+mixed : (a b c d : Bool) → ((a || b) || (c || d)) ≡ ((a || c) || (b || d))
+mixed true b c d = refl
+mixed false true true d = refl
+mixed false true false d = refl
+mixed false false c d = refl
+
+declared_by : (name : List ℕ) (n : ℕ) (f : Family) (ks : List Numbered)
+    → (is_some (first_field name ((n, f) ∷ ks)) || list_any (declares_method name) ((n, f) ∷ ks))
+    ≡ (declares name (Some f) || (is_some (first_field name ks) || list_any (declares_method name) ks))
+declared_by name n f ks =
+    let own : is_some (own_field name (n, f)) ≡ list_any (λ (x : Field). bytes_eq x.name name) f.fields = found_some (field_of n) (λ (x : Field). bytes_eq x.name name) f.fields in
+    ap (λ b. b || list_any (declares_method name) ((n, f) ∷ ks)) (either_some (own_field name (n, f)) (first_field name ks) ∙ ap (λ b. b || is_some (first_field name ks)) own)
+    ∙ mixed (list_any (λ (x : Field). bytes_eq x.name name) f.fields) (is_some (first_field name ks)) (declares_method name (n, f)) (list_any (declares_method name) ks)
+
+declared_at : (name : List ℕ) (n : ℕ) (o : Option Family) (ks : List Numbered)
+    → (is_some (first_field name (with_family n o ks)) || list_any (declares_method name) (with_family n o ks))
+    ≡ (declares name o || (is_some (first_field name ks) || list_any (declares_method name) ks))
+declared_at name n None ks = refl
+declared_at name n (Some f) ks = declared_by name n f ks
+
+declared_among : (fs : List Family) (name : List ℕ) (ns : List ℕ)
+    → (is_some (first_field name (families_at fs ns)) || list_any (declares_method name) (families_at fs ns)) ≡ list_any (λ n. declares name (slice_get fs n)) ns
+declared_among fs name [] = refl
+declared_among fs name (n ∷ ns) =
+    declared_at name n (slice_get fs n) (families_at fs ns) ∙ ap (λ b. declares name (slice_get fs n) || b) (declared_among fs name ns)
+
+pub member_known : (fs : List Family) (c : ℕ) (name : List ℕ) (ns : List ℕ) → families_at fs ns ≡ kin_of fs c
+    → list_any (λ n. declares name (slice_get fs n)) ns ≡ has_member fs c name
+unfolding field_named has_method
+member_known fs c name ns h =
+    sym (declared_among fs name ns) ∙ ap (λ ks. is_some (first_field name ks) || list_any (declares_method name) ks) h

@@ -1,0 +1,3 @@
+pub mod Heirs
+pub mod Numbered
+pub mod Rows

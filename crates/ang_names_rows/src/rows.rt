@@ -1,0 +1,117 @@
+//! The numbers of what has each hash, so that few are looked at.
+ghost use Rattle.std.specs.Prelude.{◌≡◌, ◌<◌, ◌+◌, ◌*◌, ◌%◌, [], slice_get, unwrap_or, IfOk};
+ghost use Rattle.ang_names_rows.specs.Hashes as spec;
+
+use ang_kinds::List;
+use std::alloc::{AllocError, Global};
+use std::marker::Model;
+
+/// How many hashes there are.
+const HASHES: usize = 256;
+
+/// The numbers of what has each hash, a row for each. Contracts see the hashes of all, in order.
+#[derive(Drop)]
+pub struct Rows {
+    hashes: Vec<usize>,
+    rows: Vec<List<usize>>,
+}
+
+impl Model for Rows {
+    ghost use Rattle.std.specs.Prelude.{◌≡◌, ℕ, List};
+    ghost use Rattle.ang_names_rows.specs.Hashes.{rows_from};
+
+    ghost Value = { List ℕ };
+
+    ghost view = { λ r. r.hashes.items };
+
+    ghost invariant = { λ r. r.rows.items ≡ rows_from r.hashes.items 0 256 };
+}
+
+/// The hash of a number.
+#[tactic(auto, using(crate::proofs::Hashed::hash_small))]
+pub fn number_hash(number: usize) -> usize
+    ensures exact { result ≡ number % 256 }
+    ensures small { result < 256 }
+{
+    number % HASHES
+}
+
+/// The hash of a name with one byte more.
+#[tactic(auto, using(crate::proofs::Hashed::hash_small))]
+fn mixed(hash: usize, byte: u8) -> usize
+    requires small { hash < 256 }
+    ensures exact { result ≡ (hash * 31 + byte) % 256 }
+    ensures small { result < 256 }
+{
+    (hash * 31 + byte as usize) % HASHES
+}
+
+/// The hash of a name.
+#[tactic(auto, unfolding(crate::specs::Hashes::name_hash))]
+pub fn name_hash(name: &[u8]) -> usize
+    ensures exact { result ≡ spec.name_hash name.now }
+    ensures small { result < 256 }
+{
+    let mut hash: usize = 0;
+    for byte in name {
+        hash = mixed(hash, *byte);
+    }
+    hash
+}
+
+/// The numbers of what has a hash.
+fn numbers_of(alloc: Global, hashes: &[usize], hash: usize) -> Result<List<usize>, AllocError>
+    ensures exact { IfOk result (λ row. row ≡ spec.numbers_of hash 0 hashes.now) }
+{
+    let mut row = Vec::new(alloc);
+    for (number, other) in hashes.iter().enumerate() {
+        if *other == hash {
+            row.push(number)?;
+        }
+    }
+    Ok(List::from_vec(row))
+}
+
+/// A row for each of so many hashes.
+#[tactic(auto, unfolding(crate::specs::Hashes::rows_from))]
+fn rows_from(alloc: Global, hashes: &[usize], count: usize) -> Result<Vec<List<usize>>, AllocError>
+    ensures exact { IfOk result (λ rows. rows.items ≡ spec.rows_from hashes.now 0 count) }
+{
+    let mut rows = Vec::new(alloc);
+    for hash in 0..count {
+        rows.push(numbers_of(alloc, hashes, hash)?)?;
+    }
+    Ok(rows)
+}
+
+/// The rows of what has these hashes, in order.
+///
+/// The only error is want of memory.
+pub fn rows_of(alloc: Global, hashes: Vec<usize>) -> Result<Rows, AllocError>
+    ensures exact { IfOk result (λ rows. rows ≡ hashes.items) }
+{
+    let rows = rows_from(alloc, hashes.as_slice(), HASHES)?;
+    Ok(Rows { hashes, rows })
+}
+
+fn row_at(rows: &[List<usize>], hash: usize) -> &[usize]
+    ensures exact { result.now ≡ unwrap_or (slice_get rows.now hash) [] }
+{
+    match rows.get(hash) {
+        None => &[],
+        Some(row) => row.as_slice(),
+    }
+}
+
+impl Rows {
+    ghost use Rattle.std.specs.Prelude.{◌≡◌, ◌<◌};
+
+    /// The numbers of what has this hash, in order.
+    #[tactic(auto, using(crate::proofs::Hashed::row_of_hash))]
+    pub fn row(&self, hash: usize) -> &[usize]
+        requires small { hash < 256 }
+        ensures exact { result.now ≡ spec.numbers_of hash 0 self.now }
+    {
+        row_at(self.rows.as_slice(), hash)
+    }
+}
