@@ -7,7 +7,7 @@ ghost use Rattle.ang_names_heirs.specs.Heirs as spec;
 ghost use Rattle.ang_names_heirs.specs.Numbered as numbered;
 ghost use Rattle.ang_names_heirs.specs.Rows as rows;
 
-use crate::indexed::{HashedName, Indexed, indexed};
+use crate::indexed::{HashedName, Indexed, index_members};
 use crate::rings::{push_refused, refused_at};
 use ang_kinds::{ErrorKind, Place};
 use ang_names_known::{Access, Family, Field, Method, same_type};
@@ -557,6 +557,6 @@ pub fn heir_refusals(alloc: Global, families: &[Family]) -> Result<Vec<Refused>,
     ensures exact { IfOk result (λ found. found.items
         ≡ numbered.refused_from (spec.heir_refusal families.now) 0 families.now) }
 {
-    let known = indexed(alloc, families)?;
+    let known = index_members(alloc, families)?;
     refusals_among(alloc, &known, families)
 }

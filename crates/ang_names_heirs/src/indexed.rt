@@ -142,7 +142,7 @@ fn all_rows(alloc: Global, families: &[Family]) -> Result<Vec<MemberRows>, Alloc
 /// These classes and interfaces, with their members by hashes.
 ///
 /// The only error is want of memory.
-pub fn indexed<'a>(alloc: Global, families: &'a [Family]) -> Result<Indexed<'a>, AllocError>
+pub fn index_members<'a>(alloc: Global, families: &'a [Family]) -> Result<Indexed<'a>, AllocError>
     ensures exact { IfOk result (λ indexed. indexed ≡ families.now) }
 {
     let rows = all_rows(alloc, families)?;
