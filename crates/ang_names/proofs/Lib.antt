@@ -1,3 +1,4 @@
 pub mod Few
 pub mod Named
 pub mod Numbered
+pub mod Ranks

@@ -1,2 +1,3 @@
 pub mod Meant
 pub mod Phases
+pub mod Ranks

@@ -1,12 +1,14 @@
 //! Laws of the definitions, each the contract of a function that does nothing.
-ghost use Rattle.std.specs.Prelude.{◌≡◌, ◌≤◌, List, [], length, Contains, IsSome};
+ghost use Rattle.std.specs.Prelude.{ℕ, ◌≡◌, ◌≤◌, ◌<◌, true, false, List, [], length, Contains, IsSome, Some};
 ghost use Rattle.ang_types.specs.declared.asks.Refused.{Refused};
 ghost use Rattle.ang_view.specs.Registration.{RegistrationList};
+ghost use Rattle.ang_names_known.specs.declared.names.Family.{Family};
 ghost use Rattle.ang_names_known.specs.Spaces.{AreFamilies};
 ghost use Rattle.ang_names_written.specs.Sources.{Source};
 ghost use Rattle.ang_names_listed.specs.declared.listed.Declared.{Declared};
 ghost use Rattle.ang_names_listed.specs.Declarations.{declarations_of, families_of};
 ghost use Rattle.ang_names.specs.Phases.{refusals_of};
+ghost use Rattle.ang_names.specs.Ranks.{can_hold, family_at, reaches, stands_above};
 ghost use Rattle.ang_names_resolved.specs.Resolved.{names_of};
 
 /// The families of a build are few enough for each to have a number as a type, and what stands above one is among them: where
@@ -20,4 +22,16 @@ pub fn few_families()
     ensures asked { (V : RegistrationList) (ss : List Source) (r : Refused) →
         Contains (refusals_of V ss) r → IsSome r.asks →
         length (families_of (declarations_of ss)) ≤ 256 }
+{}
+
+/// Where nothing is refused, no class or interface stands above itself, none reaches itself through what its fields can hold, and
+/// ranks fall: what a field of one can hold is of a lower rank.
+pub fn ranks_fall()
+    ensures ancestors { (V : RegistrationList) (ss : List Source) (c : ℕ) →
+        refusals_of V ss ≡ [] → stands_above ss c c ≡ false }
+    ensures cycles { (V : RegistrationList) (ss : List Source) (c : ℕ) →
+        refusals_of V ss ≡ [] → reaches V ss c c ≡ false }
+    ensures falls { (V : RegistrationList) (ss : List Source) (i j : ℕ) (f g : Family) →
+        refusals_of V ss ≡ [] → family_at V ss i ≡ Some f → family_at V ss j ≡ Some g →
+        can_hold V ss i j ≡ true → g.rank < f.rank }
 {}

@@ -1,0 +1,31 @@
+-- What stands above what, and what reaches what, among the classes and interfaces of a build by their numbers (docs/LANGUAGE.md, "Names
+-- of a build"; the AngelScript manual, "Inheritance" and "Memory management").
+use Rattle.std.specs.Prelude.{ℕ, Bool, List, length, Option, slice_get}
+use Rattle.ang_view.specs.Registration.{RegistrationList}
+use Rattle.ang_names_heritage.specs.Graphs.{leads}
+use Rattle.ang_names_known.specs.declared.names.Family.{Family}
+use Rattle.ang_names_listed.specs.Declarations.{Declaring, declarations_of, families_of}
+use Rattle.ang_names_resolved.specs.Resolved.{holds, is_parent, names_of, space_of_declared}
+use Rattle.ang_names_written.specs.Sources.{Source}
+
+-- the declarations of the classes and interfaces of these sections
+abbrev pub family_declarations : List Source → List Declaring
+family_declarations ss = families_of (declarations_of ss)
+
+-- family c stands above family d: it is a base class or an interface of d, or of what stands above d
+abbrev pub stands_above : List Source → ℕ → ℕ → Bool
+stands_above ss c d = leads (is_parent (family_declarations ss)) (length (family_declarations ss)) d c
+
+-- In a build over a view:
+module _ (V : RegistrationList) (ss : List Source) where
+  -- the class or interface of this number
+  abbrev pub family_at : ℕ → Option Family
+  family_at c = slice_get (names_of V (declarations_of ss)).families c
+
+  -- a field of family c, own or inherited, can hold an object of family d
+  abbrev pub can_hold : ℕ → ℕ → Bool
+  can_hold c d = holds (space_of_declared V (declarations_of ss)) (family_declarations ss) c d
+
+  -- from family c one comes to family d through what fields can hold
+  abbrev pub reaches : ℕ → ℕ → Bool
+  reaches c d = leads can_hold (length (family_declarations ss)) c d
