@@ -89,6 +89,15 @@ module _ {A : Type 0} (p : A → Bool) (k : A → ℕ) (h : ℕ) (all : List A) 
   first_in_row : first_at p all (numbers_of h 0 (map k all)) ≡ find p all
   first_in_row = first_from all 0 at_once
 
+-- what is looked up in the row of a family's own members is what all of these have
+module _ {A R : Type 0} (part : Option Family → List A) (row_of : List A → List ℕ) (look : List A → List ℕ → R) (whole : List A → R)
+    (agree : (xs : List A) → look xs (row_of xs) ≡ whole xs) where
+  pub looked_up : (fs gs : List Family) (n : ℕ) (xs : List A) (row : List ℕ) (r : R) → gs ≡ fs → xs ≡ part (slice_get gs n)
+      → row ≡ row_of (part (slice_get fs n)) → r ≡ look xs row → r ≡ whole (part (slice_get fs n))
+  looked_up fs gs n xs row r same here at given =
+      let own : xs ≡ part (slice_get fs n) = here ∙ ap (λ hs. part (slice_get hs n)) same in
+      given ∙ ap (λ ys. look ys row) own ∙ ap (look (part (slice_get fs n))) at ∙ agree (part (slice_get fs n))
+
 -- ---- slots
 
 equal : (n : ℕ) → (n == n) ≡ true

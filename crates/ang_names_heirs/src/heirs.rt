@@ -73,7 +73,6 @@ fn passing(methods: &[Method], place: usize, slot: usize) -> Option<&Method>
 }
 
 /// The method of this slot that a class or an interface declares itself.
-#[tactic(auto, using(crate::proofs::InRows::first_in_slot_row))]
 fn in_slot<'f>(families: &'f Indexed<'_>, number: usize, slot: usize) -> Option<&'f Method>
     ensures exact { option_copied result ≡ find (λ m. m.slot == slot)
         (numbered.methods_in (slice_get families.now number)) }
@@ -236,7 +235,6 @@ fn has_method_at(methods: &[Method], row: &[usize], name: &[u8]) -> bool
 }
 
 /// Whether a class declares a field of this name itself.
-#[tactic(auto, using(crate::proofs::InRows::field_in_row))]
 fn declares_field(families: &Indexed<'_>, number: usize, name: &HashedName<'_>) -> bool
     ensures exact { result ≡ list_any (λ x. bytes_eq x.name name.now)
         (lookup.fields_in (slice_get families.now number)) }
@@ -246,7 +244,6 @@ fn declares_field(families: &Indexed<'_>, number: usize, name: &HashedName<'_>) 
 }
 
 /// Whether a class or an interface declares a method of this name itself.
-#[tactic(auto, using(crate::proofs::InRows::method_in_row))]
 fn declares_method(families: &Indexed<'_>, number: usize, name: &HashedName<'_>) -> bool
     ensures exact { result ≡ list_any (λ x. bytes_eq x.function.name name.now)
         (numbered.methods_in (slice_get families.now number)) }
@@ -271,7 +268,6 @@ fn declares_among(families: &Indexed<'_>, order: &[usize], name: &HashedName<'_>
 }
 
 /// Whether a class has a member of this name, own or inherited.
-#[tactic(auto, using(crate::proofs::InRows::member_known))]
 fn has_member(families: &Indexed<'_>, class: usize, name: &HashedName<'_>) -> bool
     ensures exact { result ≡ lookup.has_member families.now class name.now }
 {
@@ -348,7 +344,6 @@ fn has_slot_among(methods: &[Method], row: &[usize], slot: usize) -> bool
 }
 
 /// Whether a class or an interface declares a method of this slot itself.
-#[tactic(auto, using(crate::proofs::InRows::slot_in_row))]
 fn has_slot(families: &Indexed<'_>, number: usize, slot: usize) -> bool
     ensures exact { result ≡ list_any (λ x. x.slot == slot)
         (numbered.methods_in (slice_get families.now number)) }
@@ -378,7 +373,6 @@ fn is_refused_among(methods: &[Method], row: &[usize], method: &Method) -> bool
 }
 
 /// Whether a method would stand for one that a class or an interface declares itself, and can't.
-#[tactic(auto, using(crate::proofs::InRows::refused_in_row))]
 fn is_refused_by(families: &Indexed<'_>, number: usize, method: &Method) -> bool
     ensures exact { result
         ≡ list_any (λ x. x.slot == method.now.slot && spec.cannot_override method.now x)

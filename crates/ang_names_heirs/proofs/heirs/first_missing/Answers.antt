@@ -14,7 +14,8 @@ returns-in-Some c =
     let i = c.loop-number.number-index in
     let n : ℕ = get_or order i 0 in
     let p : Method → Bool = λ m. not (has_public_method fs c.args.class m) in
-    let here = ap (find p) (sym c.interface_methods-methods.ensures.exact) ∙ sym c.in-Some.ensures.exact in
+    let own = c.interface_methods-methods.ensures.exact ∙ ap (λ gs. interface_methods (slice_get gs n)) c.families.ensures.same in
+    let here = ap (find p) (sym own) ∙ sym c.in-Some.ensures.exact in
     record {
       exact = sym (
           c.loop-number.invariant
@@ -30,7 +31,8 @@ loop-number-preserved c =
     let n : ℕ = get_or order i 0 in
     let p : Method → Bool = λ m. not (has_public_method fs c.args.class m) in
     let none : find p c.interface_methods-methods.result.now ≡ None = search rules in
-    let here : find p (interface_methods (slice_get fs n)) ≡ None = ap (find p) (sym c.interface_methods-methods.ensures.exact) ∙ none in
+    let own = c.interface_methods-methods.ensures.exact ∙ ap (λ gs. interface_methods (slice_get gs n)) c.families.ensures.same in
+    let here : find p (interface_methods (slice_get fs n)) ≡ None = ap (find p) (sym own) ∙ none in
     c.loop-number.invariant
     ∙ first_from p (λ k. interface_methods (slice_get fs k)) order i c.loop-number-test.true
     ∙ ap (λ o. option_or o (find p (interface_methods_at fs (drop (i + 1) order)))) here
