@@ -25,10 +25,10 @@ use Rattle.ang_names_resolved.specs.Resolved.{families_after, families_in, field
 use Rattle.ang_names_written.specs.NotYet.{not_yet}
 use Rattle.ang_names_written.specs.Sources.{Source, text_of}
 use Rattle.ang_names.specs.declared.phase.Phase.TheVariants as phase
-use Rattle.ang_names.specs.Heirs.{ancestor_refusal, at_name, cycle_refusal}
-use Rattle.ang_names.specs.Numbered.{refused_from}
+use Rattle.ang_names_heirs.specs.Heirs.{ancestor_refusal, at_name, cycle_refusal}
+use Rattle.ang_names_heirs.specs.Numbered.{refused_from}
 use Rattle.ang_names.specs.Phases.{all_phases, families, first_refusals, of_family, refusals, refusals_of}
-use Rattle.ang_names.specs.Ranks.{can_hold, family_at, reaches, stands_above}
+use Rattle.ang_names.specs.Ranks.{can_hold, family_at, is_own_ancestor, reaches_itself}
 use Rattle.ang_names.proofs.Few.{family_number}
 use Rattle.ang_names.proofs.Numbered.{by_number}
 
@@ -186,10 +186,10 @@ phases_pass : (V : RegistrationList) (ss : List Source) → refusals_of V ss ≡
 unfolding refusals_of
 phases_pass V ss e = (both_empty (map plain_refusal (not_yet ss)) (first_refusals V (declarations_of ss) all_phases) e).1
 
-pub ancestors : (V : RegistrationList) (ss : List Source) (c : ℕ) → refusals_of V ss ≡ [] → stands_above ss c c ≡ false
+pub ancestors : (V : RegistrationList) (ss : List Source) (c : ℕ) → refusals_of V ss ≡ [] → is_own_ancestor ss c ≡ false
 ancestors V ss c e = no_ancestor V (declarations_of ss) (phases_pass V ss e) c
 
-pub cycles : (V : RegistrationList) (ss : List Source) (c : ℕ) → refusals_of V ss ≡ [] → reaches V ss c c ≡ false
+pub cycles : (V : RegistrationList) (ss : List Source) (c : ℕ) → refusals_of V ss ≡ [] → reaches_itself V ss c ≡ false
 cycles V ss c e = no_cycle V (declarations_of ss) (phases_pass V ss e) c
 
 pub ranks : (V : RegistrationList) (ss : List Source) (i j : ℕ) (f g : Family) → refusals_of V ss ≡ [] → family_at V ss i ≡ Some f

@@ -1,20 +1,19 @@
 -- What stands above what, and what reaches what, among the classes and interfaces of a build by their numbers (docs/LANGUAGE.md, "Names
 -- of a build"; the AngelScript manual, "Inheritance" and "Memory management").
-use Rattle.std.specs.Prelude.{ℕ, Bool, List, length, Option, slice_get}
+use Rattle.std.specs.Prelude.{ℕ, Bool, List, Option, slice_get}
 use Rattle.ang_view.specs.Registration.{RegistrationList}
-use Rattle.ang_names_heritage.specs.Graphs.{leads}
 use Rattle.ang_names_known.specs.declared.names.Family.{Family}
 use Rattle.ang_names_listed.specs.Declarations.{Declaring, declarations_of, families_of}
-use Rattle.ang_names_resolved.specs.Resolved.{holds, is_parent, names_of, space_of_declared}
+use Rattle.ang_names_resolved.specs.Resolved.{holds, is_cyclic, names_of, space_of_declared, stands_above}
 use Rattle.ang_names_written.specs.Sources.{Source}
 
 -- the declarations of the classes and interfaces of these sections
 abbrev pub family_declarations : List Source → List Declaring
 family_declarations ss = families_of (declarations_of ss)
 
--- family c stands above family d: it is a base class or an interface of d, or of what stands above d
-abbrev pub stands_above : List Source → ℕ → ℕ → Bool
-stands_above ss c d = leads (is_parent (family_declarations ss)) (length (family_declarations ss)) d c
+-- family c stands above itself
+abbrev pub is_own_ancestor : List Source → ℕ → Bool
+is_own_ancestor ss c = stands_above (family_declarations ss) c c
 
 -- In a build over a view:
 module _ (V : RegistrationList) (ss : List Source) where
@@ -26,6 +25,6 @@ module _ (V : RegistrationList) (ss : List Source) where
   abbrev pub can_hold : ℕ → ℕ → Bool
   can_hold c d = holds (space_of_declared V (declarations_of ss)) (family_declarations ss) c d
 
-  -- from family c one comes to family d through what fields can hold
-  abbrev pub reaches : ℕ → ℕ → Bool
-  reaches c d = leads can_hold (length (family_declarations ss)) c d
+  -- objects of family c can lead to one of the same family through their fields
+  abbrev pub reaches_itself : ℕ → Bool
+  reaches_itself c = is_cyclic (space_of_declared V (declarations_of ss)) (family_declarations ss) c

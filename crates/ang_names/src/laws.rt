@@ -8,7 +8,7 @@ ghost use Rattle.ang_names_written.specs.Sources.{Source};
 ghost use Rattle.ang_names_listed.specs.declared.listed.Declared.{Declared};
 ghost use Rattle.ang_names_listed.specs.Declarations.{declarations_of, families_of};
 ghost use Rattle.ang_names.specs.Phases.{refusals_of};
-ghost use Rattle.ang_names.specs.Ranks.{can_hold, family_at, reaches, stands_above};
+ghost use Rattle.ang_names.specs.Ranks.{can_hold, family_at, is_own_ancestor, reaches_itself};
 ghost use Rattle.ang_names_resolved.specs.Resolved.{names_of};
 
 /// The families of a build are few enough for each to have a number as a type, and what stands above one is among them: where
@@ -28,9 +28,9 @@ pub fn few_families()
 /// ranks fall: what a field of one can hold is of a lower rank.
 pub fn ranks_fall()
     ensures ancestors { (V : RegistrationList) (ss : List Source) (c : ℕ) →
-        refusals_of V ss ≡ [] → stands_above ss c c ≡ false }
+        refusals_of V ss ≡ [] → is_own_ancestor ss c ≡ false }
     ensures cycles { (V : RegistrationList) (ss : List Source) (c : ℕ) →
-        refusals_of V ss ≡ [] → reaches V ss c c ≡ false }
+        refusals_of V ss ≡ [] → reaches_itself V ss c ≡ false }
     ensures falls { (V : RegistrationList) (ss : List Source) (i j : ℕ) (f g : Family) →
         refusals_of V ss ≡ [] → family_at V ss i ≡ Some f → family_at V ss j ≡ Some g →
         can_hold V ss i j ≡ true → g.rank < f.rank }
