@@ -1,6 +1,6 @@
 -- What scripts build to, by what is refused of them.
 use Rattle.std.proofs.Common.{◌≡◌, refl, sym, ap, subst, ◌∙◌, List, [], ◌∷◌}
-use Rattle.std.specs.Prelude.{◌≢◌, Option, Some, None, Ok, Err}
+use Rattle.std.specs.Prelude.{Ok, Err}
 use Rattle.ang_kinds.specs.declared.error.Denial.{Denial}
 use Rattle.ang_kinds.specs.declared.error.Error.{Error}
 use Rattle.ang_kinds.specs.declared.error.Unbuilt.{Unbuilt}
@@ -19,7 +19,7 @@ use Rattle.ang_check.specs.Denials.{script_refusals}
 use Rattle.ang_engine_build.specs.declared.program.NoProgram.{NoProgram}
 use Rattle.ang_engine_build.specs.declared.program.NoProgram.TheVariants as no
 use Rattle.ang_engine_build.specs.declared.program.Program.{Program}
-use Rattle.ang_engine_build.specs.Answer.{IsBuilt, HasDenials, HasErrorsOf, IsDenied}
+use Rattle.ang_engine_build.specs.Answer.{IsBuilt, IsDenied}
 use Rattle.ang_engine_build.specs.Build.{Resolved, Errors, Compiled, resolution_of, script_errors, unless_refused, build_of_scripts}
 
 -- where errors are found, they are what is built
@@ -28,12 +28,6 @@ refused_so (no.Errors es ds) (unbuilt.Errors errors) rows [] r h d = absurd (h.1
 refused_so (no.Errors es ds) (unbuilt.Errors errors) rows (e ∷ found) r h d = ap Errors (sym (d.0 ∙ h.0))
 refused_so (no.Errors es ds) unbuilt.Memory rows found r h d = absurd d
 refused_so no.Memory why rows found r h d = tt
-
--- and the denials stand with them
-pub denied_so : (n : NoProgram) (why : Unbuilt) (rows : List Denial) → IsDenied n why rows → HasDenials {A = Program} (Err n) rows
-denied_so (no.Errors es ds) (unbuilt.Errors errors) rows d = d.1
-denied_so (no.Errors es ds) unbuilt.Memory rows d = absurd d
-denied_so no.Memory why rows d = tt
 
 first_refused : (first later : List Refused) (why : Unbuilt) → IsRefused why (errors_in first) → IsRefused why (errors_in (list_or first later))
 first_refused [] later (unbuilt.Errors es) h = absurd (h.1 refl)
@@ -48,10 +42,6 @@ module _ (V : RegistrationList) (ss : List Source) where
   declarations_refused n why rows h d =
       refused_so n why rows (script_errors V ss) (resolution_of V ss) (first_refused (refusals_of V ss) (body_refusals V (names_of V (declarations_of ss)) ss) why h) d
 
-  pub declared_errors : (why : Unbuilt) → IsRefused why (errors_in (refusals_of V ss)) → HasErrorsOf V ss None why
-  declared_errors (unbuilt.Errors es) h = (h.0, subst (λ (xs : List Error). xs ≢ []) (sym h.0) h.1)
-  declared_errors unbuilt.Memory h = tt
-
   module _ (names : Names) (declared : refusals_of V ss ≡ []) (own : names ≡ names_of V (declarations_of ss)) where
     refused_behind : script_refusals V ss ≡ body_refusals V names ss
     unfolding script_refusals
@@ -63,10 +53,6 @@ module _ (V : RegistrationList) (ss : List Source) where
         → IsBuilt (Err n) (build_of_scripts V ss)
     bodies_refused n why rows h d =
         refused_so n why rows (script_errors V ss) (resolution_of V ss) (subst (λ (rs : List Refused). IsRefused why (errors_in rs)) (sym refused_behind) h) d
-
-    pub checked_errors : (why : Unbuilt) → IsRefused why (errors_in (body_refusals V names ss)) → HasErrorsOf V ss (Some names) why
-    checked_errors (unbuilt.Errors es) h = (declared, own, h.0)
-    checked_errors unbuilt.Memory h = tt
 
     -- nothing is
     pub none_refused : (p : Program) → p.names ≡ names → body_refusals V names ss ≡ [] → view_typed p.tree ≡ program_of V names ss → IsBuilt (Ok p) (build_of_scripts V ss)
