@@ -2,8 +2,6 @@
 use Rattle.std.proofs.Common.{◌≡◌, refl, ap, sym, ◌∙◌, subst, inl, inr, ℕ, true, false, List, [], ◌∷◌, ◌++◌, Some, None}
 use Rattle.std.specs.Prelude.{Result, Ok, Err}
 use Rattle.ang_kinds.specs.declared.error.Error.{Error}
-use Rattle.ang_kinds.specs.declared.error.Unbuilt.{Unbuilt}
-use Rattle.ang_kinds.specs.declared.error.Unbuilt.TheVariants as unbuilt
 use Rattle.ang_kinds.specs.declared.fault.Fault.{Fault}
 use Rattle.ang_view.specs.Registration.{RegistrationList, seen}
 use Rattle.ang_typed.specs.View.{view_typed}
@@ -11,7 +9,10 @@ use Rattle.ang_meaning.specs.declared.slot.Slot.{Slot}
 use Rattle.ang_meaning.specs.declared.slot.Slot.TheVariants.{Bits}
 use Rattle.ang_meaning.specs.World.{Input, Room, World as RunWorld, with_inputs}
 use Rattle.ang_meaning.specs.Told.{answers_told, answers_listed}
-use Rattle.ang_engine_build.specs.Build.{Errors, build_of}
+use Rattle.ang_engine_build.specs.declared.program.NoProgram.{NoProgram}
+use Rattle.ang_engine_build.specs.declared.program.NoProgram.TheVariants as no
+use Rattle.ang_engine_build.specs.Answer.{HasDenials}
+use Rattle.ang_engine_build.specs.Build.{Errors, build_of, denials_in}
 use Rattle.ang_engine_modules.specs.declared.modules.LoadedModule.{LoadedModule}
 use Rattle.ang_engine_modules.specs.Modules.{Module}
 use Rattle.ang_engine_modules.specs.Executed.{initialization_of}
@@ -20,10 +21,10 @@ use Rattle.ang_engine.specs.declared.building.BuildRefused.{BuildRefused}
 use Rattle.ang_engine.specs.declared.building.BuildRefused.TheVariants as why
 use Rattle.ang_engine.specs.declared.reply.Reply.{Reply}
 use Rattle.ang_engine.specs.declared.reply.Outcome.TheVariants.{Done, Refused}
-use Rattle.ang_engine.specs.declared.reply.Refusal.TheVariants.{BuildMemory, BuildErrors, InitFailed}
+use Rattle.ang_engine.specs.declared.reply.Refusal.TheVariants.{BuildMemory, InitFailed}
 use Rattle.ang_engine.specs.World.{Program, ModuleState, World, placed, built_in, running, left_to, globals_ended}
 use Rattle.ang_engine.specs.Engines.{resolved_in, program_in}
-use Rattle.ang_engine.specs.Step.{Leads, after_run, reply_of, emptied, with_program, program_over, globals_begun, started, initialized, after_build, build}
+use Rattle.ang_engine.specs.Step.{Leads, after_errors, after_run, reply_of, errors_reply, emptied, with_program, program_over, globals_begun, started, initialized, after_build, build}
 use Rattle.ang_engine.specs.Outcomes.{IsCompiled, HasStarted, refused_by, reply_to_build}
 use Rattle.ang_engine.proofs.Leading.{told_by}
 
@@ -41,19 +42,19 @@ module _ (R : RegistrationList) (w : World) (i : ℕ) (m : ModuleState) (budget 
   }
 
   pub build-errors : (es : List Error) → build_of (seen R m.mask) m.sections ≡ Errors es
-      → Leads (build R w i m budget) (reply_of (Refused BuildErrors) u.events es) (left_to (placed w i (emptied m)) u)
+      → Leads (build R w i m budget) (errors_reply u.events es (denials_in R m.mask m.sections)) (left_to (placed w i (emptied m)) u)
   build-errors es built = record {
     used = Room true ∷ [];
     tells = λ rest.
-        ap (λ b. Some (after_build (seen R m.mask) b w i m budget (globals_ended i (running w rest)))) built
-        ∙ ap (λ r. Some (after_run (Refused BuildErrors) es (placed w i (emptied m)) r)) (ended rest);
+        ap (λ b. Some (after_build (seen R m.mask) (denials_in R m.mask m.sections) b w i m budget (globals_ended i (running w rest)))) built
+        ∙ ap (λ r. Some (after_errors es (denials_in R m.mask m.sections) (placed w i (emptied m)) r)) (ended rest);
     told = inl refl;
     answers = sym silent;
   }
 
   -- ---- its initializers
 
-  module _ (p : Program) (built : (r : RunWorld) → after_build (seen R m.mask) (build_of (seen R m.mask) m.sections) w i m budget r
+  module _ (p : Program) (built : (r : RunWorld) → after_build (seen R m.mask) (denials_in R m.mask m.sections) (build_of (seen R m.mask) m.sections) w i m budget r
       ≡ started (end_of (initialization_of (built_in (placed w i (with_program p m))) budget i (globals_begun i p r))) w i m p) where
     -- they have ended: what the build comes to
     build-started : (r : Result Slot Fault) (x : RunWorld) (reply : Reply) (after : World)
@@ -86,10 +87,12 @@ module _ (R : RegistrationList) (w : World) (i : ℕ) (m : ModuleState) (budget 
   -- ---- by the words of the code
 
   -- what a build is refused by that comes to no program
-  pub build-refused : (U : Type 0) (e : Unbuilt) → IsCompiled (Err e) (build_of (seen R m.mask) m.sections)
+  pub build-refused : (U : Type 0) (e : NoProgram) → IsCompiled (Err e) (build_of (seen R m.mask) m.sections)
+      → HasDenials {A = LoadedModule} (Err e) (denials_in R m.mask m.sections)
       → Leads (build R w i m budget) (reply_to_build {U = U} (Err (refused_by e)) u.events) (left_to (placed w i (emptied m)) u)
-  build-refused U (unbuilt.Errors es) c = build-errors es c
-  build-refused U unbuilt.Memory c = build-memory
+  build-refused U (no.Errors es ds) c d =
+      subst (λ rows. Leads (build R w i m budget) (errors_reply u.events es rows) (left_to (placed w i (emptied m)) u)) (sym d) (build-errors es c)
+  build-refused U no.Memory c d = build-memory
 
   module _ (l : LoadedModule) (view : l.view ≡ seen R m.mask) (unbound : l.links ≡ []) (c : IsCompiled (Ok l) (build_of (seen R m.mask) m.sections)) where
     loaded-over : program_over (seen R m.mask) (resolved_in l) ≡ program_in l
@@ -97,10 +100,10 @@ module _ (R : RegistrationList) (w : World) (i : ℕ) (m : ModuleState) (budget 
         ap (λ V. record { view = V; names = l.names; tree = view_typed l.tree; links = [] }) (sym view)
         ∙ ap (λ ls. record { view = l.view; names = l.names; tree = view_typed l.tree; links = ls }) (sym unbound)
 
-    loaded-built : (r : RunWorld) → after_build (seen R m.mask) (build_of (seen R m.mask) m.sections) w i m budget r
+    loaded-built : (r : RunWorld) → after_build (seen R m.mask) (denials_in R m.mask m.sections) (build_of (seen R m.mask) m.sections) w i m budget r
         ≡ started (end_of (initialization_of (built_in (placed w i (with_program (program_in l) m))) budget i (globals_begun i (program_in l) r))) w i m (program_in l)
     loaded-built r =
-        ap (λ b. after_build (seen R m.mask) b w i m budget r) c
+        ap (λ b. after_build (seen R m.mask) (denials_in R m.mask m.sections) b w i m budget r) c
         ∙ ap (λ p. started (end_of (initialization_of (built_in (placed w i (with_program p m))) budget i (globals_begun i p r))) w i m p) loaded-over
 
     -- the modules behind it: this one is built, or it is left emptied
@@ -121,7 +124,7 @@ module _ (R : RegistrationList) (w : World) (i : ℕ) (m : ModuleState) (budget 
     build-begun (Err why.Memory) ms y same h listed ss e =
         subst (λ q. Leads (build R w i m budget) (reply_of (Refused BuildMemory) q.events []) (left_to ss q)) (sym h)
         (subst (λ q. Leads (build R w i m budget) (reply_of (Refused BuildMemory) u.events []) (left_to q u)) (sym e) build-memory)
-    build-begun (Err (why.Errors es)) ms y same h listed ss e = absurd h
+    build-begun (Err (why.Errors es ds)) ms y same h listed ss e = absurd h
     build-begun (Err (why.Initializer f)) ms y same h listed ss e =
         subst (λ q. Leads (build R w i m budget) (reply_of (Refused (InitFailed f)) y.events []) (left_to q y)) (sym e)
         (build-failed (program_in l) loaded-built f h.0 y (subst (λ q. Ends (initialization_of q budget i) (globals_begun i (program_in l) u) (Err f) h.0) (sym same) h.1) h.2 (listed h.0 h.2))

@@ -3,8 +3,6 @@ use Rattle.std.proofs.Common.{◌≡◌, ◌<◌, ◌≤◌, refl, ap, sym, ◌�
 use Rattle.std.specs.Prelude.{Result, Ok, Err, OnOk, OnErr, IfOk, Vec, if◌then◌else◌, slice_index_or, slice_set}
 use Rattle.std.specs.List.{AllZip}
 use Rattle.std.specs.declared.alloc.Global.{Global}
-use Rattle.ang_kinds.specs.declared.error.Unbuilt.{Unbuilt}
-use Rattle.ang_kinds.specs.declared.error.Unbuilt.TheVariants as unbuilt
 use Rattle.ang_kinds.specs.declared.mask.Mask.{Mask}
 use Rattle.ang_host.specs.declared.event.HostEvent.{HostEvent}
 use Rattle.ang_host.specs.declared.event.Role.{Role}
@@ -20,7 +18,10 @@ use Rattle.ang_heap.specs.Globals.{values_in}
 use Rattle.ang_heap.specs.Heaps.{objects_of}
 use Rattle.ang_heap.specs.Parts.{counts_of, world_by}
 use Rattle.ang_heap.specs.Stores.{world_of, IsReady, StoreMoves}
-use Rattle.ang_engine_build.specs.Build.{build_of}
+use Rattle.ang_engine_build.specs.declared.program.NoProgram.{NoProgram}
+use Rattle.ang_engine_build.specs.declared.program.NoProgram.TheVariants as no
+use Rattle.ang_engine_build.specs.Answer.{HasDenials}
+use Rattle.ang_engine_build.specs.Build.{build_of, denials_in}
 use Rattle.ang_engine_modules.specs.declared.modules.LoadedModule.{LoadedModule}
 use Rattle.ang_engine_modules.specs.Loaded.{modules_of}
 use Rattle.ang_engine_modules.specs.Modules.{Module as RunModule, AreDriversThere}
@@ -46,7 +47,7 @@ use Rattle.ang_engine.proofs.Builds.{build-refused, build-begun, IsPlacedBy}
 -- ---- what its sections build to
 
 -- what is built of a module is of its name, and of what its mask shows
-pub waiting-built : (R : RegistrationList) (n : Module) (r : Result LoadedModule Unbuilt) (name : List ℕ) (mask : Mask) (sections : List (List ℕ)) → name ≡ n.name → mask ≡ n.built_mask
+pub waiting-built : (R : RegistrationList) (n : Module) (r : Result LoadedModule NoProgram) (name : List ℕ) (mask : Mask) (sections : List (List ℕ)) → name ≡ n.name → mask ≡ n.built_mask
     → IsCompiled r (build_of (seen R mask.0) sections) → IfOk r (λ l. l.name ≡ name) → IfOk r (λ l. l.view ≡ seen R mask.0) → IfOk r (λ l. IsBuiltBy R n l)
 waiting-built R n (Ok l) name mask sections same shown c named view =
     record { name = named ∙ same; view = view ∙ ap (λ k. seen R k.0) shown; sections = sections; built = ap (λ V. build_of V sections) view ∙ c }
@@ -60,12 +61,12 @@ started_events : {U : Type 0} (r : Result U BuildRefused) (xs : List RunModule) 
 started_events (Ok x) xs i budget p u v es h = refl
 started_events (Err (why.Before refusal)) xs i budget p u v es h = absurd h
 started_events (Err why.Memory) xs i budget p u v es h = refl
-started_events (Err (why.Errors errors)) xs i budget p u v es h = absurd h
+started_events (Err (why.Errors errors ds)) xs i budget p u v es h = absurd h
 started_events (Err (why.Initializer f)) xs i budget p u v es h = refl
 
-refused_events : (U : Type 0) (e : Unbuilt) (es : List HostEvent) → (reply_to_build {U = U} (Err (refused_by e)) es).events ≡ es
-refused_events U (unbuilt.Errors errors) es = refl
-refused_events U unbuilt.Memory es = refl
+refused_events : (U : Type 0) (e : NoProgram) (es : List HostEvent) → (reply_to_build {U = U} (Err (refused_by e)) es).events ≡ es
+refused_events U (no.Errors errors ds) es = refl
+refused_events U no.Memory es = refl
 
 -- ---- a module by its name
 
@@ -145,15 +146,17 @@ module _ {V : Type 0} {P : V → Type 0} (m : Meanings P) (R : RegistrationList)
 
     -- ---- its sections build to no program
 
-    pub refused-leads : (U : Type 0) (e : Unbuilt) (x : BuildRefused) → x ≡ refused_by e → IsCompiled (Err e) (build_of (seen R d.mask.0) d.sections.items)
+    pub refused-leads : (U : Type 0) (e : NoProgram) (x : BuildRefused) → x ≡ refused_by e → IsCompiled (Err e) (build_of (seen R d.mask.0) d.sections.items)
+        → HasDenials {A = LoadedModule} (Err e) (denials_in R d.mask.0 d.sections.items)
         → Leads (build R old home (module_at old home) budget) (reply_to_build {U = U} (Err x) fs.items) (left_to (module_states (slice_set ms home n) cs) now)
-    refused-leads U e x is c =
+    refused-leads U e x is c denied =
         subst (λ q. Leads (build R old home (module_at old home) budget) (reply_to_build {U = U} (Err q) fs.items) (left_to (module_states (slice_set ms home n) cs) now)) (sym is)
         (subst (λ q. Leads (build R old home q budget) (reply_to_build {U = U} (Err (refused_by e)) fs.items) (left_to (module_states (slice_set ms home n) cs) now)) (sym it_stood)
         (subst (λ ss. Leads (build R old home it budget) (reply_to_build {U = U} (Err (refused_by e)) fs.items) (left_to ss now)) (sym left_emptied)
-        (build-refused R old home it budget now has_ended silent U e (subst (λ (q : Module). IsCompiled (Err e) (build_of (seen R q.mask.0) q.sections.items)) at c))))
+        (build-refused R old home it budget now has_ended silent U e (subst (λ (q : Module). IsCompiled (Err e) (build_of (seen R q.mask.0) q.sections.items)) at c)
+        (subst (λ (q : Module). HasDenials {A = LoadedModule} (Err e) (denials_in R q.mask.0 q.sections.items)) at denied))))
 
-    pub refused-asked : (U : Type 0) (e : Unbuilt) (x : BuildRefused) → x ≡ refused_by e → (w : World) → IsReady m (record s { events = es }) → IsCounted [] (world_of m s)
+    pub refused-asked : (U : Type 0) (e : NoProgram) (x : BuildRefused) → x ≡ refused_by e → (w : World) → IsReady m (record s { events = es }) → IsCounted [] (world_of m s)
         → HasAsked m R w (reply_to_build {U = U} (Err x) fs.items).events s t
     refused-asked U e x is w ready counted =
         subst (λ l. HasAsked m R w l s t) (sym (ap (λ q. (reply_to_build {U = U} (Err q) fs.items).events) is ∙ refused_events U e fs.items))

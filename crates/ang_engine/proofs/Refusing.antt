@@ -37,7 +37,7 @@ pub begun_build : {U : Type 0} (r : Result U BuildRefused) (es : List HostEvent)
 begun_build (Ok u) es P h = tt
 begun_build (Err (why.Before refusal)) es P h = elim h [ ]
 begun_build (Err why.Memory) es P h = tt
-begun_build (Err (why.Errors errors)) es P h = tt
+begun_build (Err (why.Errors errors ds)) es P h = tt
 begun_build (Err (why.Initializer f)) es P h = tt
 
 -- nor is a call that was run

@@ -1,7 +1,5 @@
 -- What the functions behind the commands answer.
 use Rattle.std.specs.Prelude.{◌≡◌, ◌⊎◌, ℕ, List, [], Option, Some, None, Result, Ok, Err, slice_get}
-use Rattle.ang_kinds.specs.declared.error.Unbuilt.{Unbuilt}
-use Rattle.ang_kinds.specs.declared.error.Unbuilt.TheVariants as unbuilt
 use Rattle.ang_kinds.specs.declared.fault.Fault.{Fault}
 use Rattle.ang_kinds.specs.declared.value.Value.{Value}
 use Rattle.ang_host.specs.declared.event.HostEvent.{HostEvent}
@@ -13,6 +11,8 @@ use Rattle.ang_meaning.specs.Counting.{Thing, how_many}
 use Rattle.ang_names_known.specs.declared.names.Names.{Names}
 use Rattle.ang_names_known.specs.declared.names.ScriptFunction.{ScriptFunction}
 use Rattle.ang_engine_call.specs.Calls.{result_of}
+use Rattle.ang_engine_build.specs.declared.program.NoProgram.{NoProgram}
+use Rattle.ang_engine_build.specs.declared.program.NoProgram.TheVariants as no
 use Rattle.ang_engine_build.specs.Build.{Built, Errors, Compiled}
 use Rattle.ang_engine_modules.specs.declared.modules.LoadedModule.{LoadedModule}
 use Rattle.ang_engine_modules.specs.Modules.{Module}
@@ -28,7 +28,7 @@ use Rattle.ang_engine.specs.declared.reply.Refusal.{Refusal}
 use Rattle.ang_engine.specs.declared.reply.Refusal.TheVariants.{BadName, ModuleExists, Limit, NoModule, NotBuilt, BadBudget, BuildMemory, BuildErrors, InitFailed, NoFunction, NotCallable, BadArguments, Memory}
 use Rattle.ang_engine.specs.World.{Program, ModuleState, World, module_named, globals_ended}
 use Rattle.ang_engine.specs.Engines.{resolved_in}
-use Rattle.ang_engine.specs.Step.{Stepped, Leads, Choice, Chosen, Not, answered, refused, section_added, reply_of, globals_begun, on_module, build_within, call}
+use Rattle.ang_engine.specs.Step.{Stepped, Leads, Choice, Chosen, Not, answered, refused, section_added, reply_of, errors_reply, globals_begun, on_module, build_within, call}
 
 -- Refused as the step says, or for want of memory, with the world as it was.
 abbrev pub IsRefused : Refusal → (List Input → Option Stepped) → World → World → Type 0
@@ -76,21 +76,21 @@ IsAdded (Err why) text before after =
 -- ---- builds
 
 -- what the sections build to, unless memory was refused
-abbrev pub IsCompiled : Result LoadedModule Unbuilt → Built → Type 0
+abbrev pub IsCompiled : Result LoadedModule NoProgram → Built → Type 0
 IsCompiled (Ok l) built = built ≡ Compiled (resolved_in l)
-IsCompiled (Err (unbuilt.Errors es)) built = built ≡ Errors es
-IsCompiled (Err unbuilt.Memory) built = Unit {0}
+IsCompiled (Err (no.Errors es ds)) built = built ≡ Errors es
+IsCompiled (Err no.Memory) built = Unit {0}
 
 -- what a build is refused by that comes to no program
-abbrev pub refused_by : Unbuilt → BuildRefused
-refused_by (unbuilt.Errors es) = why.Errors es
-refused_by unbuilt.Memory = why.Memory
+abbrev pub refused_by : NoProgram → BuildRefused
+refused_by (no.Errors es ds) = why.Errors es ds
+refused_by no.Memory = why.Memory
 
 -- a build was begun that is refused so
 abbrev pub IsBegun : BuildRefused → Type 0
 IsBegun (why.Before refusal) = ⊥
 IsBegun why.Memory = Unit {0}
-IsBegun (why.Errors es) = Unit {0}
+IsBegun (why.Errors es ds) = Unit {0}
 IsBegun (why.Initializer f) = Unit {0}
 
 -- A program's globals have begun and its initializers have run, in module i among these; and where
@@ -101,7 +101,7 @@ HasStarted ms i budget p before (Ok u) after =
     Ends (initialization_of ms budget i) (globals_begun i p before) (Ok (Bits 0)) after
 HasStarted ms i budget p before (Err (why.Before refusal)) after = ⊥
 HasStarted ms i budget p before (Err why.Memory) after = after ≡ before
-HasStarted ms i budget p before (Err (why.Errors es)) after = ⊥
+HasStarted ms i budget p before (Err (why.Errors es ds)) after = ⊥
 HasStarted ms i budget p before (Err (why.Initializer f)) after =
     (end : RunWorld) × Ends (initialization_of ms budget i) (globals_begun i p before) (Err f) end
     × ((rest : List Input) → globals_ended i (with_inputs rest end) ≡ with_inputs rest after)
@@ -111,7 +111,7 @@ abbrev pub reply_to_build : {U : Type 0} → Result U BuildRefused → List Host
 reply_to_build (Ok u) events = reply_of (Done None) events []
 reply_to_build (Err (why.Before refusal)) events = reply_of (Refused refusal) [] []
 reply_to_build (Err why.Memory) events = reply_of (Refused BuildMemory) events []
-reply_to_build (Err (why.Errors es)) events = reply_of (Refused BuildErrors) events es
+reply_to_build (Err (why.Errors es ds)) events = errors_reply events es ds
 reply_to_build (Err (why.Initializer fault)) events =
     reply_of (Refused (InitFailed fault)) events []
 

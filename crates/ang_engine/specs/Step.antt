@@ -1,5 +1,6 @@
 -- What one command does: the reply, and the world after it (docs/MEANING.md, "A command").
 use Rattle.std.specs.Prelude.{ℕ, ◌≡◌, ◌⊎◌, Bool, true, false, ◌&&◌, nat_le, if◌then◌else◌, List, [], ◌∷◌, ◌++◌, length, slice_get, slice_set, Option, Some, None, IsSome, Result, Ok, Err}
+use Rattle.ang_kinds.specs.declared.error.Denial.{Denial}
 use Rattle.ang_kinds.specs.declared.error.Error.{Error}
 use Rattle.ang_kinds.specs.declared.fault.Fault.{Fault}
 use Rattle.ang_kinds.specs.declared.value.Value.{Value}
@@ -11,7 +12,7 @@ use Rattle.ang_names_known.specs.declared.names.ScriptFunction.{ScriptFunction}
 use Rattle.ang_meaning.specs.declared.slot.Slot.{Slot}
 use Rattle.ang_meaning.specs.World.{Input, Room, World as RunWorld}
 use Rattle.ang_meaning.specs.Told.{has_room, stopped_by, answers_told, answers_listed}
-use Rattle.ang_engine_build.specs.Build.{Resolved, Built, Errors, Compiled, build_of}
+use Rattle.ang_engine_build.specs.Build.{Resolved, Built, Errors, Compiled, build_of, denials_in}
 use Rattle.ang_engine_call.specs.Named.{function_named_by}
 use Rattle.ang_engine_call.specs.Calls.{is_callable, arguments_of, result_of}
 use Rattle.ang_engine_modules.specs.Executed.{first_globals, call_of, initialization_of}
@@ -43,10 +44,15 @@ pub record Stepped : Type 0 where
   pub world : World
   pub left : List Input
 
--- a reply without denials, which no build gives yet
+-- a reply without denials
 abbrev pub reply_of : Outcome → List HostEvent → List Error → Reply
 reply_of outcome events errors =
     record { outcome = outcome; events = events; errors = errors; denials = [] }
+
+-- the reply to a build of sections with these errors and denials
+abbrev pub errors_reply : List HostEvent → List Error → List Denial → Reply
+errors_reply events errors denials =
+    record { outcome = Refused BuildErrors; events = events; errors = errors; denials = denials }
 
 -- answered at once: nobody was asked
 abbrev pub answered : Outcome → World → List Input → Option Stepped
@@ -138,12 +144,20 @@ initialized (Err f) r w i m p =
 abbrev pub started : Ended → World → ℕ → ModuleState → Program → Stepped
 started e w i m p = initialized e.result e.world w i m p
 
--- over a view the sections have errors, which are listed, and the module is left emptied; or they
--- are a program, whose initializers run
-abbrev pub after_build : RegistrationList → Built → World → ℕ → ModuleState → ℕ → RunWorld → Stepped
-after_build V (Errors es) w i m budget r =
-    after_run (Refused BuildErrors) es (placed w i (emptied m)) r
-after_build V (Compiled q) w i m budget r =
+-- the errors and the denials are listed beside what a run has listed
+abbrev pub after_errors : List Error → List Denial → List ModuleState → RunWorld → Stepped
+after_errors errors denials modules r = record {
+  reply = errors_reply r.events errors denials;
+  world = left_to modules r;
+  left = r.inputs;
+}
+
+-- over a view the sections have errors, which are listed with their denials, and the module is left
+-- emptied; or they are a program, whose initializers run
+abbrev pub after_build : RegistrationList → List Denial → Built → World → ℕ → ModuleState → ℕ
+    → RunWorld → Stepped
+after_build V ds (Errors es) w i m budget r = after_errors es ds (placed w i (emptied m)) r
+after_build V ds (Compiled q) w i m budget r =
     let p = program_over V q in
     started (initializers_end (placed w i (with_program p m)) i p budget r) w i m p
 
@@ -152,8 +166,8 @@ after_build V (Compiled q) w i m budget r =
 -- memory no initializer runs, and the module is left emptied.
 abbrev pub build : RegistrationList → World → ℕ → ModuleState → ℕ → List Input → Option Stepped
 build R w i m budget (Room true ∷ inputs) =
-    Some (after_build (seen R m.mask) (build_of (seen R m.mask) m.sections) w i m budget
-    (globals_ended i (running w inputs)))
+    Some (after_build (seen R m.mask) (denials_in R m.mask m.sections)
+    (build_of (seen R m.mask) m.sections) w i m budget (globals_ended i (running w inputs)))
 build R w i m budget (Room false ∷ inputs) =
     Some (after_run (Refused BuildMemory) [] (placed w i (emptied m))
     (globals_ended i (running w inputs)))

@@ -8,7 +8,8 @@ ghost use Rattle.ang_meaning.specs.Counting.{IsCounted};
 ghost use Rattle.ang_heap.specs.Globals.{values_in};
 ghost use Rattle.ang_heap.specs.Stores.{world_of, IsReady};
 ghost use Rattle.ang_vm.specs.Machines.{lent};
-ghost use Rattle.ang_engine_build.specs.Build.{build_of, resolved_of};
+ghost use Rattle.ang_engine_build.specs.Answer.{HasDenials};
+ghost use Rattle.ang_engine_build.specs.Build.{build_of, denials_in, resolved_of};
 ghost use Rattle.ang_engine_modules.specs.Executed.{first_globals};
 ghost use Rattle.ang_engine_modules.specs.Loaded.{modules_of};
 ghost use Rattle.ang_engine_modules.specs.Modules.{module_at as built_module_at, AreDriversThere};
@@ -24,10 +25,10 @@ use crate::ending::end_globals;
 use crate::module::{Module, ModuleList};
 use crate::modules::{find, may_run, put_globals};
 use crate::reply::Refusal;
-use ang_engine_build::{Program, build_sections};
+use ang_engine_build::{NoProgram, Program, build_sections};
 use ang_engine_modules::{LoadedModule, Modules};
 use ang_host::{Driver, HostEvent};
-use ang_kinds::{Error, Fault, List, Mask, Unbuilt};
+use ang_kinds::{Denial, Error, Fault, List, Mask};
 use ang_meaning::Slot;
 use ang_registry::Registry;
 use ang_view::View;
@@ -42,20 +43,20 @@ pub enum BuildRefused {
     Before(Refusal),
     /// A growth of memory was refused before the first initializer.
     Memory,
-    /// The sections have these errors.
-    Errors(List<Error>),
+    /// The sections have these errors, with these denials.
+    Errors(List<Error>, List<Denial>),
     /// An initializer failed.
     Initializer(Fault),
 }
 
 /// What a build is refused by that comes to no program.
-fn refused_by(unbuilt: Unbuilt) -> BuildRefused
-    ensures exact { result ≡ refused_by unbuilt }
+fn refused_by(why: NoProgram) -> BuildRefused
+    ensures exact { result ≡ refused_by why }
     ensures begun { IsBegun result }
 {
-    match unbuilt {
-        Unbuilt::Errors(errors) => BuildRefused::Errors(errors),
-        Unbuilt::Memory => BuildRefused::Memory,
+    match why {
+        NoProgram::Errors { errors, denials } => BuildRefused::Errors(errors, denials),
+        NoProgram::Memory => BuildRefused::Memory,
     }
 }
 
@@ -102,25 +103,26 @@ fn compile(
     name: &[u8],
     mask: Mask,
     sections: &[List<u8>],
-) -> Result<LoadedModule, Unbuilt>
+) -> Result<LoadedModule, NoProgram>
     requires few { length sections.now < 2 ^ 32 }
     ensures compiled { IsCompiled result
         (build_of (seen registry.now.entries mask.0) sections.now) }
+    ensures denials { HasDenials result (denials_in registry.now.entries mask.0 sections.now) }
     ensures name { IfOk result (λ l. l.name ≡ name.now) }
     ensures view { IfOk result (λ l. l.view ≡ seen registry.now.entries mask.0) }
     ensures unbound { IfOk result (λ l. l.links ≡ []) }
     ensures sound { IfOk result (λ l. SoundProgram l.view (view_typed l.tree)) }
 {
     let Ok(view) = registry.seen(alloc, mask) else {
-        return Err(Unbuilt::Memory);
+        return Err(NoProgram::Memory);
     };
-    let program = match build_sections(alloc, &view, sections) {
+    let program = match build_sections(alloc, registry, mask, &view, sections) {
         Ok(program) => program,
-        Err(unbuilt) => return Err(unbuilt),
+        Err(why) => return Err(why),
     };
     match with_view(alloc, name, view, program) {
         Ok(loaded) => Ok(loaded),
-        Err(_) => Err(Unbuilt::Memory),
+        Err(_) => Err(NoProgram::Memory),
     }
 }
 
@@ -129,9 +131,11 @@ fn compile_waiting(
     alloc: Global,
     registry: &Registry,
     from: &mut Module,
-) -> Result<LoadedModule, Unbuilt>
+) -> Result<LoadedModule, NoProgram>
     ensures compiled { IsCompiled result
         (build_of (seen registry.now.entries from.old.mask.0) from.old.sections.items) }
+    ensures denials { HasDenials result
+        (denials_in registry.now.entries from.old.mask.0 from.old.sections.items) }
     ensures built { IfOk result (λ l. IsBuiltBy registry.now.entries from.new l) }
     ensures unbound { IfOk result (λ l. l.links ≡ []) }
     ensures sound { IfOk result (λ l. SoundProgram l.view (view_typed l.tree)) }
@@ -255,7 +259,7 @@ fn build_module(
     list.code.clear(alloc, home);
     match compile_waiting(alloc, registry, &mut list.modules[home as usize]) {
         Ok(loaded) => start(alloc, &mut list.code, machine, events, home, loaded, budget),
-        Err(unbuilt) => Err(refused_by(unbuilt)),
+        Err(why) => Err(refused_by(why)),
     }
 }
 

@@ -1,34 +1,39 @@
 //! The replies to commands.
 ghost use Rattle.std.specs.Prelude.{◌≡◌, []};
-ghost use Rattle.ang_engine.specs.Step.{reply_of};
+ghost use Rattle.ang_engine.specs.Step.{reply_of, errors_reply};
 ghost use Rattle.ang_engine.specs.Outcomes.{outcome_of, reply_to_build, reply_to_call};
 
 use crate::building::BuildRefused;
 use crate::reply::{Outcome, Refusal, Reply};
 use ang_host::HostEvent;
-use ang_kinds::{Error, List};
+use ang_kinds::{Denial, Error, List};
 use std::alloc::Global;
 
-/// A reply without denials.
-fn reply(alloc: Global, outcome: Outcome, events: Vec<HostEvent>, errors: List<Error>) -> Reply
-    ensures exact { result ≡ reply_of outcome events.items errors }
+/// A reply without errors and denials.
+fn with_events(alloc: Global, outcome: Outcome, events: Vec<HostEvent>) -> Reply
+    ensures exact { result ≡ reply_of outcome events.items [] }
 {
     Reply {
         outcome,
         events: List::from_vec(events),
-        errors,
+        errors: List::from_vec(Vec::new(alloc)),
         denials: List::from_vec(Vec::new(alloc)),
     }
 }
 
-/// A reply after a run.
-fn with_events(alloc: Global, outcome: Outcome, events: Vec<HostEvent>) -> Reply
-    ensures exact { result ≡ reply_of outcome events.items [] }
+/// The reply to a build of sections with these errors and denials.
+fn with_errors(events: Vec<HostEvent>, errors: List<Error>, denials: List<Denial>) -> Reply
+    ensures exact { result ≡ errors_reply events.items errors denials }
 {
-    reply(alloc, outcome, events, List::from_vec(Vec::new(alloc)))
+    Reply {
+        outcome: Outcome::Refused(Refusal::BuildErrors),
+        events: List::from_vec(events),
+        errors,
+        denials,
+    }
 }
 
-/// A reply without events and errors.
+/// A reply without events, errors and denials.
 pub fn answer(alloc: Global, outcome: Outcome) -> Reply
     ensures exact { result ≡ reply_of outcome [] [] }
 {
@@ -55,14 +60,7 @@ pub fn build_reply(alloc: Global, done: Result<(), BuildRefused>, events: Vec<Ho
         Err(BuildRefused::Memory) => {
             with_events(alloc, Outcome::Refused(Refusal::BuildMemory), events)
         }
-        Err(BuildRefused::Errors(errors)) => {
-            reply(
-                alloc,
-                Outcome::Refused(Refusal::BuildErrors),
-                events,
-                errors,
-            )
-        }
+        Err(BuildRefused::Errors(errors, denials)) => with_errors(events, errors, denials),
         Err(BuildRefused::Initializer(fault)) => {
             with_events(alloc, Outcome::Refused(Refusal::InitFailed(fault)), events)
         }

@@ -14,7 +14,8 @@ pub struct Reply {
     pub events: List<HostEvent>,
     /// The errors of a refused build, in order; empty elsewhere.
     pub errors: List<Error>,
-    /// The hidden entities by which refused uses would have resolved. This version lists none.
+    /// The hidden entities by which refused uses of a build would have resolved, in the order of the errors (docs/LANGUAGE.md,
+    /// "Denials"). Empty where a section does not lex or parse, and wherever the outcome is not `BuildErrors`.
     pub denials: List<Denial>,
 }
 
@@ -48,7 +49,7 @@ pub enum Refusal {
     BadBudget,
     /// A growth of memory was refused before the first initializer ran.
     BuildMemory,
-    /// The sections have errors, which the reply lists.
+    /// The sections have errors, which the reply lists with their denials.
     BuildErrors,
     /// An initializer of a global ended with this fault. What the drivers were asked until then stands.
     InitFailed(Fault),

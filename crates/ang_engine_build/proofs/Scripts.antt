@@ -1,6 +1,7 @@
 -- What scripts build to, by what is refused of them.
 use Rattle.std.proofs.Common.{◌≡◌, refl, sym, ap, subst, ◌∙◌, List, [], ◌∷◌}
 use Rattle.std.specs.Prelude.{Ok, Err}
+use Rattle.ang_kinds.specs.declared.error.Denial.{Denial}
 use Rattle.ang_kinds.specs.declared.error.Error.{Error}
 use Rattle.ang_kinds.specs.declared.error.Unbuilt.{Unbuilt}
 use Rattle.ang_kinds.specs.declared.error.Unbuilt.TheVariants as unbuilt
@@ -15,15 +16,18 @@ use Rattle.ang_names.specs.Phases.{IsRefused, errors_in, refusals_of}
 use Rattle.ang_names_resolved.specs.Resolved.{names_of}
 use Rattle.ang_check_bodies.specs.Bodies.{body_refusals, program_of}
 use Rattle.ang_check.specs.Denials.{script_refusals}
+use Rattle.ang_engine_build.specs.declared.program.NoProgram.{NoProgram}
+use Rattle.ang_engine_build.specs.declared.program.NoProgram.TheVariants as no
 use Rattle.ang_engine_build.specs.declared.program.Program.{Program}
-use Rattle.ang_engine_build.specs.Answer.{IsBuilt}
+use Rattle.ang_engine_build.specs.Answer.{IsBuilt, IsDenied}
 use Rattle.ang_engine_build.specs.Build.{Resolved, Errors, Compiled, resolution_of, script_errors, unless_refused, build_of_scripts}
 
 -- where errors are found, they are what is built
-refused_so : (why : Unbuilt) (found : List Error) (r : Resolved) → IsRefused why found → IsBuilt (Err why) (unless_refused found r)
-refused_so (unbuilt.Errors es) [] r h = absurd (h.1 refl)
-refused_so (unbuilt.Errors es) (e ∷ found) r h = ap Errors (sym h.0)
-refused_so unbuilt.Memory found r h = tt
+refused_so : (n : NoProgram) (why : Unbuilt) (rows : List Denial) (found : List Error) (r : Resolved) → IsRefused why found → IsDenied n why rows → IsBuilt (Err n) (unless_refused found r)
+refused_so (no.Errors es ds) (unbuilt.Errors errors) rows [] r h d = absurd (h.1 refl)
+refused_so (no.Errors es ds) (unbuilt.Errors errors) rows (e ∷ found) r h d = ap Errors (sym (d.0 ∙ h.0))
+refused_so (no.Errors es ds) unbuilt.Memory rows found r h d = absurd d
+refused_so no.Memory why rows found r h d = tt
 
 first_refused : (first later : List Refused) (why : Unbuilt) → IsRefused why (errors_in first) → IsRefused why (errors_in (list_or first later))
 first_refused [] later (unbuilt.Errors es) h = absurd (h.1 refl)
@@ -32,10 +36,11 @@ first_refused (x ∷ xs) later why h = h
 
 module _ (V : RegistrationList) (ss : List Source) where
   -- a declaration is refused
-  pub declarations_refused : (why : Unbuilt) → IsRefused why (errors_in (refusals_of V ss)) → IsBuilt (Err why) (build_of_scripts V ss)
+  pub declarations_refused : (n : NoProgram) (why : Unbuilt) (rows : List Denial) → IsRefused why (errors_in (refusals_of V ss)) → IsDenied n why rows
+      → IsBuilt (Err n) (build_of_scripts V ss)
   unfolding script_refusals
-  declarations_refused why h =
-      refused_so why (script_errors V ss) (resolution_of V ss) (first_refused (refusals_of V ss) (body_refusals V (names_of V (declarations_of ss)) ss) why h)
+  declarations_refused n why rows h d =
+      refused_so n why rows (script_errors V ss) (resolution_of V ss) (first_refused (refusals_of V ss) (body_refusals V (names_of V (declarations_of ss)) ss) why h) d
 
   module _ (names : Names) (declared : refusals_of V ss ≡ []) (own : names ≡ names_of V (declarations_of ss)) where
     refused_behind : script_refusals V ss ≡ body_refusals V names ss
@@ -44,9 +49,10 @@ module _ (V : RegistrationList) (ss : List Source) where
         ap (λ first. list_or first (body_refusals V (names_of V (declarations_of ss)) ss)) declared ∙ ap (λ (n : Names). body_refusals V n ss) (sym own)
 
     -- a body or an initializer is
-    pub bodies_refused : (why : Unbuilt) → IsRefused why (errors_in (body_refusals V names ss)) → IsBuilt (Err why) (build_of_scripts V ss)
-    bodies_refused why h =
-        refused_so why (script_errors V ss) (resolution_of V ss) (subst (λ (rs : List Refused). IsRefused why (errors_in rs)) (sym refused_behind) h)
+    pub bodies_refused : (n : NoProgram) (why : Unbuilt) (rows : List Denial) → IsRefused why (errors_in (body_refusals V names ss)) → IsDenied n why rows
+        → IsBuilt (Err n) (build_of_scripts V ss)
+    bodies_refused n why rows h d =
+        refused_so n why rows (script_errors V ss) (resolution_of V ss) (subst (λ (rs : List Refused). IsRefused why (errors_in rs)) (sym refused_behind) h) d
 
     -- nothing is
     pub none_refused : (p : Program) → p.names ≡ names → body_refusals V names ss ≡ [] → view_typed p.tree ≡ program_of V names ss → IsBuilt (Ok p) (build_of_scripts V ss)

@@ -1,6 +1,7 @@
 -- What a build gives (docs/MEANING.md, "A build"; the AngelScript manual, "Script modules"): the errors of the first phase
 -- that refuses something, or the program.
 use Rattle.std.specs.Prelude.{ℕ, List, [], ◌∷◌, Result, Ok, Err}
+use Rattle.ang_kinds.specs.declared.error.Denial.{Denial}
 use Rattle.ang_kinds.specs.declared.error.Error.{Error}
 use Rattle.ang_view.specs.Registration.{RegistrationList}
 use Rattle.ang_typed.specs.Typed as t
@@ -11,7 +12,7 @@ use Rattle.ang_names_listed.specs.Declarations.{declarations_of}
 use Rattle.ang_names.specs.Phases.{errors_in}
 use Rattle.ang_names_resolved.specs.Resolved.{names_of}
 use Rattle.ang_check_bodies.specs.Bodies.{program_of}
-use Rattle.ang_check.specs.Denials.{script_refusals}
+use Rattle.ang_check.specs.Denials.{denials_of, script_refusals}
 use Rattle.ang_engine_build.specs.declared.program.Program.{Program}
 use Rattle.ang_engine_build.specs.Script.{sources_of}
 
@@ -57,3 +58,14 @@ after_reading V (Ok ss) = build_of_scripts V ss
 -- what the sections build to, over what the module sees
 abbrev pub build_of : RegistrationList → List (List ℕ) → Built
 build_of V sections = after_reading V (sources_of 0 sections)
+
+-- ---- its denials
+
+-- For a module of mask m: those of the scripts; a section that is not read has none.
+abbrev pub denials_after : RegistrationList → ℕ → Result (List Source) Error → List Denial
+denials_after R m (Err e) = []
+denials_after R m (Ok ss) = denials_of R m ss
+
+-- the denials of sections: the hidden entries by which what is refused in them would have been resolved
+abbrev pub denials_in : RegistrationList → ℕ → List (List ℕ) → List Denial
+denials_in R m sections = denials_after R m (sources_of 0 sections)

@@ -10,4 +10,4 @@ mod section;
 mod stop;
 
 pub use build::build_sections;
-pub use program::Program;
+pub use program::{NoProgram, Program};

@@ -14,7 +14,7 @@ use ang_kinds::{List, Mask};
 use ang_lex::lex;
 use ang_names::declare;
 use ang_parse::parse;
-use ang_registry::{RegError, Registry, View};
+use ang_registry::{RegError, Registry};
 use ang_tree::Script;
 use std::alloc::{AllocError, Global};
 use std::env;
@@ -34,6 +34,9 @@ enum Stage {
     Built,
 }
 
+/// The mask of the scripts.
+const MASK: Mask = Mask(1);
+
 const PARSED: (Stage, &str) = (Stage::Parsed, "parsed");
 
 const STAGES: [(Stage, &str); 4] = [
@@ -44,17 +47,20 @@ const STAGES: [(Stage, &str); 4] = [
 ];
 
 /// What the scripts see: `void put(int)`.
-fn view(alloc: Global) -> Result<View, RegError> {
+fn registry(alloc: Global) -> Result<Registry, RegError> {
     let mut registry = Registry::new(alloc);
     let _ = registry.function(0, 0, b"void put(int)")?;
-    Ok(registry.seen(alloc, Mask(1))?)
+    Ok(registry)
 }
 
 /// The program of one section, or nothing where it is refused.
-fn built(alloc: Global, view: &View, text: &[u8]) -> Option<Program> {
+fn built(alloc: Global, registry: &Registry, text: &[u8]) -> Option<Program> {
     let section = Vec::from_slice(alloc, text).ok()?;
     let sections = [List::from_vec(section)];
-    build_sections(alloc, view, &sections).ok()
+    let Ok(view) = registry.seen(alloc, MASK) else {
+        return None;
+    };
+    build_sections(alloc, registry, MASK, &view, &sections).ok()
 }
 
 /// How many tokens and declarations a section has, or nothing where it is refused.
@@ -65,32 +71,34 @@ fn counts(alloc: Global, text: &[u8]) -> Option<(usize, usize)> {
 }
 
 /// Declares what scripts declare. Nothing where a declaration is refused.
-fn declared(alloc: Global, view: &View, scripts: &[Script]) -> Option<()> {
-    let _ = declare(alloc, view, scripts).ok()?;
+fn declared(alloc: Global, registry: &Registry, scripts: &[Script]) -> Option<()> {
+    let view = registry.seen(alloc, MASK).ok()?;
+    let _ = declare(alloc, &view, scripts).ok()?;
     Some(())
 }
 
 /// Declares what scripts declare, and checks their bodies. Nothing where something is refused.
-fn checked(alloc: Global, view: &View, scripts: &[Script]) -> Option<()> {
-    let Ok(names) = declare(alloc, view, scripts) else {
+fn checked(alloc: Global, registry: &Registry, scripts: &[Script]) -> Option<()> {
+    let view = registry.seen(alloc, MASK).ok()?;
+    let Ok(names) = declare(alloc, &view, scripts) else {
         return None;
     };
-    let _ = check(alloc, view, &names, scripts).ok()?;
+    let _ = check(alloc, &view, &names, scripts).ok()?;
     Some(())
 }
 
 /// Goes through a section up to a stage. Nothing where it is refused.
-fn turn(alloc: Global, view: &View, text: &[u8], stage: Stage) -> Option<()> {
+fn turn(alloc: Global, registry: &Registry, text: &[u8], stage: Stage) -> Option<()> {
     if stage == Stage::Built {
-        let _ = built(alloc, view, text)?;
+        let _ = built(alloc, registry, text)?;
         return Some(());
     }
     let tokens = lex(alloc, text, 0).ok()?;
     let scripts = [parse(alloc, text, tokens.as_slice()).ok()?];
     match stage {
         Stage::Parsed => Some(()),
-        Stage::Declared => declared(alloc, view, &scripts),
-        Stage::Checked | Stage::Built => checked(alloc, view, &scripts),
+        Stage::Declared => declared(alloc, registry, &scripts),
+        Stage::Checked | Stage::Built => checked(alloc, registry, &scripts),
     }
 }
 
@@ -108,14 +116,14 @@ fn bytes_a_second(len: usize, turns: u32, nanos: u128) -> u128
 /// The nanoseconds of all turns up to a stage, or nothing where the section is refused.
 fn time_of(
     rt: &HostRuntime,
-    view: &View,
+    registry: &Registry,
     text: &[u8],
     turns: u32,
     stage: Stage,
 ) -> io::Result<Option<u128>> {
     let start = Instant::now(rt)?;
     for _ in 0..turns {
-        if turn(rt.alloc(), view, text, stage).is_none() {
+        if turn(rt.alloc(), registry, text, stage).is_none() {
             return Ok(None);
         }
     }
@@ -125,14 +133,14 @@ fn time_of(
 /// Takes the time of all turns up to a stage. Prints the figure.
 fn measure(
     rt: &HostRuntime,
-    view: &View,
+    registry: &Registry,
     name: &str,
     text: &[u8],
     turns: u32,
     stage: (Stage, &str),
 ) -> io::Result<u8> {
     let (stage, done) = stage;
-    let Some(nanos) = time_of(rt, view, text, turns, stage)? else {
+    let Some(nanos) = time_of(rt, registry, text, turns, stage)? else {
         return refuse(rt, name);
     };
     let speed = bytes_a_second(text.len(), turns, nanos);
@@ -146,8 +154,8 @@ fn refuse(rt: &HostRuntime, name: &str) -> io::Result<u8> {
 }
 
 /// Prints what a section builds to.
-fn print_built(rt: &HostRuntime, view: &View, name: &str, text: &[u8]) -> io::Result<u8> {
-    let Some(program) = built(rt.alloc(), view, text) else {
+fn print_built(rt: &HostRuntime, registry: &Registry, name: &str, text: &[u8]) -> io::Result<u8> {
+    let Some(program) = built(rt.alloc(), registry, text) else {
         return refuse(rt, name);
     };
     let functions = program.names.functions.as_slice().len();
@@ -158,7 +166,7 @@ fn print_built(rt: &HostRuntime, view: &View, name: &str, text: &[u8]) -> io::Re
 /// Lexes and parses a section. Prints what it has, and the figure.
 fn measure_parsing(
     rt: &HostRuntime,
-    view: &View,
+    registry: &Registry,
     name: &str,
     text: &[u8],
     turns: u32,
@@ -170,23 +178,23 @@ fn measure_parsing(
         "{name}: {} bytes, {tokens} tokens, {declarations} declarations, {turns} turns",
         text.len()
     )?;
-    measure(rt, view, name, text, turns, PARSED)
+    measure(rt, registry, name, text, turns, PARSED)
 }
 
 /// Builds a section up to each stage. Prints what it builds to, and the figures.
 fn measure_builds(
     rt: &HostRuntime,
-    view: &View,
+    registry: &Registry,
     name: &str,
     text: &[u8],
     builds: u32,
 ) -> io::Result<u8> {
-    let status = print_built(rt, view, name, text)?;
+    let status = print_built(rt, registry, name, text)?;
     if status != 0 {
         return Ok(status);
     }
     for stage in STAGES {
-        let status = measure(rt, view, name, text, builds, stage)?;
+        let status = measure(rt, registry, name, text, builds, stage)?;
         if status != 0 {
             return Ok(status);
         }
@@ -197,7 +205,7 @@ fn measure_builds(
 /// Measures the section of a file.
 fn measure_file(
     rt: &HostRuntime,
-    view: &View,
+    registry: &Registry,
     path: &str,
     turns: &str,
     builds: Option<&str>,
@@ -210,11 +218,11 @@ fn measure_file(
     };
     let mut text = Vec::new(rt.alloc());
     File::open(rt, path)?.read_to_end(&mut text)?;
-    let status = measure_parsing(rt, view, path, text.as_slice(), turns)?;
+    let status = measure_parsing(rt, registry, path, text.as_slice(), turns)?;
     if status != 0 || builds == 0 {
         return Ok(status);
     }
-    measure_builds(rt, view, path, text.as_slice(), builds)
+    measure_builds(rt, registry, path, text.as_slice(), builds)
 }
 
 fn show_use(rt: &HostRuntime) -> io::Result<u8> {
@@ -224,14 +232,14 @@ fn show_use(rt: &HostRuntime) -> io::Result<u8> {
 
 fn run(rt: &HostRuntime) -> io::Result<u8> {
     let alloc = rt.alloc();
-    let Ok(view) = view(alloc) else {
+    let Ok(registry) = registry(alloc) else {
         return Ok(3);
     };
     let words: Vec<String> = env::args(rt)?.collect(alloc)?;
     match words.as_slice() {
-        [_] => print_built(rt, &view, "small", SMALL.as_bytes()),
-        [_, path, turns] => measure_file(rt, &view, path, turns, None),
-        [_, path, turns, builds] => measure_file(rt, &view, path, turns, Some(builds.as_str())),
+        [_] => print_built(rt, &registry, "small", SMALL.as_bytes()),
+        [_, path, turns] => measure_file(rt, &registry, path, turns, None),
+        [_, path, turns, builds] => measure_file(rt, &registry, path, turns, Some(builds.as_str())),
         _ => show_use(rt),
     }
 }

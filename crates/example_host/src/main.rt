@@ -62,7 +62,7 @@ fn bytes(alloc: Global, text: &str) -> Result<List<u8>, AllocError> {
     Ok(List::from_vec(Vec::from_slice(alloc, text.as_bytes())?))
 }
 
-/// Prints the reply as `asrun` does: its events, its errors, its outcome.
+/// Prints the reply as `asrun` does: its events, its errors, its denials, its outcome.
 fn print_reply(rt: &HostRuntime, reply: &Reply) -> io::Result<()> {
     let mut text = Vec::new(rt.alloc());
     push_reply(&mut text, reply)?;

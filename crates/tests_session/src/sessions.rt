@@ -5,12 +5,24 @@ use asrun_session::Status;
 use std::test::Fail;
 
 /// Profile, session, output and status.
-const RUNS: [(&str, &str, &str, Status); 30] = [
+const RUNS: [(&str, &str, &str, Status); 33] = [
     (PROFILE, SESSION, OUTPUT, Status::AllOk),
     (
         PROFILE,
         "module a 00000002\nsection a 1\nvoid main(){ print(1+2); }\nbuild a\n",
-        "ok\nok\nerror UnknownName 0:1:14 print\nrefused BuildErrors\n",
+        "ok\nok\nerror UnknownName 0:1:14 print\ndenied 0:1:14 0 00000001 00000002\nrefused BuildErrors\n",
+        Status::SomeRefused,
+    ),
+    (
+        PROFILE,
+        "module a 00000000\nsection a 1\nvoid main(){ print(1+2); }\nbuild a\n",
+        "ok\nok\nerror UnknownName 0:1:14 print\ndenied 0:1:14 0 00000001 00000000\nrefused BuildErrors\n",
+        Status::SomeRefused,
+    ),
+    (
+        PROFILE,
+        "module a 00000002\nsection a 1\nvoid main(){ print(1+2); } /* cut\nbuild a\n",
+        "ok\nok\nerror OpenComment 0:1:28 -\nrefused BuildErrors\n",
         Status::SomeRefused,
     ),
     (
@@ -42,31 +54,37 @@ const RUNS: [(&str, &str, &str, Status); 30] = [
     (
         "mask 00000001\nfunction 0 0 void log(int)\nfunction 0 1 void log(int,int)\n",
         "module a 00000002\nsection a 1\nvoid main(){ log(1); }\nbuild a\n",
-        "ok\nok\nerror UnknownName 0:1:14 log\nrefused BuildErrors\n",
+        "ok\nok\nerror UnknownName 0:1:14 log\ndenied 0:1:14 0 00000001 00000002\nrefused BuildErrors\n",
         Status::SomeRefused,
     ),
     (
         "mask 00000001\ntype Counter 1\nfactory Counter 1 Counter@ f(int)\n",
         "module a 00000002\nsection a 1\nvoid m(){ Counter(5); }\nbuild a\n",
-        "ok\nok\nerror UnknownName 0:1:11 Counter\nrefused BuildErrors\n",
+        "ok\nok\nerror UnknownName 0:1:11 Counter\ndenied 0:1:11 0 00000001 00000002\ndenied 0:1:11 1 00000001 00000002\nrefused BuildErrors\n",
         Status::SomeRefused,
     ),
     (
         "mask 00000001\ntype Counter 1\nfactory Counter 1 Counter@ f(int)\n",
         "module a 00000002\nsection a 1\nvoid m(){ Counter c(5); }\nbuild a\n",
-        "ok\nok\nerror UnknownType 0:1:11 Counter\nrefused BuildErrors\n",
+        "ok\nok\nerror UnknownType 0:1:11 Counter\ndenied 0:1:11 0 00000001 00000002\nrefused BuildErrors\n",
         Status::SomeRefused,
     ),
     (
         "mask 00000001\ntype Cell 2\nmask 00000002\nfunction 2 2 Cell@+ pick(Cell@+)\n",
         "module a 00000002\nsection a 1\nvoid main(){ pick(null); }\nbuild a\n",
-        "ok\nok\nerror UnknownName 0:1:14 pick\nrefused BuildErrors\n",
+        "ok\nok\nerror UnknownName 0:1:14 pick\ndenied 0:1:14 0 00000001 00000002\nrefused BuildErrors\n",
+        Status::SomeRefused,
+    ),
+    (
+        "mask 00000003\ntype Cell 2\nmask 00000002\nmethod Cell 0 int get()\nmask 00000001\nmethod Cell 0 int get() const\n",
+        "module a 00000002\nsection a 1\nvoid m(const Cell@ c) { c.get(); }\nbuild a\n",
+        "ok\nok\nerror Const 0:1:27 get\ndenied 0:1:27 2 00000001 00000002\nrefused BuildErrors\n",
         Status::SomeRefused,
     ),
     (
         "mask 00000003\ntype Cell 2\nmask 00000001\nfactory Cell 0 Cell@ f(int)\nmask 00000002\nmethod Cell 0 int get() const\n",
         "module a 00000001\nsection a 1\nvoid m(){ Cell(1).get(); }\nbuild a\nsection a 1\nvoid m(){ Cell(1); }\nbuild a\ncall a () void m()\n",
-        "ok\nok\nerror UnknownName 0:1:19 get\nrefused BuildErrors\nok\nok\nhost a 1 2 - (1) made #0\nend 2 #0\nok\n",
+        "ok\nok\nerror UnknownName 0:1:19 get\ndenied 0:1:19 2 00000002 00000001\nrefused BuildErrors\nok\nok\nhost a 1 2 - (1) made #0\nend 2 #0\nok\n",
         Status::SomeRefused,
     ),
     (

@@ -68,14 +68,14 @@ returns-in-Err-clause-done g c =
     refused-leads (λ v. (g.dyn-1.0.entry v).1) c.args.registry.now.entries c.args.list.now.modules.items c.args.list.now.code c.clear.new.self c.args.home c.args.budget
     c.compile_waiting.new.from c.index_mut.result.now c.args.machine.now.store c.end_globals.new.machine.store c.args.events.now c.end_globals.new.events
     c.requires.modules.each c.requires.modules.few c.requires.within c.index_mut.ensures.value c.clear.ensures.cleared c.requires.first c.end_globals.ensures.ended c.end_globals.ensures.moves
-    c.compile_waiting.ensures.emptied (Unit {0}) c.in-Err.unbuilt c.refused_by.result c.refused_by.ensures.exact c.in-Err.ensures.compiled
+    c.compile_waiting.ensures.emptied (Unit {0}) c.in-Err.why c.refused_by.result c.refused_by.ensures.exact c.in-Err.ensures.compiled c.in-Err.ensures.denials
 
 pub returns-in-Err-clause-asked : goal.returns-in-Err-clause-asked
 returns-in-Err-clause-asked g c =
     refused-asked (λ v. (g.dyn-1.0.entry v).1) c.args.registry.now.entries c.args.list.now.modules.items c.args.list.now.code c.clear.new.self c.args.home c.args.budget
     c.compile_waiting.new.from c.index_mut.result.now c.args.machine.now.store c.end_globals.new.machine.store c.args.events.now c.end_globals.new.events
     c.requires.modules.each c.requires.modules.few c.requires.within c.index_mut.ensures.value c.clear.ensures.cleared c.requires.first c.end_globals.ensures.ended c.end_globals.ensures.moves
-    c.compile_waiting.ensures.emptied (Unit {0}) c.in-Err.unbuilt c.refused_by.result c.refused_by.ensures.exact _ c.requires.ready c.requires.counted
+    c.compile_waiting.ensures.emptied (Unit {0}) c.in-Err.why c.refused_by.result c.refused_by.ensures.exact _ c.requires.ready c.requires.counted
 
 pub returns-in-Err-clause-sound : goal.returns-in-Err-clause-sound
 returns-in-Err-clause-sound g c =
