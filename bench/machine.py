@@ -2,7 +2,8 @@
 """Runs the scripts of bench/scripts in the program, and in the original engine where its program is given, and prints a line for
 each: the ticks of the run, how many ticks a second the program makes, the seconds of both, and the original's seconds divided by
 the program's. Above 1 the program is faster. The last line has the geometric mean of the ratios. Then it does the same with those
-of bench/objects, which use objects of the host; the program lists and prints what they ask of it, which is in its seconds.
+of bench/classes, which have classes of their own, and with those of bench/objects, which use objects of the host; the program lists
+and prints what these ask of it, which is in its seconds.
 
     python3 bench/machine.py ASRUN [--original MACHINE] [--modes plain,bare,counted] [--rounds N] [--check] [SCRIPT ...]
 
@@ -35,7 +36,7 @@ method Counter 0 void bump()
 method Counter 1 int value() const
 """
 EVENTS = ("host ", "end ")
-FOLDERS = ["scripts", "objects"]
+FOLDERS = ["scripts", "classes", "objects"]
 MOST_TICKS = 2147483647
 CALL = "call bench () int64 main()\n"
 MODES = ["plain", "bare", "counted"]

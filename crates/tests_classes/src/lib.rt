@@ -1,4 +1,4 @@
-//! Tests of scripts with classes and interfaces, by the public call `session`.
+//! Tests of scripts with classes and interfaces, and with objects of the host, by the public call `session`.
 #![tactic(auto)]
 
 #[cfg(test)]
@@ -11,5 +11,7 @@ mod harness;
 mod lives;
 #[cfg(test)]
 mod masks;
+#[cfg(test)]
+mod objects;
 #[cfg(test)]
 mod runs;

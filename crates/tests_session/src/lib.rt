@@ -8,8 +8,6 @@ mod errors;
 #[cfg(test)]
 mod harness;
 #[cfg(test)]
-mod objects;
-#[cfg(test)]
 mod sessions;
 #[cfg(test)]
 mod statements;

@@ -1,6 +1,6 @@
 //! Objects of the host in scripts: what is made, asked and ended, in which order, and what is refused.
 
-use crate::harness::{ALL_KINDS, errs, prints};
+use crate::harness::{errs, prints};
 use asrun_session::Status;
 use std::test::Fail;
 
@@ -227,7 +227,7 @@ const REFUSED: [(&str, &str); 11] = [
 #[test]
 fn refused_objects(rt: HostRuntime) -> Result<(), Fail> {
     for (section, errors) in REFUSED {
-        assert!(rt; errs(rt.alloc(), ALL_KINDS, section, errors)?, "{section}");
+        assert!(rt; errs(rt.alloc(), section, errors)?, "{section}");
     }
     Ok(())
 }

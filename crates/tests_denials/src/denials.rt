@@ -1,9 +1,10 @@
 //! Denials of refused builds, by the calls of a host: which rows a refused use has.
 
-use crate::errors::scripts_of;
 use ang_check::{check, denials};
 use ang_kinds::{Denial, Mask, Unbuilt};
+use ang_lex::lex;
 use ang_names::declare;
+use ang_parse::parse;
 use ang_registry::{RegError, Registry};
 use ang_tree::Script;
 use std::alloc::{AllocError, Global};
@@ -51,6 +52,11 @@ fn register(registry: &mut Registry, host: Host) -> Result<(), RegError> {
         }
     }
     Ok(())
+}
+
+fn script_of(alloc: Global, text: &[u8]) -> Option<Script> {
+    let tokens = lex(alloc, text, 0).ok()?;
+    parse(alloc, text, tokens.as_slice()).ok()
 }
 
 /// The denials of scripts that are refused; none where they are built or memory is short.
@@ -105,10 +111,10 @@ fn has_rows(alloc: Global, host: Host, mask: u32, text: &str, wanted: &[Row]) ->
     if register(&mut registry, host).is_err() {
         return false;
     }
-    let Some(scripts) = scripts_of(alloc, text.as_bytes()) else {
+    let Some(script) = script_of(alloc, text.as_bytes()) else {
         return false;
     };
-    match denied(alloc, &registry, Mask(mask), &scripts) {
+    match denied(alloc, &registry, Mask(mask), &[script]) {
         Ok(found) => are_rows(&found, wanted),
         Err(_) => false,
     }

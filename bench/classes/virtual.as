@@ -1,0 +1,43 @@
+// ticks 7500004
+// answer 37500000
+// Methods of two classes, called through handles to their base class.
+class Shape {
+    int64 area() {
+        return 0;
+    }
+}
+
+class Square : Shape {
+    int64 side;
+
+    Square(int64 n) {
+        side = n;
+    }
+
+    int64 area() override {
+        return side * side;
+    }
+}
+
+class Strip : Shape {
+    int64 length;
+
+    Strip(int64 n) {
+        length = n;
+    }
+
+    int64 area() override {
+        return length * 2;
+    }
+}
+
+int64 main() {
+    Shape@ one = Square(3);
+    Shape@ other = Strip(3);
+    int64 sum = 0;
+    for (int i = 0; i < 2500000; i++) {
+        sum += one.area();
+        sum += other.area();
+    }
+    return sum;
+}
