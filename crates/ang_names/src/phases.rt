@@ -260,8 +260,8 @@ pub fn errors_in(alloc: Global, refused: Vec<Refused>) -> Result<Vec<Error>, All
     ensures exact { IfOk result (λ errors. errors.items ≡ spec.errors_in refused.items) }
 {
     let mut errors = Vec::new(alloc);
-    for one in refused {
-        errors.push(one.error)?;
+    for item in refused {
+        errors.push(item.error)?;
     }
     Ok(errors)
 }
