@@ -55,7 +55,8 @@ pub enum Refusal {
     InitFailed(Fault),
     /// The module has no function of that declaration.
     NoFunction,
-    /// The function has a parameter that is a reference: only numbers and truth values pass, by value.
+    /// The function has a reference, an object or a handle among its parameters, or an object or a handle as its
+    /// result: only numbers and truth values pass, by value.
     NotCallable,
     /// Another number of values than there are parameters, or one that is not of its parameter's type
     /// and range. Nothing is converted.
