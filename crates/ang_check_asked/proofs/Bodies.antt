@@ -1,7 +1,6 @@
 -- What is refused of a body or an initializer is a use in it, or no use.
-use Rattle.std.specs.Prelude.{ℕ, Bool, false, ◌||◌, length, List, [], ◌∷◌, map, Option, Some, None, Ok, Err}
+use Rattle.std.specs.Prelude.{ℕ, Bool, false, ◌||◌, length, List, [], ◌∷◌, map, Option, Some, None}
 use Rattle.std.proofs.Common.{refl}
-use Rattle.ang_kinds.specs.declared.error.ErrorKind.TheVariants as kind
 use Rattle.ang_kinds.specs.declared.place.Place.{Place}
 use Rattle.ang_lex.specs.declared.token.Token.{Token}
 use Rattle.ang_tree.specs.declared.type_name.TypeName.{TypeName}
@@ -25,7 +24,7 @@ use Rattle.ang_check_uses.specs.declared.uses.Resolution.TheVariants as resoluti
 use Rattle.ang_check_typing.specs.Calls.{arguments_for}
 use Rattle.ang_check_typing.specs.Typing.{typing_of_args}
 use Rattle.ang_check_statements.specs.Typing.{block_typing, stmts_typing, initializer_typing}
-use Rattle.ang_check_body.specs.Typing.{Base, parameter_local, typed_parameters, this_local, this_parameter, is_void, ending, frame_of, function_typing, method_body_typing, super_chosen, super_by, super_typing, default_base, implicit_super, base_typing, maker_frame, constructor_typing, global_typing}
+use Rattle.ang_check_body.specs.Typing.{parameter_local, typed_parameters, this_local, this_parameter, is_void, ending, frame_of, function_typing, method_body_typing, super_chosen, super_by, super_typing, default_base, implicit_super, base_typing, maker_frame, constructor_typing, global_typing}
 use Rattle.ang_check_asked.proofs.Judged.{Silent, silent_in, either_silent}
 use Rattle.ang_check_asked.proofs.Calls.{arguments_silent}
 use Rattle.ang_check_asked.proofs.Expressions.{args_use}

@@ -1,23 +1,19 @@
 -- What is refused of a call, or of what makes an object, is a use, or no use.
-use Rattle.std.specs.Prelude.{◌≡◌, ◌&&◌, ℕ, Bool, true, false, List, [], ◌∷◌, map, Option, Some, None, Ok, Err, IfErr, IfSome}
+use Rattle.std.specs.Prelude.{◌≡◌, ◌&&◌, ℕ, Bool, List, [], ◌∷◌, Option, Some, None, Err}
 use Rattle.std.proofs.Common.{refl}
-use Rattle.ang_kinds.specs.declared.error.ErrorKind.{ErrorKind}
 use Rattle.ang_kinds.specs.declared.error.ErrorKind.TheVariants as kind
 use Rattle.ang_kinds.specs.declared.place.Place.{Place}
 use Rattle.ang_kinds.specs.declared.types.Pass.{Pass}
 use Rattle.ang_kinds.specs.declared.types.Pass.TheVariants as pass
 use Rattle.ang_lex.specs.declared.token.Token.{Token}
 use Rattle.ang_types.specs.declared.arg_type.ArgType.{ArgType}
-use Rattle.ang_types.specs.declared.arg_type.ArgType.TheVariants as type
 use Rattle.ang_types.specs.declared.asks.Asks.{Asks}
 use Rattle.ang_types.specs.declared.asks.Asks.TheVariants as asks
 use Rattle.ang_types.specs.Ranks.{Ancestors}
 use Rattle.ang_typed.specs.declared.expression.Variable.{Variable}
-use Rattle.ang_typed.specs.Typed as t
 use Rattle.ang_names_known.specs.Lookup.{FoundMethod, may_use}
 use Rattle.ang_names_known.specs.Spaces.{family_type, family_of_type}
 use Rattle.ang_names_written.specs.Sources.{text_of}
-use Rattle.ang_check_operand.specs.declared.operand.Target.{Target}
 use Rattle.ang_check_operand.specs.Operands.{Operand, fit, object_of, site_in}
 use Rattle.ang_check_operand.specs.Refusals.{Typing, fault}
 use Rattle.ang_check_context.specs.declared.scope.LocalVariable.{LocalVariable}

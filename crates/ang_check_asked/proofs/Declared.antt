@@ -1,5 +1,5 @@
 -- What is refused of declarations is a type's name that means no type, or no use.
-use Rattle.std.specs.Prelude.{◌≡◌, ℕ, Bool, true, false, not, ◌&&◌, ◌||◌, if◌then◌else◌, bytes_eq, nat_lt, length, find, List, [], ◌∷◌, ◌++◌, map, Option, Some, None, Ok, Err, IfErr, IfSome, slice_get}
+use Rattle.std.specs.Prelude.{◌≡◌, ℕ, Bool, true, false, not, ◌||◌, if◌then◌else◌, bytes_eq, nat_lt, length, find, List, [], ◌∷◌, ◌++◌, map, Option, Some, None, Ok, Err, IfErr, IfSome, slice_get}
 use Rattle.std.specs.List.{list_any}
 use Rattle.std.specs.Option.{option_or}
 use Rattle.std.proofs.Common.{ap, ◌∙◌}
@@ -12,7 +12,6 @@ use Rattle.ang_tree.specs.declared.declaration.Parameter.{Parameter}
 use Rattle.ang_tree.specs.declared.type_name.TypeName.{TypeName}
 use Rattle.ang_types.specs.declared.asks.Refused.{Refused}
 use Rattle.ang_view.specs.Registration.{RegistrationList}
-use Rattle.ang_names_heritage.specs.Graphs.{leads}
 use Rattle.ang_names_known.specs.declared.names.Family.{Family}
 use Rattle.ang_names_known.specs.declared.names.Field.{Field}
 use Rattle.ang_names_known.specs.declared.names.Method.{Method}
@@ -27,7 +26,7 @@ use Rattle.ang_names_listed.specs.declared.listed.Part.TheVariants as part
 use Rattle.ang_names_listed.specs.declared.listed.Shape.{Shape}
 use Rattle.ang_names_listed.specs.Declarations.{Declaring, declarations_of, families_of}
 use Rattle.ang_names_listed.specs.Taken.{is_taken, is_first_above, name_refusal, plain_refusal}
-use Rattle.ang_names_resolved.specs.Resolved.{is_parent, holds, families_in, space_of_declared}
+use Rattle.ang_names_resolved.specs.Resolved.{families_in, space_of_declared, parameter_role}
 use Rattle.ang_names_written.specs.declared.role.Role.{Role}
 use Rattle.ang_names_written.specs.declared.role.Role.TheVariants as role
 use Rattle.ang_names_written.specs.NotYet.{not_yet}
@@ -38,7 +37,6 @@ use Rattle.ang_names.specs.declared.phase.Phase.TheVariants as phase
 use Rattle.ang_names.specs.Heirs.{at_name, ancestor_refusal, has_public_method, of_interfaces, missing_by, missing_method, inherits, field_refusal, overridden, is_bad_override, method_refusal, first_refused, is_before, earlier, class_refusal, heir_refusal, cycle_refusal}
 use Rattle.ang_names.specs.Meant.{refusal_if, why_refused, most_parameters, parameter_limit, type_refusal_of, parameters_refusal, parameter_list_refusal, function_refusal, import_refusal, clashes_with_member, duplicate, member_refusal, members_refusal, most_members, shape_named, names_class, is_bad_base, bases_refusal, member_limit, family_refusal, part_refusal, type_refusal}
 use Rattle.ang_names.specs.Phases.{with_number, of_family, refusal, refusals, first_refusals, all_phases, refusals_of}
-use Rattle.ang_names_resolved.specs.Resolved.{parameter_role}
 use Rattle.ang_check_uses.specs.Uses.{Scope, type_meant}
 use Rattle.ang_check_asked.specs.Asked.{IsAskedAgain}
 use Rattle.ang_check_asked.proofs.Items.{every_after, every_or}
@@ -210,11 +208,11 @@ module _ (S : Scope) (V : RegistrationList) (all : List Declared) (same : space_
   phase_again phase.Types before d = types_again S E same all d
   phase_again phase.Ancestors before d =
       of_family_again S E same (ancestor_refusal (families_of all)) fs before d.part
-      (λ c f. at_name_again S E same kind.BadBase (leads (is_parent (families_of all)) (length (families_of all)) c c) f)
+      (λ c f. at_name_again S E same kind.BadBase _ f)
   phase_again phase.Heirs before d = of_family_again S E same (heir_refusal fs) fs before d.part (λ c f. heir_again S E same fs c f)
   phase_again phase.Cycles before d =
       of_family_again S E same (cycle_refusal E (families_of all)) fs before d.part
-      (λ c f. at_name_again S E same kind.Cyclic (leads (holds E (families_of all)) (length (families_of all)) c c) f)
+      (λ c f. at_name_again S E same kind.Cyclic _ f)
 
   phases_again : (ps : List Phase) → Every (IsAskedAgain S) (first_refusals V all ps)
   phases_again [] = tt

@@ -1,11 +1,10 @@
 -- What is refused of an expression is a use, or no use.
-use Rattle.std.specs.Prelude.{List, Ok, Err, IfErr}
+use Rattle.std.specs.Prelude.{List, IfErr}
 use Rattle.ang_lex.specs.declared.token.Token.{Token}
 use Rattle.ang_lex.specs.declared.token.TokenKind.{TokenKind}
 use Rattle.ang_lex.specs.declared.token.TokenKind.TheVariants as k
 use Rattle.ang_tree.specs.Tree.{Tree, Args, Trees, literal, name, call, scoped_call, cast, convert, group, postfix, member, method_call, prefix, binary, conditional, assignment, arguments, none, more}
 use Rattle.ang_names_written.specs.Sources.{text_of}
-use Rattle.ang_check_operand.specs.Operands.{Operand}
 use Rattle.ang_check_operand.specs.Refusals.{Typing, ◌>>=◌}
 use Rattle.ang_check_operators.specs.Operations.{literal_typing, binary_typing, prefix_typing, postfix_typing, convert_typing, conditional_typing, assignment_typing}
 use Rattle.ang_check_context.specs.declared.scope.LocalVariable.{LocalVariable}

@@ -1,5 +1,5 @@
 -- What is refused of a name, a member or a type in a body is a use of it, or no use.
-use Rattle.std.specs.Prelude.{◌≡◌, ◌&&◌, ℕ, ◌==◌, ◌||◌, Bool, true, false, List, option_map, Option, Some, None, Ok, Err, IfErr}
+use Rattle.std.specs.Prelude.{◌≡◌, ◌&&◌, ℕ, ◌==◌, ◌||◌, Bool, List, option_map, Option, Some, None, Ok, Err, IfErr}
 use Rattle.std.proofs.Common.{refl, ap}
 use Rattle.ang_kinds.specs.declared.error.ErrorKind.{ErrorKind}
 use Rattle.ang_kinds.specs.declared.error.ErrorKind.TheVariants as kind

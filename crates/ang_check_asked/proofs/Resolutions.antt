@@ -1,9 +1,8 @@
 -- What a use of a name can mean, as a variable, a property or a function, where it is not refused.
-use Rattle.std.specs.Prelude.{ℕ, Bool, true, false, if◌then◌else◌, List, map, Option, Some, None, slice_get}
+use Rattle.std.specs.Prelude.{ℕ, Bool, true, false, if◌then◌else◌, List, Option, Some, None, slice_get}
 use Rattle.ang_kinds.specs.declared.error.ErrorKind.{ErrorKind}
 use Rattle.ang_kinds.specs.declared.error.ErrorKind.TheVariants as kind
 use Rattle.ang_types.specs.declared.arg_type.ArgType.{ArgType}
-use Rattle.ang_types.specs.declared.arg_type.ArgType.TheVariants as type
 use Rattle.ang_types.specs.declared.candidate.Pick.{Pick}
 use Rattle.ang_types.specs.declared.candidate.Pick.TheVariants as pick
 use Rattle.ang_types.specs.Best.{best_of}
@@ -20,7 +19,7 @@ use Rattle.ang_names_known.specs.Spaces.{type_of_name, space_of_names}
 use Rattle.ang_check_uses.specs.declared.uses.Callable.{Callable}
 use Rattle.ang_check_uses.specs.declared.uses.Resolution.{Resolution}
 use Rattle.ang_check_uses.specs.declared.uses.Resolution.TheVariants as resolution
-use Rattle.ang_check_uses.specs.Uses.{Scope, host_meant, variable_meant, global_or_host, global_meant, property_meant, candidates_of, called_at, picked, best_of_those, best_function, functions_of, makers_of, called_by, called_name, unmatched, best_method}
+use Rattle.ang_check_uses.specs.Uses.{Scope, host_meant, variable_meant, global_or_host, global_meant, property_meant, candidates_of, called_at, picked, best_of_those, functions_of, makers_of, called_by, called_name, unmatched, best_method}
 
 abbrev pub IsVariable : Resolution → Type 0
 IsVariable (resolution.Variable v ty read_only) = Unit {0}

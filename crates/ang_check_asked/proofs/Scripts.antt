@@ -6,7 +6,6 @@ use Rattle.ang_tree.specs.declared.type_name.TypeName.{TypeName}
 use Rattle.ang_tree.specs.Declarations.{SuperTree}
 use Rattle.ang_tree.specs.Stmt.{Every, Init, Body, Stmts}
 use Rattle.ang_types.specs.declared.asks.Asks.{Asks}
-use Rattle.ang_types.specs.declared.asks.Refused.{Refused}
 use Rattle.ang_view.specs.Registration.{RegistrationList}
 use Rattle.ang_names_known.specs.declared.names.Constructor.{Constructor}
 use Rattle.ang_names_known.specs.declared.names.Family.{Family}
@@ -27,7 +26,7 @@ use Rattle.ang_check_context.specs.declared.scope.LocalVariable.{LocalVariable}
 use Rattle.ang_check_context.specs.Scope as context
 use Rattle.ang_check_context.specs.Scope.{BodyContext}
 use Rattle.ang_check_uses.specs.declared.uses.Resolution.TheVariants as resolution
-use Rattle.ang_check_uses.specs.Uses.{Scope, resolution_of}
+use Rattle.ang_check_uses.specs.Uses.{resolution_of}
 use Rattle.ang_check_body.specs.Typing.{function_typing, global_typing, method_body_typing, constructor_typing, implicit_super}
 use Rattle.ang_check_bodies.specs.Bodies.{Part, a_function, a_global, a_method, a_constructor, a_default, Judgement, context_in, within_of, base_of, base_name, judged_function, judged_global, method_at, judged_method, constructor_at, judged_constructor, judged, judgements, parts_of, refused_by, refusal_in, body_refusals}
 use Rattle.ang_check.specs.Denials.{scope_of, scope_over, script_refusals}

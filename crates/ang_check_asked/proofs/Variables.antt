@@ -1,5 +1,5 @@
 -- What is refused of a local variable's type, or of what a variable begins with, is a use, or no use.
-use Rattle.std.specs.Prelude.{ℕ, List, Option, Some, None, Ok, Err, IfErr}
+use Rattle.std.specs.Prelude.{List, IfErr}
 use Rattle.ang_lex.specs.declared.token.Token.{Token}
 use Rattle.ang_tree.specs.declared.type_name.TypeName.{TypeName}
 use Rattle.ang_tree.specs.Stmt.{Init, absent, value, constructor}
