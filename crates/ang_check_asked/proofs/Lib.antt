@@ -11,3 +11,4 @@ pub mod Statements
 pub mod Bodies
 pub mod Declared
 pub mod Scripts
+pub mod Told
