@@ -12,16 +12,18 @@ ghost use Rattle.ang_check_context.specs.Scope.{BodyContext};
 ghost use Rattle.ang_check_typing.specs.Typing.{typing_of};
 ghost use Rattle.ang_check_statements.specs.Typing.{local_type, initializer_typing};
 ghost use Rattle.ang_check.specs.Denials.{denials_of, script_refusals, scope_over};
-ghost use Rattle.ang_check_asked.specs.Asked.{IsAskedAgain, IsAskedThere};
+ghost use Rattle.ang_check_asked.specs.Asked.{IsAskedAgain, IsAskedThere, IsOfUse};
 ghost use Rattle.ang_check_asked.specs.Rows.{TellsOfUse};
 
 /// What a refusal of scripts asks of its name, if it asks anything, means nothing over the same view and the names of these
 /// scripts, for just the reason that the error gives. So the report of denials, which asks it over a larger view, asks for
-/// the use that was refused.
-#[tactic(auto, using(crate::proofs::Scripts::asked_again))]
+/// the use that was refused. Its error is one of six: `UnknownName`, `UnknownType`, `NoMatch`, `Ambiguous`, `NoDefault` and
+/// `Const`.
+#[tactic(auto, using(crate::proofs::Scripts::asked_again, crate::proofs::SixKinds::six_kinds))]
 pub fn each_refusal_asks_again()
     ensures asked_again { (V : RegistrationList) (ss : List Source) →
         All (IsAskedAgain (scope_over V ss)) (script_refusals V ss) }
+    ensures kinds { (V : RegistrationList) (ss : List Source) → All IsOfUse (script_refusals V ss) }
 {}
 
 /// Of an expression, where these parameters and locals are alive, the refusal of a use is one at its name; and it says of a
