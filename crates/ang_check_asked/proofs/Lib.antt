@@ -11,3 +11,5 @@ pub mod Statements
 pub mod Bodies
 pub mod Declared
 pub mod Scripts
+pub mod SixKinds
+pub mod Told

@@ -1,5 +1,7 @@
 -- What a refusal asks of its name (docs/LANGUAGE.md, "Denials"), asked again over the same view.
-use Rattle.std.specs.Prelude.{◌≡◌, ◌&&◌, List, IfSome}
+use Rattle.std.specs.Prelude.{◌≡◌, Bool, true, false, ◌&&◌, List, IfSome}
+use Rattle.ang_kinds.specs.declared.error.ErrorKind.{ErrorKind}
+use Rattle.ang_kinds.specs.declared.error.ErrorKind.TheVariants as kind
 use Rattle.ang_lex.specs.declared.token.Token.{Token}
 use Rattle.ang_types.specs.declared.asks.Asks.{Asks}
 use Rattle.ang_types.specs.declared.asks.Refused.{Refused}
@@ -26,3 +28,18 @@ pub record IsRefusedUse (s : BodyContext) (ps : List LocalVariable) (r : Refusal
 -- A refusal is such, if it asks anything.
 abbrev pub IsAskedThere : BodyContext → List LocalVariable → Refusal → Type 0
 IsAskedThere s ps r = IfSome r.asks (IsRefusedUse s ps r)
+
+-- ---- errors of uses
+
+-- what the refusal of a use can be
+abbrev pub refuses_use : ErrorKind → Bool
+refuses_use kind.UnknownName = true
+refuses_use kind.UnknownType = true
+refuses_use kind.NoMatch = true
+refuses_use kind.Ambiguous = true
+refuses_use kind.NoDefault = true
+refuses_use kind.Const = true
+refuses_use _ = false
+
+abbrev pub IsOfUse : Refused → Type 0
+IsOfUse r = IfSome r.asks (λ a. refuses_use r.error.kind ≡ true)
