@@ -1,5 +1,5 @@
 -- What the refusal of a use can be.
-use Rattle.std.specs.Prelude.{◌≡◌, ℕ, Bool, true, false, not, ◌&&◌, if◌then◌else◌, List, [], All, Option, Some, None, IfSome, slice_get}
+use Rattle.std.specs.Prelude.{◌≡◌, ℕ, Bool, true, false, not, ◌&&◌, if◌then◌else◌, List, [], All, Option, Some, None, IfSome, slice_get, slice_index_or}
 use Rattle.std.proofs.Common.{refl, subst}
 use Rattle.ang_kinds.specs.declared.error.ErrorKind.{ErrorKind}
 use Rattle.ang_kinds.specs.declared.error.ErrorKind.TheVariants as kind
@@ -122,7 +122,7 @@ asked_six s r None h = tt
 asked_six s r (Some a) h = subst IsSix h (use_six s r.error.name a)
 
 pub six_kinds : (V : RegistrationList) (ss : List Source) → All IsOfUse (script_refusals V ss)
-six_kinds V ss = λ k r inside. by _ (asked_again V ss k r inside)
+six_kinds V ss = λ k r inside. by (slice_index_or (script_refusals V ss) k r) (asked_again V ss k r inside)
   where
     by : (q : Refused) → IsAskedAgain (scope_over V ss) q → IsOfUse q
     by q h = asked_six (scope_over V ss) q q.asks h
