@@ -4,7 +4,6 @@ use Rattle.std.proofs.Common.{refl, subst}
 use Rattle.ang_kinds.specs.declared.error.ErrorKind.{ErrorKind}
 use Rattle.ang_kinds.specs.declared.error.ErrorKind.TheVariants as kind
 use Rattle.ang_types.specs.declared.arg_type.ArgType.{ArgType}
-use Rattle.ang_types.specs.declared.arg_type.ArgType.TheVariants as type
 use Rattle.ang_types.specs.declared.asks.Asks.{Asks}
 use Rattle.ang_types.specs.declared.asks.Asks.TheVariants as asks
 use Rattle.ang_types.specs.declared.asks.Refused.{Refused}
