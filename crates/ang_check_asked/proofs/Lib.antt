@@ -1,0 +1,15 @@
+pub mod Judged
+pub mod Items
+pub mod Operators
+pub mod Types
+pub mod Resolutions
+pub mod Names
+pub mod Calls
+pub mod Expressions
+pub mod Variables
+pub mod Statements
+pub mod Bodies
+pub mod Declared
+pub mod Scripts
+pub mod SixKinds
+pub mod Told
