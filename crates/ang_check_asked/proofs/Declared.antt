@@ -29,7 +29,6 @@ use Rattle.ang_names_listed.specs.Taken.{is_taken, is_first_above, name_refusal,
 use Rattle.ang_names_resolved.specs.Resolved.{families_in, space_of_declared, parameter_role}
 use Rattle.ang_names_written.specs.declared.role.Role.{Role}
 use Rattle.ang_names_written.specs.declared.role.Role.TheVariants as role
-use Rattle.ang_names_written.specs.NotYet.{not_yet}
 use Rattle.ang_names_written.specs.Sources.{Source, text_of}
 use Rattle.ang_names_written.specs.Types.{TypeOrError, type_in}
 use Rattle.ang_names.specs.declared.phase.Phase.{Phase}
@@ -220,13 +219,7 @@ module _ (S : Scope) (V : RegistrationList) (all : List Declared) (same : space_
       every_or (IsAskedAgain S) (refusals V all p) (first_refusals V all ps)
       (every_after (IsAskedAgain S) (refusal V all p) [] all (phase_again p)) (phases_again ps)
 
-  plain_again : (es : List Error) → Every (IsAskedAgain S) (map plain_refusal es)
-  plain_again [] = tt
-  plain_again (e ∷ es) = (tt, plain_again es)
-
 pub declarations_again : (S : Scope) (V : RegistrationList) (ss : List Source) → space_of_names S.view S.names ≡ space_of_declared V (declarations_of ss)
     → Every (IsAskedAgain S) (refusals_of V ss)
 unfolding refusals_of
-declarations_again S V ss same =
-    every_or (IsAskedAgain S) (map plain_refusal (not_yet ss)) (first_refusals V (declarations_of ss) all_phases)
-    (plain_again S V (declarations_of ss) same (not_yet ss)) (phases_again S V (declarations_of ss) same all_phases)
+declarations_again S V ss same = phases_again S V (declarations_of ss) same all_phases

@@ -1,5 +1,6 @@
 //! The hidden entries that would resolve a refused use.
-ghost use Rattle.std.specs.Prelude.{◌≡◌, ◌<◌, ◌||◌, ◌++◌, [], ◌∷◌, if◌then◌else◌, IfOk, OnOk};
+ghost use Rattle.std.specs.Prelude.{◌≡◌, ◌<◌, ◌||◌, ◌++◌, [], ◌∷◌, if◌then◌else◌, filter, IfOk, OnOk};
+ghost use Rattle.ang_view.specs.Hidden.{numbers_of};
 ghost use Rattle.ang_view.specs.Registration.{entry_at, seen};
 ghost use Rattle.ang_types.specs.Rivals.{AreRivals};
 ghost use Rattle.ang_names_known.specs.Lookup as lookup;
@@ -118,9 +119,9 @@ pub fn helpers(
     asks: &Asks,
 ) -> Result<Vec<u32>, AllocError>
     requires view { scope.now.view ≡ seen masked.now.list masked.now.mask }
-    ensures exact { IfOk result (λ numbers. numbers.items ≡ added.kept_from
+    ensures exact { IfOk result (λ numbers. numbers.items ≡ filter
         (spec.helps masked.now.list masked.now.mask scope.now refused.now asks.now)
-        0 masked.now.list) }
+        (numbers_of masked.now.list)) }
 {
     let beside = beside_of(alloc, scope, refused.error.name.as_slice(), asks)?;
     let mut numbers = Vec::new(alloc);

@@ -3,7 +3,6 @@ ghost use Rattle.std.specs.Prelude.{◌≡◌, ◌++◌, ◌&&◌, filter, map a
 ghost use Rattle.std.specs.List.{list_any, flat_map};
 ghost use Rattle.ang_view.specs.Hidden.{is_unmet, is_with, numbers_of};
 ghost use Rattle.ang_view.specs.Registration.{seen};
-ghost use Rattle.ang_check_denials.specs.Added.{kept_from};
 ghost use Rattle.ang_check_denials.specs.Denials as spec;
 
 use crate::helpers::{helpers, push_kept};
@@ -32,9 +31,10 @@ fn is_denied(masked: &Masked<'_>, helpers: &[u32], number: u32) -> bool
 
 /// The numbers of the entries that come with one of these and whose own masks do not meet the module's, rising.
 fn denied_with(alloc: Global, masked: &Masked<'_>, helpers: &[u32]) -> Result<Vec<u32>, AllocError>
-    ensures exact { IfOk result (λ numbers. numbers.items ≡ kept_from
+    ensures exact { IfOk result (λ numbers. numbers.items ≡ filter
         (λ y. is_unmet masked.now.list masked.now.mask y
-        && list_any (λ x. is_with masked.now.list x y) helpers.now) 0 masked.now.list) }
+        && list_any (λ x. is_with masked.now.list x y) helpers.now)
+        (numbers_of masked.now.list)) }
 {
     let mut numbers = Vec::new(alloc);
     for number in 0..masked.len() {

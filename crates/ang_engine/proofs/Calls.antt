@@ -31,11 +31,14 @@ use Rattle.ang_engine_modules.specs.Modules.{Module, module_at, TakesSoMany}
 use Rattle.ang_engine_modules.specs.Executed.{call_of}
 use Rattle.ang_engine_modules.specs.Ends.{end_of}
 use Rattle.ang_engine.specs.declared.calling.ChosenCall.{ChosenCall}
-use Rattle.ang_engine.specs.declared.reply.Outcome.{Outcome}
-use Rattle.ang_engine.specs.declared.reply.Refusal.{Refusal}
-use Rattle.ang_engine.specs.declared.reply.Refusal.TheVariants.{NotCallable}
-use Rattle.ang_engine.specs.World.{Program, ModuleState, World, built_in, running, left_to}
-use Rattle.ang_engine.specs.Step.{Chosen, Not, choice_of, of_number, of_function, with_arguments, Leads, reply_of, call_chosen, call_ended, called}
+use Rattle.ang_engine_world.proofs.Lists.{get-map, map-get, get-front}
+use Rattle.ang_engine_world.specs.declared.reply.Outcome.{Outcome}
+use Rattle.ang_engine_world.specs.declared.reply.Refusal.{Refusal}
+use Rattle.ang_engine_world.specs.declared.reply.Refusal.TheVariants.{NotCallable}
+use Rattle.ang_engine_world.specs.World.{Program, ModuleStates, World, built_in, running, left_to}
+use Rattle.ang_engine.specs.Step.{Chosen, Not}
+use Rattle.ang_engine.specs.Step.{choice_of, of_number, of_function, with_arguments, Leads, call_chosen, call_ended, called}
+use Rattle.ang_engine_world.specs.Commands.{reply_of}
 use Rattle.ang_engine.specs.Outcomes.{IsChosen, NameNothing, HasCalled, outcome_by}
 use Rattle.ang_engine.proofs.Leading.{told_by}
 
@@ -177,26 +180,6 @@ reverse-plain vs h = λ x. many_reverse x vs ∙ h x
 
 -- ---- its parameters in the tree
 
-get-map : {A B : Type 0} (h : A → B) (xs : List A) (n : ℕ) (x : A) → slice_get xs n ≡ Some x → slice_get (map h xs) n ≡ Some (h x)
-get-map h [] n x e = cc
-get-map h (y ∷ ys) zero x e = let same : y ≡ x = cc in ap (λ z. Some (h z)) same
-get-map h (y ∷ ys) (suc n) x e = get-map h ys n x e
-
-record IsFromMap {A B : Type 0} (h : A → B) (xs : List A) (n : ℕ) (y : B) : Type 0 where
-  item : A
-  at : slice_get xs n ≡ Some item
-  same : h item ≡ y
-
-map-get : {A B : Type 0} (h : A → B) (xs : List A) (n : ℕ) (y : B) → slice_get (map h xs) n ≡ Some y → IsFromMap h xs n y
-map-get h [] n y e = absurd (cc)
-map-get h (x ∷ xs) zero y e = record { item = x; at = refl; same = cc }
-map-get h (x ∷ xs) (suc n) y e = let r = map-get h xs n y e in record { item = r.item; at = r.at; same = r.same }
-
-get-front : {A : Type 0} (xs ys : List A) (n : ℕ) (x : A) → slice_get xs n ≡ Some x → slice_get (xs ++ ys) n ≡ Some x
-get-front [] ys n x e = absurd (cc)
-get-front (z ∷ xs) ys zero x e = e
-get-front (z ∷ xs) ys (suc n) x e = get-front xs ys n x e
-
 -- a function of the names takes as many arguments in the tree
 pub takes-named : (V : RegistrationList) (names : Names) (ss : List Source) (ms : List Module) (m n : ℕ) (f : ScriptFunction) (slots : List Slot)
     → HasNames V names ss (module_at ms m).tree → IsOneOf names.functions n f slots → TakesSoMany ms m n (length slots)
@@ -220,7 +203,7 @@ called-so f (Err fault) x w rest = refl
 same_function : (o : Option ScriptFunction) (f g : ScriptFunction) → o ≡ Some f → o ≡ Some g → f ≡ g
 same_function o f g e h = cc
 
-pub call-run : (p : Program) (ms : List Module) (decl : List ℕ) (vs : List Value) (home budget : ℕ) (c : ChosenCall) (f : ScriptFunction) (outcome : Outcome) (ss : List ModuleState) (u x : RunWorld)
+pub call-run : (p : Program) (ms : List Module) (decl : List ℕ) (vs : List Value) (home budget : ℕ) (c : ChosenCall) (f : ScriptFunction) (outcome : Outcome) (ss : ModuleStates) (u x : RunWorld)
     → built_in ss ≡ ms → u.events ≡ [] → choice_of p decl vs ≡ Chosen c.number f c.args.items → HasCalled ms p.names home budget c u outcome x
     → Leads (call_chosen (choice_of p decl vs) (left_to ss u) home budget) (reply_of outcome x.events []) (left_to ss x)
 call-run p ms decl vs home budget c f outcome ss u x built first choice h =

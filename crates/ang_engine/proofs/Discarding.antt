@@ -13,7 +13,7 @@ use Rattle.ang_host.specs.Events.{DriversFollow}
 use Rattle.ang_meaning.specs.World.{World as RunWorld}
 use Rattle.ang_meaning.specs.Counting.{IsCounted, counts_by}
 use Rattle.ang_heap.specs.Parts.{PartsMove}
-use Rattle.ang_engine.specs.World.{all_ended}
+use Rattle.ang_engine_world.specs.World.{all_ended}
 use Rattle.ang_engine.proofs.GlobalsEnd.{all_given_back}
 use Rattle.ang_engine.proofs.States.{All-state_at, fresh-balanced}
 

@@ -1,10 +1,10 @@
-pub mod Lists
-pub mod Worlds
 pub mod States
 pub mod Beginning
 pub mod Entries
-pub mod Finding
 pub mod Leading
+pub mod Places
+pub mod Linking
+pub mod Unloading
 pub mod Builds
 pub mod Starting
 pub mod Emptied

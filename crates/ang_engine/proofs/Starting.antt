@@ -26,11 +26,11 @@ use Rattle.ang_engine_modules.specs.Modules.{Module as RunModule, unbuilt, modul
 use Rattle.ang_source.specs.Meaning.{kind_of}
 use Rattle.ang_engine_modules.specs.Executed.{first_globals, initialization_of}
 use Rattle.ang_engine_modules.specs.Ends.{Ends}
-use Rattle.ang_engine.specs.World.{Program, globals_ended}
+use Rattle.ang_engine_world.specs.World.{Program, globals_ended}
 use Rattle.ang_engine.specs.Step.{globals_begun}
 use Rattle.ang_engine.specs.Asked.{HasRunOn}
-use Rattle.ang_engine.specs.Engines.{program_in}
-use Rattle.ang_engine.proofs.Lists.{map_at, set_at}
+use Rattle.ang_engine_world.specs.States.{program_in}
+use Rattle.ang_engine_world.proofs.Lists.{map_at, set_at}
 use Rattle.ang_engine.proofs.GlobalsEnd.{globals_ends, ends_listed, ended_globals, begun_counted}
 
 -- ---- first values

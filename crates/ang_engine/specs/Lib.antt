@@ -1,4 +1,3 @@
-pub mod World
 pub mod Step
 pub mod Outcomes
 pub mod Engines
@@ -6,3 +5,4 @@ pub mod Sound
 pub mod Asked
 pub mod Applied
 pub mod Ending
+pub mod Alike

@@ -7,13 +7,13 @@ ghost use Rattle.ang_vm.specs.Machines.{lent};
 ghost use Rattle.ang_engine_modules.specs.Loaded.{modules_of};
 ghost use Rattle.ang_engine_modules.specs.Modules.{TakesSoMany, AreDriversThere};
 ghost use Rattle.ang_engine.specs.Asked.{HasRunOn};
-ghost use Rattle.ang_engine.specs.Engines.{program_in};
+ghost use Rattle.ang_engine_world.specs.States.{program_in};
 ghost use Rattle.ang_engine.specs.Outcomes.{IsChosen, NameNothing, HasCalled, outcome_by};
 ghost use Rattle.ang_engine.specs.Step.{choice_of, of_function};
 
-use crate::reply::{Outcome, Refusal};
 use ang_engine_call::{arguments, find_function, is_callable, result_value};
 use ang_engine_modules::{LoadedModule, Modules};
+use ang_engine_world::{Outcome, Refusal};
 use ang_host::{Driver, HostEvent};
 use ang_kinds::{Fault, Value};
 use ang_meaning::Slot;

@@ -10,7 +10,6 @@ mod families;
 mod headings;
 pub mod laws;
 mod members;
-mod phase;
 mod phases;
 
 pub use ang_kinds::Unbuilt;
@@ -20,5 +19,4 @@ pub use ang_names_known::{
 };
 pub use ang_names_resolved::heading_of;
 pub use declaring::{declare, names_over, phase_refusals, unbuilt};
-pub use headings::function_refusal;
-pub use phase::Phase;
+pub use headings::heading_refusal;

@@ -12,4 +12,4 @@ mod taken;
 pub use families::{Declaring, families_of};
 pub use listed::{Attributes, Declared, Member, MemberKind, Part, Shape};
 pub use listing::declarations_of;
-pub use taken::name_refusals;
+pub use taken::{declares_function, name_refusals, push_refused};

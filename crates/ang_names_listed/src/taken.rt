@@ -1,6 +1,7 @@
 //! Names that are taken, and too many of them.
 ghost use Rattle.std.specs.Prelude.{◌≡◌, ◌++◌, IfOk, OnOk, Some, count_by, length, option_to_list};
 ghost use Rattle.std.specs.List.{list_any};
+ghost use Rattle.ang_types.specs.Refusals.{plain_refusal};
 ghost use Rattle.ang_view.specs.Registration.{entry_at};
 ghost use Rattle.ang_names_written.specs.Sources as sources;
 ghost use Rattle.ang_names_listed.specs.Declarations.{families_of};
@@ -141,7 +142,8 @@ fn declares_family(part: &Part<'_>) -> bool
     matches!(part, Part::Family(_))
 }
 
-fn declares_function(part: &Part<'_>) -> bool
+/// Whether a function is declared there, and no import. It takes no memory.
+pub fn declares_function(part: &Part<'_>) -> bool
     ensures exact { result ≡ spec.declares_function part.now }
 {
     matches!(part, Part::Function(_, _))
@@ -192,14 +194,10 @@ fn refused_name(
     kind: ErrorKind,
 ) -> Result<Refused, AllocError>
     ensures exact { IfOk result (λ r. r
-        ≡ spec.plain_refusal (sources.error_at kind declared.now.text declared.now.name)) }
+        ≡ plain_refusal (sources.error_at kind declared.now.text declared.now.name)) }
 {
     let error = error_at(alloc, declared.text.bytes(), kind, &declared.name)?;
-    Ok(Refused {
-        error,
-        asks: None,
-        is_there: false,
-    })
+    Ok(Refused::plain(error))
 }
 
 #[tactic(auto, unfolding(crate::specs::Taken::name_refusal))]
@@ -222,7 +220,10 @@ fn name_refusal(
     Ok(Some(refused))
 }
 
-fn push_refused(found: &mut Vec<Refused>, refused: Option<Refused>) -> Result<(), AllocError>
+/// Puts what is refused, if anything is, after what was refused before.
+///
+/// The only error is want of memory.
+pub fn push_refused(found: &mut Vec<Refused>, refused: Option<Refused>) -> Result<(), AllocError>
     ensures pushed { OnOk result (found.new.items ≡ found.old.items ++ option_to_list refused) }
 {
     if let Some(refused) = refused {

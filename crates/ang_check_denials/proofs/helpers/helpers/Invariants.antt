@@ -1,6 +1,6 @@
 use Rattle.std.proofs.Common.{◌≡◌, ◌++◌, drop}
 use Rattle.ang_check_denials.specs.Denials.{helps}
-use Rattle.ang_check_denials.specs.Added.{kept_from}
+use Rattle.ang_check_denials.proofs.Kept.{kept_from}
 use Rattle.ang_check_denials.proofs.helpers.helpers.Given as goal
 
 abbrev pub invariant-loop-number : goal.invariant-loop-number

@@ -1,7 +1,7 @@
 use Rattle.std.proofs.Common.{◌≡◌, ◌++◌, ◌&&◌, drop}
 use Rattle.std.specs.List.{list_any}
 use Rattle.ang_view.specs.Hidden.{is_unmet, is_with}
-use Rattle.ang_check_denials.specs.Added.{kept_from}
+use Rattle.ang_check_denials.proofs.Kept.{kept_from}
 use Rattle.ang_check_denials.proofs.rows.denied_with.Given as goal
 
 abbrev pub invariant-loop-number : goal.invariant-loop-number

@@ -1,6 +1,6 @@
 use Rattle.std.proofs.Common.{Some, None, ap, ◌∙◌}
 use Rattle.std.specs.Prelude.{slice_set}
-use Rattle.ang_engine.proofs.Lists.{set_set}
+use Rattle.ang_engine_world.proofs.Lists.{set_set}
 use Rattle.ang_engine.proofs.building.load.Goals as goal
 
 pub returns-clause-cleared : goal.returns-clause-cleared

@@ -7,7 +7,7 @@ use Rattle.ang_heap.specs.Stores.{world_of}
 use Rattle.ang_vm.specs.Machines.{lent}
 use Rattle.ang_engine_modules.specs.Loaded.{modules_of}
 use Rattle.ang_engine_modules.specs.Modules.{AreDriversThere}
-use Rattle.ang_engine.specs.Engines.{program_in}
+use Rattle.ang_engine_world.specs.States.{program_in}
 use Rattle.ang_engine.proofs.Starting.{first_values, started-by, begun-world, run-begun, run-loaded}
 use Rattle.ang_engine.proofs.Asking.{run-join, run-ended}
 use Rattle.ang_engine.proofs.building.start.Goals as goal

@@ -1,6 +1,6 @@
 use Rattle.std.proofs.Common.{sym, subst}
 use Rattle.ang_engine.specs.Engines.{registrations, world_in}
-use Rattle.ang_engine.specs.declared.command.Command.TheVariants.{Call}
+use Rattle.ang_engine_world.specs.declared.command.Command.TheVariants.{Call}
 use Rattle.ang_engine.specs.Sound.{AreSoundModules}
 use Rattle.ang_engine.proofs.Whole.{applied-call, applied-memory, sound-asked}
 use Rattle.ang_engine.proofs.engine.Engine.call.Goals as goal

@@ -1,7 +1,7 @@
 use Rattle.ang_heap.specs.Stores.{world_of}
 use Rattle.ang_engine.specs.Engines.{registrations, world_in}
 use Rattle.ang_engine.specs.Sound.{IsSoundModule}
-use Rattle.ang_engine.proofs.Worlds.{zip_length}
+use Rattle.ang_engine_world.proofs.Worlds.{zip_length}
 use Rattle.ang_engine.proofs.Whole.{applied-done}
 use Rattle.ang_engine.proofs.engine.Engine.new_module.Goals as goal
 use Rattle.std.proofs.Common.{refl}

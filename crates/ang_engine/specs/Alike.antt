@@ -1,0 +1,67 @@
+-- That hidden registrations do not matter: what a module's mask hides is not felt (docs/MEANING.md,
+-- "What hidden registrations change").
+use Rattle.std.specs.Prelude.{◌≡◌, ℕ, true, List, [], ◌∷◌, ◌++◌, Some, map as list_map}
+use Rattle.ang_host.specs.declared.answer.HostReply.{HostReply}
+use Rattle.ang_view.specs.Registration.{RegistrationList, seen}
+use Rattle.ang_meaning.specs.World.{Input}
+use Rattle.ang_meaning.specs.Told.{has_room, answers_told, answers_listed}
+use Rattle.ang_engine_world.specs.declared.command.Command.{Command}
+use Rattle.ang_engine_world.specs.declared.command.Command.TheVariants.{NewModule, SetMask, AddSection, Build, Bind, Unbind, Call, Discard}
+use Rattle.ang_engine_world.specs.declared.reply.Reply.{Reply}
+use Rattle.ang_engine_world.specs.World.{World, no_modules, module_named, module_at}
+use Rattle.ang_engine.specs.Step.{is_budget, step}
+
+-- ---- commands that were granted all that they asked for
+
+-- As `Takes` says it of a command, and there was memory and room each time.
+pub record Grants (R : RegistrationList) (before : World) (c : Command) (reply : Reply)
+    (after : World) : Type 0 where
+  pub used : List Input
+  pub tells : (rest : List Input)
+      → step R before c (used ++ rest) ≡ Some (record { reply = reply; world = after; left = rest })
+  pub room : has_room used ≡ true
+  pub answers : answers_told used ≡ answers_listed reply.events
+
+-- a list of commands in turn, each of which does this to the world and has a reply
+abbrev pub InTurn : (World → Command → Reply → World → Type 0) → World → List Command → List Reply
+    → World → Type 0
+InTurn does w [] [] after = w ≡ after
+InTurn does w [] (r ∷ rs) after = ⊥
+InTurn does w (c ∷ cs) [] after = ⊥
+InTurn does w (c ∷ cs) (r ∷ rs) after = (m : World) × does w c r m × InTurn does m cs rs after
+
+-- ---- builds that see the same
+
+-- Where the command builds, both lists show the same to the mask of the module.
+abbrev pub SeesSame : RegistrationList → RegistrationList → World → Command → Type 0
+SeesSame R S w (NewModule name mask) = Unit {0}
+SeesSame R S w (SetMask name mask) = Unit {0}
+SeesSame R S w (AddSection name text) = Unit {0}
+SeesSame R S w (Build name budget) =
+    (i : ℕ) → module_named name w ≡ Some i → is_budget budget ≡ true
+    → seen R (module_at w i).mask ≡ seen S (module_at w i).mask
+SeesSame R S w (Bind name index exporter decl) = Unit {0}
+SeesSame R S w (Unbind name index) = Unit {0}
+SeesSame R S w (Call name decl args budget) = Unit {0}
+SeesSame R S w (Discard name) = Unit {0}
+
+-- ---- the law
+
+-- what the drivers answered
+abbrev pub answers_in : Reply → List HostReply
+answers_in r = answers_listed r.events
+
+-- the reply without its denials
+abbrev pub undenied : Reply → Reply
+undenied r = record r { denials = [] }
+
+-- Commands over the list R each of whose builds sees the same of the list S, and the same commands
+-- over S: where drivers answer the same, and all was granted, the replies are the same but for their
+-- denials.
+abbrev pub HiddenDoesNotMatter : Type 0
+HiddenDoesNotMatter =
+    (R S : RegistrationList) (cs : List Command) (rs ss : List Reply) (v w : World)
+    → InTurn (λ u c r t. Grants R u c r t × SeesSame R S u c) no_modules cs rs v
+    → InTurn (Grants S) no_modules cs ss w
+    → list_map answers_in rs ≡ list_map answers_in ss
+    → list_map undenied rs ≡ list_map undenied ss

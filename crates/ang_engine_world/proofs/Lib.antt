@@ -1,0 +1,5 @@
+pub mod Lists
+pub mod Worlds
+pub mod Finding
+pub mod Keeping
+pub mod Adding
