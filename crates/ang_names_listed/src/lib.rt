@@ -2,6 +2,7 @@
 //! are taken (docs/LANGUAGE.md, "Names of a build").
 #![tactic(auto)]
 
+mod earlier;
 mod families;
 pub mod laws;
 mod listed;

@@ -1,6 +1,6 @@
 -- The row of a hash has the numbers of what has it.
 use Rattle.std.specs.Prelude.{ℕ, zero, suc, ◌≡◌, ◌<◌, ◌+◌, ◌%◌, List, [], ◌∷◌, ◌++◌, Some, slice_get, unwrap_or}
-use Rattle.std.proofs.Common.{arith, refl, ap, ◌∙◌}
+use Rattle.std.proofs.Common.{arith, ap, ◌∙◌}
 use Rattle.std.proofs.lemmas.Nat.{mod_below}
 use Rattle.ang_names_rows.specs.Hashes.{numbers_of, rows_from}
 
@@ -25,12 +25,15 @@ row_at xs h (suc n) (suc k) lt =
     let e : (h + 1) + k ≡ h + suc k = omega arith in
     row_at xs (h + 1) n k (omega (arith, lt)) ∙ ap (λ m. Some (numbers_of m 0 xs)) e
 
+pub row_of : (xs : List ℕ) (rows : List (List ℕ)) (h n : ℕ) → rows ≡ rows_from xs 0 n → h < n → unwrap_or (slice_get rows h) [] ≡ numbers_of h 0 xs
+row_of xs rows h n same lt =
+    let first : 0 + h ≡ h = omega arith in
+    ap (λ rs. unwrap_or (slice_get rs h) []) same ∙ ap (λ o. unwrap_or o []) (row_at xs 0 n h lt)
+    ∙ ap (λ k. numbers_of k 0 xs) first
+
 pub row_of_hash : (xs : List ℕ) (rows : List (List ℕ)) (h : ℕ) → rows ≡ rows_from xs 0 256 → h < 256
     → unwrap_or (slice_get rows h) [] ≡ numbers_of h 0 xs
-row_of_hash xs rows h same lt =
-    let first : 0 + h ≡ h = omega arith in
-    ap (λ rs. unwrap_or (slice_get rs h) []) same ∙ ap (λ o. unwrap_or o []) (row_at xs 0 256 h lt)
-    ∙ ap (λ k. numbers_of k 0 xs) first
+row_of_hash xs rows h same lt = row_of xs rows h 256 same lt
 
 pub hash_small : (n : ℕ) → n % 256 < 256
 hash_small n = mod_below n 256 (omega arith)
