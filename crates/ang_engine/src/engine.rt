@@ -259,7 +259,6 @@ impl Engine {
                 &mut self.machine,
                 events,
                 home,
-                loaded,
                 &chosen,
                 budget,
             )),
