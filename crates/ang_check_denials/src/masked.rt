@@ -4,6 +4,7 @@ ghost use Rattle.ang_view.specs.Hidden as spec;
 ghost use Rattle.ang_view.specs.Registration as registration;
 ghost use Rattle.ang_view.specs.Registration.{entry_at};
 ghost use Rattle.ang_check_denials.specs.Denials as denials;
+ghost use Rattle.ang_check_denials.specs.Names as names;
 
 use ang_kinds::{EntityNo, Mask};
 use ang_view::{Entry, EntryKind, View, mentions_type};
@@ -79,6 +80,16 @@ impl<'a> Masked<'a> {
         match self.whole.get(EntityNo(number)) {
             None => false,
             Some(entry) => !entry.mask.meets(self.mask),
+        }
+    }
+
+    /// Whether the entry of this number is a type.
+    pub fn has_type(&self, number: u32) -> bool
+        ensures exact { result ≡ names.is_type_entry (entry_at self.now.list number) }
+    {
+        match self.whole.get(EntityNo(number)) {
+            None => false,
+            Some(entry) => matches!(entry.kind, EntryKind::HostType),
         }
     }
 

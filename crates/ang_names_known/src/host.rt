@@ -180,6 +180,16 @@ pub fn found_at(
     }
 }
 
+/// Whether the entry of this number is wanted.
+fn wants_at(view: &View, wanted: &Wanted<'_>, entity: EntityNo) -> bool
+    ensures exact { result ≡ spec.wants_in wanted.now (entry_at view.now entity.0) }
+{
+    match view.get(entity) {
+        None => false,
+        Some(entry) => is_wanted(wanted, entry),
+    }
+}
+
 fn push_function(
     functions: &mut Vec<HostFunction>,
     function: Option<HostFunction>,
@@ -191,6 +201,24 @@ fn push_function(
         functions.push(function)?;
     }
     Ok(())
+}
+
+/// Puts what is found in the entry of this number at the end: most entries are not wanted, and nothing is made of them.
+fn push_found(
+    alloc: Global,
+    functions: &mut Vec<HostFunction>,
+    view: &View,
+    wanted: &Wanted<'_>,
+    entity: EntityNo,
+) -> Result<(), AllocError>
+    ensures pushed { OnOk result (functions.new.items ≡ functions.old.items ++ option_to_list
+        (spec.found wanted.now view.now entity.0 (entry_at view.now entity.0))) }
+{
+    if !wants_at(view, wanted, entity) {
+        return Ok(());
+    }
+    let function = found_at(alloc, view, wanted, entity)?;
+    push_function(functions, function)
 }
 
 /// The functions, factories or methods of the host that are wanted, in the order of their numbers.
@@ -206,9 +234,7 @@ pub fn host_where(
 {
     let mut functions = Vec::new(alloc);
     for number in 0..view.len() {
-        let entity = EntityNo(number as u32);
-        let function = found_at(alloc, view, wanted, entity)?;
-        push_function(&mut functions, function)?;
+        push_found(alloc, &mut functions, view, wanted, EntityNo(number as u32))?;
     }
     Ok(functions)
 }
