@@ -266,7 +266,6 @@ def profiled(profile):
 DEEP = "refused BuildErrors TooDeep"
 LONG = "refused BuildErrors TooLong"
 MANY = "refused BuildErrors Limit"
-NOT_YET = "refused BuildErrors NotYet"
 ARGUMENTS = "refused BadArguments"
 COUNT = "int f(int n){return n<2?n:f(n-1);}"
 LOOP = "void f(){for(int i;i<%d;i++);}"  # takes two ticks more
@@ -274,7 +273,7 @@ LOOP = "void f(){for(int i;i<%d;i++);}"  # takes two ticks more
 LIMITS = [
     Limit("bytes of a section", MOST, lambda n: built(";" * (n - 1)), OK, LONG),
     Limit("bytes of a name", 255, lambda n: built(f"int {'a' * n};"), OK, LONG),
-    Limit("bytes of a text", 255, lambda n: built(f'import void f() from "{"a" * (n - 2)}";'), NOT_YET, LONG),
+    Limit("bytes of a text", 255, lambda n: built(f'import void f() from "{"a" * (n - 2)}";'), OK, LONG),
     Limit("a number", 2**64 - 1, lambda n: built(f"uint64 a={n};"), OK, "refused BuildErrors BadNumber"),
     Limit("open `(` and `{`", 64, lambda n: built(HEAD + "(" * (n - 1) + "x" + ")" * (n - 1) + ";}"), OK, DEEP),
     Limit("open `{`", 64, lambda n: built("void f()" + "{" * n + "}" * n), OK, DEEP),

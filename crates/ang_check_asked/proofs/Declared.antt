@@ -1,9 +1,8 @@
 -- What is refused of declarations is a type's name that means no type, or no use.
-use Rattle.std.specs.Prelude.{◌≡◌, ℕ, Bool, true, false, not, ◌||◌, if◌then◌else◌, bytes_eq, nat_lt, length, find, List, [], ◌∷◌, ◌++◌, map, Option, Some, None, Ok, Err, IfErr, IfSome, slice_get}
+use Rattle.std.specs.Prelude.{◌≡◌, ℕ, Bool, true, false, not, ◌||◌, if◌then◌else◌, bytes_eq, nat_lt, length, List, [], ◌∷◌, ◌++◌, Option, Some, None, Ok, Err, IfErr, IfSome, slice_get}
 use Rattle.std.specs.List.{list_any}
 use Rattle.std.specs.Option.{option_or}
 use Rattle.std.proofs.Common.{ap, ◌∙◌}
-use Rattle.ang_kinds.specs.declared.error.Error.{Error}
 use Rattle.ang_kinds.specs.declared.error.ErrorKind.{ErrorKind}
 use Rattle.ang_kinds.specs.declared.error.ErrorKind.TheVariants as kind
 use Rattle.ang_lex.specs.declared.token.Token.{Token}
@@ -25,18 +24,15 @@ use Rattle.ang_names_listed.specs.declared.listed.Part.{Part}
 use Rattle.ang_names_listed.specs.declared.listed.Part.TheVariants as part
 use Rattle.ang_names_listed.specs.declared.listed.Shape.{Shape}
 use Rattle.ang_names_listed.specs.Declarations.{Declaring, declarations_of, families_of}
-use Rattle.ang_names_listed.specs.Taken.{is_taken, is_first_above, name_refusal, plain_refusal}
+use Rattle.ang_names_listed.specs.Taken.{is_taken, is_first_above, name_refusal}
 use Rattle.ang_names_resolved.specs.Resolved.{families_in, space_of_declared, parameter_role}
 use Rattle.ang_names_written.specs.declared.role.Role.{Role}
 use Rattle.ang_names_written.specs.declared.role.Role.TheVariants as role
-use Rattle.ang_names_written.specs.NotYet.{not_yet}
 use Rattle.ang_names_written.specs.Sources.{Source, text_of}
 use Rattle.ang_names_written.specs.Types.{TypeOrError, type_in}
-use Rattle.ang_names.specs.declared.phase.Phase.{Phase}
-use Rattle.ang_names.specs.declared.phase.Phase.TheVariants as phase
-use Rattle.ang_names_heirs.specs.Heirs.{at_name, ancestor_refusal, has_public_method, of_interfaces, missing_by, missing_method, inherits, field_refusal, overridden, is_bad_override, method_refusal, first_refused, is_before, earlier, class_refusal, heir_refusal, cycle_refusal}
-use Rattle.ang_names.specs.Meant.{refusal_if, why_refused, most_parameters, parameter_limit, type_refusal_of, parameters_refusal, parameter_list_refusal, function_refusal, import_refusal, clashes_with_member, duplicate, member_refusal, members_refusal, most_members, shape_named, names_class, is_bad_base, bases_refusal, member_limit, family_refusal, part_refusal, type_refusal}
-use Rattle.ang_names.specs.Phases.{with_number, of_family, refusal, refusals, first_refusals, all_phases, refusals_of}
+use Rattle.ang_names_heirs.specs.Heirs.{at_name, ancestor_refusal, of_interfaces, missing_among, missing_by, missing_method, inherits, field_refusal, overridden, is_bad_override, method_refusal, first_refused, is_before, earlier, class_refusal, heir_refusal, cycle_refusal}
+use Rattle.ang_names.specs.Refusals.{refusal_if, why_refused, most_parameters, parameter_limit, type_refusal_of, parameters_refusal, parameter_list_refusal, result_role, heading_refusal, clashes_with_member, duplicate, member_refusal, members_refusal, most_members, shape_named, names_class, is_bad_base, bases_refusal, member_limit, family_refusal, part_refusal, type_refusal}
+use Rattle.ang_names.specs.Phases.{Phase, Names, Types, Ancestors, Heirs, Cycles, with_number, of_family, refusal, refusals, first_refusals, all_phases, refusals_of}
 use Rattle.ang_check_uses.specs.Uses.{Scope, type_meant}
 use Rattle.ang_check_asked.specs.Asked.{IsAskedAgain}
 use Rattle.ang_check_asked.proofs.Items.{every_after, every_or}
@@ -80,15 +76,11 @@ module _ (S : Scope) (E : Space) (same : space_of_names S.view S.names ≡ E) wh
       or_again (parameter_limit text name ps) (parameters_refusal E text imported ps)
       (test_again (nat_lt most_parameters (length ps)) kind.Limit text name) (parameters_again text imported ps)
 
-  function_again : (text : List ℕ) (name : Token) (y : TypeName) (ps : List Parameter) → Again (function_refusal E text name y ps)
-  function_again text name y ps =
-      or_again (type_refusal_of E text role.Result y) (parameter_list_refusal E text false name ps) (type_again text role.Result y)
-      (list_again text false name ps)
-
-  import_again : (text : List ℕ) (name : Token) (y : TypeName) (ps : List Parameter) → Again (import_refusal E text name y ps)
-  import_again text name y ps =
-      or_again (type_refusal_of E text role.ImportResult y) (parameter_list_refusal E text true name ps) (type_again text role.ImportResult y)
-      (list_again text true name ps)
+  heading_again : (text : List ℕ) (imported : Bool) (name : Token) (y : TypeName) (ps : List Parameter)
+      → Again (heading_refusal E text imported name y ps)
+  heading_again text imported name y ps =
+      or_again (type_refusal_of E text (result_role imported) y) (parameter_list_refusal E text imported name ps)
+      (type_again text (result_role imported) y) (list_again text imported name ps)
 
   -- ---- members and bases
 
@@ -136,8 +128,8 @@ module _ (S : Scope) (E : Space) (same : space_of_names S.view S.names ≡ E) wh
 
   part_again : (families : List Declaring) (d : Declared) (p : Part) → Again (part_refusal E families d p)
   part_again families d (part.Family s) = family_again families d s
-  part_again families d (part.Function y ps) = function_again d.text d.name y ps
-  part_again families d (part.Import y ps) = import_again d.text d.name y ps
+  part_again families d (part.Function y ps) = heading_again d.text false d.name y ps
+  part_again families d (part.Import y ps) = heading_again d.text true d.name y ps
   part_again families d (part.Global y) = type_again d.text role.Variable y
 
   types_again : (all : List Declared) (d : Declared) → Again (type_refusal E all d)
@@ -185,7 +177,7 @@ module _ (S : Scope) (E : Space) (same : space_of_names S.view S.names ≡ E) wh
   class_again : (fs : List Family) (c : ℕ) (f : Family) → Again (class_refusal fs c f)
   class_again fs c f =
       or_again (missing_method fs c f) _
-      (missing_by_again f (find (λ (m : Method). not (has_public_method fs c m)) (of_interfaces (families_at fs f.above))))
+      (missing_by_again f (missing_among fs c (of_interfaces (families_at fs f.above))))
       (earlier_again (first_refused (field_refusal fs f) f.fields) (first_refused (method_refusal fs f) f.methods)
       (first_again (field_refusal fs f) f.fields (λ (x : Field). either_again (inherits fs f.base x.name) _ None tt tt))
       (first_again (method_refusal fs f) f.methods (λ (m : Method). either_again (is_bad_override m (overridden fs f m)) _ None tt tt)))
@@ -204,13 +196,13 @@ module _ (S : Scope) (V : RegistrationList) (all : List Declared) (same : space_
   fs = families_in E all
 
   phase_again : (p : Phase) (before : List Declared) (d : Declared) → IfSome (refusal V all p before d) (IsAskedAgain S)
-  phase_again phase.Names before d = names_again S E same V before d
-  phase_again phase.Types before d = types_again S E same all d
-  phase_again phase.Ancestors before d =
+  phase_again Names before d = names_again S E same V before d
+  phase_again Types before d = types_again S E same all d
+  phase_again Ancestors before d =
       of_family_again S E same (ancestor_refusal (families_of all)) fs before d.part
       (λ c f. at_name_again S E same kind.BadBase _ f)
-  phase_again phase.Heirs before d = of_family_again S E same (heir_refusal fs) fs before d.part (λ c f. heir_again S E same fs c f)
-  phase_again phase.Cycles before d =
+  phase_again Heirs before d = of_family_again S E same (heir_refusal fs) fs before d.part (λ c f. heir_again S E same fs c f)
+  phase_again Cycles before d =
       of_family_again S E same (cycle_refusal E (families_of all)) fs before d.part
       (λ c f. at_name_again S E same kind.Cyclic _ f)
 
@@ -220,13 +212,7 @@ module _ (S : Scope) (V : RegistrationList) (all : List Declared) (same : space_
       every_or (IsAskedAgain S) (refusals V all p) (first_refusals V all ps)
       (every_after (IsAskedAgain S) (refusal V all p) [] all (phase_again p)) (phases_again ps)
 
-  plain_again : (es : List Error) → Every (IsAskedAgain S) (map plain_refusal es)
-  plain_again [] = tt
-  plain_again (e ∷ es) = (tt, plain_again es)
-
 pub declarations_again : (S : Scope) (V : RegistrationList) (ss : List Source) → space_of_names S.view S.names ≡ space_of_declared V (declarations_of ss)
     → Every (IsAskedAgain S) (refusals_of V ss)
 unfolding refusals_of
-declarations_again S V ss same =
-    every_or (IsAskedAgain S) (map plain_refusal (not_yet ss)) (first_refusals V (declarations_of ss) all_phases)
-    (plain_again S V (declarations_of ss) same (not_yet ss)) (phases_again S V (declarations_of ss) same all_phases)
+declarations_again S V ss same = phases_again S V (declarations_of ss) same all_phases

@@ -8,7 +8,7 @@ ghost use Rattle.ang_check_operand.specs.Refusals.{Gives};
 ghost use Rattle.ang_check_operand.specs.View.{view_operands};
 ghost use Rattle.ang_check_statements.specs.Typing.{own_object as object_of};
 ghost use Rattle.ang_check_uses.specs.Uses.{makers_of as all_makers};
-ghost use Rattle.ang_names_known.specs.Spaces.{family_type};
+ghost use Rattle.ang_names_known.specs.Spaces as spaces;
 ghost use Rattle.ang_check_body.specs.Typing as spec;
 ghost use Rattle.ang_check_body.specs.View.{view_base};
 
@@ -20,15 +20,12 @@ use ang_check_typing::{arguments_for, typing_of_all};
 use ang_check_uses::{Callables, Called, Resolution, Scope, best_of_those, makers_of};
 use ang_kinds::{ErrorKind, List, Place};
 use ang_lex::Token;
-use ang_names_known::{Default, Names, ScriptFunction, default_of};
+use ang_names_known::{Default, Names, ScriptFunction, default_of, family_type};
 use ang_tree as written;
 use ang_tree::SuperCall;
 use ang_typed::{Argument, Block, Callee, Expression, Function, Parameter, Statement};
 use ang_types::ArgType;
 use std::alloc::{AllocError, Global};
-
-/// The number of the first family as a type.
-const FIRST_FAMILY: u32 = 1024;
 
 /// The base class's constructor that runs first: the number of its body, where one is written, and
 /// its arguments.
@@ -129,10 +126,10 @@ fn super_chosen(
 /// The only error is want of memory.
 #[tactic(auto, using(crate::proofs::Makers::makers_beyond))]
 fn makers_in(alloc: Global, scope: &Scope<'_>, class: usize) -> Result<Callables, AllocError>
-    ensures exact { IfOk result (λ c. c ≡ all_makers scope.now (family_type class)) }
+    ensures exact { IfOk result (λ c. c ≡ all_makers scope.now (spaces.family_type class)) }
 {
     if class < scope.names().families.as_slice().len() {
-        makers_of(alloc, scope, FIRST_FAMILY + class as u32)
+        makers_of(alloc, scope, family_type(class))
     } else {
         Ok(Callables::new(alloc))
     }

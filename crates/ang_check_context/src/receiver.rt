@@ -10,12 +10,10 @@ use crate::scope::Within;
 use ang_check_operand::{Operand, Stop, boxed, plain_operand, refused};
 use ang_kinds::{ErrorKind, Place};
 use ang_lex::Token;
+use ang_names_known::family_type;
 use ang_typed::{Expression, Site, Variable};
 use ang_types::ArgType;
 use std::alloc::{AllocError, Global};
-
-/// The number of the first family as a type.
-const FIRST_FAMILY: u32 = 1024;
 
 /// On what a method is called: the number of the receiver's type, and whether the receiver may not
 /// be changed.
@@ -34,7 +32,7 @@ pub fn receiver_within(within: Within) -> Receiver
     ensures read_only { result.read_only ≡ within.read_only }
 {
     Receiver {
-        number: FIRST_FAMILY + within.family as u32,
+        number: family_type(within.family),
         read_only: within.read_only,
     }
 }
@@ -45,7 +43,7 @@ pub fn own_type(within: Within) -> ArgType
     ensures exact { result ≡ names.own_type within }
 {
     ArgType::Object {
-        number: FIRST_FAMILY + within.family as u32,
+        number: family_type(within.family),
         read_only: within.read_only,
     }
 }

@@ -46,7 +46,7 @@ at_map h e [] n = sym e
 at_map h e (x ∷ xs) zero = refl
 at_map h e (x ∷ xs) (suc n) = at_map h e xs n
 
-entry_at-hidden : (R : RegistrationList) (m n : ℕ) → entry_at (hidden R m) n ≡ hidden_entry R m (entry_at R n)
+pub entry_at-hidden : (R : RegistrationList) (m n : ℕ) → entry_at (hidden R m) n ≡ hidden_entry R m (entry_at R n)
 unfolding hidden
 entry_at-hidden R m n = at_map (hidden_entry R m) refl R n
 

@@ -1,22 +1,25 @@
 -- Numbers of a list that are kept, and entries that come with one of those.
-use Rattle.std.specs.Prelude.{ℕ, ◌≡◌, ◌+◌, Bool, true, false, cond, ◌&&◌, ◌||◌, if◌then◌else◌, List, [], ◌∷◌, ◌++◌, length, filter}
+use Rattle.std.specs.Prelude.{ℕ, ◌≡◌, ◌+◌, Bool, true, false, cond, ◌&&◌, ◌||◌, if◌then◌else◌, List, [], ◌∷◌, ◌++◌, map, filter}
 use Rattle.std.specs.List.{list_any, range_with_len}
-use Rattle.std.proofs.Common.{refl, ap, ◌∙◌}
+use Rattle.std.proofs.Common.{arith, refl, sym, ap, ◌∙◌}
+use Rattle.std.proofs.lemmas.List.{map-id}
+use Rattle.std.proofs.lemmas.List.FromFn.{map-range_with_len_more, filter_of_map_range_with_len_more}
 use Rattle.ang_types.specs.declared.asks.Asks.{Asks}
 use Rattle.ang_types.specs.declared.asks.Refused.{Refused}
 use Rattle.ang_view.specs.Hidden.{is_unmet, is_with, numbers_of}
 use Rattle.ang_view.specs.Registration.{RegistrationList}
 use Rattle.ang_check_uses.specs.Uses.{Scope}
-use Rattle.ang_check_denials.specs.Added.{kept_from}
 use Rattle.ang_check_denials.specs.Denials.{denied, helps}
 
-one_kept : (b : Bool) (n : ℕ) (ks fs : List ℕ) → ks ≡ fs → (if b then n ∷ [] else []) ++ ks ≡ cond b (n ∷ fs) fs
-one_kept true n ks fs e = ap (λ r. n ∷ r) e
-one_kept false n ks fs e = e
+-- one number more
+pub kept_more : (p : ℕ → Bool) (n : ℕ) → filter p (range_with_len 0 (n + 1)) ≡ filter p (range_with_len 0 n) ++ (if p n then n ∷ [] else [])
+kept_more p n =
+    let first : 0 + n ≡ n = omega arith in
+    ap (filter p) (sym (map-id (range_with_len 0 (n + 1)))) ∙ filter_of_map_range_with_len_more p (λ k. k) 0 n n first
+    ∙ ap (λ ks. filter p ks ++ (if p n then n ∷ [] else [])) (map-id (range_with_len 0 n))
 
-kept_filter : (p : ℕ → Bool) (n : ℕ) (R : RegistrationList) → kept_from p n R ≡ filter p (range_with_len n (length R))
-kept_filter p n [] = refl
-kept_filter p n (o ∷ os) = one_kept (p n) n (kept_from p (n + 1) os) (filter p (range_with_len (n + 1) (length os))) (kept_filter p (n + 1) os)
+pub hash_more : (f : ℕ → ℕ) (n : ℕ) → map f (range_with_len 0 (n + 1)) ≡ map f (range_with_len 0 n) ++ f n ∷ []
+hash_more f n = let first : 0 + n ≡ n = omega arith in map-range_with_len_more f 0 n n first
 
 any_with : (b : Bool) (q : ℕ → Bool) (n : ℕ) (ks : List ℕ) (rest : Bool) → list_any q ks ≡ rest → list_any q (cond b (n ∷ ks) ks) ≡ ((b && q n) || rest)
 any_with true q n ks rest e = ap (λ r. q n || r) e
@@ -26,10 +29,9 @@ any_kept : (h q : ℕ → Bool) (ns : List ℕ) → list_any q (filter h ns) ≡
 any_kept h q [] = refl
 any_kept h q (n ∷ ns) = any_with (h n) q n (filter h ns) (list_any (λ x. h x && q x) ns) (any_kept h q ns)
 
-pub denied_are : (R : RegistrationList) (m : ℕ) (s : Scope) (r : Refused) (a : Asks) (hs : List ℕ) → hs ≡ kept_from (helps R m s r a) 0 R
-    → kept_from (λ y. is_unmet R m y && list_any (λ x. is_with R x y) hs) 0 R ≡ filter (denied R m s r a) (numbers_of R)
+pub denied_are : (R : RegistrationList) (m : ℕ) (s : Scope) (r : Refused) (a : Asks) (hs : List ℕ) → hs ≡ filter (helps R m s r a) (numbers_of R)
+    → filter (λ y. is_unmet R m y && list_any (λ x. is_with R x y) hs) (numbers_of R) ≡ filter (denied R m s r a) (numbers_of R)
 denied_are R m s r a hs e =
     let brought : (y : ℕ) → list_any (λ x. is_with R x y) hs ≡ list_any (λ x. helps R m s r a x && is_with R x y) (numbers_of R) =
-    λ y. ap (list_any (λ x. is_with R x y)) (e ∙ kept_filter (helps R m s r a) 0 R) ∙ any_kept (helps R m s r a) (λ x. is_with R x y) (numbers_of R) in
-    kept_filter (λ y. is_unmet R m y && list_any (λ x. is_with R x y) hs) 0 R
-    ∙ (λ i. filter (λ y. is_unmet R m y && brought y i) (numbers_of R))
+    λ y. ap (list_any (λ x. is_with R x y)) e ∙ any_kept (helps R m s r a) (λ x. is_with R x y) (numbers_of R) in
+    λ i. filter (λ y. is_unmet R m y && brought y i) (numbers_of R)

@@ -1,3 +1,5 @@
+pub mod Brought
+pub mod ByName
 pub mod Helping
 pub mod Kept
 pub mod Meaning

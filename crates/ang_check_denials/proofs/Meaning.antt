@@ -150,7 +150,7 @@ meant_method x ancestors (d ∷ cs) n c args =
 
 -- ---- what wins was wanted
 
-wins_wanted : (ancestors : Ancestors) (cand : HostFunction → Candidate) (cs : List Candidate) (args : List ArgType) (b : Bool) (o : Option HostFunction)
+pub wins_wanted : (ancestors : Ancestors) (cand : HostFunction → Candidate) (cs : List Candidate) (args : List ArgType) (b : Bool) (o : Option HostFunction)
     → wins ancestors cand cs args (cond b o None) ≡ true → b ≡ true
 wins_wanted ancestors cand cs args true o e = refl
 wins_wanted ancestors cand cs args false o e = cc

@@ -1,10 +1,11 @@
 -- Types by name, where an entry is added.
-use Rattle.std.specs.Prelude.{ℕ, suc, ◌≡◌, ◌+◌, ◌<◌, Bool, true, false, cond, ◌&&◌, ◌||◌, is_some, List, [], ◌∷◌, length, position, bytes_eq, map, Option, Some, None}
-use Rattle.std.specs.List.{position_from}
+use Rattle.std.specs.Prelude.{ℕ, suc, ◌≡◌, ◌+◌, ◌<◌, ◌≤◌, Bool, true, false, cond, ◌&&◌, ◌||◌, is_some, if◌then◌else◌, find, List, [], ◌∷◌, drop, length, position, bytes_eq, map, Option, Some, None}
+use Rattle.std.specs.List.{position_from, range_with_len}
 use Rattle.std.proofs.Common.{arith, refl, sym, ap, ◌∙◌}
+use Rattle.std.proofs.lemmas.List.{drop_all, drop_more}
 use Rattle.std.proofs.lemmas.Iterator.Adapters.{position_from-zero}
 use Rattle.ang_view.specs.declared.entry.Entry.{Entry}
-use Rattle.ang_view.specs.Hidden.{is_with, seen_with}
+use Rattle.ang_view.specs.Hidden.{is_with, numbers_of, seen_with}
 use Rattle.ang_view.specs.Registration.{RegistrationList, entry_at, is_seen, seen, seen_entry}
 use Rattle.ang_view.specs.Types.{is_type_named, type_named}
 use Rattle.ang_view.proofs.Seen.{entry_at-seen, position-passes}
@@ -13,7 +14,7 @@ use Rattle.ang_names_known.specs.declared.space.Named.TheVariants as named
 use Rattle.ang_names_known.specs.Spaces.{family_or_host, family_type, type_of_name}
 use Rattle.ang_names_known.proofs.Adding.{length-seen_with, entry_at-seen_with}
 use Rattle.ang_check_uses.specs.Uses.{Scope}
-use Rattle.ang_check_denials.specs.Added.{first_number, is_type_with, named_with}
+use Rattle.ang_check_denials.specs.Added.{is_type_with, named_with}
 
 pub type_is : (V : RegistrationList) (name : List ℕ) → type_named V name ≡ position_from (is_type_named name) 0 V
 unfolding type_named
@@ -45,8 +46,30 @@ type_by_place R V m x name k e =
     ∙ shown_type R m name (is_with R x k) (entry_at R k)
     ∙ sym (ap (is_type_named name) (entry_at-seen_with R m x k))
 
+-- the first number that passes, of the entries from number n on
+abbrev pub first_number : (ℕ → Bool) → ℕ → RegistrationList → Option ℕ
+first_number p n [] = None
+first_number p n (o ∷ os) = if p n then Some n else first_number p (n + 1) os
+
+first_from : (p : ℕ → Bool) (n : ℕ) (R : RegistrationList) → first_number p n R ≡ find p (range_with_len n (length R))
+first_from p n [] = refl
+first_from p n (o ∷ os) = ap (λ r. cond (p n) (Some n) r) (first_from p (n + 1) os)
+
+pub first_found : (p : ℕ → Bool) (R : RegistrationList) → first_number p 0 R ≡ find p (numbers_of R)
+first_found p R = first_from p 0 R
+
+-- where all are passed
+pub none_first : (p : ℕ → Bool) (n : ℕ) (R : RegistrationList) → length R ≤ n → first_number p 0 R ≡ first_number p n (drop n R) → None ≡ find p (numbers_of R)
+none_first p n R over e = sym (e ∙ ap (first_number p n) (drop_all n R over)) ∙ first_found p R
+
+-- where one passes
+pub one_first : (p : ℕ → Bool) (n : ℕ) (R : RegistrationList) → n < length R → p n ≡ true → first_number p 0 R ≡ first_number p n (drop n R)
+    → Some n ≡ find p (numbers_of R)
+one_first p n R lt here e =
+    sym (e ∙ ap (first_number p n) (drop_more R n None lt) ∙ ap (λ b. cond b (Some n) (first_number p (n + 1) (drop (n + 1) R))) here) ∙ first_found p R
+
 first_at : (t : ℕ → Bool) (p : Option Entry → Bool) (n : ℕ) (os ws : RegistrationList) → length os ≡ length ws
-    → ((j : ℕ) → t (n + j) ≡ p (entry_at ws j)) → first_number t n os ≡ position_from p n ws
+    → ((j : ℕ) → t (n + j) ≡ p (entry_at ws j)) → find t (range_with_len n (length os)) ≡ position_from p n ws
 first_at t p n [] [] e h = refl
 first_at t p n [] (w ∷ ws) e h = absurd (omega (arith, e))
 first_at t p n (o ∷ os) [] e h = absurd (omega (arith, e))
@@ -57,7 +80,7 @@ first_at t p n (o ∷ os) (w ∷ ws) e h =
     λ i. cond (here i) (Some n) (rest i)
 
 pub first_type_is : (R V : RegistrationList) (m x : ℕ) (name : List ℕ) → V ≡ seen R m
-    → first_number (is_type_with R V x name) 0 R ≡ type_named (seen_with R m x) name
+    → find (is_type_with R V x name) (numbers_of R) ≡ type_named (seen_with R m x) name
 first_type_is R V m x name e =
     first_at (is_type_with R V x name) (is_type_named name) 0 R (seen_with R m x) (sym (length-seen_with R m x))
     (λ j. let z : 0 + j ≡ j = omega arith in ap (is_type_with R V x name) z ∙ type_by_place R V m x name j e)

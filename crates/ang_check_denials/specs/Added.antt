@@ -1,6 +1,6 @@
 -- What a use means where a hidden entry is added to what a module sees, told from the entry and from what is seen alone
 -- (docs/LANGUAGE.md, "Denials"). No view with an entry more is made.
-use Rattle.std.specs.Prelude.{ℕ, ◌+◌, ◌==◌, Bool, false, not, ◌&&◌, ◌||◌, if◌then◌else◌, List, [], ◌∷◌, ◌++◌, map, is_some, slice_get, Option, Some, None}
+use Rattle.std.specs.Prelude.{ℕ, ◌==◌, Bool, false, not, ◌&&◌, ◌||◌, List, [], ◌∷◌, map, is_some, slice_get, Option, Some, None}
 use Rattle.ang_kinds.specs.declared.mask.EntityNo.{EntityNo}
 use Rattle.ang_kinds.specs.declared.types.Pass.TheVariants as pass
 use Rattle.ang_types.specs.declared.arg_type.ArgType.{ArgType}
@@ -77,21 +77,11 @@ property_for s name (asks.Method n c args) = None
 abbrev pub is_joined : Scope → List ℕ → Asks → Bool
 is_joined s name a = is_call a && not (is_empty (functions_of s name))
 
--- the numbers that are kept, of the entries from number n on
-abbrev pub kept_from : (ℕ → Bool) → ℕ → RegistrationList → List ℕ
-kept_from p n [] = []
-kept_from p n (o ∷ os) = (if p n then n ∷ [] else []) ++ kept_from p (n + 1) os
-
 -- ---- types by name
 
 -- an entry is a type of this name that is seen, or one that comes with entry x
 abbrev pub is_type_with : RegistrationList → RegistrationList → ℕ → List ℕ → ℕ → Bool
 is_type_with R V x name k = is_type_named name (entry_at R k) && (is_some (entry_at V k) || is_with R x k)
-
--- the first number that passes, of the entries from number n on
-abbrev pub first_number : (ℕ → Bool) → ℕ → RegistrationList → Option ℕ
-first_number p n [] = None
-first_number p n (o ∷ os) = if p n then Some n else first_number p (n + 1) os
 
 -- what a name means as a type where entry x is added
 abbrev pub named_with : RegistrationList → ℕ → Scope → ℕ → List ℕ → Named

@@ -1,3 +1,4 @@
 pub mod Added
 pub mod Denials
 pub mod Masked
+pub mod Names

@@ -6,7 +6,7 @@ ghost use Rattle.ang_names_known.specs.Items.{is_empty};
 ghost use Rattle.ang_check_uses.specs.Uses as uses;
 ghost use Rattle.ang_check_denials.specs.Added as spec;
 
-use ang_check_uses::{Scope, functions_of, host_methods};
+use ang_check_uses::{Scope, functions_of, host_methods, types_with_receiver};
 use ang_names_known::{HostProperty, Text, Wanted, WantedProperty, host_where, property_where};
 use ang_types::{ArgType, Asks, Candidate, Rivals};
 use ang_view::View;
@@ -120,20 +120,6 @@ fn of_factories(
     of_candidates(alloc, scope, candidates.as_slice(), types, false)
 }
 
-/// The types of a receiver of the host type of this number, and of the arguments after it.
-fn types_behind(
-    alloc: Global,
-    number: u32,
-    read_only: bool,
-    args: &[ArgType],
-) -> Result<Vec<ArgType>, AllocError>
-    ensures exact { IfOk result (λ types. types.items ≡ Object number read_only ∷ args.now) }
-{
-    let mut types = Vec::from_slice(alloc, args)?;
-    types.insert(0, ArgType::Object { number, read_only })?;
-    Ok(types)
-}
-
 /// The methods of a name of a host type, on a receiver that is read only or not.
 fn of_methods(
     alloc: Global,
@@ -152,7 +138,7 @@ fn of_methods(
 {
     let (number, read_only) = receiver;
     let methods = host_methods(alloc, scope, number, name)?;
-    let types = types_behind(alloc, number, read_only, args)?;
+    let types = types_with_receiver(alloc, number, read_only, args)?;
     of_candidates(alloc, scope, methods.candidates(), types, false)
 }
 

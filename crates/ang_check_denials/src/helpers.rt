@@ -1,17 +1,21 @@
 //! The hidden entries that would resolve a refused use.
-ghost use Rattle.std.specs.Prelude.{◌≡◌, ◌<◌, ◌||◌, ◌++◌, [], ◌∷◌, if◌then◌else◌, IfOk, OnOk};
+ghost use Rattle.std.specs.Prelude.{◌≡◌, ◌<◌, ◌≤◌, ◌||◌, ◌++◌, [], ◌∷◌, if◌then◌else◌, filter, length, option_to_list, IfOk, OnOk};
+ghost use Rattle.ang_view.specs.Hidden.{numbers_of};
 ghost use Rattle.ang_view.specs.Registration.{entry_at, seen};
 ghost use Rattle.ang_types.specs.Rivals.{AreRivals};
 ghost use Rattle.ang_names_known.specs.Lookup as lookup;
 ghost use Rattle.ang_check_denials.specs.Added as added;
 ghost use Rattle.ang_check_denials.specs.Denials as spec;
+ghost use Rattle.ang_check_denials.specs.Names as names;
 
 use crate::beside::{Beside, beside_of};
 use crate::masked::Masked;
 use crate::meanings::adds;
+use crate::sought::help_row;
 use ang_check_uses::Scope;
 use ang_kinds::EntityNo;
 use ang_names_known::{Names, is_declared};
+use ang_names_rows::Rows;
 use ang_types::{Asks, Refused};
 use ang_view::{EntryKind, View};
 use std::alloc::{AllocError, Global};
@@ -107,26 +111,103 @@ pub fn push_kept(numbers: &mut Vec<u32>, keeps: bool, number: u32) -> Result<(),
     Ok(())
 }
 
-/// The numbers of the hidden entries that would resolve a refused use, rising.
-///
-/// The only error is want of memory.
-pub fn helpers(
+/// A number, where it is kept.
+fn kept(keeps: bool, number: u32) -> Option<u32>
+    ensures exact { option_to_list result ≡ (if keeps then number ∷ [] else []) }
+{
+    if keeps { Some(number) } else { None }
+}
+
+/// The number at a place of a row, where its entry resolves a refused use. `count` is how many entries there are.
+#[tactic(auto, using(crate::proofs::ByName::past_helps_not))]
+fn helper_at(
     alloc: Global,
     masked: &Masked<'_>,
     scope: &Scope<'_>,
     refused: &Refused,
     asks: &Asks,
+    beside: &Beside,
+    count: u32,
+    place: usize,
+) -> Result<Option<u32>, AllocError>
+    requires view { scope.now.view ≡ seen masked.now.list masked.now.mask }
+    requires rivals { AreRivals beside.now.rivals scope.now.ancestors
+        (added.candidates_for scope.now refused.now.error.name asks.now) beside.now.types.items }
+    requires types { beside.now.types.items ≡ added.types_of asks.now }
+    requires property { beside.now.property
+        ≡ added.property_for scope.now refused.now.error.name asks.now }
+    requires joined { beside.now.joined
+        ≡ added.is_joined scope.now refused.now.error.name asks.now }
+    requires count { count ≡ length masked.now.list }
+    requires few { count ≤ 1024 }
+    ensures exact { IfOk result (λ helper. option_to_list helper ≡ filter
+        (spec.helps masked.now.list masked.now.mask scope.now refused.now asks.now)
+        (place ∷ [])) }
+{
+    if place >= count as usize {
+        return Ok(None);
+    }
+    let number = place as u32;
+    let help = helps(alloc, masked, scope, refused, asks, beside, number)?;
+    Ok(kept(help, number))
+}
+
+fn push_number(numbers: &mut Vec<u32>, number: Option<u32>) -> Result<(), AllocError>
+    ensures pushed { OnOk result
+        (numbers.new.items ≡ numbers.old.items ++ option_to_list number) }
+{
+    if let Some(number) = number {
+        numbers.push(number)?;
+    }
+    Ok(())
+}
+
+/// The numbers of a row whose entries resolve a refused use, in order. `count` is how many entries there are.
+fn helpers_among(
+    alloc: Global,
+    masked: &Masked<'_>,
+    scope: &Scope<'_>,
+    refused: &Refused,
+    asks: &Asks,
+    count: u32,
+    row: &[usize],
 ) -> Result<Vec<u32>, AllocError>
     requires view { scope.now.view ≡ seen masked.now.list masked.now.mask }
-    ensures exact { IfOk result (λ numbers. numbers.items ≡ added.kept_from
-        (spec.helps masked.now.list masked.now.mask scope.now refused.now asks.now)
-        0 masked.now.list) }
+    requires count { count ≡ length masked.now.list }
+    requires few { count ≤ 1024 }
+    ensures exact { IfOk result (λ numbers. numbers.items ≡ filter
+        (spec.helps masked.now.list masked.now.mask scope.now refused.now asks.now) row.now) }
 {
-    let beside = beside_of(alloc, scope, refused.error.name.as_slice(), asks)?;
     let mut numbers = Vec::new(alloc);
-    for number in 0..masked.len() {
-        let help = helps(alloc, masked, scope, refused, asks, &beside, number)?;
-        push_kept(&mut numbers, help, number)?;
+    if row.is_empty() {
+        return Ok(numbers);
+    }
+    let beside = beside_of(alloc, scope, refused.error.name.as_slice(), asks)?;
+    for place in row {
+        let helper = helper_at(alloc, masked, scope, refused, asks, &beside, count, *place)?;
+        push_number(&mut numbers, helper)?;
     }
     Ok(numbers)
+}
+
+/// The numbers of the hidden entries that would resolve a refused use, rising. `rows` are those of `help_rows`.
+///
+/// The only error is want of memory.
+pub fn helpers(
+    alloc: Global,
+    masked: &Masked<'_>,
+    rows: &Rows,
+    scope: &Scope<'_>,
+    refused: &Refused,
+    asks: &Asks,
+) -> Result<Vec<u32>, AllocError>
+    requires view { scope.now.view ≡ seen masked.now.list masked.now.mask }
+    requires rows { rows.now ≡ names.help_hashes masked.now.list masked.now.mask }
+    ensures exact { IfOk result (λ numbers. numbers.items ≡ filter
+        (spec.helps masked.now.list masked.now.mask scope.now refused.now asks.now)
+        (numbers_of masked.now.list)) }
+{
+    let row = help_row(rows, masked, refused.error.name.as_slice(), asks);
+    let count = masked.len();
+    helpers_among(alloc, masked, scope, refused, asks, count, row)
 }

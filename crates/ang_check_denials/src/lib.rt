@@ -2,7 +2,8 @@
 //!
 //! `denied` gives them for some refused uses. No view with an entry more is made: the law of an added entry
 //! (`ang_names_known::laws::one_is_added`) says what is found there, and a function that is added is compared with those
-//! that are seen once for each use (`ang_types::Rivals`).
+//! that are seen once for each use (`ang_types::Rivals`). Of the hidden entries those are looked at by whose names the use
+//! could mean them: they stand in rows by the hashes of these names.
 #![tactic(auto)]
 
 mod beside;
@@ -11,6 +12,7 @@ mod masked;
 mod meanings;
 mod named;
 mod rows;
+mod sought;
 
 pub use ang_kinds::Denial;
 pub use masked::Masked;

@@ -1,12 +1,12 @@
 //! A registration list, and what a module of a mask does not see of it.
-ghost use Rattle.std.specs.Prelude.{◌≡◌, ◌≤◌, length, Some};
+ghost use Rattle.std.specs.Prelude.{◌≡◌, ◌≤◌, length};
 ghost use Rattle.ang_view.specs.Hidden as spec;
-ghost use Rattle.ang_view.specs.Registration as registration;
 ghost use Rattle.ang_view.specs.Registration.{entry_at};
 ghost use Rattle.ang_check_denials.specs.Denials as denials;
+ghost use Rattle.ang_check_denials.specs.Names as names;
 
 use ang_kinds::{EntityNo, Mask};
-use ang_view::{Entry, EntryKind, View, mentions_type};
+use ang_view::{EntryKind, View, names_entry};
 use std::marker::Model;
 
 /// A registration list, and what a module of a mask does not see of it.
@@ -82,6 +82,16 @@ impl<'a> Masked<'a> {
         }
     }
 
+    /// Whether the entry of this number is a type.
+    pub fn has_type(&self, number: u32) -> bool
+        ensures exact { result ≡ names.is_type_entry (entry_at self.now.list number) }
+    {
+        match self.whole.get(EntityNo(number)) {
+            None => false,
+            Some(entry) => matches!(entry.kind, EntryKind::HostType),
+        }
+    }
+
     /// The mask of the entry of this number, or 0 where none is there.
     pub fn mask_of(&self, number: u32) -> Mask
         ensures exact { result ≡ denials.mask_of (entry_at self.now.list number) }
@@ -110,27 +120,7 @@ impl<'a> Masked<'a> {
         };
         match self.whole.get(EntityNo(number)) {
             None => false,
-            Some(other) => is_named_by(entry, number, other),
+            Some(other) => names_entry(entry, number as usize, other),
         }
-    }
-}
-
-/// Whether the declaration of an entry names the one of this number.
-fn is_named_by(entry: &Entry, number: u32, other: &Entry) -> bool
-    ensures exact { result ≡ registration.is_named_by entry.now number (Some other.now) }
-{
-    !matches!(entry.kind, EntryKind::HostType)
-        && matches!(other.kind, EntryKind::HostType)
-        && (belongs_to(entry.owner, number)
-            || mentions_type(&entry.signature, other.signature.name.as_slice()))
-}
-
-/// Whether the owner of an entry is the one of this number.
-pub fn belongs_to(owner: Option<EntityNo>, number: u32) -> bool
-    ensures exact { result ≡ registration.is_number number owner }
-{
-    match owner {
-        None => false,
-        Some(EntityNo(own)) => own == number,
     }
 }

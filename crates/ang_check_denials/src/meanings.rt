@@ -1,7 +1,5 @@
 //! What a use would mean, where a hidden entry is added to what a module sees.
-ghost use Rattle.std.specs.Prelude.{◌≡◌, ◌∷◌, not, ◌&&◌, length, List, IfOk};
-ghost use Rattle.ang_kinds.specs.declared.types.Pass.TheVariants.{RefInOut};
-ghost use Rattle.ang_types.specs.declared.arg_type.ArgType.TheVariants.{Object};
+ghost use Rattle.std.specs.Prelude.{◌≡◌, not, ◌&&◌, length, List, IfOk};
 ghost use Rattle.ang_types.specs.declared.asks.Asks.TheVariants as asks_of;
 ghost use Rattle.ang_types.specs.declared.candidate.Candidate.{Candidate};
 ghost use Rattle.ang_types.specs.Rivals.{AreRivals};
@@ -16,11 +14,11 @@ ghost use Rattle.ang_check_denials.specs.Added as spec;
 use crate::beside::{Beside, factories};
 use crate::masked::Masked;
 use crate::named::{is_called_by, is_type_named, named_with};
-use ang_check_uses::{Scope, family_of_type};
-use ang_kinds::{EntityNo, List, Pass};
+use ang_check_uses::{Scope, params_with_receiver};
+use ang_kinds::EntityNo;
 use ang_names_known::{
-    HostProperty, Named, ScriptGlobal, Text, Wanted, WantedProperty, found_at, global_named,
-    property_at,
+    HostProperty, Named, ScriptGlobal, Text, Wanted, WantedProperty, family_of_type, found_at,
+    global_named, property_at,
 };
 use ang_types::{ArgType, Asks, Lineage, Rivals};
 use std::alloc::{AllocError, Global};
@@ -131,21 +129,6 @@ fn wins(
     }
 }
 
-/// The parameters of a method, with its receiver in front.
-fn with_receiver(
-    number: u32,
-    read_only: bool,
-    params: List<(ArgType, Pass)>,
-) -> Result<List<(ArgType, Pass)>, AllocError>
-    ensures exact { IfOk result
-        (λ all. all ≡ (Object number read_only, RefInOut) ∷ params) }
-{
-    let receiver = (ArgType::Object { number, read_only }, Pass::RefInOut);
-    let mut all = params.into_vec();
-    all.insert(0, receiver)?;
-    Ok(List::from_vec(all))
-}
-
 /// Whether the method that is added, where it is wanted, would be the best of all.
 fn method_wins(
     alloc: Global,
@@ -154,21 +137,21 @@ fn method_wins(
     added: u32,
     number: u32,
     name: &[u8],
-    rivals: &Rivals,
-    types: &[ArgType],
+    beside: &Beside,
 ) -> Result<bool, AllocError>
-    requires size { length rivals.now.0 ≡ length types.now }
+    requires size { length beside.now.rivals.0 ≡ length beside.now.types.items }
     ensures exact { IfOk result (λ won. (cs : List Candidate) →
-        AreRivals rivals.now lineage.now cs types.now → won ≡ spec.wins lineage.now
-        (spec.with_receiver number) cs types.now
+        AreRivals beside.now.rivals lineage.now cs beside.now.types.items →
+        won ≡ spec.wins lineage.now (spec.with_receiver number) cs beside.now.types.items
         (spec.found_in masked.now.list added (sought.Method number name.now))) }
 {
     let wanted = Wanted::Method(number, Text::new(name));
     match found_at(alloc, masked.whole(), &wanted, EntityNo(added))? {
         None => Ok(false),
         Some(function) => {
-            let params = with_receiver(number, function.read_only, function.params)?;
-            Ok(rivals.would_win(lineage, params.as_slice(), types))
+            let params = params_with_receiver(function.params, number, function.read_only)?;
+            let types = beside.types.as_slice();
+            Ok(beside.rivals.would_win(lineage, params.as_slice(), types))
         }
     }
 }
@@ -305,8 +288,7 @@ pub fn adds(
             Ok(property_wins(masked, added, &wanted, beside.property))
         }
         Asks::Method(number, _, _) => {
-            let rivals = &beside.rivals;
-            method_wins(alloc, masked, lineage, added, *number, name, rivals, types)
+            method_wins(alloc, masked, lineage, added, *number, name, beside)
         }
     }
 }

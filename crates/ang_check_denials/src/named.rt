@@ -1,21 +1,17 @@
 //! Types by name, where a hidden entry is added to what a module sees.
-ghost use Rattle.std.specs.Prelude.{◌≡◌, ◌<◌, length, bytes_eq, is_some, map as list_map, IfSome, Some};
+ghost use Rattle.std.specs.Prelude.{◌≡◌, ◌<◌, length, bytes_eq, find, is_some, map as list_map, IfSome, Some};
 ghost use Rattle.std.specs.List.{position};
-ghost use Rattle.ang_view.specs.Hidden.{seen_with};
+ghost use Rattle.ang_view.specs.Hidden.{numbers_of, seen_with};
 ghost use Rattle.ang_view.specs.Registration as registration;
 ghost use Rattle.ang_view.specs.Registration.{entry_at, seen};
 ghost use Rattle.ang_view.specs.Types as types;
-ghost use Rattle.ang_names_known.specs.Spaces as spaces;
 ghost use Rattle.ang_check_denials.specs.Added as spec;
 
 use crate::masked::Masked;
 use ang_check_uses::Scope;
 use ang_kinds::EntityNo;
-use ang_names_known::{Family, Named};
+use ang_names_known::{Family, Named, family_or_host};
 use ang_view::{Entry, EntryKind, View};
-
-/// The number of the first family as a type.
-const FIRST_FAMILY: u32 = 1024;
 
 /// Whether the entry of this number is a type of this name.
 pub fn is_type_named(whole: &View, number: u32, name: &[u8]) -> bool
@@ -46,8 +42,8 @@ fn is_type_with(masked: &Masked<'_>, view: &View, added: u32, name: &[u8], numbe
 
 /// The number of the first type of this name that is seen, or that comes with the entry that is added.
 fn first_type(masked: &Masked<'_>, view: &View, added: u32, name: &[u8]) -> Option<u32>
-    ensures exact { result ≡ spec.first_number
-        (spec.is_type_with masked.now.list view.now added name.now) 0 masked.now.list }
+    ensures exact { result ≡ find
+        (spec.is_type_with masked.now.list view.now added name.now) (numbers_of masked.now.list) }
 {
     for number in 0..masked.len() {
         if is_type_with(masked, view, added, name, number) {
@@ -83,19 +79,6 @@ fn family_named(scope: &Scope<'_>, name: &[u8]) -> Option<usize>
     ensures few { IfSome result (λ c. c < 256) }
 {
     family_among(scope.names().families.as_slice(), name)
-}
-
-fn family_or_host(family: Option<usize>, host: Option<u32>) -> Named
-    requires few { IfSome family (λ c. c < 256) }
-    ensures exact { result ≡ spaces.family_or_host family host }
-{
-    match family {
-        Some(family) => Named::Object(FIRST_FAMILY + family as u32),
-        None => match host {
-            Some(number) => Named::Object(number),
-            None => Named::Unknown,
-        },
-    }
 }
 
 /// What a name means as a type, where an entry is added to what a module sees. It takes no memory.

@@ -1,15 +1,17 @@
 //! The rows of denials.
-ghost use Rattle.std.specs.Prelude.{◌≡◌, ◌++◌, ◌&&◌, filter, map as list_map, IfOk, OnOk};
+ghost use Rattle.std.specs.Prelude.{◌≡◌, ◌==◌, ◌++◌, ◌&&◌, filter, map as list_map, IfOk, OnOk};
 ghost use Rattle.std.specs.List.{list_any, flat_map};
 ghost use Rattle.ang_view.specs.Hidden.{is_unmet, is_with, numbers_of};
 ghost use Rattle.ang_view.specs.Registration.{seen};
-ghost use Rattle.ang_check_denials.specs.Added.{kept_from};
 ghost use Rattle.ang_check_denials.specs.Denials as spec;
+ghost use Rattle.ang_check_denials.specs.Names.{help_hashes};
 
 use crate::helpers::{helpers, push_kept};
 use crate::masked::Masked;
+use crate::sought::help_rows;
 use ang_check_uses::Scope;
 use ang_kinds::{Denial, EntityNo};
+use ang_names_rows::Rows;
 use ang_types::{Asks, Refused};
 use std::alloc::{AllocError, Global};
 
@@ -22,21 +24,36 @@ fn comes_with_one(masked: &Masked<'_>, helpers: &[u32], number: u32) -> bool
         .any(|added| masked.comes_with(*added, number))
 }
 
-/// Whether an entry, whose own mask does not meet the module's, comes with one of these.
+/// Whether a number is one of these.
+fn is_one_of(helpers: &[u32], number: u32) -> bool
+    ensures exact { result ≡ list_any (λ x. x == number) helpers.now }
+{
+    helpers.iter().any(|added| *added == number)
+}
+
+/// Whether an entry, whose own mask does not meet the module's, comes with one of these: what does is one of them or a type.
+#[tactic(auto, using(crate::proofs::Brought::none_comes))]
 fn is_denied(masked: &Masked<'_>, helpers: &[u32], number: u32) -> bool
     ensures exact { result ≡ (is_unmet masked.now.list masked.now.mask number
         && list_any (λ x. is_with masked.now.list x number) helpers.now) }
 {
+    if !masked.has_type(number) && !is_one_of(helpers, number) {
+        return false;
+    }
     masked.is_unmet(number) && comes_with_one(masked, helpers, number)
 }
 
 /// The numbers of the entries that come with one of these and whose own masks do not meet the module's, rising.
 fn denied_with(alloc: Global, masked: &Masked<'_>, helpers: &[u32]) -> Result<Vec<u32>, AllocError>
-    ensures exact { IfOk result (λ numbers. numbers.items ≡ kept_from
+    ensures exact { IfOk result (λ numbers. numbers.items ≡ filter
         (λ y. is_unmet masked.now.list masked.now.mask y
-        && list_any (λ x. is_with masked.now.list x y) helpers.now) 0 masked.now.list) }
+        && list_any (λ x. is_with masked.now.list x y) helpers.now)
+        (numbers_of masked.now.list)) }
 {
     let mut numbers = Vec::new(alloc);
+    if helpers.is_empty() {
+        return Ok(numbers);
+    }
     for number in 0..masked.len() {
         push_kept(&mut numbers, is_denied(masked, helpers, number), number)?;
     }
@@ -47,16 +64,18 @@ fn denied_with(alloc: Global, masked: &Masked<'_>, helpers: &[u32]) -> Result<Ve
 fn denied_numbers(
     alloc: Global,
     masked: &Masked<'_>,
+    hidden: &Rows,
     scope: &Scope<'_>,
     refused: &Refused,
     asks: &Asks,
 ) -> Result<Vec<u32>, AllocError>
     requires view { scope.now.view ≡ seen masked.now.list masked.now.mask }
+    requires hidden { hidden.now ≡ help_hashes masked.now.list masked.now.mask }
     ensures exact { IfOk result (λ numbers. numbers.items ≡ filter
         (spec.denied masked.now.list masked.now.mask scope.now refused.now asks.now)
         (numbers_of masked.now.list)) }
 {
-    let helpers = helpers(alloc, masked, scope, refused, asks)?;
+    let helpers = helpers(alloc, masked, hidden, scope, refused, asks)?;
     denied_with(alloc, masked, helpers.as_slice())
 }
 
@@ -92,17 +111,19 @@ fn push_denied(
     alloc: Global,
     rows: &mut Vec<Denial>,
     masked: &Masked<'_>,
+    hidden: &Rows,
     scope: &Scope<'_>,
     refused: &Refused,
 ) -> Result<(), AllocError>
     requires view { scope.now.view ≡ seen masked.now.list masked.now.mask }
+    requires hidden { hidden.now ≡ help_hashes masked.now.list masked.now.mask }
     ensures pushed { OnOk result (rows.new.items ≡ rows.old.items
         ++ spec.rows_for masked.now.list masked.now.mask scope.now refused.now) }
 {
     let Some(asks) = &refused.asks else {
         return Ok(());
     };
-    let numbers = denied_numbers(alloc, masked, scope, refused, asks)?;
+    let numbers = denied_numbers(alloc, masked, hidden, scope, refused, asks)?;
     push_rows(rows, masked, refused, numbers.as_slice())
 }
 
@@ -120,9 +141,10 @@ pub fn denied(
     ensures exact { IfOk result (λ rows. rows.items ≡ flat_map
         (spec.rows_for masked.now.list masked.now.mask scope.now) refused.now) }
 {
+    let hidden = help_rows(alloc, masked)?;
     let mut rows = Vec::new(alloc);
     for one in refused {
-        push_denied(alloc, &mut rows, masked, scope, one)?;
+        push_denied(alloc, &mut rows, masked, &hidden, scope, one)?;
     }
     Ok(rows)
 }

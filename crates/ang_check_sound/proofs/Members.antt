@@ -76,12 +76,12 @@ module _ (E : Space) (all : List (ScriptFunction × Bool)) (d : Declaring) (firs
       ∙ ap (λ xs. each_after (methods_after E all d first) xs rest) (append_assoc before (field_as a y f ∷ []) (map (field_as a y) names))
 
   constructors_of_fields : (a : Access) (y : TypeName) (names : List FieldName) (before rest : List Member)
-      → each_after (constructors_after E all d first) before (map (field_as a y) names ++ rest)
-      ≡ each_after (constructors_after E all d first) (before ++ map (field_as a y) names) rest
-  constructors_of_fields a y [] before rest = ap (λ xs. each_after (constructors_after E all d first) xs rest) (sym (append-nil before))
+      → each_after (constructors_after E d first) before (map (field_as a y) names ++ rest)
+      ≡ each_after (constructors_after E d first) (before ++ map (field_as a y) names) rest
+  constructors_of_fields a y [] before rest = ap (λ xs. each_after (constructors_after E d first) xs rest) (sym (append-nil before))
   constructors_of_fields a y (f ∷ names) before rest =
       constructors_of_fields a y names (before ++ field_as a y f ∷ []) rest
-      ∙ ap (λ xs. each_after (constructors_after E all d first) xs rest) (append_assoc before (field_as a y f ∷ []) (map (field_as a y) names))
+      ∙ ap (λ xs. each_after (constructors_after E d first) xs rest) (append_assoc before (field_as a y f ∷ []) (map (field_as a y) names))
 
 -- and have no bodies
 no_bodies : (is_class : Bool) (a : Access) (y : TypeName) (names : List FieldName) (before : List Member)
@@ -133,7 +133,7 @@ module _ (V : RegistrationList) (names : Names) (E : Space) (all : List (ScriptF
   methods_from before ms = each_after (methods_after E all class_of first) before ms
 
   abbrev constructors_from : List Member → List Member → List Constructor
-  constructors_from before ms = each_after (constructors_after E all class_of first) before ms
+  constructors_from before ms = each_after (constructors_after E class_of first) before ms
 
   method_there : (m : ℕ) (y : Method) → slice_get f.methods m ≡ Some y → method_at V names c m ≡ Some y
   method_there m y e = ap (option_and_then (λ (g : Family). slice_get g.methods m)) there ∙ e
@@ -314,7 +314,7 @@ module _ (E : Space) (all : List (ScriptFunction × Bool)) (origin : Origin) (te
   interface_methods parts c n listed (m ∷ trees) = (λ k e. cc, interface_methods parts c (n + 1) (listed ++ member_of m ∷ []) trees)
 
   pub interface_constructors : (listed : List Member) (trees : List MethodTree)
-      → each_after (constructors_after E all interface_of first) listed (map member_of trees) ≡ []
+      → each_after (constructors_after E interface_of first) listed (map member_of trees) ≡ []
   interface_constructors listed [] = refl
   interface_constructors listed (m ∷ trees) = interface_constructors (listed ++ member_of m ∷ []) trees
 

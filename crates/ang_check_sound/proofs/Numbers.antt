@@ -48,20 +48,20 @@ module _ (E : Space) (all : List (ScriptFunction × Bool)) (d : Declaring) (firs
 
   by_kind : (kind : MemberKind) (m : Member) (n : ℕ) (ms : List Method) (ks : List Constructor) (others : List Member)
       → length (filter_map (method_body c) ms) + length ks ≡ length others
-      → length (filter_map (method_body c) (methods_by E all d m n kind ++ ms)) + length (constructors_by E all d m n kind ++ ks)
+      → length (filter_map (method_body c) (methods_by E all d m n kind ++ ms)) + length (constructors_by E d m n kind ++ ks)
       ≡ length (cond (has_body d.shape.is_class kind) (m ∷ others) others)
   by_kind (member.Field y) m n ms ks others h = h
-  by_kind (member.Method y ps a) m n ms ks others h = by_class d.shape.is_class m (method_with E all d m n (heading_of E d.origin d.text m.name y ps) a) n ms ks others refl h
+  by_kind (member.Method y ps a) m n ms ks others h = by_class d.shape.is_class m (method_with all d m n (heading_of E d.origin d.text m.name y ps) a) n ms ks others refl h
   by_kind (member.Constructor ps) m n ms ks others h = let goal : length (filter_map (method_body c) ms) + suc (length ks) ≡ suc (length others) = omega (arith, h) in goal
 
   members_counted : (before ms : List Member)
       → length (filter_map (method_body c) (each_after (methods_after E all d first) before ms))
-      + length (each_after (constructors_after E all d first) before ms)
+      + length (each_after (constructors_after E d first) before ms)
       ≡ length (with_bodies d.shape.is_class ms)
   members_counted before [] = refl
   members_counted before (m ∷ ms) =
       by_kind m.kind m (first + length (with_bodies d.shape.is_class before)) (each_after (methods_after E all d first) (before ++ m ∷ []) ms)
-      (each_after (constructors_after E all d first) (before ++ m ∷ []) ms) (with_bodies d.shape.is_class ms) (members_counted (before ++ m ∷ []) ms)
+      (each_after (constructors_after E d first) (before ++ m ∷ []) ms) (with_bodies d.shape.is_class ms) (members_counted (before ++ m ∷ []) ms)
 
 abbrev pub bodies_in : List Family → Family → List NumberedBody
 bodies_in before f = method_bodies (length before) f ++ constructor_bodies (length before) f

@@ -105,7 +105,7 @@ module _ (E : Space) (all : List (ScriptFunction × Bool)) where
 
     one_constructor : (bodies : List (List Parameter)) (m : Member) (n : ℕ) (kind : MemberKind)
         → (has_body d.shape.is_class kind ≡ true → Stands first bodies n (behind_this c d m kind))
-        → Every (ConstructorStands first bodies c) (constructors_by E all d m n kind)
+        → Every (ConstructorStands first bodies c) (constructors_by E d m n kind)
     one_constructor bodies m n (member.Field y) h = tt
     one_constructor bodies m n (member.Method y ps a) h = tt
     one_constructor bodies m n (member.Constructor ps) h = (h refl, tt)
@@ -121,13 +121,13 @@ module _ (E : Space) (all : List (ScriptFunction × Bool)) where
         (subst (λ (ms : List Member). Every (MethodStands first (bodies_by c d ms) c) after) (append_assoc before (m ∷ []) rest) (methods_stand (before ++ m ∷ []) rest))
 
     constructors_stand : (before rest : List Member)
-        → Every (ConstructorStands first (bodies_by c d (before ++ rest)) c) (each_after (constructors_after E all d first) before rest)
+        → Every (ConstructorStands first (bodies_by c d (before ++ rest)) c) (each_after (constructors_after E d first) before rest)
     constructors_stand before [] = tt
     constructors_stand before (m ∷ rest) =
         let bodies = bodies_by c d (before ++ m ∷ rest) in
         let n = first + length (with_bodies d.shape.is_class before) in
-        let after = each_after (constructors_after E all d first) (before ++ m ∷ []) rest in
-        every_joined (ConstructorStands first bodies c) (constructors_by E all d m n m.kind) after (one_constructor bodies m n m.kind (member_stands before m rest))
+        let after = each_after (constructors_after E d first) (before ++ m ∷ []) rest in
+        every_joined (ConstructorStands first bodies c) (constructors_by E d m n m.kind) after (one_constructor bodies m n m.kind (member_stands before m rest))
         (subst (λ (ms : List Member). Every (ConstructorStands first (bodies_by c d ms) c) after) (append_assoc before (m ∷ []) rest)
         (constructors_stand (before ++ m ∷ []) rest))
 
@@ -159,7 +159,7 @@ module _ (E : Space) (all : List (ScriptFunction × Bool)) where
             methods = every_other (MethodStands first own c) (MethodStands functions whole c) (each_after (methods_after E all d first) [] d.shape.members)
                 (λ y s k body. moved k (with_this (record { family = c; read_only = y.read_only }) y.function) (s k body)) (methods_stand c d first [] d.shape.members);
             constructors = every_other (ConstructorStands first own c) (ConstructorStands functions whole c)
-                (each_after (constructors_after E all d first) [] d.shape.members)
+                (each_after (constructors_after E d first) [] d.shape.members)
                 (λ k s. moved k.body (with_this (record { family = c; read_only = false }) k.function) s) (constructors_stand c d first [] d.shape.members);
           },
           subst (λ n. EachFrom (FamilyStands functions whole) n (families_from (front ++ d ∷ []) ds)) (sym longer)

@@ -11,9 +11,10 @@ ghost use Rattle.ang_names_known.specs.Spaces as spaces;
 use crate::called::{CallSite, called_own, called_use};
 use ang_check_context::{BodyContext, LocalVariable, is_there, makers, resolved, types_of};
 use ang_check_operand::{Operand, Stop};
-use ang_check_uses::{Resolution, best_of_those, family_of_type};
+use ang_check_uses::{Resolution, best_of_those};
 use ang_kinds::{ErrorKind, List};
 use ang_lex::Token;
+use ang_names_known::family_of_type;
 use ang_types::Asks;
 use std::alloc::{AllocError, Global};
 

@@ -8,10 +8,9 @@ use crate::called::{CallSite, called_use, with_receiver};
 use crate::methods::own_method;
 use ang_check_context::{BodyContext, Receiver, resolved, types_of};
 use ang_check_operand::{Operand, Stop, object_of, refused};
-use ang_check_uses::family_of_type;
 use ang_kinds::{ErrorKind, List};
 use ang_lex::Token;
-use ang_names_known::methods_named;
+use ang_names_known::{family_of_type, methods_named};
 use ang_types::Asks;
 use std::alloc::Global;
 
@@ -63,6 +62,12 @@ fn script_method(
 }
 
 /// A method of an object, which is its first argument.
+///
+/// # Errors
+///
+/// At the name `UnknownName` where the operand is no object or its type has no such method, `Const`, `NoMatch` or
+/// `Ambiguous` where none of its methods is the best, `Private` or `Protected` of one that the body may not use,
+/// besides the refusals of the arguments. `Memory` where a growth was refused.
 #[tactic(auto, unfolding(crate::specs::Calls::method_call_typing))]
 pub fn method_call(
     alloc: Global,

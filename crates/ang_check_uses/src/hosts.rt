@@ -37,7 +37,9 @@ pub fn entity_of(property: HostProperty) -> HostEntity
 }
 
 /// The parameters of a method, with its receiver in front.
-fn with_receiver(
+///
+/// The only error is want of memory.
+pub fn params_with_receiver(
     params: List<(ArgType, Pass)>,
     number: u32,
     read_only: bool,
@@ -86,7 +88,7 @@ fn callable_as(usage: HostUse, function: HostFunction) -> Result<Callable, Alloc
             Ok(host_callable(asked, object, params))
         }
         HostUse::Method(number) => {
-            let params = with_receiver(params, number, read_only)?;
+            let params = params_with_receiver(params, number, read_only)?;
             Ok(host_callable(asked, gives, params))
         }
     }

@@ -14,9 +14,9 @@ mod scripts;
 mod uses;
 
 pub use callables::{Callables, Head};
-pub use hosts::{entity_of, host_methods};
-pub use makers::{family_of_type, makers_of};
-pub use picking::{best_method, best_of_those};
+pub use hosts::{entity_of, host_methods, params_with_receiver};
+pub use makers::makers_of;
+pub use picking::{best_method, best_of_those, types_with_receiver};
 pub use resolving::{resolution_of, why};
 pub use scope::Scope;
 pub use scripts::functions_of;

@@ -1,5 +1,5 @@
 //! What makes an object, as functions that a call can mean.
-ghost use Rattle.std.specs.Prelude.{◌≡◌, IfOk, IfSome, option_to_list, slice_get, map as list_map};
+ghost use Rattle.std.specs.Prelude.{◌≡◌, IfOk, option_to_list, slice_get, map as list_map};
 ghost use Rattle.ang_names_known.specs.Lookup as lookup;
 ghost use Rattle.ang_names_known.specs.Spaces as spaces;
 ghost use Rattle.ang_check_uses.specs.CallableKinds as kinds;
@@ -10,24 +10,9 @@ use crate::hosts::factories_of;
 use crate::scope::Scope;
 use crate::uses::{Callable, Called};
 use ang_kinds::{List, Pass};
-use ang_names_known::{Constructor, Default, Family, default_of, parameters_of};
+use ang_names_known::{Constructor, Default, Family, default_of, family_of_type, parameters_of};
 use ang_types::{ArgType, Candidate};
 use std::alloc::{AllocError, Global};
-
-/// The number of the first family as a type.
-const FIRST_FAMILY: u32 = 1024;
-
-/// The number of the family that a type is, among the families. It takes no memory.
-pub fn family_of_type(number: u32) -> Option<usize>
-    ensures exact { result ≡ spaces.family_of_type number }
-    ensures back { IfSome result (λ family. spaces.family_type family ≡ number) }
-{
-    if number < FIRST_FAMILY {
-        None
-    } else {
-        Some((number - FIRST_FAMILY) as usize)
-    }
-}
 
 /// What makes an object of a class, by a constructor with this body or by none.
 fn maker(family: usize, number: u32, body: Option<usize>, params: List<(ArgType, Pass)>) -> Callable

@@ -55,7 +55,9 @@ pub fn best_function(lineage: &Lineage, callables: Callables, args: &[ArgType]) 
 }
 
 /// The types of a receiver of the type of this number, and of the arguments after it.
-fn with_receiver(
+///
+/// The only error is want of memory.
+pub fn types_with_receiver(
     alloc: Global,
     number: u32,
     read_only: bool,
@@ -88,7 +90,7 @@ fn takes_none_changed(
     ensures exact { IfOk result (λ none. none ≡ spec.is_none_viable
         (best_of lineage.now (spec.candidates_of callables.now) (Object number false ∷ args.now))) }
 {
-    let types = with_receiver(alloc, number, false, args)?;
+    let types = types_with_receiver(alloc, number, false, args)?;
     Ok(takes_none(resolve(lineage, callables.candidates(), types.as_slice())))
 }
 
@@ -133,6 +135,6 @@ pub fn best_method(
         return Ok(Resolution::Refused(ErrorKind::UnknownName));
     }
     let unviable = unmatched(alloc, lineage, &callables, number, read_only, args)?;
-    let types = with_receiver(alloc, number, read_only, args)?;
+    let types = types_with_receiver(alloc, number, read_only, args)?;
     Ok(best_of_those(lineage, unviable, callables, types.as_slice()))
 }

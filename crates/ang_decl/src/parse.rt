@@ -1,12 +1,9 @@
 //! The parsers of host declarations.
-ghost use Rattle.std.specs.Prelude.{◌≡◌, ◌≢◌, Ok, Err, IfOk, IfErr};
+ghost use Rattle.std.specs.Prelude.{◌≡◌, Ok, Err, IfOk};
 ghost use Rattle.ang_decl.specs.Parsed.{declared_type_alone, declared_property, declared_method, declared_function, declared_factory};
 ghost use Rattle.ang_decl.specs.Grammar.{SpellsType, SpellsProperty, SpellsMethod, SpellsFunction, SpellsFactory};
-ghost use Rattle.ang_decl.specs.Meaning.{IsWritten, Declares, IsLeftOut};
+ghost use Rattle.ang_decl.specs.Meaning.{Declares, IsLeftOut, IsNoDeclaration, IfFault, IfSyntax, IfUnsupported};
 ghost use Rattle.ang_decl.specs.Signatures as spec;
-ghost use Rattle.ang_decl.specs.declared.tree.HostFunction.{HostFunction};
-ghost use Rattle.ang_decl.specs.declared.tree.HostProperty.{HostProperty};
-ghost use Rattle.ang_decl.specs.declared.tree.HostType.{HostType};
 
 use crate::DeclError;
 use crate::read::{whole_function, whole_property, whole_type};
@@ -22,8 +19,7 @@ use std::alloc::Global;
 #[tactic(auto, unfolding(crate::specs::Parsed::declared_type_alone))]
 fn type_in(alloc: Global, text: &[u8]) -> Result<Signature, DeclError>
     ensures exact { IfOk result (λ s. declared_type_alone text.now ≡ Ok s) }
-    ensures fault { IfErr result (λ e. e ≢ DeclError.Memory →
-        declared_type_alone text.now ≡ Err e) }
+    ensures fault { IfFault result (λ e. declared_type_alone text.now ≡ Err e) }
 {
     let tokens = lex(alloc, text, 0)?;
     let host_type = whole_type(&tokens)?;
@@ -44,14 +40,12 @@ fn type_in(alloc: Global, text: &[u8]) -> Result<Signature, DeclError>
 pub fn parse_type(alloc: Global, text: &[u8]) -> Result<Signature, DeclError>
     ensures signature { IfOk result
         (Declares SpellsType spec.is_type_left_out spec.type_signature text.now) }
-    ensures unsupported { IfErr result
-        (λ e. e ≡ DeclError.Unsupported → IsLeftOut SpellsType spec.is_type_left_out text.now) }
-    ensures syntax { IfErr result (λ e. e ≡ DeclError.Syntax → (x : HostType) →
-        IsWritten SpellsType text.now x → ⊥) }
+    ensures unsupported { IfUnsupported result
+        (IsLeftOut SpellsType spec.is_type_left_out text.now) }
+    ensures syntax { IfSyntax result (IsNoDeclaration SpellsType text.now) }
     // the same as an equation, for the crates above
     ensures exact { IfOk result (λ s. declared_type_alone text.now ≡ Ok s) }
-    ensures fault { IfErr result (λ e. e ≢ DeclError.Memory →
-        declared_type_alone text.now ≡ Err e) }
+    ensures fault { IfFault result (λ e. declared_type_alone text.now ≡ Err e) }
 {
     type_in(alloc, text)
 }
@@ -59,7 +53,7 @@ pub fn parse_type(alloc: Global, text: &[u8]) -> Result<Signature, DeclError>
 #[tactic(auto, unfolding(crate::specs::Parsed::declared_function))]
 fn function_in(alloc: Global, text: &[u8]) -> Result<Signature, DeclError>
     ensures exact { IfOk result (λ s. declared_function text.now ≡ Ok s) }
-    ensures fault { IfErr result (λ e. e ≢ DeclError.Memory → declared_function text.now ≡ Err e) }
+    ensures fault { IfFault result (λ e. declared_function text.now ≡ Err e) }
 {
     let tokens = lex(alloc, text, 0)?;
     let function = whole_function(alloc, &tokens)?;
@@ -84,14 +78,12 @@ fn function_in(alloc: Global, text: &[u8]) -> Result<Signature, DeclError>
 pub fn parse_function(alloc: Global, text: &[u8]) -> Result<Signature, DeclError>
     ensures signature { IfOk result
         (Declares SpellsFunction spec.is_function_left_out spec.function_signature text.now) }
-    ensures unsupported { IfErr result
-        (λ e. e ≡ DeclError.Unsupported →
-        IsLeftOut SpellsFunction spec.is_function_left_out text.now) }
-    ensures syntax { IfErr result (λ e. e ≡ DeclError.Syntax → (x : HostFunction) →
-        IsWritten SpellsFunction text.now x → ⊥) }
+    ensures unsupported { IfUnsupported result
+        (IsLeftOut SpellsFunction spec.is_function_left_out text.now) }
+    ensures syntax { IfSyntax result (IsNoDeclaration SpellsFunction text.now) }
     // the same as an equation, for the crates above
     ensures exact { IfOk result (λ s. declared_function text.now ≡ Ok s) }
-    ensures fault { IfErr result (λ e. e ≢ DeclError.Memory → declared_function text.now ≡ Err e) }
+    ensures fault { IfFault result (λ e. declared_function text.now ≡ Err e) }
 {
     function_in(alloc, text)
 }
@@ -99,7 +91,7 @@ pub fn parse_function(alloc: Global, text: &[u8]) -> Result<Signature, DeclError
 #[tactic(auto, unfolding(crate::specs::Parsed::declared_method))]
 fn method_in(alloc: Global, text: &[u8]) -> Result<Signature, DeclError>
     ensures exact { IfOk result (λ s. declared_method text.now ≡ Ok s) }
-    ensures fault { IfErr result (λ e. e ≢ DeclError.Memory → declared_method text.now ≡ Err e) }
+    ensures fault { IfFault result (λ e. declared_method text.now ≡ Err e) }
 {
     let tokens = lex(alloc, text, 0)?;
     let method = whole_function(alloc, &tokens)?;
@@ -120,14 +112,12 @@ fn method_in(alloc: Global, text: &[u8]) -> Result<Signature, DeclError>
 pub fn parse_method(alloc: Global, text: &[u8]) -> Result<Signature, DeclError>
     ensures signature { IfOk result
         (Declares SpellsMethod spec.is_function_left_out spec.function_signature text.now) }
-    ensures unsupported { IfErr result
-        (λ e. e ≡ DeclError.Unsupported →
-        IsLeftOut SpellsMethod spec.is_function_left_out text.now) }
-    ensures syntax { IfErr result (λ e. e ≡ DeclError.Syntax → (x : HostFunction) →
-        IsWritten SpellsMethod text.now x → ⊥) }
+    ensures unsupported { IfUnsupported result
+        (IsLeftOut SpellsMethod spec.is_function_left_out text.now) }
+    ensures syntax { IfSyntax result (IsNoDeclaration SpellsMethod text.now) }
     // the same as an equation, for the crates above
     ensures exact { IfOk result (λ s. declared_method text.now ≡ Ok s) }
-    ensures fault { IfErr result (λ e. e ≢ DeclError.Memory → declared_method text.now ≡ Err e) }
+    ensures fault { IfFault result (λ e. declared_method text.now ≡ Err e) }
 {
     method_in(alloc, text)
 }
@@ -135,7 +125,7 @@ pub fn parse_method(alloc: Global, text: &[u8]) -> Result<Signature, DeclError>
 #[tactic(auto, unfolding(crate::specs::Parsed::declared_property))]
 fn property_in(alloc: Global, text: &[u8]) -> Result<Signature, DeclError>
     ensures exact { IfOk result (λ s. declared_property text.now ≡ Ok s) }
-    ensures fault { IfErr result (λ e. e ≢ DeclError.Memory → declared_property text.now ≡ Err e) }
+    ensures fault { IfFault result (λ e. declared_property text.now ≡ Err e) }
 {
     let tokens = lex(alloc, text, 0)?;
     let property = whole_property(&tokens)?;
@@ -156,14 +146,12 @@ fn property_in(alloc: Global, text: &[u8]) -> Result<Signature, DeclError>
 pub fn parse_property(alloc: Global, text: &[u8]) -> Result<Signature, DeclError>
     ensures signature { IfOk result
         (Declares SpellsProperty spec.is_property_left_out spec.property_signature text.now) }
-    ensures unsupported { IfErr result
-        (λ e. e ≡ DeclError.Unsupported →
-        IsLeftOut SpellsProperty spec.is_property_left_out text.now) }
-    ensures syntax { IfErr result (λ e. e ≡ DeclError.Syntax → (x : HostProperty) →
-        IsWritten SpellsProperty text.now x → ⊥) }
+    ensures unsupported { IfUnsupported result
+        (IsLeftOut SpellsProperty spec.is_property_left_out text.now) }
+    ensures syntax { IfSyntax result (IsNoDeclaration SpellsProperty text.now) }
     // the same as an equation, for the crates above
     ensures exact { IfOk result (λ s. declared_property text.now ≡ Ok s) }
-    ensures fault { IfErr result (λ e. e ≢ DeclError.Memory → declared_property text.now ≡ Err e) }
+    ensures fault { IfFault result (λ e. declared_property text.now ≡ Err e) }
 {
     property_in(alloc, text)
 }
@@ -171,7 +159,7 @@ pub fn parse_property(alloc: Global, text: &[u8]) -> Result<Signature, DeclError
 #[tactic(auto, unfolding(crate::specs::Parsed::declared_factory))]
 fn factory_in(alloc: Global, text: &[u8]) -> Result<Signature, DeclError>
     ensures exact { IfOk result (λ s. declared_factory text.now ≡ Ok s) }
-    ensures fault { IfErr result (λ e. e ≢ DeclError.Memory → declared_factory text.now ≡ Err e) }
+    ensures fault { IfFault result (λ e. declared_factory text.now ≡ Err e) }
 {
     let tokens = lex(alloc, text, 0)?;
     let factory = whole_function(alloc, &tokens)?;
@@ -194,14 +182,12 @@ fn factory_in(alloc: Global, text: &[u8]) -> Result<Signature, DeclError>
 pub fn parse_factory(alloc: Global, text: &[u8]) -> Result<Signature, DeclError>
     ensures signature { IfOk result
         (Declares SpellsFactory spec.is_factory_left_out spec.function_signature text.now) }
-    ensures unsupported { IfErr result
-        (λ e. e ≡ DeclError.Unsupported →
-        IsLeftOut SpellsFactory spec.is_factory_left_out text.now) }
-    ensures syntax { IfErr result (λ e. e ≡ DeclError.Syntax → (x : HostFunction) →
-        IsWritten SpellsFactory text.now x → ⊥) }
+    ensures unsupported { IfUnsupported result
+        (IsLeftOut SpellsFactory spec.is_factory_left_out text.now) }
+    ensures syntax { IfSyntax result (IsNoDeclaration SpellsFactory text.now) }
     // the same as an equation, for the crates above
     ensures exact { IfOk result (λ s. declared_factory text.now ≡ Ok s) }
-    ensures fault { IfErr result (λ e. e ≢ DeclError.Memory → declared_factory text.now ≡ Err e) }
+    ensures fault { IfFault result (λ e. declared_factory text.now ≡ Err e) }
 {
     factory_in(alloc, text)
 }

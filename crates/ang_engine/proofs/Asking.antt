@@ -1,5 +1,5 @@
 -- What commands ask of the drivers.
-use Rattle.std.proofs.Common.{◌≡◌, ◌≤◌, ap, sym, ◌∙◌, subst, ℕ, List, [], ◌++◌, length, Option}
+use Rattle.std.proofs.Common.{◌≡◌, ap, sym, ◌∙◌, subst, ℕ, List, [], ◌++◌, Option}
 use Rattle.std.specs.Prelude.{All, Vec}
 use Rattle.std.specs.List.{AllByRecursion, AllZip}
 use Rattle.std.specs.declared.alloc.Global.{Global}
@@ -16,29 +16,25 @@ use Rattle.ang_meaning.specs.World.{World as RunWorld}
 use Rattle.ang_meaning.specs.Counting.{IsCounted}
 use Rattle.ang_heap.specs.declared.store.Store.{Store}
 use Rattle.ang_heap.specs.Stores.{world_of, IsKept, IsReady, StoreMoves}
-use Rattle.ang_heap.proofs.Storing.{moves_none, moves_join}
+use Rattle.ang_heap.proofs.Storing.{moves_join}
 use Rattle.ang_engine_modules.specs.declared.modules.LoadedModule.{LoadedModule}
 use Rattle.ang_engine_modules.specs.Loaded.{modules_of}
 use Rattle.ang_engine_modules.specs.Modules.{Module as RunModule, AgreesWith, IsAskedIn}
-use Rattle.ang_engine.specs.declared.command.Command.{Command}
-use Rattle.ang_engine.specs.declared.module.Module.{Module}
-use Rattle.ang_engine.specs.declared.reply.Reply.{Reply}
-use Rattle.ang_engine.specs.World.{World, left_to, globals_ended}
-use Rattle.ang_engine.specs.Engines.{module_states}
+use Rattle.ang_engine_world.specs.declared.command.Command.{Command}
+use Rattle.ang_engine_world.specs.declared.module.Module.{Module}
+use Rattle.ang_engine_world.specs.declared.reply.Reply.{Reply}
+use Rattle.ang_engine_world.specs.World.{World, left_to, globals_ended}
+use Rattle.ang_engine_world.specs.States.{places_of}
 use Rattle.ang_engine.specs.Step.{Takes, IsEntitled}
-use Rattle.ang_engine.specs.Sound.{IsSoundModule}
+use Rattle.ang_engine.specs.Sound.{IsSoundPlace}
 use Rattle.ang_engine.specs.Asked.{HasRunOn, HasAsked}
 use Rattle.ang_engine.specs.Applied.{Applied}
 use Rattle.ang_engine.specs.Outcomes.{IfRefusedAtOnce}
-use Rattle.ang_engine.proofs.Entries.{roles_agree, all_entitled, ends_entitled, agrees_none}
+use Rattle.ang_engine.proofs.Entries.{AreApart, roles_agree, all_entitled, ends_entitled, agrees_none}
 use Rattle.ang_engine.proofs.GlobalsEnd.{globals_ends, ends_all, ended_counted}
 
 module _ {V : Type 0} {P : V → Type 0} (m : Meanings P) where
   -- ---- pieces of a command
-
-  -- nothing was done
-  pub run-nothing : (ms : List RunModule) (s : Store V P) → HasRunOn m ms s s
-  run-nothing ms s = record { asked = λ h. h; moves = λ roles h. moves_none m roles s; ready = λ h. h; counted = λ h. h }
 
   pub run-join : (ms : List RunModule) (s t u : Store V P) → HasRunOn m ms s t → HasRunOn m ms t u → HasRunOn m ms s u
   run-join ms s t u p q = record {
@@ -82,10 +78,12 @@ module _ {V : Type 0} {P : V → Type 0} (m : Meanings P) where
         }
 
     -- modules have run, whatever is built of them now
-    pub asked-run : (xs : List Module) (ls ks : List (Option LoadedModule)) (r : RunWorld) → AllZip (IsSoundModule R) xs ls → length xs ≤ 1
-        → HasRunOn m (modules_of ls) (record s { events = before }) (record t { events = after }) → HasAsked m R (left_to (module_states xs ks) r) after.items s t
-    asked-run xs ls ks r zip few h =
-        asked-by (modules_of ls) (left_to (module_states xs ks) r) h (roles_agree R xs ls zip) (λ es. all_entitled R xs ls ks r zip few after.items es)
+    pub asked-run : (xs : List (Option Module)) (ls ks : List (Option LoadedModule)) (order : List ℕ) (r : RunWorld) → AllZip (IsSoundPlace R) xs ls → AreApart xs
+        → HasRunOn m (modules_of ls) (record s { events = before }) (record t { events = after })
+        → HasAsked m R (left_to (record { places = places_of xs ks; order = order }) r) after.items s t
+    asked-run xs ls ks order r zip apart h =
+        asked-by (modules_of ls) (left_to (record { places = places_of xs ks; order = order }) r) h (roles_agree R xs ls zip)
+        (λ es. all_entitled R xs ls ks order r zip apart after.items es)
 
     -- none has run
     pub asked-ends : (w : World) → HasRunOn m [] (record s { events = before }) (record t { events = after }) → HasAsked m R w after.items s t

@@ -1,5 +1,5 @@
 -- Values given up one after the other, the last one first.
-use Rattle.std.proofs.Common.{◌≡◌, ℕ, zero, suc, ◌-◌, ◌<◌, ◌≤◌, List, [], ◌∷◌, ◌++◌, length, take, refl, sym, ap, ◌∙◌, subst, arith}
+use Rattle.std.proofs.Common.{◌≡◌, ℕ, zero, suc, ◌-◌, ◌<◌, ◌≤◌, List, [], ◌∷◌, ◌++◌, length, take, refl, ap, ◌∙◌, subst, arith}
 use Rattle.std.specs.Prelude.{slice_index_or}
 use Rattle.std.proofs.Math.Seq.{take-suc}
 use Rattle.ang_meaning.specs.declared.slot.Slot.{Slot}
@@ -8,11 +8,11 @@ use Rattle.ang_meaning.specs.Results.{give_back}
 use Rattle.ang_meaning.specs.Counting.{how_many, EnoughIn, CanGive}
 use Rattle.ang_meaning.proofs.Counting.{many_append}
 use Rattle.ang_meaning.proofs.Enough.{enough_as, give_can}
-use Rattle.ang_engine.specs.World.{globals_ended, all_ended}
+use Rattle.ang_engine_world.specs.World.{globals_ended, all_ended}
 use Rattle.ang_engine.proofs.GlobalsEnd.{back_last}
 
 -- the last of the first n
-pub last_of : (vs : List Slot) (n : ℕ) (d : Slot) → 0 < n → n ≤ length vs → take n vs ≡ take (n - 1) vs ++ slice_index_or vs (n - 1) d ∷ []
+pub last_of : {A : Type 0} (vs : List A) (n : ℕ) (d : A) → 0 < n → n ≤ length vs → take n vs ≡ take (n - 1) vs ++ slice_index_or vs (n - 1) d ∷ []
 last_of vs n d some within =
     let next : n ≡ suc (n - 1) = omega (arith, some) in
     ap (λ k. take k vs) next ∙ take-suc vs (n - 1) d (omega (arith, some, within))
@@ -35,12 +35,14 @@ others_can vs us v w w1 e p q =
 
 -- ---- modules whose globals end, the last one first
 
-pub turn_ends : (n : ℕ) (w u : World) → 0 < n → globals_ended (n - 1) w ≡ u → all_ended n w ≡ all_ended (n - 1) u
-turn_ends zero w u some e = absurd (omega (arith, some))
-turn_ends (suc n) w u some e =
-    let k : suc n - 1 ≡ n = omega arith in
-    ap (λ x. all_ended n x) (ap (λ j. globals_ended j w) (sym k) ∙ e) ∙ ap (λ j. all_ended j u) (sym k)
+-- the last of the first n modules ends first
+pub turn_ends : (is : List ℕ) (n i : ℕ) (w u : World) → take n is ≡ take (n - 1) is ++ i ∷ [] → globals_ended i w ≡ u → all_ended (take n is) w ≡ all_ended (take (n - 1) is) u
+turn_ends is n i w u e ends = ap (λ l. all_ended l w) e ∙ ended_last (take (n - 1) is) i w ∙ ap (all_ended (take (n - 1) is)) ends
+  where
+    ended_last : (js : List ℕ) (i : ℕ) (w : World) → all_ended (js ++ i ∷ []) w ≡ all_ended js (globals_ended i w)
+    ended_last [] i w = refl
+    ended_last (j ∷ js) i w = ap (globals_ended j) (ended_last js i w)
 
-pub none_ends : (n : ℕ) (w : World) → n ≤ 0 → all_ended n w ≡ w
-none_ends zero w le = refl
-none_ends (suc n) w le = absurd (omega (arith, le))
+pub none_ends : (is : List ℕ) (n : ℕ) (w : World) → n ≤ 0 → all_ended (take n is) w ≡ w
+none_ends is zero w le = refl
+none_ends is (suc n) w le = absurd (omega (arith, le))

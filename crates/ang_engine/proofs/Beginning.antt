@@ -1,8 +1,9 @@
 -- An engine that begins: nothing lives, and nothing is held.
-use Rattle.std.proofs.Common.{◌≡◌, ℕ, refl, sym, ap, ◌∙◌, subst, List, [], length, arith}
+use Rattle.std.proofs.Common.{◌≡◌, ℕ, refl, sym, ap, ◌∙◌, subst, List, [], length, arith, Option, Some, None}
 use Rattle.std.specs.FinMap as map
 use Rattle.std.specs.FinMap.{get-empty}
 use Rattle.std.specs.Ordering.{nat_cmp}
+use Rattle.std.specs.Prelude.{slice_get, slice_index_or}
 use Rattle.std.specs.List.{AllZip}
 use Rattle.ang_host.specs.declared.event.HostEvent.{HostEvent}
 use Rattle.ang_host.specs.State.{State, count_of}
@@ -13,10 +14,12 @@ use Rattle.ang_meaning.specs.World.{World as RunWorld, ScriptObjects}
 use Rattle.ang_meaning.specs.Counting.{IsCounted, counts_by}
 use Rattle.ang_meaning.proofs.Roots.{nothing_counted}
 use Rattle.ang_heap.specs.Parts.{world_by, AreReady}
-use Rattle.ang_engine.specs.declared.module.ModuleList.{ModuleList}
-use Rattle.ang_engine.specs.World.{no_modules, running, left_to}
-use Rattle.ang_engine.specs.Engines.{module_states, states_in}
-use Rattle.ang_engine.specs.Sound.{IsSoundModule, AreSoundModules}
+use Rattle.ang_engine_world.specs.declared.module.Module.{Module}
+use Rattle.ang_engine_world.specs.declared.module.ModuleList.{ModuleList}
+use Rattle.ang_engine_world.specs.World.{no_modules, running, left_to}
+use Rattle.ang_engine_world.specs.States.{places_of, states_in}
+use Rattle.ang_engine_world.specs.Sound.{HaveGlobals}
+use Rattle.ang_engine.specs.Sound.{IsSoundPlace, AreSoundModules}
 use Rattle.ang_engine.proofs.States.{counts-fresh, ready-fresh}
 
 -- ---- a machine on fresh drivers, without script objects and globals
@@ -40,11 +43,24 @@ room_fresh ss len capacity fresh e = subst (λ n. AreReady ss n capacity) (sym e
 
 -- ---- an engine without modules
 
-pub no_sound_modules : (R : RegistrationList) (x : ModuleList) → x.modules.items ≡ [] → x.code ≡ [] → AreSoundModules R x
-no_sound_modules R x e f = record {
-  each = subst (λ ms. AllZip (IsSoundModule R) ms x.code) (sym e) (subst (λ ls. AllZip (IsSoundModule R) [] ls) (sym f) tt);
-  few = omega (arith, ap length e);
-}
+pub no_sound_modules : (R : RegistrationList) (x : ModuleList) → x.places.items ≡ [] → x.code ≡ [] → AreSoundModules R x
+no_sound_modules R x e f =
+    let none : (i : ℕ) (m : Module) → slice_get x.places.items i ≡ Some (Some m) → ⊥ = λ i m at. nothing_there i m (sym (ap (λ l. slice_get l i) e) ∙ at) in
+    record {
+      each = subst (λ ms. AllZip (IsSoundPlace R) ms x.code) (sym e) (subst (λ ls. AllZip (IsSoundPlace R) [] ls) (sym f) tt);
+      apart = λ i j m n at bt same. absurd (none i m at);
+      few = omega (arith, ap length e);
+      listed = λ i m at. absurd (none i m at);
+    }
+  where
+    nothing_there : (i : ℕ) (m : Module) → slice_get [] i ≡ Some (Some m) → ⊥
+    nothing_there i m at = let y : ⊥ = cc in y
 
-pub world_begun : (x : ModuleList) (r : RunWorld) → x.modules.items ≡ [] → r ≡ running no_modules [] → left_to (states_in x) r ≡ no_modules
-world_begun x r e f = ap (λ ms. left_to (module_states ms x.code) r) e ∙ ap (λ u. left_to [] u) f
+pub no_globals : (x : ModuleList) (gs : List (List Slot)) → x.places.items ≡ [] → gs ≡ [] → HaveGlobals x gs
+no_globals x gs e f = record { count = ap length f ∙ sym (ap length e); none = λ i at. ap (λ l. slice_index_or l i []) f }
+
+pub world_begun : (x : ModuleList) (r : RunWorld) → x.places.items ≡ [] → x.order.items ≡ [] → r ≡ running no_modules [] → left_to (states_in x) r ≡ no_modules
+world_begun x r e o f =
+    ap (λ ms. left_to (record { places = places_of ms x.code; order = x.order.items }) r) e
+    ∙ ap (λ l. left_to (record { places = []; order = l }) r) o
+    ∙ ap (λ u. left_to (record { places = []; order = [] }) u) f

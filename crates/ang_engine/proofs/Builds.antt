@@ -1,5 +1,5 @@
 -- How a build of a module leads to its reply.
-use Rattle.std.proofs.Common.{◌≡◌, refl, ap, sym, ◌∙◌, subst, inl, inr, ℕ, true, false, List, [], ◌∷◌, ◌++◌, Some, None}
+use Rattle.std.proofs.Common.{◌≡◌, refl, ap, sym, ◌∙◌, subst, inl, inr, ℕ, true, false, List, [], ◌∷◌, ◌++◌, Some, None, map}
 use Rattle.std.specs.Prelude.{Result, Ok, Err}
 use Rattle.ang_kinds.specs.declared.error.Error.{Error}
 use Rattle.ang_kinds.specs.declared.fault.Fault.{Fault}
@@ -19,103 +19,109 @@ use Rattle.ang_engine_modules.specs.Executed.{initialization_of}
 use Rattle.ang_engine_modules.specs.Ends.{Ends, end_of}
 use Rattle.ang_engine.specs.declared.building.BuildRefused.{BuildRefused}
 use Rattle.ang_engine.specs.declared.building.BuildRefused.TheVariants as why
-use Rattle.ang_engine.specs.declared.reply.Reply.{Reply}
-use Rattle.ang_engine.specs.declared.reply.Outcome.TheVariants.{Done, Refused}
-use Rattle.ang_engine.specs.declared.reply.Refusal.TheVariants.{BuildMemory, InitFailed}
-use Rattle.ang_engine.specs.World.{Program, ModuleState, World, placed, built_in, running, left_to, globals_ended}
-use Rattle.ang_engine.specs.Engines.{resolved_in, program_in}
-use Rattle.ang_engine.specs.Step.{Leads, after_errors, after_run, reply_of, errors_reply, emptied, with_program, program_over, globals_begun, started, initialized, after_build, build}
+use Rattle.ang_engine_world.specs.declared.reply.Reply.{Reply}
+use Rattle.ang_engine_world.specs.declared.reply.Outcome.TheVariants.{Done, Refused}
+use Rattle.ang_engine_world.specs.declared.reply.Refusal.TheVariants.{BuildMemory, InitFailed}
+use Rattle.ang_engine_world.specs.World.{Program, ModuleState, ModuleStates, World, placed, unbound_from, built_in, running, left_to, globals_ended}
+use Rattle.ang_engine.specs.Engines.{resolved_in}
+use Rattle.ang_engine_world.specs.States.{program_in}
+use Rattle.ang_engine.specs.Step.{Leads, after_errors, errors_reply, emptied, with_program, program_over, globals_begun, started, initialized, after_build, build}
+use Rattle.ang_engine_world.specs.Commands.{after_run, reply_of}
 use Rattle.ang_engine.specs.Outcomes.{IsCompiled, HasStarted, refused_by, reply_to_build}
 use Rattle.ang_engine.proofs.Leading.{told_by}
 
 -- Module i of these is built, whose globals have ended and left a run's world u, in which no answer is listed.
 module _ (R : RegistrationList) (w : World) (i : ℕ) (m : ModuleState) (budget : ℕ) (u : RunWorld) (ended : (is : List Input) → globals_ended i (running w is) ≡ with_inputs is u)
     (silent : answers_listed u.events ≡ []) where
+  -- no import leads to it
+  abbrev pub others : World
+  others = unbound_from i w
+
   -- ---- a build that runs no initializer
 
-  pub build-memory : Leads (build R w i m budget) (reply_of (Refused BuildMemory) u.events []) (left_to (placed w i (emptied m)) u)
+  pub build-memory : Leads (build R w i m budget) (reply_of (Refused BuildMemory) u.events []) (left_to (placed others i (emptied m)) u)
   build-memory = record {
     used = Room false ∷ [];
-    tells = λ rest. ap (λ r. Some (after_run (Refused BuildMemory) [] (placed w i (emptied m)) r)) (ended rest);
+    tells = λ rest. ap (λ r. Some (after_run (Refused BuildMemory) [] (placed others i (emptied m)) r)) (ended rest);
     told = inr refl;
     answers = sym silent;
   }
 
   pub build-errors : (es : List Error) → build_of (seen R m.mask) m.sections ≡ Errors es
-      → Leads (build R w i m budget) (errors_reply u.events es (denials_in R m.mask m.sections)) (left_to (placed w i (emptied m)) u)
+      → Leads (build R w i m budget) (errors_reply u.events es (denials_in R m.mask m.sections)) (left_to (placed others i (emptied m)) u)
   build-errors es built = record {
     used = Room true ∷ [];
     tells = λ rest.
-        ap (λ b. Some (after_build (seen R m.mask) (denials_in R m.mask m.sections) b w i m budget (globals_ended i (running w rest)))) built
-        ∙ ap (λ r. Some (after_errors es (denials_in R m.mask m.sections) (placed w i (emptied m)) r)) (ended rest);
+        ap (λ b. Some (after_build (seen R m.mask) (denials_in R m.mask m.sections) b others i m budget (globals_ended i (running w rest)))) built
+        ∙ ap (λ r. Some (after_errors es (denials_in R m.mask m.sections) (placed others i (emptied m)) r)) (ended rest);
     told = inl refl;
     answers = sym silent;
   }
 
   -- ---- its initializers
 
-  module _ (p : Program) (built : (r : RunWorld) → after_build (seen R m.mask) (denials_in R m.mask m.sections) (build_of (seen R m.mask) m.sections) w i m budget r
-      ≡ started (end_of (initialization_of (built_in (placed w i (with_program p m))) budget i (globals_begun i p r))) w i m p) where
+  module _ (p : Program) (built : (r : RunWorld) → after_build (seen R m.mask) (denials_in R m.mask m.sections) (build_of (seen R m.mask) m.sections) others i m budget r
+      ≡ started (end_of (initialization_of (built_in (placed others i (with_program p m))) budget i (globals_begun i p r))) others i m p) where
     -- they have ended: what the build comes to
     build-started : (r : Result Slot Fault) (x : RunWorld) (reply : Reply) (after : World)
-        → ((rest : List Input) → initialized r (with_inputs rest x) w i m p ≡ record { reply = reply; world = after; left = rest })
+        → ((rest : List Input) → initialized r (with_inputs rest x) others i m p ≡ record { reply = reply; world = after; left = rest })
         → answers_listed x.events ≡ answers_listed reply.events
-        → Ends (initialization_of (built_in (placed w i (with_program p m))) budget i) (globals_begun i p u) r x
+        → Ends (initialization_of (built_in (placed others i (with_program p m))) budget i) (globals_begun i p u) r x
         → Leads (build R w i m budget) reply after
     build-started r x reply after so listed ends = record {
       used = Room true ∷ ends.used;
       tells = λ rest.
           ap Some (built (globals_ended i (running w (ends.used ++ rest))))
-          ∙ ap (λ q. Some (started (end_of (initialization_of (built_in (placed w i (with_program p m))) budget i (globals_begun i p q))) w i m p)) (ended (ends.used ++ rest))
-          ∙ ap (λ e. Some (started e w i m p)) (ends.ends rest)
+          ∙ ap (λ q. Some (started (end_of (initialization_of (built_in (placed others i (with_program p m))) budget i (globals_begun i p q))) others i m p)) (ended (ends.used ++ rest))
+          ∙ ap (λ e. Some (started e others i m p)) (ends.ends rest)
           ∙ ap Some (so rest);
       told = told_by r ends.used ends.told;
       answers = sym (ap (λ l. l ++ answers_told ends.used) silent) ∙ sym ends.answers ∙ listed;
     }
 
-    pub build-done : (v : Slot) (x : RunWorld) → Ends (initialization_of (built_in (placed w i (with_program p m))) budget i) (globals_begun i p u) (Ok v) x
-        → Leads (build R w i m budget) (reply_of (Done None) x.events []) (left_to (placed w i (with_program p m)) x)
-    build-done v x ends = build-started (Ok v) x (reply_of (Done None) x.events []) (left_to (placed w i (with_program p m)) x) (λ rest. refl) refl ends
+    pub build-done : (v : Slot) (x : RunWorld) → Ends (initialization_of (built_in (placed others i (with_program p m))) budget i) (globals_begun i p u) (Ok v) x
+        → Leads (build R w i m budget) (reply_of (Done None) x.events []) (left_to (placed others i (with_program p m)) x)
+    build-done v x ends = build-started (Ok v) x (reply_of (Done None) x.events []) (left_to (placed others i (with_program p m)) x) (λ rest. refl) refl ends
 
-    pub build-failed : (f : Fault) (x y : RunWorld) → Ends (initialization_of (built_in (placed w i (with_program p m))) budget i) (globals_begun i p u) (Err f) x
+    pub build-failed : (f : Fault) (x y : RunWorld) → Ends (initialization_of (built_in (placed others i (with_program p m))) budget i) (globals_begun i p u) (Err f) x
         → ((rest : List Input) → globals_ended i (with_inputs rest x) ≡ with_inputs rest y) → answers_listed x.events ≡ answers_listed y.events
-        → Leads (build R w i m budget) (reply_of (Refused (InitFailed f)) y.events []) (left_to (placed w i (emptied m)) y)
+        → Leads (build R w i m budget) (reply_of (Refused (InitFailed f)) y.events []) (left_to (placed others i (emptied m)) y)
     build-failed f x y ends after listed =
-        build-started (Err f) x (reply_of (Refused (InitFailed f)) y.events []) (left_to (placed w i (emptied m)) y)
-        (λ rest. ap (λ q. after_run (Refused (InitFailed f)) [] (placed w i (emptied m)) q) (after rest)) listed ends
+        build-started (Err f) x (reply_of (Refused (InitFailed f)) y.events []) (left_to (placed others i (emptied m)) y)
+        (λ rest. ap (λ q. after_run (Refused (InitFailed f)) [] (placed others i (emptied m)) q) (after rest)) listed ends
 
   -- ---- by the words of the code
 
   -- what a build is refused by that comes to no program
   pub build-refused : (U : Type 0) (e : NoProgram) → IsCompiled (Err e) (build_of (seen R m.mask) m.sections)
       → HasDenials {A = LoadedModule} (Err e) (denials_in R m.mask m.sections)
-      → Leads (build R w i m budget) (reply_to_build {U = U} (Err (refused_by e)) u.events) (left_to (placed w i (emptied m)) u)
+      → Leads (build R w i m budget) (reply_to_build {U = U} (Err (refused_by e)) u.events) (left_to (placed others i (emptied m)) u)
   build-refused U (no.Errors es ds) c d =
-      subst (λ rows. Leads (build R w i m budget) (errors_reply u.events es rows) (left_to (placed w i (emptied m)) u)) (sym d) (build-errors es c)
+      subst (λ rows. Leads (build R w i m budget) (errors_reply u.events es rows) (left_to (placed others i (emptied m)) u)) (sym d) (build-errors es c)
   build-refused U no.Memory c d = build-memory
 
-  module _ (l : LoadedModule) (view : l.view ≡ seen R m.mask) (unbound : l.links ≡ []) (c : IsCompiled (Ok l) (build_of (seen R m.mask) m.sections)) where
+  module _ (l : LoadedModule) (view : l.view ≡ seen R m.mask) (unbound : l.links ≡ map (λ h. None) l.tree.imports) (c : IsCompiled (Ok l) (build_of (seen R m.mask) m.sections)) where
     loaded-over : program_over (seen R m.mask) (resolved_in l) ≡ program_in l
     loaded-over =
-        ap (λ V. record { view = V; names = l.names; tree = view_typed l.tree; links = [] }) (sym view)
+        ap (λ V. record { view = V; names = l.names; tree = view_typed l.tree; links = map (λ h. None) l.tree.imports }) (sym view)
         ∙ ap (λ ls. record { view = l.view; names = l.names; tree = view_typed l.tree; links = ls }) (sym unbound)
 
-    loaded-built : (r : RunWorld) → after_build (seen R m.mask) (denials_in R m.mask m.sections) (build_of (seen R m.mask) m.sections) w i m budget r
-        ≡ started (end_of (initialization_of (built_in (placed w i (with_program (program_in l) m))) budget i (globals_begun i (program_in l) r))) w i m (program_in l)
+    loaded-built : (r : RunWorld) → after_build (seen R m.mask) (denials_in R m.mask m.sections) (build_of (seen R m.mask) m.sections) others i m budget r
+        ≡ started (end_of (initialization_of (built_in (placed others i (with_program (program_in l) m))) budget i (globals_begun i (program_in l) r))) others i m (program_in l)
     loaded-built r =
-        ap (λ b. after_build (seen R m.mask) (denials_in R m.mask m.sections) b w i m budget r) c
-        ∙ ap (λ p. started (end_of (initialization_of (built_in (placed w i (with_program p m))) budget i (globals_begun i p r))) w i m p) loaded-over
+        ap (λ b. after_build (seen R m.mask) (denials_in R m.mask m.sections) b others i m budget r) c
+        ∙ ap (λ p. started (end_of (initialization_of (built_in (placed others i (with_program p m))) budget i (globals_begun i p r))) others i m p) loaded-over
 
     -- the modules behind it: this one is built, or it is left emptied
-    abbrev pub IsPlacedBy : {U : Type 0} → Result U BuildRefused → List ModuleState → Type 0
-    IsPlacedBy (Ok x) ss = ss ≡ placed w i (with_program (program_in l) m)
-    IsPlacedBy (Err e) ss = ss ≡ placed w i (emptied m)
+    abbrev pub IsPlacedBy : {U : Type 0} → Result U BuildRefused → ModuleStates → Type 0
+    IsPlacedBy (Ok x) ss = ss ≡ placed others i (with_program (program_in l) m)
+    IsPlacedBy (Err e) ss = ss ≡ placed others i (emptied m)
 
     -- a module that was loaded and started
-    pub build-begun : {U : Type 0} (r : Result U BuildRefused) (ms : List Module) (y : RunWorld) → built_in (placed w i (with_program (program_in l) m)) ≡ ms
+    pub build-begun : {U : Type 0} (r : Result U BuildRefused) (ms : List Module) (y : RunWorld) → built_in (placed others i (with_program (program_in l) m)) ≡ ms
         → HasStarted ms i budget (program_in l) u r y
         → ((end : RunWorld) → ((rest : List Input) → globals_ended i (with_inputs rest end) ≡ with_inputs rest y) → answers_listed end.events ≡ answers_listed y.events)
-        → (ss : List ModuleState) → IsPlacedBy r ss
+        → (ss : ModuleStates) → IsPlacedBy r ss
         → Leads (build R w i m budget) (reply_to_build r y.events) (left_to ss y)
     build-begun (Ok x) ms y same h listed ss e =
         subst (λ q. Leads (build R w i m budget) (reply_of (Done None) y.events []) (left_to q y)) (sym e)

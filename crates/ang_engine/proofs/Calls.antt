@@ -1,5 +1,5 @@
 -- How a call leads to its reply.
-use Rattle.std.proofs.Common.{◌≡◌, ◌<◌, refl, ap, sym, ◌∙◌, subst, ℕ, zero, suc, Bool, true, false, List, [], ◌∷◌, ◌++◌, length, get_or, arith, Option, Some, None, map}
+use Rattle.std.proofs.Common.{◌≡◌, ◌<◌, refl, ap, sym, ◌∙◌, subst, ℕ, suc, Bool, true, false, List, [], ◌∷◌, ◌++◌, length, get_or, arith, Option, Some, None, map}
 use Rattle.std.specs.Prelude.{Result, Ok, Err, reverse, slice_get, if◌then◌else◌}
 use Rattle.std.proofs.lemmas.List.{length-map, reverse-append}
 use Rattle.std.proofs.lemmas.Option.{slice_get_read}
@@ -31,12 +31,14 @@ use Rattle.ang_engine_modules.specs.Modules.{Module, module_at, TakesSoMany}
 use Rattle.ang_engine_modules.specs.Executed.{call_of}
 use Rattle.ang_engine_modules.specs.Ends.{end_of}
 use Rattle.ang_engine.specs.declared.calling.ChosenCall.{ChosenCall}
-use Rattle.ang_engine.specs.declared.reply.Outcome.{Outcome}
-use Rattle.ang_engine.specs.declared.reply.Refusal.{Refusal}
-use Rattle.ang_engine.specs.declared.reply.Refusal.TheVariants.{NotCallable}
-use Rattle.ang_engine.specs.World.{Program, ModuleState, World, built_in, running, left_to}
-use Rattle.ang_engine.specs.Step.{Chosen, Not, choice_of, of_number, of_function, with_arguments, Leads, reply_of, call_chosen, call_ended, called}
-use Rattle.ang_engine.specs.Outcomes.{IsChosen, NameNothing, HasCalled, outcome_by}
+use Rattle.ang_engine_world.proofs.Lists.{get-map, map-get, get-front}
+use Rattle.ang_engine_world.specs.declared.reply.Outcome.{Outcome}
+use Rattle.ang_engine_world.specs.declared.reply.Refusal.TheVariants.{NotCallable}
+use Rattle.ang_engine_world.specs.World.{Program, ModuleStates, World, built_in, running, left_to}
+use Rattle.ang_engine.specs.Step.{Chosen, Not}
+use Rattle.ang_engine.specs.Step.{choice_of, of_number, of_function, with_arguments, Leads, call_chosen, call_ended, called}
+use Rattle.ang_engine_world.specs.Commands.{reply_of}
+use Rattle.ang_engine.specs.Outcomes.{NameNothing, HasCalled, outcome_by}
 use Rattle.ang_engine.proofs.Leading.{told_by}
 
 -- ---- the function of a call
@@ -48,12 +50,6 @@ chosen-found n f vs slots c a = ap (λ b. if b then (with_arguments n f (argumen
 -- what stands at a place of a list, which was read as this one
 pub function-at : (xs ys : List ScriptFunction) (n : ℕ) (f : ScriptFunction) → xs ≡ ys → n < length ys → f ≡ get_or xs n f → slice_get ys n ≡ Some f
 function-at xs ys n f same within h = slice_get_read ys (length ys) n f refl within (h ∙ ap (λ l. get_or l n f) same)
-
--- a choice of the function that a declaration names
-pub choice-by : (p : Program) (decl : List ℕ) (vs : List Value) (n : ℕ) (f : ScriptFunction) (r : Result ChosenCall Refusal) → Some n ≡ function_named_by p.view p.names decl
-    → slice_get p.names.functions n ≡ Some f → IsChosen r (of_function n (Some f) vs) → IsChosen r (choice_of p decl vs)
-choice-by p decl vs n f r named at h =
-    subst (λ q. IsChosen r q) (ap (λ o. of_function n o vs) (sym at) ∙ ap (λ o. of_number o p.names.functions vs) named) h
 
 -- a choice of a function is one of the list, with an argument for each parameter
 pub record IsOneOf (fs : List ScriptFunction) (n : ℕ) (f : ScriptFunction) (slots : List Slot) : Type 0 where
@@ -177,26 +173,6 @@ reverse-plain vs h = λ x. many_reverse x vs ∙ h x
 
 -- ---- its parameters in the tree
 
-get-map : {A B : Type 0} (h : A → B) (xs : List A) (n : ℕ) (x : A) → slice_get xs n ≡ Some x → slice_get (map h xs) n ≡ Some (h x)
-get-map h [] n x e = cc
-get-map h (y ∷ ys) zero x e = let same : y ≡ x = cc in ap (λ z. Some (h z)) same
-get-map h (y ∷ ys) (suc n) x e = get-map h ys n x e
-
-record IsFromMap {A B : Type 0} (h : A → B) (xs : List A) (n : ℕ) (y : B) : Type 0 where
-  item : A
-  at : slice_get xs n ≡ Some item
-  same : h item ≡ y
-
-map-get : {A B : Type 0} (h : A → B) (xs : List A) (n : ℕ) (y : B) → slice_get (map h xs) n ≡ Some y → IsFromMap h xs n y
-map-get h [] n y e = absurd (cc)
-map-get h (x ∷ xs) zero y e = record { item = x; at = refl; same = cc }
-map-get h (x ∷ xs) (suc n) y e = let r = map-get h xs n y e in record { item = r.item; at = r.at; same = r.same }
-
-get-front : {A : Type 0} (xs ys : List A) (n : ℕ) (x : A) → slice_get xs n ≡ Some x → slice_get (xs ++ ys) n ≡ Some x
-get-front [] ys n x e = absurd (cc)
-get-front (z ∷ xs) ys zero x e = e
-get-front (z ∷ xs) ys (suc n) x e = get-front xs ys n x e
-
 -- a function of the names takes as many arguments in the tree
 pub takes-named : (V : RegistrationList) (names : Names) (ss : List Source) (ms : List Module) (m n : ℕ) (f : ScriptFunction) (slots : List Slot)
     → HasNames V names ss (module_at ms m).tree → IsOneOf names.functions n f slots → TakesSoMany ms m n (length slots)
@@ -220,7 +196,7 @@ called-so f (Err fault) x w rest = refl
 same_function : (o : Option ScriptFunction) (f g : ScriptFunction) → o ≡ Some f → o ≡ Some g → f ≡ g
 same_function o f g e h = cc
 
-pub call-run : (p : Program) (ms : List Module) (decl : List ℕ) (vs : List Value) (home budget : ℕ) (c : ChosenCall) (f : ScriptFunction) (outcome : Outcome) (ss : List ModuleState) (u x : RunWorld)
+pub call-run : (p : Program) (ms : List Module) (decl : List ℕ) (vs : List Value) (home budget : ℕ) (c : ChosenCall) (f : ScriptFunction) (outcome : Outcome) (ss : ModuleStates) (u x : RunWorld)
     → built_in ss ≡ ms → u.events ≡ [] → choice_of p decl vs ≡ Chosen c.number f c.args.items → HasCalled ms p.names home budget c u outcome x
     → Leads (call_chosen (choice_of p decl vs) (left_to ss u) home budget) (reply_of outcome x.events []) (left_to ss x)
 call-run p ms decl vs home budget c f outcome ss u x built first choice h =

@@ -1,8 +1,10 @@
 -- The entries that modules may ask.
 use Rattle.std.proofs.Common.{◌≡◌, ◌<◌, ◌≤◌, ◌+◌, refl, ap, sym, ◌∙◌, subst, ℕ, zero, suc, true, false, List, [], ◌∷◌, All, Option, Some, None, length, arith}
-use Rattle.std.specs.Prelude.{Bool, IsSome, if◌then◌else◌, slice_index_or}
-use Rattle.std.specs.List.{AllByRecursion, AllZip}
+use Rattle.std.specs.Prelude.{Bool, cond, IsSome, if◌then◌else◌, position, slice_get, slice_index_or}
+use Rattle.std.specs.List.{AllByRecursion, AllZip, position_from}
 use Rattle.std.proofs.lemmas.List.Elements.{All-nil, All-cons}
+use Rattle.std.proofs.lemmas.Iterator.Adapters.{position_from-zero}
+use Rattle.std.proofs.lemmas.Option.{get_or_from_slice_get}
 use Rattle.std.proofs.lemmas.Slice.Eq.{bytes_eq-Decides}
 use Rattle.ang_host.specs.declared.event.HostEvent.{HostEvent}
 use Rattle.ang_host.specs.declared.event.HostEvent.TheVariants.{Called, Ended}
@@ -21,12 +23,11 @@ use Rattle.ang_lower.specs.Hosts.{use_of, asked_as, use_in, role_in}
 use Rattle.ang_engine_modules.specs.declared.modules.LoadedModule.{LoadedModule}
 use Rattle.ang_engine_modules.specs.Loaded.{modules_of}
 use Rattle.ang_engine_modules.specs.Modules.{module_at, AreDriversThere, AgreesWith, IsAskedIn}
-use Rattle.ang_engine.specs.declared.module.Module.{Module}
-use Rattle.ang_engine.specs.World.{ModuleState, World, index_from, no_module, left_to}
-use Rattle.ang_engine.specs.Engines.{module_states}
+use Rattle.ang_engine_world.specs.declared.module.Module.{Module}
+use Rattle.ang_engine_world.specs.World.{ModuleState, World, has_name, module_in, left_to}
+use Rattle.ang_engine_world.specs.States.{state_of, place_of, places_of}
 use Rattle.ang_engine.specs.Step.{IsEntitled}
-use Rattle.ang_engine.specs.Sound.{HaveDrivers, IsSoundModule}
-use Rattle.ang_engine.proofs.Worlds.{states_length}
+use Rattle.ang_engine.specs.Sound.{IsSoundPlace, HaveDrivers}
 
 -- ---- what a mask shows
 
@@ -67,29 +68,26 @@ role_seen R mask n u e = asked_role R mask n (entry_at (seen R mask) n) u refl e
 
 -- ---- what the modules see
 
--- Module m of these is there, and such is what its built mask shows.
-pub record IsShownAt (R : RegistrationList) (ms : List Module) (ls ks : List (Option LoadedModule)) (m : ℕ) (Q : RegistrationList → Type 0) : Type 0 where
-  pub within : m < length ms
-  pub name : (module_at (modules_of ls) m).name ≡ (slice_index_or (module_states ms ks) m no_module).name
-  pub mask : ℕ
-  pub built : (slice_index_or (module_states ms ks) m no_module).built_mask ≡ mask
-  pub view : Q (seen R mask)
+-- A module has the place m of these, and such is what its built mask shows.
+pub record IsShownAt (R : RegistrationList) (ms : List (Option Module)) (ls : List (Option LoadedModule)) (m : ℕ) (Q : RegistrationList → Type 0) : Type 0 where
+  pub own : Module
+  pub there : slice_get ms m ≡ Some (Some own)
+  pub name : (module_at (modules_of ls) m).name ≡ own.name
+  pub view : Q (seen R own.built_mask.0)
 
--- What a module that runs sees is what its built mask shows, whatever is built of the modules now.
-pub shown_at : (R : RegistrationList) (ms : List Module) (ls ks : List (Option LoadedModule)) (Q : RegistrationList → Type 0) → (Q [] → ⊥) → AllZip (IsSoundModule R) ms ls → (m : ℕ)
-    → Q (module_at (modules_of ls) m).view → IsShownAt R ms ls ks m Q
-shown_at R [] [] ks Q none h m q = absurd (none q)
-shown_at R [] (l ∷ ls) ks Q none h m q = absurd h
-shown_at R (x ∷ ms) [] ks Q none h m q = absurd h
-shown_at R (x ∷ ms) (None ∷ ls) ks Q none h zero q = absurd (none q)
-shown_at R (x ∷ ms) (Some l ∷ ls) [] Q none h zero q = record { within = omega arith; name = h.0.name; mask = x.built_mask.0; built = refl; view = subst Q h.0.view q }
-shown_at R (x ∷ ms) (Some l ∷ ls) (k ∷ ks) Q none h zero q = record { within = omega arith; name = h.0.name; mask = x.built_mask.0; built = refl; view = subst Q h.0.view q }
-shown_at R (x ∷ ms) (l ∷ ls) [] Q none h (suc m) q =
-    let r = shown_at R ms ls [] Q none h.1 m q in
-    record { within = omega (arith, r.within); name = r.name; mask = r.mask; built = r.built; view = r.view }
-shown_at R (x ∷ ms) (l ∷ ls) (k ∷ ks) Q none h (suc m) q =
-    let r = shown_at R ms ls ks Q none h.1 m q in
-    record { within = omega (arith, r.within); name = r.name; mask = r.mask; built = r.built; view = r.view }
+-- What a module that runs sees is what its built mask shows.
+pub shown_at : (R : RegistrationList) (ms : List (Option Module)) (ls : List (Option LoadedModule)) (Q : RegistrationList → Type 0) → (Q [] → ⊥) → AllZip (IsSoundPlace R) ms ls → (m : ℕ)
+    → Q (module_at (modules_of ls) m).view → IsShownAt R ms ls m Q
+shown_at R [] [] Q none h m q = absurd (none q)
+shown_at R [] (l ∷ ls) Q none h m q = absurd h
+shown_at R (x ∷ ms) [] Q none h m q = absurd h
+shown_at R (None ∷ ms) (None ∷ ls) Q none h zero q = absurd (none q)
+shown_at R (None ∷ ms) (Some l ∷ ls) Q none h zero q = absurd h.0
+shown_at R (Some x ∷ ms) (None ∷ ls) Q none h zero q = absurd (none q)
+shown_at R (Some x ∷ ms) (Some l ∷ ls) Q none h zero q = record { own = x; there = refl; name = h.0.name; view = subst Q h.0.view q }
+shown_at R (x ∷ ms) (l ∷ ls) Q none h (suc m) q =
+    let r = shown_at R ms ls Q none h.1 m q in
+    record { own = r.own; there = r.there; name = r.name; view = r.view }
 
 no_entry : (n : ℕ) (x : Entry) → entry_at [] n ≡ Some x → ⊥
 no_entry n x e = let y : ⊥ = cc in y
@@ -101,42 +99,102 @@ some_none : (n : ℕ) → IsSome (entry_at [] n) → ⊥
 some_none n h = let y : ⊥ = cc in y
 
 -- their drivers are in the list
-pub drivers_there : (R : RegistrationList) (ms : List Module) (ls : List (Option LoadedModule)) (count : ℕ) → AllZip (IsSoundModule R) ms ls → HaveDrivers R count → AreDriversThere (modules_of ls) count
+pub drivers_there : (R : RegistrationList) (ms : List (Option Module)) (ls : List (Option LoadedModule)) (count : ℕ) → AllZip (IsSoundPlace R) ms ls → HaveDrivers R count
+    → AreDriversThere (modules_of ls) count
 drivers_there R ms ls count h have m n x e =
-    let r = shown_at R ms ls ls (λ V. entry_at V n ≡ Some x) (no_entry n x) h m e in
-    have n x (registered R r.mask n x r.view)
+    let r = shown_at R ms ls (λ V. entry_at V n ≡ Some x) (no_entry n x) h m e in
+    have n x (registered R r.own.built_mask.0 n x r.view)
 
 -- and asked by their roles
-pub roles_agree : (R : RegistrationList) (ms : List Module) (ls : List (Option LoadedModule)) → AllZip (IsSoundModule R) ms ls → AgreesWith (roles_of R) (modules_of ls)
+pub roles_agree : (R : RegistrationList) (ms : List (Option Module)) (ls : List (Option LoadedModule)) → AllZip (IsSoundPlace R) ms ls → AgreesWith (roles_of R) (modules_of ls)
 roles_agree R ms ls h = record {
   each = λ m n u e.
-      let r = shown_at R ms ls ls (λ V. use_in V n ≡ Some u) (no_use n u) h m e in
-      role_seen R r.mask n u r.view;
+      let r = shown_at R ms ls (λ V. use_in V n ≡ Some u) (no_use n u) h m e in
+      role_seen R r.own.built_mask.0 n u r.view;
 }
 
 -- ---- host calls
 
--- the first module has its name, where there is one at most
-first_named : (ss : List ModuleState) (m : ℕ) → length ss ≤ 1 → m < length ss → index_from 0 (slice_index_or ss m no_module).name ss ≡ Some m
-first_named [] m few lt = absurd (omega (arith, lt))
-first_named (s ∷ ss) zero few lt = ap (λ b. if b then Some 0 else (index_from (0 + 1) s.name ss)) ((bytes_eq-Decides s.name s.name).1 refl)
-first_named (s ∷ ss) (suc m) few lt = absurd (omega (arith, few, lt))
+module _ {A : Type 0} (p : A → Bool) where
+  not_first : (k : ℕ) (y : A) (xs : List A) (m : ℕ) (b : Bool) → p y ≡ b → (b ≡ true → ⊥) → position_from p (k + 1) xs ≡ Some (k + 1 + m) → position_from p k (y ∷ xs) ≡ Some (k + suc m)
+  not_first k y xs m true e never rest = absurd (never refl)
+  not_first k y xs m false e never rest = ap (λ b. cond b (Some k) (position_from p (k + 1) xs)) e ∙ rest ∙ ap (λ n. Some n) (omega arith)
 
-module _ (R : RegistrationList) (ms : List Module) (ls ks : List (Option LoadedModule)) (r : RunWorld) (zip : AllZip (IsSoundModule R) ms ls) (few : length ms ≤ 1) where
+  only_from : (k : ℕ) (xs : List A) (m : ℕ) (x : A) → slice_get xs m ≡ Some x → p x ≡ true → ((j : ℕ) (y : A) → slice_get xs j ≡ Some y → p y ≡ true → j ≡ m) → position_from p k xs ≡ Some (k + m)
+  only_from k [] m x at passes only = absurd (cc)
+  only_from k (y ∷ xs) zero x at passes only =
+      let same : y ≡ x = cc in
+      ap (λ b. cond b (Some k) (position_from p (k + 1) xs)) (ap p same ∙ passes) ∙ ap (λ n. Some n) (omega arith)
+  only_from k (y ∷ xs) (suc m) x at passes only =
+      not_first k y xs m (p y) refl (λ e. let no : 0 ≡ suc m = only 0 y refl e in absurd (omega (arith, no)))
+      (only_from (k + 1) xs m x at passes (λ j z there pass. let n : suc j ≡ suc m = only (suc j) z there pass in omega (arith, n)))
+
+  -- the only one that passes is the first
+  pub position_only : (xs : List A) (m : ℕ) (x : A) → slice_get xs m ≡ Some x → p x ≡ true → ((j : ℕ) (y : A) → slice_get xs j ≡ Some y → p y ≡ true → j ≡ m) → position p xs ≡ Some m
+  position_only xs m x at passes only =
+      let same : 0 + m ≡ m = omega arith in
+      position_from-zero p xs ∙ only_from 0 xs m x at passes only ∙ ap (λ n. Some n) same
+
+-- the place of a module, in the world
+place_there : (ms : List (Option Module)) (ks : List (Option LoadedModule)) (m : ℕ) (x : Module) → slice_get ms m ≡ Some (Some x) → slice_get (places_of ms ks) m ≡ Some (Some (state_of x (slice_index_or ks m None)))
+place_there [] ks m x at = absurd (cc)
+place_there (y ∷ ms) [] zero x at = let same : y ≡ Some x = cc in ap (λ o. Some (place_of o None)) same
+place_there (y ∷ ms) (k ∷ ks) zero x at = let same : y ≡ Some x = cc in ap (λ o. Some (place_of o k)) same
+place_there (y ∷ ms) [] (suc m) x at = place_there ms [] m x at
+place_there (y ∷ ms) (k ∷ ks) (suc m) x at = place_there ms ks m x at
+
+-- a module of the world has a place here
+record HasPlace (ms : List (Option Module)) (ks : List (Option LoadedModule)) (j : ℕ) (s : ModuleState) : Type 0 where
+  own : Module
+  there : slice_get ms j ≡ Some (Some own)
+  name : s.name ≡ own.name
+
+place_from : (ms : List (Option Module)) (ks : List (Option LoadedModule)) (j : ℕ) (s : ModuleState) → slice_get (places_of ms ks) j ≡ Some (Some s) → HasPlace ms ks j s
+place_from [] ks j s at = absurd (cc)
+place_from (None ∷ ms) [] zero s at = absurd (cc)
+place_from (Some y ∷ ms) [] zero s at = let same : state_of y None ≡ s = cc in record { own = y; there = refl; name = ap (λ (x : ModuleState). x.name) (sym same) }
+place_from (None ∷ ms) (k ∷ ks) zero s at = absurd (cc)
+place_from (Some y ∷ ms) (k ∷ ks) zero s at = let same : state_of y k ≡ s = cc in record { own = y; there = refl; name = ap (λ (x : ModuleState). x.name) (sym same) }
+place_from (y ∷ ms) [] (suc j) s at = let r = place_from ms [] j s at in record { own = r.own; there = r.there; name = r.name }
+place_from (y ∷ ms) (k ∷ ks) (suc j) s at = let r = place_from ms ks j s at in record { own = r.own; there = r.there; name = r.name }
+
+-- no two modules have one name
+abbrev pub AreApart : List (Option Module) → Type 0
+AreApart ms = (i j : ℕ) (m n : Module) → slice_get ms i ≡ Some (Some m) → slice_get ms j ≡ Some (Some n) → m.name ≡ n.name → i ≡ j
+
+module _ (ms : List (Option Module)) (ks : List (Option LoadedModule)) (apart : AreApart ms) where
+  only_named : (m : ℕ) (x : Module) → slice_get ms m ≡ Some (Some x) → (j : ℕ) (o : Option ModuleState) → slice_get (places_of ms ks) j ≡ Some o → has_name x.name o ≡ true → j ≡ m
+  only_named m x at j None there named = absurd (cc)
+  only_named m x at j (Some s) there named =
+      let r = place_from ms ks j s there in
+      apart j m r.own x r.there at (sym r.name ∙ (bytes_eq-Decides s.name x.name).0 named)
+
+  -- a module that is there is found by its name
+  pub named_there : (m : ℕ) (x : Module) → slice_get ms m ≡ Some (Some x) → position (has_name x.name) (places_of ms ks) ≡ Some m
+  named_there m x at =
+      position_only (has_name x.name) (places_of ms ks) m (Some (state_of x (slice_index_or ks m None))) (place_there ms ks m x at) ((bytes_eq-Decides x.name x.name).1 refl) (only_named m x at)
+
+place_read : (ms : List (Option Module)) (ks : List (Option LoadedModule)) (m : ℕ) (x : Module) → slice_get ms m ≡ Some (Some x)
+    → slice_index_or (places_of ms ks) m None ≡ Some (state_of x (slice_index_or ks m None))
+place_read ms ks m x at = get_or_from_slice_get (places_of ms ks) m (Some (state_of x (slice_index_or ks m None))) None (place_there ms ks m x at)
+
+module _ (R : RegistrationList) (ms : List (Option Module)) (ls ks : List (Option LoadedModule)) (order : List ℕ) (r : RunWorld) (zip : AllZip (IsSoundPlace R) ms ls) (apart : AreApart ms) where
+  abbrev after : World
+  after = left_to (record { places = places_of ms ks; order = order }) r
+
   -- What one of these modules asks is entitled, whatever is built of them now.
-  pub entitled_one : (e : HostEvent) → IsAskedIn (modules_of ls) e → IsEntitled R (left_to (module_states ms ks) r) e
+  pub entitled_one : (e : HostEvent) → IsAskedIn (modules_of ls) e → IsEntitled R after e
   entitled_one (Called caller entity driver object args reply) h =
-      let s = shown_at R ms ls ks (λ V. IsSome (entry_at V entity.0)) (some_none entity.0) zip h.0 h.2 in
-      let ss = module_states ms ks in (
+      let s = shown_at R ms ls (λ V. IsSome (entry_at V entity.0)) (some_none entity.0) zip h.0 h.2 in (
         h.0,
-        ap (λ n. index_from 0 n ss) (h.1 ∙ s.name) ∙ first_named ss h.0 (omega (arith, few, states_length ms ks)) (omega (arith, s.within, states_length ms ks)),
-        subst (λ k. IsSome (entry_at (seen R k) entity.0)) (sym s.built) s.view,
+        ap (λ n. position (has_name n) (places_of ms ks)) (h.1 ∙ s.name) ∙ named_there ms ks apart h.0 s.own s.there,
+        subst (λ (o : Option ModuleState). IsSome (entry_at (seen R (module_in o).built_mask) entity.0)) (sym (place_read ms ks h.0 s.own s.there)) s.view,
       )
   entitled_one (Ended driver key) h = tt
 
-  pub all_entitled : (es : List HostEvent) → AllByRecursion (IsAskedIn (modules_of ls)) es → All (IsEntitled R (left_to (module_states ms ks) r)) es
-  all_entitled [] h = All-nil (IsEntitled R (left_to (module_states ms ks) r))
-  all_entitled (e ∷ es) h = All-cons (IsEntitled R (left_to (module_states ms ks) r)) e es (entitled_one e h.0) (all_entitled es h.1)
+  pub all_entitled : (es : List HostEvent) → AllByRecursion (IsAskedIn (modules_of ls)) es → All (IsEntitled R after) es
+  all_entitled [] h = All-nil (IsEntitled R after)
+  all_entitled (e ∷ es) h = All-cons (IsEntitled R after) e es (entitled_one e h.0) (all_entitled es h.1)
 
 -- Where no module ran only ends are listed.
 end_entitled : (R : RegistrationList) (w : World) (e : HostEvent) → IsAskedIn [] e → IsEntitled R w e

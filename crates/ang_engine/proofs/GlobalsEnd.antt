@@ -1,6 +1,6 @@
 -- Globals that end: what is given up, what is listed, and what is left.
-use Rattle.std.proofs.Common.{◌≡◌, ℕ, zero, suc, ◌+◌, List, [], ◌∷◌, ◌++◌, length, refl, sym, ap, ◌∙◌, subst, arith, append-nil, append_assoc, drop}
-use Rattle.std.specs.Prelude.{slice_index_or, slice_set}
+use Rattle.std.proofs.Common.{◌≡◌, ℕ, zero, suc, ◌+◌, List, [], ◌∷◌, ◌++◌, ◌⊎◌, inl, inr, refl, sym, ap, ◌∙◌, subst, arith, append-nil, append_assoc}
+use Rattle.std.specs.Prelude.{Contains, slice_index_or, slice_set}
 use Rattle.std.specs.List.{AllByRecursion}
 use Rattle.ang_host.specs.declared.event.HostEvent.{HostEvent}
 use Rattle.ang_host.specs.declared.event.HostEvent.TheVariants.{Called, Ended}
@@ -17,7 +17,7 @@ use Rattle.ang_meaning.proofs.Counting.{many_append, give_globals}
 use Rattle.ang_meaning.proofs.Counted.{counted_as, give_counted}
 use Rattle.ang_meaning.proofs.Moving.{give_moves, give_back_moves}
 use Rattle.ang_meaning.proofs.Driving.{all_balanced}
-use Rattle.ang_engine.specs.World.{running, globals_ended, all_ended}
+use Rattle.ang_engine_world.specs.World.{running, globals_ended, all_ended}
 use Rattle.ang_engine.specs.Ending.{ends_of, GivingListsEnds, EndingListsEnds}
 
 -- ---- values that are given up, the last one first
@@ -45,21 +45,6 @@ lists_taken x [] i l none = refl
 lists_taken x (g ∷ gs) zero l none = omega (arith, none)
 lists_taken x (g ∷ gs) (suc i) l none = omega (arith, lists_taken x gs i l none)
 
--- a list more that names nothing
-pub lists_more : (x : Thing) (gs : List (List Slot)) (l : List Slot) → how_many x l ≡ 0 → in_lists x (gs ++ l ∷ []) ≡ in_lists x gs
-lists_more x [] l none = omega (arith, none)
-lists_more x (g ∷ gs) l none = omega (arith, lists_more x gs l none)
-
-drop_emptied : (x : Thing) (gs : List (List Slot)) (n : ℕ) → in_lists x (drop n (slice_set gs n [])) ≡ in_lists x (drop (suc n) gs)
-drop_emptied x [] zero = refl
-drop_emptied x [] (suc n) = refl
-drop_emptied x (g ∷ gs) zero = omega arith
-drop_emptied x (g ∷ gs) (suc n) = drop_emptied x gs n
-
-drop_all : (x : Thing) (gs : List (List Slot)) → in_lists x (drop (length gs) gs) ≡ 0
-drop_all x [] = refl
-drop_all x (g ∷ gs) = drop_all x gs
-
 -- ---- a module's globals end
 
 pub ended_globals : (i : ℕ) (r : RunWorld) → (globals_ended i r).globals ≡ slice_set r.globals i []
@@ -82,29 +67,43 @@ begun_counted i l r none empty p = record {
   ordered = p.ordered;
 }
 
--- a module more has no globals
-pub more_counted : (r : RunWorld) → IsCounted [] r → IsCounted [] (record r { globals = r.globals ++ [] ∷ [] })
-more_counted r p = record { counts = record { counts = λ x. omega (arith, p.counts.counts x, lists_more x r.globals [] refl) }; ordered = p.ordered }
+-- ---- those of some modules end
 
--- ---- those of all modules end
+pub all_counted : (is : List ℕ) (r : RunWorld) → IsCounted [] r → IsCounted [] (all_ended is r)
+all_counted [] r p = p
+all_counted (i ∷ is) r p = ended_counted i (all_ended is r) (all_counted is r p)
 
-pub all_counted : (n : ℕ) (r : RunWorld) → IsCounted [] r → IsCounted [] (all_ended n r)
-all_counted zero r p = p
-all_counted (suc n) r p = all_counted n (globals_ended n r) (ended_counted n r p)
+pub emptied_at : (gs : List (List Slot)) (i j : ℕ) → (j ≡ i) ⊎ (slice_index_or gs j [] ≡ []) → slice_index_or (slice_set gs i []) j [] ≡ []
+emptied_at [] i j h = refl
+emptied_at (g ∷ gs) zero zero h = refl
+emptied_at (g ∷ gs) zero (suc j) (inl e) = absurd (omega (arith, e))
+emptied_at (g ∷ gs) zero (suc j) (inr e) = e
+emptied_at (g ∷ gs) (suc i) zero (inl e) = absurd (omega (arith, e))
+emptied_at (g ∷ gs) (suc i) zero (inr e) = e
+emptied_at (g ∷ gs) (suc i) (suc j) (inl e) = emptied_at gs i j (inl (omega (arith, e)))
+emptied_at (g ∷ gs) (suc i) (suc j) (inr e) = emptied_at gs i j (inr e)
 
--- what is left among the globals are those of the other modules
-all_left : (x : Thing) (n : ℕ) (r : RunWorld) → in_lists x (all_ended n r).globals ≡ in_lists x (drop n r.globals)
-all_left x zero r = refl
-all_left x (suc n) r =
-    all_left x n (globals_ended n r) ∙ ap (λ gs. in_lists x (drop n gs)) (ended_globals n r) ∙ drop_emptied x r.globals n
+-- of the module whose globals end last, and of the others
+none_but : (i : ℕ) (is : List ℕ) (r : RunWorld) (j : ℕ) → (j ≡ i) ⊎ (slice_index_or (all_ended is r).globals j [] ≡ []) → slice_index_or (all_ended (i ∷ is) r).globals j [] ≡ []
+none_but i is r j h = ap (λ gs. slice_index_or gs j []) (ended_globals i (all_ended is r)) ∙ emptied_at (all_ended is r).globals i j h
 
-pub none_left : (x : Thing) (r : RunWorld) → in_lists x (all_ended (length r.globals) r).globals ≡ 0
-none_left x r = all_left x (length r.globals) r ∙ drop_all x r.globals
+-- a module that is among them, or had no globals, has none then
+pub none_at : (is : List ℕ) (r : RunWorld) (j : ℕ) → Contains is j ⊎ (slice_index_or r.globals j [] ≡ []) → slice_index_or (all_ended is r).globals j [] ≡ []
+none_at [] r j (inl (k, lt, at)) = absurd (omega (arith, lt))
+none_at [] r j (inr e) = e
+none_at (i ∷ is) r j (inl (zero, lt, at)) = none_but i is r j (inl (sym at))
+none_at (i ∷ is) r j (inl (suc k, lt, at)) = none_but i is r j (inr (none_at is r j (inl (k, omega (arith, lt), at))))
+none_at (i ∷ is) r j (inr e) = none_but i is r j (inr (none_at is r j (inr e)))
 
--- then each driver is balanced
-pub all_given_back : (ss : List State) (r : RunWorld) → IsCounted [] r → (all_ended (length r.globals) r).hosts ≡ counts_by ss → (i : ℕ) → IsSound (state_at ss i) → IsBalanced (state_at ss i)
-all_given_back ss r p hosts i sound =
-    all_balanced ss (all_ended (length r.globals) r) hosts (all_counted (length r.globals) r p) (λ x. none_left x r) i sound
+nothing_in : (x : Thing) (gs : List (List Slot)) → ((j : ℕ) → slice_index_or gs j [] ≡ []) → in_lists x gs ≡ 0
+nothing_in x [] h = refl
+nothing_in x (g ∷ gs) h = omega (arith, ap (how_many x) (h 0), nothing_in x gs (λ j. h (suc j)))
+
+-- then each driver is balanced, where each module with globals is among them
+pub all_given_back : (ss : List State) (is : List ℕ) (r : RunWorld) → IsCounted [] r → ((j : ℕ) → Contains is j ⊎ (slice_index_or r.globals j [] ≡ []))
+    → (all_ended is r).hosts ≡ counts_by ss → (i : ℕ) → IsSound (state_at ss i) → IsBalanced (state_at ss i)
+all_given_back ss is r p among hosts i sound =
+    all_balanced ss (all_ended is r) hosts (all_counted is r p) (λ x. nothing_in x (all_ended is r).globals (λ j. none_at is r j (among j))) i sound
 
 -- ---- what is listed
 
@@ -141,15 +140,15 @@ globals_ends i r =
     let p = moves_ends u (give_back vs u) (give_back_moves vs u) in
     record { ends = p.ends; events = p.events }
 
-pub all_ends : (n : ℕ) (r : RunWorld) → ListsEnds r (all_ended n r)
-all_ends zero r = record { ends = []; events = sym (append-nil r.events) }
-all_ends (suc n) r = ends_then r (globals_ended n r) (all_ended n (globals_ended n r)) (globals_ends n r) (all_ends n (globals_ended n r))
+pub all_ends : (is : List ℕ) (r : RunWorld) → ListsEnds r (all_ended is r)
+all_ends [] r = record { ends = []; events = sym (append-nil r.events) }
+all_ends (i ∷ is) r = ends_then r (all_ended is r) (globals_ended i (all_ended is r)) (all_ends is r) (globals_ends i (all_ended is r))
 
 pub giving_lists_ends : GivingListsEnds
 giving_lists_ends v w = let p = give_ends v w in (p.ends, p.events)
 
 pub ending_lists_ends : EndingListsEnds
-ending_lists_ends w = let p = all_ends (length w.globals) (running w []) in (p.ends, p.events)
+ending_lists_ends w = let p = all_ends w.modules.order (running w []) in (p.ends, p.events)
 
 -- ends answer nothing
 listed_ends : (ks : List (ℕ × ℕ)) → answers_listed (ends_of ks) ≡ []

@@ -1,6 +1,6 @@
 -- How commands lead to their replies.
 use Rattle.std.proofs.Common.{◌≡◌, refl, ap, sym, ◌∙◌, subst, inl, inr, ◌⊎◌, true, false, List, [], ◌∷◌, ◌++◌, Option, Some, None}
-use Rattle.std.specs.Prelude.{Result, Ok, Err, IsSome, is_some}
+use Rattle.std.specs.Prelude.{Result, Ok, Err, IsSome, is_some, if◌then◌else◌}
 use Rattle.ang_kinds.specs.declared.fault.Fault.{Fault}
 use Rattle.ang_host.specs.declared.event.HostEvent.{HostEvent}
 use Rattle.ang_view.specs.Registration.{RegistrationList}
@@ -8,16 +8,17 @@ use Rattle.ang_meaning.specs.declared.slot.Slot.{Slot}
 use Rattle.ang_meaning.specs.World.{Input, Room}
 use Rattle.ang_meaning.specs.Told.{has_room, stopped_by}
 use Rattle.ang_engine_modules.specs.Ends.{IsTold}
-use Rattle.ang_engine.specs.declared.command.Command.{Command}
-use Rattle.ang_engine.specs.declared.command.Command.TheVariants.{NewModule, AddSection, Build, Call}
-use Rattle.ang_engine.specs.declared.reply.Reply.{Reply}
-use Rattle.ang_engine.specs.declared.reply.Outcome.{Outcome}
-use Rattle.ang_engine.specs.declared.reply.Outcome.TheVariants.{Done, Refused}
-use Rattle.ang_engine.specs.declared.reply.Refusal.{Refusal}
-use Rattle.ang_engine.specs.declared.reply.Refusal.TheVariants.{Memory}
-use Rattle.ang_engine.specs.World.{World}
-use Rattle.ang_engine.specs.Step.{Stepped, Leads, Takes, judged, granted, step, answered, reply_of}
-use Rattle.ang_engine.specs.Outcomes.{IsRefused, IsDone, IsCalled, outcome_of, reply_to_call}
+use Rattle.ang_engine_world.specs.declared.command.Command.{Command}
+use Rattle.ang_engine_world.specs.declared.reply.Reply.{Reply}
+use Rattle.ang_engine_world.specs.declared.reply.Outcome.{Outcome}
+use Rattle.ang_engine_world.specs.declared.reply.Outcome.TheVariants.{Done, Refused}
+use Rattle.ang_engine_world.specs.declared.reply.Refusal.{Refusal}
+use Rattle.ang_engine_world.specs.declared.reply.Refusal.TheVariants.{Memory}
+use Rattle.ang_engine_world.specs.World.{World}
+use Rattle.ang_engine_world.specs.Commands.{Stepped, answered, reply_of}
+use Rattle.ang_engine.specs.Step.{Leads, Takes, judged, granted, may_want_memory, step}
+use Rattle.ang_engine_world.specs.Outcomes.{IsRefused, IsDone, IsDoneWithoutMemory, outcome_of}
+use Rattle.ang_engine.specs.Outcomes.{IsCalled, IsDiscarded, reply_to_call, reply_to_discard}
 
 -- ---- what was told
 
@@ -46,37 +47,58 @@ leads-same go to reply v w h e l = record {
 
 -- ---- a whole command
 
--- each of these may be refused for want of memory
-step-granted : (R : RegistrationList) (w : World) (c : Command) (is : List Input) → step R w c is ≡ granted R w c is
-step-granted R w (NewModule name mask) is = refl
-step-granted R w (AddSection name text) is = refl
-step-granted R w (Build name budget) is = refl
-step-granted R w (Call name decl args budget) is = refl
+-- a command that may be refused for want of memory
+step-granted : (R : RegistrationList) (w : World) (c : Command) (is : List Input) → may_want_memory c ≡ true → step R w c is ≡ granted R w c is
+step-granted R w c is wants = ap (λ b. if b then (granted R w c is) else (judged R w c is)) wants
 
 -- there was memory, and it was judged
-pub takes-judged : (R : RegistrationList) (w v : World) (c : Command) (reply : Reply) → Leads (judged R w c) reply v → Takes R w c reply v
-takes-judged R w v c reply l = record { used = Room true ∷ l.used; tells = λ rest. step-granted R w c (Room true ∷ (l.used ++ rest)) ∙ l.tells rest; told = l.told; answers = l.answers }
+pub takes-judged : (R : RegistrationList) (w v : World) (c : Command) (reply : Reply) → may_want_memory c ≡ true → Leads (judged R w c) reply v → Takes R w c reply v
+takes-judged R w v c reply wants l = record {
+  used = Room true ∷ l.used;
+  tells = λ rest. step-granted R w c (Room true ∷ (l.used ++ rest)) wants ∙ l.tells rest;
+  told = l.told;
+  answers = l.answers;
+}
 
 -- there was none before anything was changed
-pub takes-memory : (R : RegistrationList) (w v : World) (c : Command) → v ≡ w → Takes R w c (reply_of (Refused Memory) [] []) v
-takes-memory R w v c same = record {
+pub takes-memory : (R : RegistrationList) (w v : World) (c : Command) → may_want_memory c ≡ true → v ≡ w → Takes R w c (reply_of (Refused Memory) [] []) v
+takes-memory R w v c wants same = record {
   used = Room false ∷ [];
-  tells = λ rest. step-granted R w c (Room false ∷ rest) ∙ ap (λ x. Some (record { reply = reply_of (Refused Memory) [] []; world = x; left = rest })) (sym same);
+  tells = λ rest. step-granted R w c (Room false ∷ rest) wants ∙ ap (λ x. Some (record { reply = reply_of (Refused Memory) [] []; world = x; left = rest })) (sym same);
   told = inr refl;
   answers = refl;
 }
 
-refused-takes : (R : RegistrationList) (w v : World) (c : Command) (why : Refusal) → IsRefused why (judged R w c) w v → Takes R w c (reply_of (Refused why) [] []) v
-refused-takes R w v c why (inl memory, same) = subst (λ x. Takes R w c (reply_of (Refused x) [] []) v) (sym memory) (takes-memory R w v c same)
-refused-takes R w v c why (inr so, same) =
-    subst (λ x. Takes R w c (reply_of (Refused why) [] []) x) (sym same) (takes-judged R w w c _ (leads-at_once (judged R w c) (Refused why) w so))
+pub refused-takes : (R : RegistrationList) (w v : World) (c : Command) (why : Refusal) → may_want_memory c ≡ true → IsRefused why (judged R w c) w v → Takes R w c (reply_of (Refused why) [] []) v
+refused-takes R w v c why wants (inl memory, same) = subst (λ x. Takes R w c (reply_of (Refused x) [] []) v) (sym memory) (takes-memory R w v c wants same)
+refused-takes R w v c why wants (inr so, same) =
+    subst (λ x. Takes R w c (reply_of (Refused why) [] []) x) (sym same) (takes-judged R w w c _ wants (leads-at_once (judged R w c) (Refused why) w so))
 
 -- it is done or refused
-pub takes-done : {U : Type 0} (R : RegistrationList) (w v : World) (c : Command) (r : Result U Refusal) → IsDone r (judged R w c) w v → Takes R w c (reply_of (outcome_of r) [] []) v
-takes-done R w v c (Ok u) done = takes-judged R w v c _ (leads-at_once (judged R w c) (Done None) v done)
-takes-done R w v c (Err why) done = refused-takes R w v c why done
+pub takes-done : {U : Type 0} (R : RegistrationList) (w v : World) (c : Command) (r : Result U Refusal) → may_want_memory c ≡ true → IsDone r (judged R w c) w v
+    → Takes R w c (reply_of (outcome_of r) [] []) v
+takes-done R w v c (Ok u) wants done = takes-judged R w v c _ wants (leads-at_once (judged R w c) (Done None) v done)
+takes-done R w v c (Err why) wants done = refused-takes R w v c why wants done
 
 -- a call was run or refused
-pub takes-called : (R : RegistrationList) (w v : World) (c : Command) (r : Result Outcome Refusal) (es : List HostEvent) → IsCalled r es (judged R w c) w v → Takes R w c (reply_to_call r es) v
-takes-called R w v c (Ok outcome) es done = takes-judged R w v c _ done
-takes-called R w v c (Err why) es done = refused-takes R w v c why done
+pub takes-called : (R : RegistrationList) (w v : World) (c : Command) (r : Result Outcome Refusal) (es : List HostEvent) → may_want_memory c ≡ true → IsCalled r es (judged R w c) w v
+    → Takes R w c (reply_to_call r es) v
+takes-called R w v c (Ok outcome) es wants done = takes-judged R w v c _ wants done
+takes-called R w v c (Err why) es wants done = refused-takes R w v c why wants done
+
+-- a module was discarded or it was refused
+pub takes-discarded : {U : Type 0} (R : RegistrationList) (w v : World) (c : Command) (r : Result U Refusal) (es : List HostEvent) → may_want_memory c ≡ true → IsDiscarded r es (judged R w c) w v
+    → Takes R w c (reply_to_discard r es) v
+takes-discarded R w v c (Ok u) es wants done = takes-judged R w v c _ wants done
+takes-discarded R w v c (Err why) es wants done = refused-takes R w v c why wants done
+
+-- ---- a command that wants no memory
+
+-- nobody is asked
+pub takes-without : {U : Type 0} (R : RegistrationList) (w v : World) (c : Command) (r : Result U Refusal) → may_want_memory c ≡ false → IsDoneWithoutMemory r (judged R w c) w v
+    → Takes R w c (reply_of (outcome_of r) [] []) v
+takes-without R w v c (Ok u) wants done =
+    leads-at_once (step R w c) (Done None) v (λ rest. ap (λ b. if b then (granted R w c rest) else (judged R w c rest)) wants ∙ done rest)
+takes-without R w v c (Err why) wants (so, same) =
+    subst (λ x. Takes R w c (reply_of (Refused why) [] []) x) (sym same)
+    (leads-at_once (step R w c) (Refused why) w (λ rest. ap (λ b. if b then (granted R w c rest) else (judged R w c rest)) wants ∙ so rest))

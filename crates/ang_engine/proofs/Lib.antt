@@ -1,10 +1,11 @@
-pub mod Lists
-pub mod Worlds
 pub mod States
 pub mod Beginning
 pub mod Entries
-pub mod Finding
 pub mod Leading
+pub mod Places
+pub mod Linking
+pub mod Bound
+pub mod Unloading
 pub mod Builds
 pub mod Starting
 pub mod Emptied
@@ -15,5 +16,7 @@ pub mod Named
 pub mod Asking
 pub mod Whole
 pub mod GlobalsEnd
+pub mod Kept
+pub mod Removing
 pub mod Discarding
 pub mod Backwards

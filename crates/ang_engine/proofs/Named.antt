@@ -1,6 +1,6 @@
 -- A call on the module of a name.
-use Rattle.std.proofs.Common.{◌≡◌, ◌<◌, ◌≤◌, refl, ap, sym, ◌∙◌, subst, inl, inr, ℕ, zero, suc, Bool, true, false, List, [], ◌∷◌, length, arith, Option, Some, None, option_map}
-use Rattle.std.specs.Prelude.{Result, Ok, Err, if◌then◌else◌, slice_index_or}
+use Rattle.std.proofs.Common.{◌≡◌, ◌≤◌, refl, ap, sym, ◌∙◌, subst, inl, inr, ℕ, zero, suc, Bool, true, false, List, [], ◌∷◌, length, Option, Some, None, option_map}
+use Rattle.std.specs.Prelude.{Result, Ok, Err, IsSome, if◌then◌else◌, slice_index_or}
 use Rattle.std.specs.List.{AllZip}
 use Rattle.ang_kinds.specs.declared.value.Value.{Value}
 use Rattle.ang_host.specs.declared.event.HostEvent.{HostEvent}
@@ -15,40 +15,47 @@ use Rattle.ang_engine_modules.specs.declared.modules.LoadedModule.{LoadedModule}
 use Rattle.ang_engine_modules.specs.Loaded.{module_of, modules_of}
 use Rattle.ang_engine_modules.specs.Modules.{module_at as run_module_at, TakesSoMany}
 use Rattle.ang_engine.specs.declared.calling.ChosenCall.{ChosenCall}
-use Rattle.ang_engine.specs.declared.module.Module.{Module}
-use Rattle.ang_engine.specs.declared.reply.Outcome.{Outcome}
-use Rattle.ang_engine.specs.declared.reply.Refusal.{Refusal}
-use Rattle.ang_engine.specs.declared.reply.Refusal.TheVariants.{NotBuilt, BadBudget}
-use Rattle.ang_engine.specs.World.{Program, World, module_named, module_at, no_module}
-use Rattle.ang_engine.specs.Engines.{resolved_in, program_in, module_states}
-use Rattle.ang_engine.specs.Sound.{IsSoundModule}
-use Rattle.ang_engine.specs.Step.{Choice, choice_of, refused, call, call_chosen, call_program, is_budget}
-use Rattle.ang_engine.specs.Outcomes.{IsRefused, IsChosen, IsCalled, calling}
+use Rattle.ang_engine_world.specs.declared.module.Module.{Module}
+use Rattle.ang_engine_world.specs.declared.reply.Outcome.{Outcome}
+use Rattle.ang_engine_world.specs.declared.reply.Refusal.{Refusal}
+use Rattle.ang_engine_world.specs.declared.reply.Refusal.TheVariants.{NotBuilt, BadBudget}
+use Rattle.ang_engine_world.specs.World.{Program, World, module_named, module_in, module_at}
+use Rattle.ang_engine_world.specs.States.{program_in, place_of, places_of}
+use Rattle.ang_engine_world.proofs.Worlds.{places_at}
+use Rattle.ang_engine.specs.Engines.{resolved_in}
+use Rattle.ang_engine.specs.Sound.{IsBuiltBy, IsSoundPlace}
+use Rattle.ang_engine.specs.Step.{Choice, choice_of, call, call_chosen, call_program, is_budget}
+use Rattle.ang_engine_world.specs.Commands.{refused}
+use Rattle.ang_engine_world.specs.Outcomes.{IsRefused}
+use Rattle.ang_engine.specs.Outcomes.{IsChosen, IsCalled, calling}
 use Rattle.ang_engine.proofs.Calls.{choice-one, takes-named}
-use Rattle.ang_engine.proofs.Finding.{on_module-found}
+use Rattle.ang_engine_world.proofs.Finding.{on_module-found}
 use Rattle.ang_engine.proofs.Leading.{leads-same}
 
 -- what a module of the list has
-pub program_there : (ms : List Module) (ls : List (Option LoadedModule)) (i : ℕ) (o : Option LoadedModule) → i < length ms → o ≡ slice_index_or ls i None
-    → (slice_index_or (module_states ms ls) i no_module).program ≡ option_map program_in o
-program_there [] ls i o lt e = absurd (omega (arith, lt))
-program_there (m ∷ ms) [] zero o lt e = ap (λ x. option_map program_in x) (sym e)
-program_there (m ∷ ms) [] (suc i) o lt e = program_there ms [] i o (omega (arith, lt)) e
-program_there (m ∷ ms) (l ∷ ls) zero o lt e = ap (λ x. option_map program_in x) (sym e)
-program_there (m ∷ ms) (l ∷ ls) (suc i) o lt e = program_there ms ls i o (omega (arith, lt)) e
+program_of_place : (m : Option Module) (l : Option LoadedModule) → IsSome m → (module_in (place_of m l)).program ≡ option_map program_in l
+program_of_place None l there = absurd (cc)
+program_of_place (Some m) l there = refl
+
+pub program_there : (ms : List (Option Module)) (ls : List (Option LoadedModule)) (i : ℕ) (o : Option LoadedModule) → IsSome (slice_index_or ms i None) → o ≡ slice_index_or ls i None
+    → (module_in (slice_index_or (places_of ms ls) i None)).program ≡ option_map program_in o
+program_there ms ls i o there e =
+    ap (λ p. (module_in p).program) (places_at ms ls i) ∙ program_of_place (slice_index_or ms i None) (slice_index_or ls i None) there ∙ ap (option_map program_in) (sym e)
 
 -- a tree has what the names of a loaded module declare
 abbrev AreNamed : LoadedModule → t.Program → Type 0
 AreNamed l p = (ss : List Source) × HasNames l.view l.names ss p
 
-loaded_named : (R : RegistrationList) (m : Module) (o : Option LoadedModule) (l : LoadedModule) → IsSoundModule R m o → Some l ≡ o → AreNamed l (module_of o).tree
-loaded_named R m None l h e = cc
-loaded_named R m (Some k) l h e =
+loaded_named : (R : RegistrationList) (m : Option Module) (o : Option LoadedModule) (l : LoadedModule) → IsSoundPlace R m o → Some l ≡ o → AreNamed l (module_of o).tree
+loaded_named R None None l h e = cc
+loaded_named R None (Some k) l h e = absurd h
+loaded_named R (Some m) None l h e = cc
+loaded_named R (Some m) (Some k) l h e =
     let same : k ≡ l = cc in
     let named = program-named k.view h.sections (resolved_in k) h.built in
     subst (λ x. AreNamed x (view_typed k.tree)) same (named.sources, named.names)
 
-there_named : (R : RegistrationList) (ms : List Module) (ls : List (Option LoadedModule)) (i : ℕ) (l : LoadedModule) → AllZip (IsSoundModule R) ms ls → Some l ≡ slice_index_or ls i None
+there_named : (R : RegistrationList) (ms : List (Option Module)) (ls : List (Option LoadedModule)) (i : ℕ) (l : LoadedModule) → AllZip (IsSoundPlace R) ms ls → Some l ≡ slice_index_or ls i None
     → AreNamed l (run_module_at (modules_of ls) i).tree
 there_named R [] [] i l h e = cc
 there_named R [] (k ∷ ls) i l h e = absurd h
@@ -56,24 +63,38 @@ there_named R (m ∷ ms) [] i l h e = absurd h
 there_named R (m ∷ ms) (k ∷ ls) zero l h e = loaded_named R m k l h.0 e
 there_named R (m ∷ ms) (k ∷ ls) (suc i) l h e = there_named R ms ls i l h.1 e
 
--- its classes and interfaces are few
-loaded_few : (R : RegistrationList) (m : Module) (o : Option LoadedModule) (l : LoadedModule) → IsSoundModule R m o → Some l ≡ o → length l.names.families ≤ 256
-loaded_few R m None l h e = cc
-loaded_few R m (Some k) l h e =
-    let same : k ≡ l = cc in
-    subst (λ (x : LoadedModule). length x.names.families ≤ 256) same (program-families k.view h.sections (resolved_in k) h.built).few
+-- what a module that is loaded was built to
+pub record IsBuiltAt (R : RegistrationList) (l : LoadedModule) : Type 0 where
+  pub own : List ℕ
+  pub mask : ℕ
+  pub built : IsBuiltBy R own mask l
 
-pub few_families : (R : RegistrationList) (ms : List Module) (ls : List (Option LoadedModule)) (i : ℕ) (l : LoadedModule) → AllZip (IsSoundModule R) ms ls → Some l ≡ slice_index_or ls i None
+built_one : (R : RegistrationList) (m : Option Module) (o : Option LoadedModule) (l : LoadedModule) → IsSoundPlace R m o → Some l ≡ o → IsBuiltAt R l
+built_one R None None l h e = cc
+built_one R None (Some k) l h e = absurd h
+built_one R (Some m) None l h e = cc
+built_one R (Some m) (Some k) l h e =
+    let same : k ≡ l = cc in
+    record { own = m.name; mask = m.built_mask.0; built = subst (λ x. IsBuiltBy R m.name m.built_mask.0 x) same h }
+
+pub built_there : (R : RegistrationList) (ms : List (Option Module)) (ls : List (Option LoadedModule)) (i : ℕ) (l : LoadedModule) → AllZip (IsSoundPlace R) ms ls → Some l ≡ slice_index_or ls i None
+    → IsBuiltAt R l
+built_there R [] [] i l h e = cc
+built_there R [] (k ∷ ls) i l h e = absurd h
+built_there R (m ∷ ms) [] i l h e = absurd h
+built_there R (m ∷ ms) (k ∷ ls) zero l h e = built_one R m k l h.0 e
+built_there R (m ∷ ms) (k ∷ ls) (suc i) l h e = built_there R ms ls i l h.1 e
+
+-- its classes and interfaces are few
+pub few_families : (R : RegistrationList) (ms : List (Option Module)) (ls : List (Option LoadedModule)) (i : ℕ) (l : LoadedModule) → AllZip (IsSoundPlace R) ms ls → Some l ≡ slice_index_or ls i None
     → length l.names.families ≤ 256
-few_families R [] [] i l h e = cc
-few_families R [] (k ∷ ls) i l h e = absurd h
-few_families R (m ∷ ms) [] i l h e = absurd h
-few_families R (m ∷ ms) (k ∷ ls) zero l h e = loaded_few R m k l h.0 e
-few_families R (m ∷ ms) (k ∷ ls) (suc i) l h e = few_families R ms ls i l h.1 e
+few_families R ms ls i l h e =
+    let b = (built_there R ms ls i l h e).built in
+    (program-families l.view b.sections (resolved_in l) b.built).few
 
 -- a function that was chosen takes the arguments that were chosen
-pub takes_chosen : (R : RegistrationList) (ms : List Module) (ls : List (Option LoadedModule)) (i : ℕ) (l : LoadedModule) (decl : List ℕ) (vs : List Value) (c : ChosenCall)
-    → AllZip (IsSoundModule R) ms ls → Some l ≡ slice_index_or ls i None → IsChosen (Ok c) (choice_of (program_in l) decl vs)
+pub takes_chosen : (R : RegistrationList) (ms : List (Option Module)) (ls : List (Option LoadedModule)) (i : ℕ) (l : LoadedModule) (decl : List ℕ) (vs : List Value) (c : ChosenCall)
+    → AllZip (IsSoundPlace R) ms ls → Some l ≡ slice_index_or ls i None → IsChosen (Ok c) (choice_of (program_in l) decl vs)
     → TakesSoMany (modules_of ls) i c.number (length c.args.items)
 takes_chosen R ms ls i l decl vs c h e chosen =
     let named = there_named R ms ls i l h e in

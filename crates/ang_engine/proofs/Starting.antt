@@ -1,7 +1,8 @@
 -- A module that is loaded, and whose initializers run.
-use Rattle.std.proofs.Common.{◌≡◌, ◌<◌, refl, ap, sym, ◌∙◌, subst, ℕ, zero, suc, List, [], ◌∷◌, length, arith, map, Option, Some, None}
-use Rattle.std.specs.Prelude.{Result, slice_index_or, slice_set}
+use Rattle.std.proofs.Common.{◌≡◌, ◌≢◌, ◌<◌, refl, ap, sym, ◌∙◌, subst, ℕ, zero, suc, List, [], ◌∷◌, length, arith, map, Option, Some, None}
+use Rattle.std.specs.Prelude.{Result, IsSome, slice_get, slice_index_or, slice_set}
 use Rattle.std.specs.List.{AllByRecursion}
+use Rattle.std.proofs.lemmas.List.{get_or-set_other, nil_from_length}
 use Rattle.ang_kinds.specs.declared.fault.Fault.{Fault}
 use Rattle.ang_host.specs.declared.event.Role.{Role}
 use Rattle.ang_host.specs.Boxes.{members}
@@ -26,11 +27,14 @@ use Rattle.ang_engine_modules.specs.Modules.{Module as RunModule, unbuilt, modul
 use Rattle.ang_source.specs.Meaning.{kind_of}
 use Rattle.ang_engine_modules.specs.Executed.{first_globals, initialization_of}
 use Rattle.ang_engine_modules.specs.Ends.{Ends}
-use Rattle.ang_engine.specs.World.{Program, globals_ended}
+use Rattle.ang_engine_world.specs.declared.module.Module.{Module}
+use Rattle.ang_engine_world.specs.declared.module.ModuleList.{ModuleList}
+use Rattle.ang_engine_world.specs.World.{Program, globals_ended}
+use Rattle.ang_engine_world.specs.Sound.{HasSameName, HaveGlobals}
 use Rattle.ang_engine.specs.Step.{globals_begun}
 use Rattle.ang_engine.specs.Asked.{HasRunOn}
-use Rattle.ang_engine.specs.Engines.{program_in}
-use Rattle.ang_engine.proofs.Lists.{map_at, set_at}
+use Rattle.ang_engine_world.specs.States.{program_in}
+use Rattle.ang_engine_world.proofs.Lists.{map_at, map_length, map_set, set_at, set_length, set_set}
 use Rattle.ang_engine.proofs.GlobalsEnd.{globals_ends, ends_listed, ended_globals, begun_counted}
 
 -- ---- first values
@@ -46,11 +50,6 @@ defaults_none x f (a ∷ xs) = omega (arith, default_none x (f a), defaults_none
 pub first_none : (p : t.Program) (x : Thing) → how_many x (first_globals p) ≡ 0
 first_none p x = defaults_none x (λ g. kind_of g.ty) p.globals
 
-set_long : {A : Type 0} (xs : List A) (i : ℕ) (x : A) → length (slice_set xs i x) ≡ length xs
-set_long [] i x = refl
-set_long (y ∷ ys) zero x = refl
-set_long (y ∷ ys) (suc i) x = ap suc (set_long ys i x)
-
 -- the values with which a module's globals begin name nothing
 pub first_values : (ls : List (Option LoadedModule)) (home : ℕ) (values : List Slot) → values ≡ first_globals (module_at (modules_of ls) home).tree → (x : Thing) → how_many x values ≡ 0
 first_values ls home values e x = ap (how_many x) e ∙ first_none (module_at (modules_of ls) home).tree x
@@ -58,7 +57,7 @@ first_values ls home values e x = ap (how_many x) e ∙ first_none (module_at (m
 -- what is loaded at its place
 pub loaded_here : (ls : List (Option LoadedModule)) (home : ℕ) (l : LoadedModule) → home < length ls → module_at (modules_of (slice_set ls home (Some l))) home ≡ module_of (Some l)
 loaded_here ls home l lt =
-    map_at module_of (slice_set ls home (Some l)) home None unbuilt (omega (arith, lt, set_long ls home (Some l))) ∙ ap module_of (set_at ls home (Some l) None lt)
+    map_at module_of (slice_set ls home (Some l)) home None unbuilt (omega (arith, lt, set_length ls home (Some l))) ∙ ap module_of (set_at ls home (Some l) None lt)
 
 -- a module whose globals have ended has none
 none_at : {A : Type 0} (xs : List (List A)) (i : ℕ) → slice_index_or (slice_set xs i []) i [] ≡ []
@@ -72,6 +71,67 @@ none_there i u v e = ap (λ (w : RunWorld). slice_index_or w.globals i []) (sym 
 -- and nobody has answered meanwhile
 pub ended_silent : (i : ℕ) (u v : RunWorld) → globals_ended i u ≡ v → answers_listed u.events ≡ answers_listed v.events
 ended_silent i u v e = sym (ap (λ (w : RunWorld). answers_listed w.events) (sym e) ∙ ends_listed u (globals_ended i u) (globals_ends i u))
+
+-- ---- how many globals each module has
+
+lengths_at : (gs : List (List Slot)) (i : ℕ) → slice_index_or (map length gs) i 0 ≡ length (slice_index_or gs i [])
+lengths_at [] i = refl
+lengths_at (g ∷ gs) zero = refl
+lengths_at (g ∷ gs) (suc i) = lengths_at gs i
+
+-- a place that is empty still, where a module stands in another one
+record IsStillEmpty (ms : List (Option Module)) (home j : ℕ) : Type 0 where
+  empty : slice_get ms j ≡ Some None
+  other : j ≢ home
+
+empty_still : (ms : List (Option Module)) (home : ℕ) (n : Option Module) (j : ℕ) → IsSome n → slice_get (slice_set ms home n) j ≡ Some None → IsStillEmpty ms home j
+empty_still [] home n j some at = absurd (cc)
+empty_still (m ∷ ms) zero None zero some at = absurd (cc)
+empty_still (m ∷ ms) zero (Some q) zero some at = absurd (cc)
+empty_still (m ∷ ms) zero n (suc j) some at = record { empty = at; other = λ e. absurd (omega (arith, e)) }
+empty_still (m ∷ ms) (suc home) n zero some at = record { empty = at; other = λ e. absurd (omega (arith, e)) }
+empty_still (m ∷ ms) (suc home) n (suc j) some at =
+    let r = empty_still ms home n j some at in
+    record { empty = r.empty; other = λ e. r.other (omega (arith, e)) }
+
+there_still : (d n : Option Module) → HasSameName d n → IsSome n
+there_still None n named = absurd named
+there_still (Some d) None named = absurd named
+there_still (Some d) (Some n) named = refl
+
+-- One module has some number of globals now, and each other one as many as it had.
+pub globals_kept : (x y : ModuleList) (gs hs : List (List Slot)) (home k : ℕ) (n : Option Module) → HasSameName (slice_index_or x.places.items home None) n
+    → y.places.items ≡ slice_set x.places.items home n → map length hs ≡ slice_set (map length gs) home k → HaveGlobals x gs → HaveGlobals y hs
+globals_kept x y gs hs home k n named places same h = record {
+  count =
+      omega (arith, h.count, ap length same, set_length (map length gs) home k, map_length length hs, map_length length gs, ap length places, set_length x.places.items home n);
+  none = λ j at.
+      let s = empty_still x.places.items home n j (there_still (slice_index_or x.places.items home None) n named) (sym (ap (λ l. slice_get l j) places) ∙ at) in
+      nil_from_length (slice_index_or hs j [])
+      (sym (lengths_at hs j)
+      ∙ ap (λ l. slice_index_or l j 0) same
+      ∙ get_or-set_other (map length gs) home j k 0 s.other
+      ∙ lengths_at gs j
+      ∙ ap length (h.none j s.empty));
+}
+
+-- a module that has none is given none
+pub none_set : (gs : List (List Slot)) (home : ℕ) → slice_index_or gs home [] ≡ [] → map length gs ≡ slice_set (map length gs) home 0
+none_set [] home e = refl
+none_set (g ∷ gs) zero e = ap (λ (l : List Slot). length l ∷ map length gs) e
+none_set (g ∷ gs) (suc home) e = ap (λ ns. length g ∷ ns) (none_set gs home e)
+
+-- a list of globals was put there, and the run behind it left each module as many as it had
+pub put_lengths : (gs hs ks : List (List Slot)) (home : ℕ) (values : List Slot) → hs ≡ slice_set gs home values → map length ks ≡ map length hs → map length ks ≡ slice_set (map length gs) home (length values)
+put_lengths gs hs ks home values put same = same ∙ ap (map length) put ∙ map_set length gs home values
+
+-- they have ended
+pub ended_lengths : (i : ℕ) (u v : RunWorld) → globals_ended i u ≡ v → map length v.globals ≡ slice_set (map length u.globals) i 0
+ended_lengths i u v e = ap (λ (w : RunWorld). map length w.globals) (sym e) ∙ ap (map length) (ended_globals i u) ∙ map_set length u.globals i []
+
+-- of two numbers in one place the second stays
+pub set_again : (ns ms ks : List ℕ) (i a b : ℕ) → ms ≡ slice_set ns i a → ks ≡ slice_set ms i b → ks ≡ slice_set ns i b
+set_again ns ms ks i a b first second = second ∙ ap (λ l. slice_set l i b) first ∙ set_set ns i a b
 
 -- ---- its run
 

@@ -1,5 +1,5 @@
 -- What contracts see of an engine.
-use Rattle.std.specs.Prelude.{List, [], ◌∷◌, Option, None, Vec, option_map}
+use Rattle.std.specs.Prelude.{List, Vec}
 use Rattle.std.specs.declared.alloc.Global.{Global}
 use Rattle.std.specs.declared.dyn_box.DynBox.{DynBox}
 use Rattle.ang_host.specs.declared.event.HostEvent.{HostEvent}
@@ -13,35 +13,13 @@ use Rattle.ang_vm.specs.Machines.{lent}
 use Rattle.ang_engine_build.specs.Build.{Resolved}
 use Rattle.ang_engine_modules.specs.declared.modules.LoadedModule.{LoadedModule}
 use Rattle.ang_engine.specs.declared.engine.Engine.{Engine}
-use Rattle.ang_engine.specs.declared.module.Module.{Module}
-use Rattle.ang_engine.specs.declared.module.ModuleList.{ModuleList}
-use Rattle.ang_engine.specs.World.{Program, ModuleState, World, left_to}
+use Rattle.ang_engine_world.specs.declared.module.ModuleList.{ModuleList}
+use Rattle.ang_engine_world.specs.World.{World, left_to}
+use Rattle.ang_engine_world.specs.States.{states_in}
 
 -- what a module is built to
 abbrev pub resolved_in : LoadedModule → Resolved
 resolved_in l = record { names = l.names; tree = view_typed l.tree }
-
-abbrev pub program_in : LoadedModule → Program
-program_in l = record { view = l.view; names = l.names; tree = view_typed l.tree; links = l.links }
-
--- a module, with its program where it is built
-abbrev pub state_of : Module → Option LoadedModule → ModuleState
-state_of m l = record {
-  name = m.name;
-  mask = m.mask.0;
-  built_mask = m.built_mask.0;
-  sections = m.sections.items;
-  program = option_map program_in l;
-}
-
--- each module, with what is built of it, by number
-abbrev pub module_states : List Module → List (Option LoadedModule) → List ModuleState
-module_states [] ls = []
-module_states (m ∷ ms) [] = state_of m None ∷ module_states ms []
-module_states (m ∷ ms) (l ∷ ls) = state_of m l ∷ module_states ms ls
-
-abbrev pub states_in : ModuleList → List ModuleState
-states_in x = module_states x.modules.items x.code
 
 -- its registration list, which no command changes
 abbrev pub registrations : {V : Type 0} {P : V → Type 0} → Engine V P → RegistrationList

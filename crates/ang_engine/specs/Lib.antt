@@ -1,4 +1,3 @@
-pub mod World
 pub mod Step
 pub mod Outcomes
 pub mod Engines

@@ -4,10 +4,12 @@ use Rattle.ang_kinds.specs.declared.fault.Fault.{Fault}
 use Rattle.ang_kinds.specs.declared.value.Value.{Value}
 use Rattle.ang_host.specs.declared.event.HostEvent.{HostEvent}
 use Rattle.ang_view.specs.Registration.{RegistrationList}
+use Rattle.ang_meaning.specs.declared.routine.Routine.{Routine}
 use Rattle.ang_meaning.specs.declared.slot.Slot.{Slot}
 use Rattle.ang_meaning.specs.declared.slot.Slot.TheVariants.{Bits}
 use Rattle.ang_meaning.specs.World.{Input, World as RunWorld, with_inputs}
 use Rattle.ang_meaning.specs.Counting.{Thing, how_many}
+use Rattle.ang_source.specs.Meaning.{routine}
 use Rattle.ang_names_known.specs.declared.names.Names.{Names}
 use Rattle.ang_names_known.specs.declared.names.ScriptFunction.{ScriptFunction}
 use Rattle.ang_engine_call.specs.Calls.{result_of}
@@ -21,19 +23,17 @@ use Rattle.ang_engine_modules.specs.Ends.{Ends}
 use Rattle.ang_engine.specs.declared.building.BuildRefused.{BuildRefused}
 use Rattle.ang_engine.specs.declared.building.BuildRefused.TheVariants as why
 use Rattle.ang_engine.specs.declared.calling.ChosenCall.{ChosenCall}
-use Rattle.ang_engine.specs.declared.reply.Outcome.{Outcome}
-use Rattle.ang_engine.specs.declared.reply.Outcome.TheVariants.{Done, Failed, Refused}
-use Rattle.ang_engine.specs.declared.reply.Reply.{Reply}
-use Rattle.ang_engine.specs.declared.reply.Refusal.{Refusal}
-use Rattle.ang_engine.specs.declared.reply.Refusal.TheVariants.{BadName, ModuleExists, Limit, NoModule, NotBuilt, BadBudget, BuildMemory, BuildErrors, InitFailed, NoFunction, NotCallable, BadArguments, Memory}
-use Rattle.ang_engine.specs.World.{Program, ModuleState, World, module_named, globals_ended}
+use Rattle.ang_engine_world.specs.declared.reply.Outcome.{Outcome}
+use Rattle.ang_engine_world.specs.declared.reply.Outcome.TheVariants.{Done, Failed, Refused}
+use Rattle.ang_engine_world.specs.declared.reply.Reply.{Reply}
+use Rattle.ang_engine_world.specs.declared.reply.Refusal.{Refusal}
+use Rattle.ang_engine_world.specs.declared.reply.Refusal.TheVariants.{BadName, ModuleExists, Limit, NoModule, NotBuilt, BadBudget, BuildMemory, BuildErrors, InitFailed, NoFunction, NoImport, SignatureDiffers, NotCallable, BadArguments, Memory}
+use Rattle.ang_engine_world.specs.World.{Program, World, module_named, globals_ended}
 use Rattle.ang_engine.specs.Engines.{resolved_in}
-use Rattle.ang_engine.specs.Step.{Stepped, Leads, Choice, Chosen, Not, answered, refused, section_added, reply_of, errors_reply, globals_begun, on_module, build_within, call}
-
--- Refused as the step says, or for want of memory, with the world as it was.
-abbrev pub IsRefused : Refusal → (List Input → Option Stepped) → World → World → Type 0
-IsRefused why go before after =
-    ((why ≡ Memory) ⊎ ((rest : List Input) → go rest ≡ refused why before rest)) × (after ≡ before)
+use Rattle.ang_engine_world.specs.Commands.{Stepped, reply_of, on_module, on_both, discard}
+use Rattle.ang_engine_world.specs.Outcomes.{IsRefused}
+use Rattle.ang_engine.specs.Step.{Leads, Choice, errors_reply, globals_begun, build_within, bind, call}
+use Rattle.ang_engine.specs.Step.{Chosen, Not}
 
 -- This holds where a command was refused before it did anything, as every refused command is but a
 -- build that was begun.
@@ -50,28 +50,45 @@ IfRefusedAtOnce (Refused NoModule) P = P
 IfRefusedAtOnce (Refused NotBuilt) P = P
 IfRefusedAtOnce (Refused BadBudget) P = P
 IfRefusedAtOnce (Refused NoFunction) P = P
+IfRefusedAtOnce (Refused NoImport) P = P
+IfRefusedAtOnce (Refused SignatureDiffers) P = P
 IfRefusedAtOnce (Refused NotCallable) P = P
 IfRefusedAtOnce (Refused BadArguments) P = P
 IfRefusedAtOnce (Refused Memory) P = P
 
--- ---- commands that ask nothing
+-- ---- bindings
 
--- done as the step says, or refused
-abbrev pub IsDone :
-    {U : Type 0} → Result U Refusal → (List Input → Option Stepped) → World → World → Type 0
-IsDone (Ok u) go before after = (rest : List Input) → go rest ≡ answered (Done None) after rest
-IsDone (Err why) go before after = IsRefused why go before after
+-- the number of a function of module j to which an import is bound, or the refusal, unless memory was
+-- refused
+abbrev pub IsLinked : Result ℕ Refusal → ℕ → Result Routine Refusal → Type 0
+IsLinked (Ok n) j link = link ≡ Ok (routine j n)
+IsLinked (Err why) j link = (why ≡ Memory) ⊎ (link ≡ Err why)
 
--- how the command ended
-abbrev pub outcome_of : {U : Type 0} → Result U Refusal → Outcome
-outcome_of (Ok u) = Done None
-outcome_of (Err why) = Refused why
+-- refused so
+abbrev pub IsRefusedBy : {U : Type 0} → Result U Refusal → Refusal → Type 0
+IsRefusedBy (Ok u) why = ⊥
+IsRefusedBy (Err because) why = because ≡ why
 
--- One module that takes one more section.
-abbrev pub IsAdded : {U : Type 0} → Result U Refusal → List ℕ → ModuleState → ModuleState → Type 0
-IsAdded (Ok u) text before after = section_added text before ≡ Some after
-IsAdded (Err why) text before after =
-    ((why ≡ Memory) ⊎ ((why ≡ Limit) × (section_added text before ≡ None))) × (after ≡ before)
+-- an import of the module of a name that is bound to a function of the module of another name
+abbrev pub binding : List ℕ → ℕ → List ℕ → List ℕ → World → List Input → Option Stepped
+binding name index exporter decl w inputs =
+    on_both (module_named name w) (module_named exporter w) w inputs (bind index decl w)
+
+-- ---- discards
+
+abbrev pub discarding : List ℕ → World → List Input → Option Stepped
+discarding name w inputs = on_module (module_named name w) w inputs (discard w)
+
+-- The module was discarded, and these events are listed; or the command was refused.
+abbrev pub IsDiscarded : {U : Type 0} → Result U Refusal → List HostEvent
+    → (List Input → Option Stepped) → World → World → Type 0
+IsDiscarded (Ok u) events go before after = Leads go (reply_of (Done None) events []) after
+IsDiscarded (Err why) events go before after = IsRefused why go before after
+
+-- the reply to a discard that has listed these events
+abbrev pub reply_to_discard : {U : Type 0} → Result U Refusal → List HostEvent → Reply
+reply_to_discard (Ok u) events = reply_of (Done None) events []
+reply_to_discard (Err why) events = reply_of (Refused why) [] []
 
 -- ---- builds
 

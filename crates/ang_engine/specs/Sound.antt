@@ -1,36 +1,33 @@
 -- What an engine keeps between commands.
-use Rattle.std.specs.Prelude.{ℕ, ◌≡◌, ◌<◌, ◌≤◌, List, [], length, Option, Some, None}
-use Rattle.std.specs.List.{AllZip}
+use Rattle.std.specs.Prelude.{ℕ, ◌≡◌, ◌<◌, List, [], length, Option, Some}
 use Rattle.ang_host.specs.Meanings.{Meanings}
 use Rattle.ang_view.specs.declared.entry.Entry.{Entry}
 use Rattle.ang_view.specs.Registration.{RegistrationList, entry_at, seen}
 use Rattle.ang_meaning.specs.Counting.{IsCounted}
+use Rattle.ang_heap.specs.Globals.{values_in}
 use Rattle.ang_heap.specs.Stores.{world_of, IsKept}
 use Rattle.ang_engine_build.specs.Build.{Compiled, build_of}
 use Rattle.ang_engine_modules.specs.declared.modules.LoadedModule.{LoadedModule}
+use Rattle.ang_engine_world.specs.declared.module.Module.{Module}
+use Rattle.ang_engine_world.specs.declared.module.ModuleList.{ModuleList}
+use Rattle.ang_engine_world.specs.Sound.{IsPlaceOf, AreModules, HaveGlobals}
 use Rattle.ang_engine.specs.declared.engine.Engine.{Engine}
-use Rattle.ang_engine.specs.declared.module.Module.{Module}
-use Rattle.ang_engine.specs.declared.module.ModuleList.{ModuleList}
-use Rattle.ang_engine.specs.Engines.{registrations, drivers_in, resolved_in}
-use Rattle.ang_engine.specs.Step.{most_modules}
+use Rattle.ang_engine.specs.Engines.{resolved_in, registrations, drivers_in}
 
 -- What a module was built to, under its name and its built mask: some sections' program over what
 -- the mask sees.
-pub record IsBuiltBy (R : RegistrationList) (m : Module) (l : LoadedModule) : Type 0 where
-  pub name : l.name ≡ m.name
-  pub view : l.view ≡ seen R m.built_mask.0
+pub record IsBuiltBy (R : RegistrationList) (own : List ℕ) (mask : ℕ) (l : LoadedModule) : Type 0 where
+  pub name : l.name ≡ own
+  pub view : l.view ≡ seen R mask
   pub sections : List (List ℕ)
   pub built : build_of l.view sections ≡ Compiled (resolved_in l)
 
--- a module is built, or it is not
-abbrev pub IsSoundModule : RegistrationList → Module → Option LoadedModule → Type 0
-IsSoundModule R m None = Unit {0}
-IsSoundModule R m (Some l) = IsBuiltBy R m l
+abbrev pub IsSoundPlace : RegistrationList → Option Module → Option LoadedModule → Type 0
+IsSoundPlace R = IsPlaceOf (IsBuiltBy R)
 
--- Each built module has some sections' program. There is one module at most.
-pub record AreSoundModules (R : RegistrationList) (x : ModuleList) : Type 0 where
-  pub each : AllZip (IsSoundModule R) x.modules.items x.code
-  pub few : length x.modules.items ≤ most_modules
+-- each built module has some sections' program
+abbrev pub AreSoundModules : RegistrationList → ModuleList → Type 0
+AreSoundModules R x = AreModules (IsBuiltBy R) x
 
 -- each entry's driver is one of the list
 abbrev pub HaveDrivers : RegistrationList → ℕ → Type 0
@@ -40,6 +37,7 @@ HaveDrivers R n = (number : ℕ) (x : Entry) → entry_at R number ≡ Some x �
 -- give everything up; and nothing is held but by globals and fields.
 pub record IsSound {V : Type 0} {P : V → Type 0} (m : Meanings P) (e : Engine V P) : Type 0 where
   pub modules : AreSoundModules (registrations e) e.modules
+  pub globals : HaveGlobals e.modules (values_in e.machine.store.globals)
   pub in_list : HaveDrivers (registrations e) (length (drivers_in e))
   pub kept : IsKept m e.machine.store
   pub counted : IsCounted [] (world_of m e.machine.store)

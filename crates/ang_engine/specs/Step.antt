@@ -1,114 +1,42 @@
 -- What one command does: the reply, and the world after it (docs/MEANING.md, "A command").
-use Rattle.std.specs.Prelude.{ℕ, ◌≡◌, ◌⊎◌, Bool, true, false, ◌&&◌, nat_le, if◌then◌else◌, List, [], ◌∷◌, ◌++◌, length, slice_get, slice_set, Option, Some, None, IsSome, Result, Ok, Err}
+use Rattle.std.specs.Prelude.{ℕ, ◌≡◌, ◌⊎◌, Bool, true, false, ◌&&◌, nat_le, if◌then◌else◌, List, [], ◌∷◌, ◌++◌, length, slice_get, slice_set, Option, Some, None, IsSome, Result, Ok, Err, map as list_map}
 use Rattle.ang_kinds.specs.declared.error.Denial.{Denial}
 use Rattle.ang_kinds.specs.declared.error.Error.{Error}
 use Rattle.ang_kinds.specs.declared.fault.Fault.{Fault}
 use Rattle.ang_kinds.specs.declared.value.Value.{Value}
 use Rattle.ang_host.specs.declared.event.HostEvent.{HostEvent}
 use Rattle.ang_host.specs.declared.event.HostEvent.TheVariants.{Called, Ended as ObjectEnded}
-use Rattle.ang_lex.specs.Spelling.{is_identifier}
 use Rattle.ang_view.specs.Registration.{RegistrationList, seen, entry_at}
 use Rattle.ang_names_known.specs.declared.names.ScriptFunction.{ScriptFunction}
+use Rattle.ang_names_known.specs.Lookup.{same_call}
+use Rattle.ang_meaning.specs.declared.routine.Routine.{Routine}
 use Rattle.ang_meaning.specs.declared.slot.Slot.{Slot}
 use Rattle.ang_meaning.specs.World.{Input, Room, World as RunWorld}
 use Rattle.ang_meaning.specs.Told.{has_room, stopped_by, answers_told, answers_listed}
+use Rattle.ang_source.specs.Meaning.{routine}
 use Rattle.ang_engine_build.specs.Build.{Resolved, Built, Errors, Compiled, build_of, denials_in}
 use Rattle.ang_engine_call.specs.Named.{function_named_by}
 use Rattle.ang_engine_call.specs.Calls.{is_callable, arguments_of, result_of}
 use Rattle.ang_engine_modules.specs.Executed.{first_globals, call_of, initialization_of}
 use Rattle.ang_engine_modules.specs.Ends.{Ended, end_of}
-use Rattle.ang_engine.specs.declared.command.Command.{Command}
-use Rattle.ang_engine.specs.declared.command.Command.TheVariants.{NewModule, AddSection, Build, Call}
-use Rattle.ang_engine.specs.declared.reply.Reply.{Reply}
-use Rattle.ang_engine.specs.declared.reply.Outcome.{Outcome}
-use Rattle.ang_engine.specs.declared.reply.Outcome.TheVariants.{Done, Failed, Refused}
-use Rattle.ang_engine.specs.declared.reply.Refusal.{Refusal}
-use Rattle.ang_engine.specs.declared.reply.Refusal.TheVariants.{BadName, ModuleExists, Limit, NoModule, NotBuilt, BadBudget, BuildMemory, BuildErrors, InitFailed, NoFunction, NotCallable, BadArguments, Memory}
-use Rattle.ang_engine.specs.World.{Program, ModuleState, World, module_named, module_at, placed, built_in, running, left_to, globals_ended}
-
--- the modules of one engine: one, until a later version takes more
-abbrev pub most_modules : ℕ
-most_modules = 1
-
--- the sections that wait in one module
-abbrev pub most_sections : ℕ
-most_sections = 64
+use Rattle.ang_engine_world.specs.declared.command.Command.{Command}
+use Rattle.ang_engine_world.specs.declared.command.Command.TheVariants.{NewModule, SetMask, AddSection, Build, Bind, Unbind, Call, Discard}
+use Rattle.ang_engine_world.specs.declared.reply.Reply.{Reply}
+use Rattle.ang_engine_world.specs.declared.reply.Outcome.{Outcome}
+use Rattle.ang_engine_world.specs.declared.reply.Outcome.TheVariants.{Done, Failed, Refused}
+use Rattle.ang_engine_world.specs.declared.reply.Refusal.{Refusal}
+use Rattle.ang_engine_world.specs.declared.reply.Refusal.TheVariants.{NotBuilt, BadBudget, BuildMemory, BuildErrors, InitFailed, NoFunction, NoImport, SignatureDiffers, NotCallable, BadArguments, Memory}
+use Rattle.ang_engine_world.specs.World.{Program, ModuleState, ModuleStates, World, module_named, module_at, placed, unbound_from, built_in, running, left_to, globals_ended}
+use Rattle.ang_engine_world.specs.Commands.{Stepped, reply_of, answered, refused, after_run, linked, added_module, set_mask, add_section, unbind, discard, on_module, on_both}
 
 -- a budget is a number of ticks from 1 to 2,147,483,647
 abbrev pub is_budget : ℕ → Bool
 is_budget n = nat_le 1 n && nat_le n 2147483647
 
--- the reply, the world after it, and the inputs that were not asked for
-pub record Stepped : Type 0 where
-  pub reply : Reply
-  pub world : World
-  pub left : List Input
-
--- a reply without denials
-abbrev pub reply_of : Outcome → List HostEvent → List Error → Reply
-reply_of outcome events errors =
-    record { outcome = outcome; events = events; errors = errors; denials = [] }
-
 -- the reply to a build of sections with these errors and denials
 abbrev pub errors_reply : List HostEvent → List Error → List Denial → Reply
 errors_reply events errors denials =
     record { outcome = Refused BuildErrors; events = events; errors = errors; denials = denials }
-
--- answered at once: nobody was asked
-abbrev pub answered : Outcome → World → List Input → Option Stepped
-answered outcome world left =
-    Some (record { reply = reply_of outcome [] []; world = world; left = left })
-
--- after a refusal the world is as it was
-abbrev pub refused : Refusal → World → List Input → Option Stepped
-refused why = answered (Refused why)
-
--- the reply lists what a run has listed, and what it left stands, beside these modules
-abbrev pub after_run : Outcome → List Error → List ModuleState → RunWorld → Stepped
-after_run outcome errors modules r =
-    record { reply = reply_of outcome r.events errors; world = left_to modules r; left = r.inputs }
-
--- ---- NewModule
-
--- a module without sections, unbuilt, whose built mask is the mask that it was made with
-abbrev pub fresh_module : List ℕ → ℕ → ModuleState
-fresh_module name mask =
-    record { name = name; mask = mask; built_mask = mask; sections = []; program = None }
-
--- the module stands last, without globals
-abbrev pub with_new_module : List ℕ → ℕ → World → World
-with_new_module name mask w =
-    record w { modules = w.modules ++ fresh_module name mask ∷ []; globals = w.globals ++ [] ∷ [] }
-
--- the name is an identifier: it is to be free, and there is to be room for a module
-abbrev pub where_free : Option ℕ → List ℕ → ℕ → World → List Input → Option Stepped
-where_free (Some i) name mask w inputs = refused ModuleExists w inputs
-where_free None name mask w inputs =
-    if nat_le most_modules (length w.modules) then refused Limit w inputs
-    else answered (Done None) (with_new_module name mask w) inputs
-
--- a new module, or the first reason why there is none: its name, another of that name, too many
-abbrev pub added_module : List ℕ → ℕ → World → List Input → Option Stepped
-added_module name mask w inputs =
-    if is_identifier name then where_free (module_named name w) name mask w inputs
-    else refused BadName w inputs
-
--- ---- AddSection
-
--- the module with one more section that waits, where there is room for it
-abbrev pub section_added : List ℕ → ModuleState → Option ModuleState
-section_added text m =
-    if nat_le most_sections (length m.sections)
-    then None
-    else Some (record m { sections = m.sections ++ text ∷ [] })
-
--- one section too many is refused
-abbrev pub or_limit : Option ModuleState → World → ℕ → List Input → Option Stepped
-or_limit None w i inputs = refused Limit w inputs
-or_limit (Some m) w i inputs = answered (Done None) (record w { modules = placed w i m }) inputs
-
-abbrev pub add_section : List ℕ → World → ℕ → ModuleState → List Input → Option Stepped
-add_section text w i m inputs = or_limit (section_added text m) w i inputs
 
 -- ---- Build
 
@@ -119,7 +47,12 @@ emptied m = record m { built_mask = m.mask; sections = []; program = None }
 
 -- what scripts are resolved to, over what their module sees, with no import bound yet
 abbrev pub program_over : RegistrationList → Resolved → Program
-program_over V r = record { view = V; names = r.names; tree = r.tree; links = [] }
+program_over V r = record {
+  view = V;
+  names = r.names;
+  tree = r.tree;
+  links = list_map (λ h. None) r.tree.imports;
+}
 
 abbrev pub with_program : Program → ModuleState → ModuleState
 with_program p m = record (emptied m) { program = Some p }
@@ -130,7 +63,7 @@ globals_begun i p r = record r { globals = slice_set r.globals i (first_globals 
 
 -- what the initializers of module i do, one after the other, within the budget, the module among
 -- the others as it is built now
-abbrev pub initializers_end : List ModuleState → ℕ → Program → ℕ → RunWorld → Ended
+abbrev pub initializers_end : ModuleStates → ℕ → Program → ℕ → RunWorld → Ended
 initializers_end ms i p budget r =
     end_of (initialization_of (built_in ms) budget i (globals_begun i p r))
 
@@ -145,7 +78,7 @@ abbrev pub started : Ended → World → ℕ → ModuleState → Program → Ste
 started e w i m p = initialized e.result e.world w i m p
 
 -- the errors and the denials are listed beside what a run has listed
-abbrev pub after_errors : List Error → List Denial → List ModuleState → RunWorld → Stepped
+abbrev pub after_errors : List Error → List Denial → ModuleStates → RunWorld → Stepped
 after_errors errors denials modules r = record {
   reply = errors_reply r.events errors denials;
   world = left_to modules r;
@@ -161,15 +94,16 @@ after_build V ds (Compiled q) w i m budget r =
     let p = program_over V q in
     started (initializers_end (placed w i (with_program p m)) i p budget r) w i m p
 
--- A build first ends the module's globals, and is over what the module's mask sees now. The first
--- input says whether there is memory to build, the others are those of the initializers. Without
--- memory no initializer runs, and the module is left emptied.
+-- A build first ends the module's globals and unbinds every import that is bound to it, and is over
+-- what the module's mask sees now. The first input says whether there is memory to build, the others
+-- are those of the initializers. Without memory no initializer runs, and the module is left emptied.
 abbrev pub build : RegistrationList → World → ℕ → ModuleState → ℕ → List Input → Option Stepped
 build R w i m budget (Room true ∷ inputs) =
     Some (after_build (seen R m.mask) (denials_in R m.mask m.sections)
-    (build_of (seen R m.mask) m.sections) w i m budget (globals_ended i (running w inputs)))
+    (build_of (seen R m.mask) m.sections) (unbound_from i w) i m budget
+    (globals_ended i (running w inputs)))
 build R w i m budget (Room false ∷ inputs) =
-    Some (after_run (Refused BuildMemory) [] (placed w i (emptied m))
+    Some (after_run (Refused BuildMemory) [] (placed (unbound_from i w) i (emptied m))
     (globals_ended i (running w inputs)))
 build R w i m budget _ = None
 
@@ -178,6 +112,44 @@ abbrev pub build_within :
     ℕ → RegistrationList → World → ℕ → ModuleState → List Input → Option Stepped
 build_within budget R w i m inputs =
     if is_budget budget then build R w i m budget inputs else refused BadBudget w inputs
+
+-- ---- Bind
+
+-- Function n of module j, where the import can be bound to it: result and parameters are the same,
+-- each with its type, its `const` and its passing. Object types are the same as one registered entry.
+abbrev pub link_to : ScriptFunction → ℕ → ℕ → Option ScriptFunction → Result Routine Refusal
+link_to import j n None = Err NoFunction
+link_to import j n (Some f) = if same_call import f then Ok (routine j n) else Err SignatureDiffers
+
+abbrev pub link_to_number :
+    ScriptFunction → ℕ → Option ℕ → List ScriptFunction → Result Routine Refusal
+link_to_number import j None fs = Err NoFunction
+link_to_number import j (Some n) fs = link_to import j n (slice_get fs n)
+
+-- The function to which an import is bound by a declaration: one of module j, whose program is q.
+abbrev pub link_of : Option ScriptFunction → ℕ → Program → List ℕ → Result Routine Refusal
+link_of None j q decl = Err NoImport
+link_of (Some import) j q decl =
+    link_to_number import j (function_named_by q.view q.names decl) q.names.functions
+
+-- the import is bound, and an earlier binding of it is replaced
+abbrev pub bound :
+    Result Routine Refusal → World → ℕ → ModuleState → Program → ℕ → List Input → Option Stepped
+bound (Err why) w i m p index inputs = refused why w inputs
+bound (Ok g) w i m p index inputs = answered (Done None) (linked (Some g) w i m p index) inputs
+
+-- Module i binds an import to a function of module j. That module i is built, and that module j is,
+-- are judged in this order, before the import and the function.
+abbrev pub bind_programs : Option Program → Option Program → ℕ → List ℕ → World → ℕ → ModuleState
+    → ℕ → List Input → Option Stepped
+bind_programs None q index decl w i m j inputs = refused NotBuilt w inputs
+bind_programs (Some p) None index decl w i m j inputs = refused NotBuilt w inputs
+bind_programs (Some p) (Some q) index decl w i m j inputs =
+    bound (link_of (slice_get p.names.imports index) j q decl) w i m p index inputs
+
+abbrev pub bind : ℕ → List ℕ → World → ℕ → ModuleState → ℕ → ModuleState → List Input
+    → Option Stepped
+bind index decl w i m j x inputs = bind_programs m.program x.program index decl w i m j inputs
 
 -- ---- Call
 
@@ -242,28 +214,33 @@ call decl args budget w i m inputs = call_program m.program decl args budget w i
 
 -- ---- a command
 
--- what is done with the module of a name, where there is one
-abbrev pub on_module :
-    Option ℕ → World → List Input → (ℕ → ModuleState → List Input → Option Stepped) → Option Stepped
-on_module None w inputs go = refused NoModule w inputs
-on_module (Some i) w inputs go = go i (module_at w i) inputs
-
 -- a command, judged and done, where memory was there to begin
 abbrev pub judged : RegistrationList → World → Command → List Input → Option Stepped
 judged R w (NewModule name mask) inputs = added_module name mask.0 w inputs
+judged R w (SetMask name mask) inputs =
+    on_module (module_named name w) w inputs (set_mask mask.0 w)
 judged R w (AddSection name text) inputs =
     on_module (module_named name w) w inputs (add_section text w)
 judged R w (Build name budget) inputs =
     on_module (module_named name w) w inputs (build_within budget R w)
+judged R w (Bind name index exporter decl) inputs =
+    on_both (module_named name w) (module_named exporter w) w inputs (bind index decl w)
+judged R w (Unbind name index) inputs =
+    on_module (module_named name w) w inputs (unbind index w)
 judged R w (Call name decl args budget) inputs =
     on_module (module_named name w) w inputs (call decl args budget w)
+judged R w (Discard name) inputs = on_module (module_named name w) w inputs (discard w)
 
 -- whether a command may be refused for want of memory before it changes anything
 abbrev pub may_want_memory : Command → Bool
 may_want_memory (NewModule name mask) = true
+may_want_memory (SetMask name mask) = false
 may_want_memory (AddSection name text) = true
 may_want_memory (Build name budget) = true
+may_want_memory (Bind name index exporter decl) = true
+may_want_memory (Unbind name index) = false
 may_want_memory (Call name decl args budget) = true
+may_want_memory (Discard name) = true
 
 -- such a command: the first input says whether there is memory to begin
 abbrev pub granted : RegistrationList → World → Command → List Input → Option Stepped

@@ -1,5 +1,5 @@
 //! Builds.
-ghost use Rattle.std.specs.Prelude.{◌≡◌, ◌<◌, ◌≤◌, ◌^◌, [], Option, Some, None, length, IfOk, IfErr, OnOk, OnErr, slice_set, slice_index_or};
+ghost use Rattle.std.specs.Prelude.{ℕ, List as ListOf, ◌≡◌, ◌<◌, ◌≤◌, ◌^◌, [], Option, Some, None, length, IfOk, IfErr, IsSome, OnOk, OnErr, slice_set, slice_index_or, map as list_map};
 ghost use Rattle.ang_host.specs.Boxes.{members};
 ghost use Rattle.ang_view.specs.Registration.{seen};
 ghost use Rattle.ang_source.specs.Sound.{SoundProgram};
@@ -11,26 +11,29 @@ ghost use Rattle.ang_vm.specs.Machines.{lent};
 ghost use Rattle.ang_engine_build.specs.Answer.{HasDenials};
 ghost use Rattle.ang_engine_build.specs.Build.{build_of, denials_in, resolved_of};
 ghost use Rattle.ang_engine_modules.specs.Executed.{first_globals};
-ghost use Rattle.ang_engine_modules.specs.Loaded.{modules_of};
+ghost use Rattle.ang_engine_modules.specs.Loaded.{loaded_at, modules_of, unbound_in};
 ghost use Rattle.ang_engine_modules.specs.Modules.{module_at as built_module_at, AreDriversThere};
 ghost use Rattle.ang_engine_modules.specs.declared.modules.LoadedModule.{LoadedModule};
 ghost use Rattle.ang_engine.specs.Asked.{HasRunOn, HasAsked};
-ghost use Rattle.ang_engine.specs.Engines.{states_in, state_of, resolved_in, program_in, world_during};
+ghost use Rattle.ang_engine_world.specs.States.{states_in, state_of, place_of, program_in};
+ghost use Rattle.ang_engine.specs.Engines.{resolved_in};
+ghost use Rattle.ang_engine.specs.Engines.{world_during};
 ghost use Rattle.ang_engine.specs.Outcomes.{IfRefusedAtOnce, IsBegun, IsCompiled, HasStarted, refused_by, building, reply_to_build};
-ghost use Rattle.ang_engine.specs.Sound.{IsBuiltBy, HaveDrivers, AreSoundModules};
+ghost use Rattle.ang_engine_world.specs.Sound.{HasSameName, HaveGlobals};
+ghost use Rattle.ang_engine.specs.Sound.{IsBuiltBy, IsSoundPlace, HaveDrivers, AreSoundModules};
 ghost use Rattle.ang_engine.specs.Step.{Leads, emptied, build};
-ghost use Rattle.ang_engine.specs.World.{module_at, left_to};
+ghost use Rattle.ang_engine_world.specs.World.{module_at, module_in, left_to};
 
+use crate::budget::may_run;
 use crate::ending::end_globals;
-use crate::module::{Module, ModuleList};
-use crate::modules::{find, may_run, put_globals};
-use crate::reply::Refusal;
 use ang_engine_build::{NoProgram, Program, build_sections};
 use ang_engine_modules::{LoadedModule, Modules};
+use ang_engine_world::{Module, ModuleList, Refusal, find, put_globals};
 use ang_host::{Driver, HostEvent};
 use ang_kinds::{Denial, Error, Fault, List, Mask};
-use ang_meaning::Slot;
+use ang_meaning::{Routine, Slot};
 use ang_registry::Registry;
+use ang_typed::Heading;
 use ang_view::View;
 use ang_vm::Machine;
 use std::alloc::{AllocError, Global};
@@ -73,6 +76,13 @@ fn take_sections(alloc: Global, from: &mut Module) -> Vec<List<u8>>
     mem::replace(&mut from.sections, Vec::new(alloc))
 }
 
+/// Imports that are bound to nothing, a link for each.
+fn unbound_links(alloc: Global, imports: &[Heading]) -> Result<Vec<Option<Routine>>, AllocError>
+    ensures exact { IfOk result (λ links. links.items ≡ list_map (λ h. None) imports.now) }
+{
+    imports.iter().map(|_| None).collect(alloc)
+}
+
 /// A program with its name and its view.
 fn with_view(
     alloc: Global,
@@ -83,16 +93,17 @@ fn with_view(
     ensures name { IfOk result (λ l. l.name ≡ name.now) }
     ensures view { IfOk result (λ l. l.view ≡ view) }
     ensures program { IfOk result (λ l. resolved_in l ≡ resolved_of program) }
-    ensures unbound { IfOk result (λ l. l.links ≡ []) }
+    ensures unbound { IfOk result (λ l. l.links ≡ list_map (λ h. None) l.tree.imports) }
 {
     let name = List::from_vec(Vec::from_slice(alloc, name)?);
     let Program { names, tree } = program;
+    let links = List::from_vec(unbound_links(alloc, tree.imports.as_slice())?);
     Ok(LoadedModule {
         name,
         names,
         view,
         tree,
-        links: List::from_vec(Vec::new(alloc)),
+        links,
     })
 }
 
@@ -110,7 +121,7 @@ fn compile(
     ensures denials { HasDenials result (denials_in registry.now.entries mask.0 sections.now) }
     ensures name { IfOk result (λ l. l.name ≡ name.now) }
     ensures view { IfOk result (λ l. l.view ≡ seen registry.now.entries mask.0) }
-    ensures unbound { IfOk result (λ l. l.links ≡ []) }
+    ensures unbound { IfOk result (λ l. l.links ≡ list_map (λ h. None) l.tree.imports) }
     ensures sound { IfOk result (λ l. SoundProgram l.view (view_typed l.tree)) }
 {
     let Ok(view) = registry.seen(alloc, mask) else {
@@ -136,8 +147,9 @@ fn compile_waiting(
         (build_of (seen registry.now.entries from.old.mask.0) from.old.sections.items) }
     ensures denials { HasDenials result
         (denials_in registry.now.entries from.old.mask.0 from.old.sections.items) }
-    ensures built { IfOk result (λ l. IsBuiltBy registry.now.entries from.new l) }
-    ensures unbound { IfOk result (λ l. l.links ≡ []) }
+    ensures built { IfOk result
+        (λ l. IsBuiltBy registry.now.entries from.new.name from.new.built_mask.0 l) }
+    ensures unbound { IfOk result (λ l. l.links ≡ list_map (λ h. None) l.tree.imports) }
     ensures sound { IfOk result (λ l. SoundProgram l.view (view_typed l.tree)) }
     ensures emptied { (l : Option LoadedModule)
         → state_of from.new None ≡ emptied (state_of from.old l) }
@@ -165,11 +177,13 @@ fn load(
     loaded: LoadedModule,
 ) -> Result<Vec<Slot>, AllocError>
     requires sound { SoundProgram loaded.view (view_typed loaded.tree) }
-    requires unbound { loaded.links ≡ [] }
+    requires unbound { loaded.links ≡ list_map (λ h. None) loaded.tree.imports }
+    requires empty { loaded_at code.old home ≡ None }
+    requires free { unbound_in home code.old ≡ code.old }
     ensures loaded { OnOk result (code.new ≡ slice_set code.old home (Some loaded)) }
     ensures values { IfOk result
         (λ values. values.items ≡ first_globals (built_module_at (modules_of code.new) home).tree) }
-    ensures cleared { slice_set code.new home None ≡ slice_set code.old home None }
+    ensures unloaded { unbound_in home (slice_set code.new home None) ≡ code.old }
 {
     code.load(alloc, home, loaded)?;
     code.first_globals(alloc, home)
@@ -190,7 +204,9 @@ fn start(
     budget: u64,
 ) -> Result<(), BuildRefused>
     requires sound { SoundProgram loaded.view (view_typed loaded.tree) }
-    requires unbound { loaded.links ≡ [] }
+    requires unbound { loaded.links ≡ list_map (λ h. None) loaded.tree.imports }
+    requires empty { loaded_at code.old home ≡ None }
+    requires free { unbound_in home code.old ≡ code.old }
     requires drivers { AreDriversThere (modules_of (slice_set code.old home (Some loaded)))
         (length (members machine.old.store.drivers)) }
     requires ready { IsReady ⟦<dyn Driver as Driver>⟧ (lent machine.old events.old) }
@@ -204,14 +220,16 @@ fn start(
     ensures asked { HasRunOn ⟦<dyn Driver as Driver>⟧
         (modules_of (slice_set code.old home (Some loaded))) (lent machine.old events.old)
         (lent machine.new events.new) }
+    ensures globals { (n : ℕ) × (list_map length (values_in machine.new.store.globals)
+        ≡ slice_set (list_map length (values_in machine.old.store.globals)) home n) }
     ensures built { OnOk result (code.new ≡ slice_set code.old home (Some loaded)) }
-    ensures cleared { OnErr result (code.new ≡ slice_set code.old home None) }
+    ensures unloaded { OnErr result (code.new ≡ code.old) }
     ensures begun { IfErr result IsBegun }
 {
     match load(alloc, code, home, loaded) {
         Ok(values) => put_globals(&mut machine.store.globals, home, values),
         Err(_) => {
-            code.clear(alloc, home);
+            code.unload(alloc, home);
             return Err(BuildRefused::Memory);
         }
     }
@@ -219,13 +237,40 @@ fn start(
         Ok(()) => Ok(()),
         Err(fault) => {
             end_globals(alloc, machine, events, home as usize);
-            code.clear(alloc, home);
+            code.unload(alloc, home);
             Err(BuildRefused::Initializer(fault))
         }
     }
 }
 
-/// Builds a module, after its globals have ended.
+/// The same of the module in a place.
+fn compile_place(
+    alloc: Global,
+    registry: &Registry,
+    place: &mut Option<Module>,
+) -> Result<LoadedModule, NoProgram>
+    requires there { IsSome place.old }
+    ensures compiled { (l : Option LoadedModule) → IsCompiled result
+        (build_of (seen registry.now.entries (module_in (place_of place.old l)).mask)
+        (module_in (place_of place.old l)).sections) }
+    ensures denials { (l : Option LoadedModule) → HasDenials result
+        (denials_in registry.now.entries (module_in (place_of place.old l)).mask
+        (module_in (place_of place.old l)).sections) }
+    ensures built { IfOk result
+        (λ loaded. IsSoundPlace registry.now.entries place.new (Some loaded)) }
+    ensures unbound { IfOk result (λ l. l.links ≡ list_map (λ h. None) l.tree.imports) }
+    ensures sound { IfOk result (λ l. SoundProgram l.view (view_typed l.tree)) }
+    ensures emptied { (l : Option LoadedModule)
+        → place_of place.new None ≡ Some (emptied (module_in (place_of place.old l))) }
+    ensures name { HasSameName place.old place.new }
+{
+    match place {
+        Some(module) => compile_waiting(alloc, registry, module),
+        None => unreachable!(),
+    }
+}
+
+/// Builds a module, after its globals have ended and every import that was bound to it is unbound.
 fn build_module(
     alloc: Global,
     registry: &Registry,
@@ -235,7 +280,9 @@ fn build_module(
     home: u32,
     budget: u64,
 ) -> Result<(), BuildRefused>
-    requires within { home < length list.old.modules.items }
+    requires within { home < length list.old.places.items }
+    requires there { IsSome (slice_index_or list.old.places.items home None) }
+    requires globals { HaveGlobals list.old (values_in machine.old.store.globals) }
     requires modules { AreSoundModules registry.now.entries list.old }
     requires drivers { HaveDrivers registry.now.entries
         (length (members machine.old.store.drivers)) }
@@ -253,11 +300,12 @@ fn build_module(
         (left_to (states_in list.new) (world_of ⟦<dyn Driver as Driver>⟧ machine.new.store))
         (reply_to_build result events.new.items).events machine.old.store machine.new.store }
     ensures sound { AreSoundModules registry.now.entries list.new }
+    ensures globals { HaveGlobals list.new (values_in machine.new.store.globals) }
     ensures begun { IfErr result IsBegun }
 {
     end_globals(alloc, machine, events, home as usize);
-    list.code.clear(alloc, home);
-    match compile_waiting(alloc, registry, &mut list.modules[home as usize]) {
+    list.code.unload(alloc, home);
+    match compile_place(alloc, registry, &mut list.places[home as usize]) {
         Ok(loaded) => start(alloc, &mut list.code, machine, events, home, loaded, budget),
         Err(why) => Err(refused_by(why)),
     }
@@ -274,6 +322,7 @@ pub fn build(
     budget: u64,
 ) -> Result<(), BuildRefused>
     requires modules { AreSoundModules registry.now.entries list.old }
+    requires globals { HaveGlobals list.old (values_in machine.old.store.globals) }
     requires drivers { HaveDrivers registry.now.entries
         (length (members machine.old.store.drivers)) }
     requires ready { IsReady ⟦<dyn Driver as Driver>⟧ (lent machine.old events.old) }
@@ -288,10 +337,11 @@ pub fn build(
         (left_to (states_in list.new) (world_of ⟦<dyn Driver as Driver>⟧ machine.new.store))
         (reply_to_build result events.new.items).events machine.old.store machine.new.store }
     ensures sound { AreSoundModules registry.now.entries list.new }
+    ensures globals { HaveGlobals list.new (values_in machine.new.store.globals) }
     ensures refused { IfRefusedAtOnce (reply_to_build result events.new.items).outcome
         (members machine.new.store.drivers ≡ members machine.old.store.drivers) }
 {
-    let Some(home) = find(&list.modules, name) else {
+    let Some(home) = find(&list.places, name) else {
         return Err(BuildRefused::Before(Refusal::NoModule));
     };
     if !may_run(budget) {

@@ -1,19 +1,20 @@
 //! Calls from outside.
-ghost use Rattle.std.specs.Prelude.{◌≡◌, ◌<◌, ◌≤◌, [], Some, length, IfOk};
+ghost use Rattle.std.specs.Prelude.{◌≡◌, ◌<◌, ◌≤◌, [], Some, length, IfOk, map as list_map};
 ghost use Rattle.ang_host.specs.Boxes.{members};
 ghost use Rattle.ang_meaning.specs.Counting.{IsCounted};
+ghost use Rattle.ang_heap.specs.Globals.{values_in};
 ghost use Rattle.ang_heap.specs.Stores.{world_of, IsReady};
 ghost use Rattle.ang_vm.specs.Machines.{lent};
 ghost use Rattle.ang_engine_modules.specs.Loaded.{modules_of};
 ghost use Rattle.ang_engine_modules.specs.Modules.{TakesSoMany, AreDriversThere};
 ghost use Rattle.ang_engine.specs.Asked.{HasRunOn};
-ghost use Rattle.ang_engine.specs.Engines.{program_in};
+ghost use Rattle.ang_engine_world.specs.States.{program_in};
 ghost use Rattle.ang_engine.specs.Outcomes.{IsChosen, NameNothing, HasCalled, outcome_by};
 ghost use Rattle.ang_engine.specs.Step.{choice_of, of_function};
 
-use crate::reply::{Outcome, Refusal};
 use ang_engine_call::{arguments, find_function, is_callable, result_value};
 use ang_engine_modules::{LoadedModule, Modules};
+use ang_engine_world::{Outcome, Refusal};
 use ang_host::{Driver, HostEvent};
 use ang_kinds::{Fault, Value};
 use ang_meaning::Slot;
@@ -110,6 +111,8 @@ pub fn run_chosen(
         (world_of ⟦<dyn Driver as Driver>⟧ (lent machine.new events.new)) }
     ensures asked { HasRunOn ⟦<dyn Driver as Driver>⟧ (modules_of code.now)
         (lent machine.old events.old) (lent machine.new events.new) }
+    ensures globals { list_map length (values_in machine.new.store.globals)
+        ≡ list_map length (values_in machine.old.store.globals) }
 {
     let function = &loaded.names.functions.as_slice()[chosen.number];
     let ended = code.call(machine, home, chosen.number, &chosen.args, budget, events);

@@ -1,5 +1,5 @@
 //! Globals that end.
-ghost use Rattle.std.specs.Prelude.{◌≡◌, ◌+◌, ◌≤◌, List, [], length, slice_index_or, slice_set, vec_len, vec_capacity};
+ghost use Rattle.std.specs.Prelude.{◌≡◌, ◌+◌, ◌≤◌, List, [], slice_index_or, slice_set, vec_len, vec_capacity};
 ghost use Rattle.ang_host.specs.declared.event.Role.{Role};
 ghost use Rattle.ang_host.specs.Boxes.{members};
 ghost use Rattle.ang_meaning.specs.World.{Input};
@@ -10,7 +10,7 @@ ghost use Rattle.ang_heap.specs.Heaps.{objects_of};
 ghost use Rattle.ang_heap.specs.Parts.{world_by, AreReady, PartsMove, states_among, counts_among, live_among};
 ghost use Rattle.ang_heap.specs.Stores.{world_of, IsReady, HasMoved, StoreBecomes};
 ghost use Rattle.ang_vm.specs.Machines.{lent};
-ghost use Rattle.ang_engine.specs.World.{globals_ended, all_ended};
+ghost use Rattle.ang_engine_world.specs.World.{globals_ended, all_ended};
 
 use ang_heap::{Globals, Heap};
 use ang_host::{Driver, Drivers, HostEvent};
@@ -19,8 +19,8 @@ use ang_vm::Machine;
 use std::alloc::Global;
 use std::mem;
 
-/// Values are given up, the last one first. The end of each host object that ends is listed, in the room
-/// that is kept for it.
+/// Values are given up, the last one first. The end of each host object that ends is listed, in the
+/// room that is kept for it.
 fn give_back(heap: &mut Heap, drivers: &mut Drivers, events: &mut Vec<HostEvent>, values: &[Slot])
     requires ready { AreReady (states_among ⟦<dyn Driver as Driver>⟧ drivers.old)
         (vec_len events.old) (vec_capacity events.old) }
@@ -94,21 +94,22 @@ fn end_module(
     give_back(heap, drivers, events, &values);
 }
 
-/// The globals of all modules end, those of the module last made first. It takes no memory: their ends go
-/// where room is kept for them.
+/// The globals of the modules of these numbers end, the last one's first. It takes no memory: their
+/// ends go where room is kept for them.
 pub fn end_all(
     alloc: Global,
     heap: &mut Heap,
     globals: &mut Globals,
     drivers: &mut Drivers,
     ends: &mut Vec<HostEvent>,
+    order: &[u32],
 )
     requires ready { AreReady (states_among ⟦<dyn Driver as Driver>⟧ drivers.old) (vec_len ends.old)
         (vec_capacity ends.old) }
     requires counted { CountedIn [] (objects_of heap.old)
         (counts_among ⟦<dyn Driver as Driver>⟧ drivers.old) (values_in globals.old) }
     ensures ended { (is : List Input)
-        → all_ended (length (values_in globals.old)) (world_by (objects_of heap.old)
+        → all_ended order.now (world_by (objects_of heap.old)
         (counts_among ⟦<dyn Driver as Driver>⟧ drivers.old) (values_in globals.old)
         ends.old.items is)
         ≡ world_by (objects_of heap.new) (counts_among ⟦<dyn Driver as Driver>⟧ drivers.new)
@@ -119,10 +120,10 @@ pub fn end_all(
         → PartsMove ⟦<dyn Driver as Driver>⟧ roles (members drivers.old) ends.old.items
         (members drivers.new) ends.new.items }
 {
-    let mut left = globals.modules.len();
+    let mut left = order.len();
     while left > 0 {
         left -= 1;
-        end_module(alloc, heap, globals, drivers, ends, left);
+        end_module(alloc, heap, globals, drivers, ends, order[left] as usize);
     }
 }
 

@@ -1,5 +1,5 @@
 //! The engine.
-ghost use Rattle.std.specs.Prelude.{◌≡◌, ◌<◌, ◌≤◌, ◌↔◌, [], List, All, IsTrue, IfOk, IfErr, length};
+ghost use Rattle.std.specs.Prelude.{◌≡◌, ◌↔◌, [], List, All, IsTrue, IfOk, IfErr, length, map as list_map};
 ghost use Rattle.ang_host.specs.declared.event.Role.{Role};
 ghost use Rattle.ang_host.specs.Boxes.{members};
 ghost use Rattle.ang_host.specs.Members.{states_of, AreFresh};
@@ -7,22 +7,26 @@ ghost use Rattle.ang_host.specs.Counts.{IsBalanced};
 ghost use Rattle.ang_host.specs.Events.{DriversFollow};
 ghost use Rattle.ang_registry.specs.Roles.{roles_of};
 ghost use Rattle.ang_meaning.specs.Counting.{IsCounted};
+ghost use Rattle.ang_heap.specs.Globals.{values_in};
 ghost use Rattle.ang_heap.specs.Stores.{world_of, IsKept, IsReady};
 ghost use Rattle.ang_vm.specs.Machines.{lent};
-ghost use Rattle.ang_engine.specs.declared.command.Command.TheVariants.{NewModule, AddSection, Build, Call};
-ghost use Rattle.ang_engine.specs.World.{no_modules, running, engine_ended};
+ghost use Rattle.ang_engine_world.specs.declared.command.Command.TheVariants.{NewModule, SetMask, AddSection, Build, Bind, Unbind, Call, Discard};
+ghost use Rattle.ang_engine_world.specs.World.{no_modules, running, engine_ended};
 ghost use Rattle.ang_engine.specs.Step.{Takes, IsEntitled};
 ghost use Rattle.ang_engine.specs.Sound.{IsSound, HaveDrivers};
 
+use crate::binding::bind;
+use crate::budget::may_run;
 use crate::building::build;
 use crate::calling::{choose, run_chosen};
-use crate::command::Command;
-use crate::ending::end_all;
-use crate::module::{MOST_MODULES, ModuleList};
-use crate::modules::{add_module, add_section, find, may_run};
-use crate::replies::{answer, build_reply, call_reply, ended};
-use crate::reply::{NewError, NewRefused, Outcome, Refusal, Reply};
+use crate::ending::{end_all, end_globals};
+use crate::refused::{NewError, NewRefused};
+use crate::replies::{answer, build_reply, call_reply, discard_reply, ended};
 use ang_engine_modules::Modules;
+use ang_engine_world::{
+    Command, MOST_MODULES, ModuleList, Outcome, Refusal, Reply, add_module, add_section, find,
+    remove_module, set_mask, unbind,
+};
 use ang_heap::{Globals, Heap, Store};
 use ang_host::{Driver, Drivers, HostEvent};
 use ang_kinds::{EntityNo, List, Mask, Value};
@@ -94,8 +98,7 @@ fn room_for_ends(alloc: Global, machine: &Machine) -> Result<Vec<HostEvent>, All
 impl Engine {
     ghost use Rattle.ang_engine.specs.Applied.{HasApplied};
     ghost use Rattle.ang_engine.specs.Asked.{HasAsked};
-    ghost use Rattle.ang_engine.specs.Outcomes.{IfRefusedAtOnce, IsCalled, calling, reply_to_call};
-    ghost use Rattle.ang_engine.specs.Sound.{AreSoundModules};
+    ghost use Rattle.ang_engine.specs.Outcomes.{IfRefusedAtOnce, IsCalled, IsDiscarded, calling, discarding, reply_to_call, reply_to_discard};
     ghost use Rattle.ang_engine.specs.Engines.{registrations, world_in, drivers_in};
 
     /// An engine without modules.
@@ -122,13 +125,14 @@ impl Engine {
             });
         }
         match Vec::with_capacity(alloc, MOST_MODULES) {
-            Ok(modules) => Ok(Engine {
+            Ok(order) => Ok(Engine {
                 alloc,
                 registry,
                 machine: machine_of(alloc, drivers),
                 modules: ModuleList {
-                    modules,
+                    places: Vec::new(alloc),
                     code: Modules::new(alloc),
+                    order,
                 },
             }),
             Err(_) => Err(NewRefused {
@@ -139,13 +143,15 @@ impl Engine {
         }
     }
 
-    /// Does one command, and answers how it ended. It returns when the command has ended: a run is within
-    /// its budget, and can't be interrupted. After a refusal or a fault the engine takes the next command.
+    /// Does one command, and answers how it ended. It returns when the command has ended: a run is
+    /// within its budget, and can't be interrupted. After a refusal or a fault the engine takes the
+    /// next command.
     ///
-    /// The reply and the modules after it are those of the source meaning, where each build sees what
-    /// the module's mask meets, told what the drivers answered and whether there was memory. Each host
-    /// call is of an entity that its caller saw when it was built, and the drivers follow the events. After a
-    /// refusal other than `BuildMemory`, `BuildErrors` and `InitFailed` they are as they were.
+    /// The reply and the modules after it are those of the source meaning, where each build sees
+    /// what the module's mask meets, told what the drivers answered and whether there was memory.
+    /// Each host call is of an entity that its caller saw when it was built, and the drivers follow
+    /// the events. After a refusal other than `BuildMemory`, `BuildErrors` and `InitFailed` they
+    /// are as they were.
     pub fn apply(&mut self, command: Command) -> Reply
         requires sound { IsSound ⟦<dyn Driver as Driver>⟧ self.old }
         ensures takes { Takes (registrations self.old) (world_in ⟦<dyn Driver as Driver>⟧ self.old)
@@ -162,14 +168,23 @@ impl Engine {
     {
         match command {
             Command::NewModule { name, mask } => self.new_module(name, mask),
+            Command::SetMask { name, mask } => self.set_mask(name, mask),
             Command::AddSection { name, text } => self.add_section(name, text),
             Command::Build { name, budget } => self.build(name, budget),
+            Command::Bind {
+                name,
+                index,
+                exporter,
+                decl,
+            } => self.bind(name, index, exporter, decl),
+            Command::Unbind { name, index } => self.unbind(name, index),
             Command::Call {
                 name,
                 decl,
                 args,
                 budget,
             } => self.call(name, decl, args, budget),
+            Command::Discard { name } => self.discard_module(name),
         }
     }
 
@@ -184,6 +199,17 @@ impl Engine {
         let globals = &mut self.machine.store.globals;
         let done = add_module(alloc, &mut self.modules, globals, name, mask);
         answer(alloc, ended(done))
+    }
+
+    fn set_mask(&mut self, name: List<u8>, mask: Mask) -> Reply
+        requires sound { IsSound ⟦<dyn Driver as Driver>⟧ self.old }
+        ensures applied { HasApplied ⟦<dyn Driver as Driver>⟧ self.old (SetMask name mask) result
+            self.new }
+        ensures sound { IsSound ⟦<dyn Driver as Driver>⟧ self.new }
+        ensures registrations { registrations self.new ≡ registrations self.old }
+    {
+        let done = set_mask(&mut self.modules, name, mask);
+        answer(self.alloc, ended(done))
     }
 
     fn add_section(&mut self, name: List<u8>, text: List<u8>) -> Reply
@@ -219,6 +245,35 @@ impl Engine {
         build_reply(self.alloc, done, events)
     }
 
+    fn bind(&mut self, name: List<u8>, index: u32, exporter: List<u8>, decl: List<u8>) -> Reply
+        requires sound { IsSound ⟦<dyn Driver as Driver>⟧ self.old }
+        ensures applied { HasApplied ⟦<dyn Driver as Driver>⟧ self.old
+            (Bind name index exporter decl) result self.new }
+        ensures sound { IsSound ⟦<dyn Driver as Driver>⟧ self.new }
+        ensures registrations { registrations self.new ≡ registrations self.old }
+    {
+        let done = bind(
+            self.alloc,
+            &mut self.modules,
+            name.as_slice(),
+            index,
+            exporter.as_slice(),
+            decl.as_slice(),
+        );
+        answer(self.alloc, ended(done))
+    }
+
+    fn unbind(&mut self, name: List<u8>, index: u32) -> Reply
+        requires sound { IsSound ⟦<dyn Driver as Driver>⟧ self.old }
+        ensures applied { HasApplied ⟦<dyn Driver as Driver>⟧ self.old (Unbind name index) result
+            self.new }
+        ensures sound { IsSound ⟦<dyn Driver as Driver>⟧ self.new }
+        ensures registrations { registrations self.new ≡ registrations self.old }
+    {
+        let done = unbind(self.alloc, &mut self.modules, name.as_slice(), index);
+        answer(self.alloc, ended(done))
+    }
+
     /// Calls a function of the module of that name.
     fn call_named(
         &mut self,
@@ -242,9 +297,11 @@ impl Engine {
         ensures refused { IfRefusedAtOnce (reply_to_call result events.new.items).outcome
             (drivers_in self.new ≡ drivers_in self.old) }
         ensures modules { self.new.modules ≡ self.old.modules }
+        ensures globals { list_map length (values_in self.new.machine.store.globals)
+            ≡ list_map length (values_in self.old.machine.store.globals) }
         ensures registrations { registrations self.new ≡ registrations self.old }
     {
-        let Some(home) = find(&self.modules.modules, name) else {
+        let Some(home) = find(&self.modules.places, name) else {
             return Err(Refusal::NoModule);
         };
         let Some(loaded) = self.modules.code.loaded(home) else {
@@ -288,9 +345,49 @@ impl Engine {
         call_reply(alloc, done, events)
     }
 
-    /// Ends the engine, and gives its drivers back in their order, with no object of theirs alive: another
-    /// engine can have them. The globals of its modules are given up, those of the module last made first. It
-    /// takes no memory, asks no driver anything, and always succeeds.
+    /// Ends the module of that name. The events need room for the end of each live host object.
+    fn discard_named(&mut self, events: &mut Vec<HostEvent>, name: &[u8]) -> Result<(), Refusal>
+        requires sound { IsSound ⟦<dyn Driver as Driver>⟧ self.old }
+        requires ready { IsReady ⟦<dyn Driver as Driver>⟧ (lent self.old.machine events.old) }
+        requires first { events.old.items ≡ [] }
+        ensures done { IsDiscarded result events.new.items
+            (discarding name.now (world_in ⟦<dyn Driver as Driver>⟧ self.old))
+            (world_in ⟦<dyn Driver as Driver>⟧ self.old)
+            (world_in ⟦<dyn Driver as Driver>⟧ self.new) }
+        ensures asked { HasAsked ⟦<dyn Driver as Driver>⟧ (registrations self.old)
+            (world_in ⟦<dyn Driver as Driver>⟧ self.new)
+            (reply_to_discard result events.new.items).events self.old.machine.store
+            self.new.machine.store }
+        ensures refused { IfRefusedAtOnce (reply_to_discard result events.new.items).outcome
+            (drivers_in self.new ≡ drivers_in self.old) }
+        ensures sound { IsSound ⟦<dyn Driver as Driver>⟧ self.new }
+        ensures registrations { registrations self.new ≡ registrations self.old }
+    {
+        let Some(home) = find(&self.modules.places, name) else {
+            return Err(Refusal::NoModule);
+        };
+        end_globals(self.alloc, &mut self.machine, events, home as usize);
+        remove_module(self.alloc, &mut self.modules, home);
+        Ok(())
+    }
+
+    fn discard_module(&mut self, name: List<u8>) -> Reply
+        requires sound { IsSound ⟦<dyn Driver as Driver>⟧ self.old }
+        ensures applied { HasApplied ⟦<dyn Driver as Driver>⟧ self.old (Discard name) result
+            self.new }
+        ensures sound { IsSound ⟦<dyn Driver as Driver>⟧ self.new }
+        ensures registrations { registrations self.new ≡ registrations self.old }
+    {
+        let Ok(mut events) = room_for_ends(self.alloc, &self.machine) else {
+            return answer(self.alloc, Outcome::Refused(Refusal::Memory));
+        };
+        let done = self.discard_named(&mut events, name.as_slice());
+        discard_reply(self.alloc, done, events)
+    }
+
+    /// Ends the engine, and gives its drivers back in their order, with no object of theirs alive:
+    /// another engine can have them. The globals of its modules are given up, those of the module
+    /// last made first. It takes no memory, asks no driver anything, and always succeeds.
     pub fn discard(self) -> Vec<Box<dyn Driver>>
         requires sound { IsSound ⟦<dyn Driver as Driver>⟧ self }
         ensures ended { (roles : List Role)
@@ -303,8 +400,13 @@ impl Engine {
             alloc,
             registry: _,
             machine,
-            modules: _,
+            modules,
         } = self;
+        let ModuleList {
+            places: _,
+            code: _,
+            order,
+        } = modules;
         let Machine { store } = machine;
         let Store {
             mut heap,
@@ -314,7 +416,14 @@ impl Engine {
             mut ends,
             live: _,
         } = store;
-        end_all(alloc, &mut heap, &mut globals, &mut drivers, &mut ends);
+        end_all(
+            alloc,
+            &mut heap,
+            &mut globals,
+            &mut drivers,
+            &mut ends,
+            &order,
+        );
         drivers.into_boxes()
     }
 }

@@ -1,10 +1,12 @@
 //! The replies to commands.
 ghost use Rattle.std.specs.Prelude.{◌≡◌, []};
-ghost use Rattle.ang_engine.specs.Step.{reply_of, errors_reply};
-ghost use Rattle.ang_engine.specs.Outcomes.{outcome_of, reply_to_build, reply_to_call};
+ghost use Rattle.ang_engine_world.specs.Commands.{reply_of};
+ghost use Rattle.ang_engine.specs.Step.{errors_reply};
+ghost use Rattle.ang_engine_world.specs.Outcomes.{outcome_of};
+ghost use Rattle.ang_engine.specs.Outcomes.{reply_to_build, reply_to_call, reply_to_discard};
 
 use crate::building::BuildRefused;
-use crate::reply::{Outcome, Refusal, Reply};
+use ang_engine_world::{Outcome, Refusal, Reply};
 use ang_host::HostEvent;
 use ang_kinds::{Denial, Error, List};
 use std::alloc::Global;
@@ -73,6 +75,16 @@ pub fn call_reply(alloc: Global, done: Result<Outcome, Refusal>, events: Vec<Hos
 {
     match done {
         Ok(outcome) => with_events(alloc, outcome, events),
+        Err(refusal) => answer(alloc, Outcome::Refused(refusal)),
+    }
+}
+
+/// The reply to a discard, with the ends of objects that it has listed.
+pub fn discard_reply(alloc: Global, done: Result<(), Refusal>, events: Vec<HostEvent>) -> Reply
+    ensures exact { result ≡ reply_to_discard done events.items }
+{
+    match done {
+        Ok(()) => with_events(alloc, Outcome::Done(None), events),
         Err(refusal) => answer(alloc, Outcome::Refused(refusal)),
     }
 }

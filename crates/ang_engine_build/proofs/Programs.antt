@@ -1,18 +1,21 @@
 -- What holds of each program that a build gives.
-use Rattle.std.proofs.Common.{◌≡◌, ◌≤◌, refl, subst, ℕ, List, [], ◌∷◌, length}
-use Rattle.std.specs.Prelude.{Result, Ok, Err}
+use Rattle.std.proofs.Common.{◌≡◌, ◌≤◌, ◌<◌, refl, sym, ap, subst, ◌∙◌, ℕ, true, List, [], ◌∷◌, length}
+use Rattle.std.specs.Prelude.{Result, Ok, Err, Some, slice_get}
 use Rattle.ang_kinds.specs.declared.error.Error.{Error}
 use Rattle.ang_view.specs.Registration.{RegistrationList}
 use Rattle.ang_view.specs.Values.{TakesValues}
 use Rattle.ang_types.specs.declared.asks.Refused.{Refused}
 use Rattle.ang_source.specs.Sound.{SoundProgram}
+use Rattle.ang_names_known.specs.declared.names.Family.{Family}
 use Rattle.ang_names_known.specs.Items.{list_or}
 use Rattle.ang_names_known.specs.Spaces.{AreFamilies}
 use Rattle.ang_names_written.specs.Sources.{Source}
 use Rattle.ang_names_listed.specs.Declarations.{declarations_of}
 use Rattle.ang_names.specs.Phases.{errors_in, refusals_of}
 use Rattle.ang_names_resolved.specs.Resolved.{names_of}
+use Rattle.ang_names.specs.Ranks.{can_hold}
 use Rattle.ang_names.proofs.Few.{accepted_families}
+use Rattle.ang_names.proofs.Ranks.{ranks}
 use Rattle.ang_check_bodies.specs.Bodies.{body_refusals, program_of}
 use Rattle.ang_check.specs.Denials.{script_refusals}
 use Rattle.ang_check_sound.specs.Checked.{HasNames}
@@ -64,6 +67,12 @@ named_scripts V ss r h =
 few_scripts : (V : RegistrationList) (ss : List Source) (r : Resolved) → IsResolution V ss r → AreFamilies r.names.families
 few_scripts V ss r h = subst (λ (q : Resolved). AreFamilies q.names.families) h.is (accepted_families V ss h.declared)
 
+ranks_in_scripts : (V : RegistrationList) (ss : List Source) (r : Resolved) (i j : ℕ) (f g : Family) → IsResolution V ss r
+    → slice_get r.names.families i ≡ Some f → slice_get r.names.families j ≡ Some g → can_hold V ss i j ≡ true → g.rank < f.rank
+ranks_in_scripts V ss r i j f g h =
+    subst (λ (q : Resolved). slice_get q.names.families i ≡ Some f → slice_get q.names.families j ≡ Some g → can_hold V ss i j ≡ true → g.rank < f.rank) h.is
+    (λ at_i at_j holds. ranks V ss i j f g h.declared at_i at_j holds)
+
 -- ---- the laws, of sections
 
 sound_read : (V : RegistrationList) (read : Result (List Source) Error) (r : Resolved) → TakesValues V → length V ≤ 1024
@@ -92,3 +101,11 @@ program-named V sections r is = named_read V sections (sources_of 0 sections) r 
 -- the families are few
 pub program-families : (V : RegistrationList) (sections : List (List ℕ)) (r : Resolved) → build_of V sections ≡ Compiled r → AreFamilies r.names.families
 program-families V sections r is = few_read V (sources_of 0 sections) r is
+
+-- what a field can hold is of a lower rank
+pub program-ranks : (V : RegistrationList) (sections : List (List ℕ)) (r : Resolved) (ss : List Source) (i j : ℕ) (f g : Family)
+    → build_of V sections ≡ Compiled r → sources_of 0 sections ≡ Ok ss
+    → slice_get r.names.families i ≡ Some f → slice_get r.names.families j ≡ Some g → can_hold V ss i j ≡ true → g.rank < f.rank
+program-ranks V sections r ss i j f g is read =
+    let built : build_of_scripts V ss ≡ Compiled r = sym (ap (after_reading V) read) ∙ is in
+    ranks_in_scripts V ss r i j f g (scripts_resolve V ss r built)

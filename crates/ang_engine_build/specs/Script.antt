@@ -2,7 +2,7 @@
 -- error (docs/LANGUAGE.md, "Tokens" and "Grammar").
 use Rattle.std.specs.Prelude.{ℕ, suc, List, [], ◌∷◌, Result, Ok, Err}
 use Rattle.ang_kinds.specs.declared.error.Error.{Error}
-use Rattle.ang_kinds.specs.declared.error.ErrorKind.TheVariants.{TooLong, BadByte, BadNumber, OpenComment, TooDeep, Syntax, NotYet}
+use Rattle.ang_kinds.specs.declared.error.ErrorKind.TheVariants.{TooLong, BadByte, BadNumber, OpenComment, TooDeep, Syntax}
 use Rattle.ang_lex.specs.declared.token.Token.{Token}
 use Rattle.ang_lex.specs.declared.error.LexError.{LexError}
 use Rattle.ang_lex.specs.declared.error.LexError.TheVariants as lex
@@ -21,13 +21,13 @@ lexical_error (lex.TooLong place) = fault_at TooLong place
 lexical_error (lex.BadByte place) = fault_at BadByte place
 lexical_error (lex.BadNumber place) = fault_at BadNumber place
 lexical_error (lex.OpenComment place) = fault_at OpenComment place
-lexical_error lex.Memory = fault_at NotYet (start_of 0)
+lexical_error lex.Memory = fault_at BadByte (start_of 0)
 
 -- the error that a parser's answer is; `script_of` never gives `Memory`
 abbrev pub grammar_error : ParseError → Error
 grammar_error (parse.TooDeep place) = fault_at TooDeep place
 grammar_error (parse.Syntax place name) = record { kind = Syntax; place = place; name = name }
-grammar_error parse.Memory = fault_at NotYet (start_of 0)
+grammar_error parse.Memory = fault_at Syntax (start_of 0)
 
 -- ---- sections
 

@@ -1,11 +1,15 @@
 //! What holds of each program that a build gives.
-ghost use Rattle.std.specs.Prelude.{◌≡◌, ℕ, ◌≤◌, List, length};
+ghost use Rattle.std.specs.Prelude.{◌≡◌, ℕ, ◌≤◌, ◌<◌, true, List, length, Ok, Some, slice_get};
 ghost use Rattle.ang_view.specs.Registration.{RegistrationList};
 ghost use Rattle.ang_view.specs.Values.{TakesValues};
 ghost use Rattle.ang_source.specs.Sound.{SoundProgram};
+ghost use Rattle.ang_names_known.specs.declared.names.Family.{Family};
 ghost use Rattle.ang_names_known.specs.Spaces.{AreFamilies};
+ghost use Rattle.ang_names_written.specs.Sources.{Source};
+ghost use Rattle.ang_names.specs.Ranks.{can_hold};
 ghost use Rattle.ang_engine_build.specs.Build.{Resolved, Compiled, build_of};
 ghost use Rattle.ang_engine_build.specs.Named.{HasNamesOf};
+ghost use Rattle.ang_engine_build.specs.Script.{sources_of};
 
 /// The tree of a built program is sound over its view: its locals are alive, its functions and globals are
 /// there, each call has an argument for each parameter, and each entity of the host that it names is one of the
@@ -34,4 +38,17 @@ pub fn programs_have_few_families()
     ensures few { (V : RegistrationList) (sections : List (List ℕ)) (r : Resolved)
         → build_of V sections ≡ Compiled r
         → AreFamilies r.names.families }
+{}
+
+/// What a field of one of its classes can hold is of a lower rank than that class. So no store to a field of a
+/// checked script finds an object of a rank that is too high.
+pub fn programs_have_falling_ranks()
+    ensures falls { (V : RegistrationList) (sections : List (List ℕ)) (r : Resolved)
+        (ss : List Source) (i j : ℕ) (f g : Family)
+        → build_of V sections ≡ Compiled r
+        → sources_of 0 sections ≡ Ok ss
+        → slice_get r.names.families i ≡ Some f
+        → slice_get r.names.families j ≡ Some g
+        → can_hold V ss i j ≡ true
+        → g.rank < f.rank }
 {}

@@ -10,16 +10,16 @@ use Rattle.ang_names_known.specs.declared.names.Names.{Names}
 use Rattle.ang_names_known.specs.declared.names.ScriptFunction.{ScriptFunction}
 use Rattle.ang_names_known.specs.Items.{each_after, list_or}
 use Rattle.ang_names_known.specs.Spaces.{Space}
-use Rattle.ang_names_written.specs.NotYet.{not_yet}
 use Rattle.ang_names_written.specs.Sources.{Source}
 use Rattle.ang_names_written.specs.Spellings.{same_spellings}
 use Rattle.ang_names_listed.specs.declared.listed.Declared.{Declared}
 use Rattle.ang_names_listed.specs.declared.listed.Part.{Part}
 use Rattle.ang_names_listed.specs.declared.listed.Part.TheVariants as part
 use Rattle.ang_names_listed.specs.Declarations.{Declaring, declarations_of, declared_name, families_of}
-use Rattle.ang_names_listed.specs.Taken.{excludes, clashes, clashes_with_host, is_taken, is_first_above, name_refusal, plain_refusal}
-use Rattle.ang_names.specs.declared.phase.Phase.TheVariants as phase
-use Rattle.ang_names.specs.Meant.{parameter_limit, parameters_refusal, parameter_list_refusal, part_refusal, type_refusal, type_refusal_of}
+use Rattle.ang_names_listed.specs.Taken.{excludes, clashes, clashes_with_host, is_taken, is_first_above, name_refusal}
+use Rattle.ang_types.specs.Refusals.{plain_refusal}
+use Rattle.ang_names.specs.Phases as phase
+use Rattle.ang_names.specs.Refusals.{parameter_limit, parameters_refusal, parameter_list_refusal, part_refusal, type_refusal, type_refusal_of}
 use Rattle.ang_names_written.specs.declared.role.Role.TheVariants as role
 use Rattle.ang_names.specs.Phases.{all_phases, first_refusals, refusals, refusals_of}
 use Rattle.ang_names_resolved.specs.Resolved.{function_by, function_of, heading_of as meant_heading, names_of, space_of_declared}
@@ -159,9 +159,8 @@ pub one_heading : (V : RegistrationList) → length V ≤ 1024 → (ss : List So
 unfolding refusals_of names_of Differ
 one_heading V small ss e =
     let ds = declarations_of ss in
-    let phases = (none_refused (map plain_refusal (not_yet ss)) (first_refusals V ds all_phases) e).1 in
     let later = phase.Types ∷ phase.Ancestors ∷ phase.Heirs ∷ phase.Cycles ∷ [] in
-    let names = none_refused (refusals V ds phase.Names) (first_refusals V ds later) phases in
+    let names = none_refused (refusals V ds phase.Names) (first_refusals V ds later) e in
     let types = none_refused (refusals V ds phase.Types) (first_refusals V ds (phase.Ancestors ∷ phase.Heirs ∷ phase.Cycles ∷ [])) names.1 in
     differ V small ds [] [] ds names.0 types.0
 

@@ -1,6 +1,6 @@
 -- The function that a text declares without its body (docs/EMBEDDING.md, "Commands"; the AngelScript manual, "Calling a script
 -- function"; what the text may be is this profile's own).
-use Rattle.std.specs.Prelude.{◌≡◌, ℕ, List, [], ◌∷◌, ◌++◌, Option, Some, None, Result, Ok, Err}
+use Rattle.std.specs.Prelude.{◌≡◌, ℕ, false, List, [], ◌∷◌, ◌++◌, Option, Some, None, Result, Ok, Err}
 use Rattle.std.specs.Result.{result_ok}
 use Rattle.ang_lex.specs.declared.token.Token.{Token}
 use Rattle.ang_lex.specs.declared.error.LexError.{LexError}
@@ -13,7 +13,7 @@ use Rattle.ang_types.specs.declared.asks.Refused.{Refused}
 use Rattle.ang_names_known.specs.declared.names.Origin.{Origin}
 use Rattle.ang_names_known.specs.declared.names.ScriptFunction.{ScriptFunction}
 use Rattle.ang_names_known.specs.Spaces.{Space}
-use Rattle.ang_names.specs.Meant.{function_refusal}
+use Rattle.ang_names.specs.Refusals.{heading_refusal}
 use Rattle.ang_names_resolved.specs.Resolved.{heading_of}
 
 -- the text, a line end and `{}`
@@ -46,7 +46,7 @@ abbrev pub heading_by : Space → List ℕ → Decl → Option ScriptFunction
 heading_by E text (class final word x bases left members right) = None
 heading_by E text (interface word x bases left methods right) = None
 heading_by E text (import word y x ps from module_name semicolon) = None
-heading_by E text (function y x ps b) = unless_refused (function_refusal E text x y ps.items) (heading_of E nowhere text x y ps.items)
+heading_by E text (function y x ps b) = unless_refused (heading_refusal E text false x y ps.items) (heading_of E nowhere text x y ps.items)
 heading_by E text (globals vs) = None
 heading_by E text (empty semicolon) = None
 

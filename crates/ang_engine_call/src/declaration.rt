@@ -4,7 +4,7 @@ ghost use Rattle.ang_tree.specs.View.{view_decl, view_function, view_script};
 ghost use Rattle.ang_engine_call.specs.Declaration as spec;
 
 use ang_lex::{LexError, lex};
-use ang_names::{function_refusal, heading_of};
+use ang_names::{heading_of, heading_refusal};
 use ang_names_known::{Origin, ScriptFunction, Space};
 use ang_parse::{ParseError, parse};
 use ang_tree::{Declaration, Function, Script};
@@ -56,7 +56,7 @@ fn function_heading(
 {
     let name = &function.name;
     let params = function.parameters.items.as_slice();
-    let refusal = function_refusal(alloc, space, text, name, &function.result, params)?;
+    let refusal = heading_refusal(alloc, space, text, false, name, &function.result, params)?;
     if refusal.is_some() {
         return Ok(None);
     }

@@ -16,6 +16,9 @@ use Rattle.ang_code.specs.Told.{ComesFrom}
 use Rattle.ang_code.proofs.Telling.{calls_come_from}
 use Rattle.ang_code_laws.proofs.Whole.{call_runs_ask}
 use Rattle.ang_code_laws.proofs.Counting.{call_runs_count}
+use Rattle.ang_code_globals.proofs.Worlds.{give_has}
+use Rattle.ang_code_globals.proofs.Keeping.{call_runs_keep}
+use Rattle.ang_code_globals.specs.Globals.{globals_of_each}
 use Rattle.ang_gen_body.specs.Behaves.{outcome_of}
 use Rattle.ang_source.specs.Meaning.{passings_of, passings_in, routine}
 use Rattle.ang_lower.proofs.Follows.{passings_count}
@@ -80,6 +83,7 @@ module _ (t : Table) (ms : List Module) (is : IsTableOf t ms) (budget m n : ℕ)
         asked = λ asked.
             gives_more ms 200 v w (asks_more ms 200 before w asked (call_runs_ask z (texts_of t) budget (routine m n) (reverse args) before w (Gives v left) run));
         counted = give_counted v [] w (call_runs_count z (texts_of t) budget (routine m n) (reverse args) before w (Gives v left) count run);
+        globals = give_has (globals_of_each before) v w (call_runs_keep z (texts_of t) budget (routine m n) (reverse args) before w (Gives v left) run);
       }
 
   -- and one that faults
@@ -95,4 +99,5 @@ module _ (t : Table) (ms : List Module) (is : IsTableOf t ms) (budget m n : ℕ)
         };
         asked = λ asked. asks_more ms 200 before w asked (call_runs_ask z (texts_of t) budget (routine m n) (reverse args) before w (Stops x) run);
         counted = call_runs_count z (texts_of t) budget (routine m n) (reverse args) before w (Stops x) count run;
+        globals = call_runs_keep z (texts_of t) budget (routine m n) (reverse args) before w (Stops x) run;
       }

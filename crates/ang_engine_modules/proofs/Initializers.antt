@@ -21,6 +21,9 @@ use Rattle.ang_code.specs.Told.{ComesFrom}
 use Rattle.ang_code.proofs.Telling.{initializers_come_from}
 use Rattle.ang_code_laws.proofs.Whole.{initializer_runs_ask}
 use Rattle.ang_code_laws.proofs.Counting.{initializer_runs_count}
+use Rattle.ang_code_globals.specs.Globals.{globals_of_each}
+use Rattle.ang_code_globals.proofs.Worlds.{give_has}
+use Rattle.ang_code_globals.proofs.Keeping.{initializer_runs_keep}
 use Rattle.ang_gen_body.specs.Behaves.{outcome_of}
 use Rattle.ang_source.specs.Meaning.{Codes, codes_in, passings_in, body_at, pass_at, run_code, initialized, initialized_all, routine}
 use Rattle.ang_vm_stack.specs.declared.table.Table.{Table}
@@ -138,16 +141,22 @@ module _ (t : Table) (ms : List Module) (is : IsTableOf t ms) (ticks m n : ℕ) 
             ∙ ap (λ l. answers_listed before.events ++ l) (sym (told_append come.used used));
       }
 
--- each leaves what is held by globals and fields alone, whatever its code is
-module _ (z : Setting) (code : Texts) (ticks : ℕ) (g : Routine) (now w : World) (count : IsCounted [] now) where
+-- each leaves what is held by globals and fields alone, and as many globals as there were, whatever its code is
+module _ (z : Setting) (code : Texts) (ticks : ℕ) (g : Routine) (now w : World) where
   abbrev first : List Input → Config
   first inputs = initializer_begins z code ticks g (with_inputs inputs now)
 
-  pub counted_given : (v : Slot) (left : ℕ) → Runs z code first (Gives v left) w → IsCounted [] (give v w)
-  counted_given v left run = give_counted v [] w (initializer_runs_count z code ticks g now w (Gives v left) count run)
+  pub counted_given : IsCounted [] now → (v : Slot) (left : ℕ) → Runs z code first (Gives v left) w → IsCounted [] (give v w)
+  counted_given count v left run = give_counted v [] w (initializer_runs_count z code ticks g now w (Gives v left) count run)
 
-  pub counted_stopped : (x : Fault) → Runs z code first (Stops x) w → IsCounted [] w
-  counted_stopped x run = initializer_runs_count z code ticks g now w (Stops x) count run
+  pub counted_stopped : IsCounted [] now → (x : Fault) → Runs z code first (Stops x) w → IsCounted [] w
+  counted_stopped count x run = initializer_runs_count z code ticks g now w (Stops x) count run
+
+  pub kept_given : (v : Slot) (left : ℕ) → Runs z code first (Gives v left) w → globals_of_each (give v w) ≡ globals_of_each now
+  kept_given v left run = give_has (globals_of_each now) v w (initializer_runs_keep z code ticks g now w (Gives v left) run)
+
+  pub kept_stopped : (x : Fault) → Runs z code first (Stops x) w → globals_of_each w ≡ globals_of_each now
+  kept_stopped x run = initializer_runs_keep z code ticks g now w (Stops x) run
 
 -- ---- all of them
 

@@ -1,3 +1,5 @@
+pub mod Lists
+pub mod Imports
 pub mod Inputs
 pub mod ClassTables
 pub mod Settings

@@ -12,6 +12,7 @@ use Rattle.ang_meaning.specs.Counting.{IsCounted}
 use Rattle.ang_meaning.specs.Setting.{Setting}
 use Rattle.ang_code.specs.Machine.{Config, call_begins, initializer_begins}
 use Rattle.ang_code.specs.Runs.{Stops}
+use Rattle.ang_code_globals.specs.Globals.{globals_of_each}
 use Rattle.ang_source.specs.Meaning.{passings_in, routine}
 use Rattle.ang_vm_stack.specs.declared.table.Table.{Table}
 use Rattle.ang_vm_stack.specs.Tables.{setting_of, texts_of}
@@ -26,7 +27,7 @@ use Rattle.ang_engine_modules.proofs.Settings.{setting_same}
 use Rattle.ang_engine_modules.proofs.Bodies.{takes_nothing}
 use Rattle.ang_engine_modules.proofs.Numbers.{next_routine, no_routine}
 use Rattle.ang_engine_modules.proofs.Calls.{call_gives, call_stops, call_stands}
-use Rattle.ang_engine_modules.proofs.Initializers.{initializer_asks, initializer_gives_asks, initializer_stands, leaves, stops, counted_given, counted_stopped, come_first, come_last}
+use Rattle.ang_engine_modules.proofs.Initializers.{initializer_asks, initializer_gives_asks, initializer_stands, leaves, stops, counted_given, counted_stopped, kept_given, kept_stopped, come_first, come_last}
 
 module _ (t : Table) where
   -- ---- calls
@@ -64,6 +65,7 @@ pub record HaveComeAt (t : Table) (budget m first end : ℕ) (before : World) (n
   pub asked : (ms : List Module) → IsTableOf t ms → initializers_of m (module_at ms m).tree ≡ routines_at m first (end - first)
       → AllByRecursion (IsAskedIn ms) before.events → AllByRecursion (IsAskedIn ms) now.events
   pub counted : IsCounted [] now
+  pub globals : globals_of_each now ≡ globals_of_each before
 
 module _ (t : Table) (budget m first end : ℕ) (before : World) where
   -- these are the initializers of its module m
@@ -77,6 +79,7 @@ module _ (t : Table) (budget m first end : ℕ) (before : World) where
     come = λ ms is all. subst (λ gs. HaveComeTo ms budget m before gs budget before) all (come_first ms budget m before);
     asked = λ ms is all asked. asked;
     counted = count;
+    globals = refl;
   }
 
   module _ (n ticks : ℕ) (now : World) (at : HaveComeAt t budget m first end before n ticks now) where
@@ -120,6 +123,7 @@ module _ (t : Table) (budget m first end : ℕ) (before : World) where
         means = stops t ms is ticks m n known now budget rest before after (comes lt ms is all) fault run;
         asked = λ asked. initializer_asks t ms is ticks m n known now (Stops fault) after run (at.asked ms is all asked);
         counted = counted_stopped (setting_for ms 201) (texts_of t) ticks (routine m n) now after at.counted fault run;
+        globals = kept_stopped (setting_for ms 201) (texts_of t) ticks (routine m n) now after fault run ∙ at.globals;
       }
       ends_by fault after (inr (null, lost)) = absurd (initializer_stands t ms is ticks m n known now lost.count (lost.told.used ++ []) (lost.told.tells []))
 
@@ -127,6 +131,12 @@ module _ (t : Table) (budget m first end : ℕ) (before : World) where
     count_next : (left : ℕ) (after : World) → HasInitialized (setting_of t 201) (texts_of t) (beginning t (setting_of t 201) ticks m n now) (Ok left) after → IsCounted [] after
     count_next left after (v, given) =
         subst (IsCounted []) (sym given.given) (counted_given (setting_of t 201) (texts_of t) ticks (routine m n) now given.end at.counted v left given.runs)
+
+    -- and how many globals there are
+    keep_next : (left : ℕ) (after : World) → HasInitialized (setting_of t 201) (texts_of t) (beginning t (setting_of t 201) ticks m n now) (Ok left) after
+        → globals_of_each after ≡ globals_of_each now
+    keep_next left after (v, given) =
+        subst (λ w. globals_of_each w ≡ globals_of_each now) (sym given.given) (kept_given (setting_of t 201) (texts_of t) ticks (routine m n) now given.end v left given.runs)
 
     -- this one ended, and those behind it are left
     pub goes_on_at : (left : ℕ) (after : World) → n < end
@@ -138,6 +148,7 @@ module _ (t : Table) (budget m first end : ℕ) (before : World) where
       come = λ ms is all. come_next ms is all lt left after (here ms is all lt (Ok left) after run);
       asked = λ ms is all asked. asks_next ms is all lt left after (here ms is all lt (Ok left) after run) (at.asked ms is all asked);
       counted = count_next left after run;
+      globals = keep_next left after run ∙ at.globals;
     }
 
     -- it faulted, and with it all of them
@@ -152,4 +163,5 @@ module _ (t : Table) (budget m first end : ℕ) (before : World) where
       means = come_last ms budget m ticks before now (subst (λ gs. HaveComeTo ms budget m before gs ticks now) (no_routine m n end le) (at.come ms is all));
       asked = at.asked ms is all;
       counted = at.counted;
+      globals = at.globals;
     }

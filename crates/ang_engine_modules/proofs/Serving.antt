@@ -1,5 +1,8 @@
 -- What modules that are loaded say of themselves, from what holds of their table.
-use Rattle.std.proofs.Common.{◌≡◌, ◌<◌, ◌^◌, ℕ, List, [], ◌∷◌, ◌++◌, length, reverse, subst, Option, None, Some}
+use Rattle.std.proofs.Common.{◌≡◌, ◌<◌, ◌^◌, ℕ, List, [], ◌∷◌, ◌++◌, length, reverse, sym, ap, subst, arith, Option, None, Some}
+use Rattle.std.proofs.lemmas.List.{length-map}
+use Rattle.std.proofs.lemmas.Option.{slice_get_within}
+use Rattle.ang_meaning.specs.declared.routine.Routine.{Routine}
 use Rattle.std.specs.Prelude.{Result, Ok, Err, OnOk, OnErr}
 use Rattle.ang_kinds.specs.declared.fault.Fault.{Fault}
 use Rattle.ang_host.specs.declared.event.Role.{Role}
@@ -7,14 +10,14 @@ use Rattle.ang_meaning.specs.declared.slot.Slot.{Slot}
 use Rattle.ang_meaning.specs.World.{World, with_inputs}
 use Rattle.ang_meaning.specs.Counting.{IsCounted}
 use Rattle.ang_code.specs.Machine.{call_begins}
-use Rattle.ang_source.specs.Meaning.{routine}
+use Rattle.ang_source.specs.Meaning.{routine, passings_in}
 use Rattle.ang_vm_stack.specs.declared.table.ModuleCode.{ModuleCode}
 use Rattle.ang_vm_stack.specs.declared.table.Table.{Table}
 use Rattle.ang_vm_stack.specs.Tables.{module_at as code_at, setting_of, texts_of}
 use Rattle.ang_vm_ask.specs.Entities.{DriversThere, HaveRoles}
 use Rattle.ang_vm.specs.Machines.{HasRun}
 use Rattle.ang_engine_modules.specs.declared.modules.LoadedModule.{LoadedModule}
-use Rattle.ang_engine_modules.specs.Modules.{unbuilt, module_at, TakesSoMany, AreDriversThere, AgreesWith}
+use Rattle.ang_engine_modules.specs.Modules.{unbuilt, module_at, LinkFits, TakesSoMany, AreDriversThere, AgreesWith}
 use Rattle.ang_engine_modules.specs.Executed.{call_of, initialization_of}
 use Rattle.ang_engine_modules.specs.Loaded.{modules_of, codes_of, IsCodeOf, IsTableOf, IsLoaded}
 use Rattle.ang_engine_modules.specs.Started.{HasEnded, HasBegun}
@@ -48,6 +51,25 @@ module _ (t : Table) (xs now : List (Option LoadedModule)) (is : IsLoaded t xs) 
       → HasEnded (modules_of now) (initialization_of (modules_of now) budget m) before result after
   initializers_ended budget m first end before after result functions bodies begun =
       begun (modules_of now) table_is (numbered t (modules_of now) table_is m first end functions bodies)
+
+-- the number of a function to which an import can be bound has 32 bits
+pub small_link : (t : Table) (xs now : List (Option LoadedModule)) → IsLoaded t xs → xs ≡ now → (m i : ℕ) (g : Routine) → LinkFits (modules_of now) m i g → g.number < 2 ^ 32
+small_link t xs now is same m i g fits =
+    let code = (table_is t xs now is same).each g.home in
+    let codes = codes_of (code_at t g.home) in
+    let within : g.number < length (passings_in (module_at (modules_of now) g.home).tree) = slice_get_within (passings_in (module_at (modules_of now) g.home).tree) g.number fits.params fits.function in
+    omega (arith, within, ap length code.passings, length-map codes (λ b. b.params.items), code.few)
+
+pub fits_still : (xs now : List (Option LoadedModule)) → xs ≡ now → (m i : ℕ) (f : Routine) → LinkFits (modules_of now) m i f → (g : Routine) → Some f ≡ Some g → LinkFits (modules_of xs) m i g
+fits_still xs now same m i f fits g e =
+    let one : f ≡ g = cc in
+    subst (λ l. LinkFits (modules_of l) m i g) (sym same) (subst (λ h. LinkFits (modules_of now) m i h) one fits)
+
+pub within_still : (xs now : List (Option LoadedModule)) → xs ≡ now → (m : ℕ) → m < length now → m < length xs
+within_still xs now same m lt = omega (arith, lt, ap length same)
+
+pub none_some : (g : Routine) → None ≡ Some g → ⊥
+none_some g e = let x : ⊥ = cc in x
 
 -- a place more, or none where memory was refused
 pub loaded_added : {U E : Type 0} (t t' : Table) (xs xs' : List (Option LoadedModule)) → IsLoaded t xs → (r : Result U E) (c : ModuleCode)

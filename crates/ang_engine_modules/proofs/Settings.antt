@@ -38,7 +38,7 @@ module _ (t : Table) (ms : List Module) (is : IsTableOf t ms) where
       ∙ heading_item (module_at ms m).tree.imports i
 
   linked_same : (m i : ℕ) → linked_of t m i ≡ option_flatten (slice_get (module_at ms m).links i)
-  linked_same m i = ap option_flatten (item_map (λ x. x.bound) (list_in (λ y. y.imports.items) (code_at t m)) i) ∙ (is.each m).links i
+  linked_same m i = ap option_flatten (item_map (λ x. x.bound) (list_in (λ y. y.imports.items) (code_at t m)) i ∙ ap (λ l. slice_get l i) (is.each m).links)
 
   slot_same : (m s : ℕ) → slot_of t m s ≡ heading_among (module_at ms m).tree.methods s
   slot_same m s =

@@ -4,5 +4,6 @@ pub mod Executed
 pub mod Ends
 pub mod Initializing
 pub mod Loaded
+pub mod Relinked
 pub mod Numbers
 pub mod Started

@@ -1,6 +1,7 @@
 -- The modules of an engine as their runs know them, by number (docs/MEANING.md, "A run of a built
 -- module").
-use Rattle.std.specs.Prelude.{◌≡◌, ◌<◌, ℕ, List, [], Option, Some, IsSome, length, slice_get, slice_index_or, map}
+use Rattle.std.specs.Prelude.{◌≡◌, ◌<◌, ◌==◌, ℕ, List, [], Option, Some, None, IsSome, length, slice_get, slice_index_or, if◌then◌else◌, map}
+use Rattle.std.specs.Option.{option_flatten}
 use Rattle.ang_host.specs.declared.event.HostEvent.{HostEvent}
 use Rattle.ang_host.specs.declared.event.HostEvent.TheVariants.{Called, Ended}
 use Rattle.ang_host.specs.declared.event.Role.{Role}
@@ -8,8 +9,9 @@ use Rattle.ang_host.specs.Events.{role_at}
 use Rattle.ang_view.specs.declared.entry.Entry.{Entry}
 use Rattle.ang_view.specs.Registration.{RegistrationList, entry_at}
 use Rattle.ang_typed.specs.Typed as t
-use Rattle.ang_source.specs.Meaning.{nothing}
+use Rattle.ang_source.specs.Meaning.{nothing, heading_among, passings_in}
 use Rattle.ang_meaning.specs.declared.host.HostUse.{HostUse}
+use Rattle.ang_meaning.specs.declared.routine.Passing.{Passing}
 use Rattle.ang_meaning.specs.declared.routine.Routine.{Routine}
 use Rattle.ang_lower.specs.Hosts.{use_in}
 
@@ -29,8 +31,34 @@ unbuilt = record { name = []; view = []; tree = nothing; links = [] }
 abbrev pub module_at : List Module → ℕ → Module
 module_at ms m = slice_index_or ms m unbuilt
 
+-- ---- where imports lead
+
+-- where import i of module m leads, if it is bound
+abbrev pub link_at : List Module → ℕ → ℕ → Option Routine
+link_at ms m i = option_flatten (slice_get (module_at ms m).links i)
+
+-- an import that leads to a function of module m leads nowhere
+abbrev pub unbound_link : ℕ → Option Routine → Option Routine
+unbound_link m None = None
+unbound_link m (Some g) = if g.home == m then None else Some g
+
+abbrev pub unbound_links : ℕ → List (Option Routine) → List (Option Routine)
+unbound_links m = map (unbound_link m)
+
+-- the function takes its arguments as import i of module m is declared to
+pub record LinkFits (ms : List Module) (m i : ℕ) (g : Routine) : Type 0 where
+  pub params : List Passing
+  pub declared : heading_among (module_at ms m).tree.imports i ≡ Some params
+  pub function : slice_get (passings_in (module_at ms g.home).tree) g.number ≡ Some params
+
+-- so does each function to which an import leads
+pub record AreLinked (ms : List Module) : Type 0 where
+  pub each : (m i : ℕ) (g : Routine) → link_at ms m i ≡ Some g → LinkFits ms m i g
+
 abbrev pub trees_of : List Module → List t.Program
 trees_of ms = map (λ x. x.tree) ms
+
+-- ---- what they may ask
 
 -- module m sees this entry under its number
 abbrev pub entry_in : List Module → ℕ → ℕ → Option Entry

@@ -6,6 +6,7 @@ use Rattle.ang_meaning.specs.declared.slot.Slot.{Slot}
 use Rattle.ang_meaning.specs.World.{World}
 use Rattle.ang_meaning.specs.Counting.{IsCounted}
 use Rattle.ang_meaning.specs.Results.{Reply}
+use Rattle.ang_code_globals.specs.Globals.{globals_of_each}
 use Rattle.ang_vm_stack.specs.declared.table.Table.{Table}
 use Rattle.ang_engine_modules.specs.Modules.{Module, module_at, TakesSoMany, IsAskedIn}
 use Rattle.ang_engine_modules.specs.Executed.{call_of, initializers_of, initialization_of}
@@ -13,14 +14,15 @@ use Rattle.ang_engine_modules.specs.Ends.{Ends}
 use Rattle.ang_engine_modules.specs.Loaded.{IsTableOf}
 use Rattle.ang_engine_modules.specs.Numbers.{routines_at}
 
--- A run of these modules has ended as it means. It asked only what they may ask, and nothing is
--- held behind it but by globals and fields.
+-- A run of these modules has ended as it means. It asked only what they may ask, nothing is held
+-- behind it but by globals and fields, and each module has as many globals as before it.
 pub record HasEnded (ms : List Module) (go : World → Reply) (before : World)
     (result : Result Slot Fault) (after : World) : Type 0 where
   pub means : Ends go before result after
   pub asked :
       AllByRecursion (IsAskedIn ms) before.events → AllByRecursion (IsAskedIn ms) after.events
   pub counted : IsCounted [] after
+  pub globals : globals_of_each after ≡ globals_of_each before
 
 -- A call of function n of module m has ended so, whichever modules the table holds.
 abbrev pub HasCalled : Table → ℕ → ℕ → ℕ → List Slot → World → Result Slot Fault → World → Type 0

@@ -6,6 +6,7 @@
 mod classes;
 mod entities;
 mod globals;
+mod links;
 mod modules;
 mod runs;
 mod tables;

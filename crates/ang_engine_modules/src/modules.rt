@@ -1,27 +1,29 @@
 //! The modules of an engine.
-ghost use Rattle.std.specs.Prelude.{◌≡◌, ◌++◌, ◌∷◌, List as ListOf, [], None, Some, IfOk, OnOk, OnErr, length, reverse, slice_set};
+ghost use Rattle.std.specs.Prelude.{◌≡◌, ◌<◌, ◌++◌, ◌∷◌, List as ListOf, [], None, Some, IfOk, OnOk, OnErr, length, reverse, slice_set, map as list_map};
 ghost use Rattle.std.specs.List.{AllByRecursion};
 ghost use Rattle.std.specs.Option.{option_copied};
 ghost use Rattle.ang_host.specs.Boxes.{members};
 ghost use Rattle.ang_host.specs.declared.event.Role.{Role};
 ghost use Rattle.ang_meaning.specs.Counting.{IsCounted};
+ghost use Rattle.ang_heap.specs.Globals.{values_in};
 ghost use Rattle.ang_heap.specs.Stores.{world_of, IsReady, StoreMoves};
 ghost use Rattle.ang_vm.specs.Machines.{lent};
 ghost use Rattle.ang_typed.specs.View.{view_typed};
 ghost use Rattle.ang_source.specs.Sound.{SoundProgram};
 ghost use Rattle.ang_engine_modules.specs.Executed.{first_globals, call_of, initialization_of};
 ghost use Rattle.ang_engine_modules.specs.Ends.{Ends, completed};
-ghost use Rattle.ang_engine_modules.specs.Loaded.{loaded_at, modules_of};
-ghost use Rattle.ang_engine_modules.specs.Modules.{module_at, TakesSoMany, AreDriversThere, AgreesWith, IsAskedIn};
+ghost use Rattle.ang_engine_modules.specs.Loaded.{loaded_at, modules_of, linked_in, unbound_in};
+ghost use Rattle.ang_engine_modules.specs.Modules.{module_at, LinkFits, TakesSoMany, AreDriversThere, AgreesWith, IsAskedIn};
 
 use crate::globals::defaults;
+use crate::links::{bind_import, unbind_codes, unbind_places};
 use crate::runs::{body_count, run_initializers};
 use crate::tables::{code_of, no_code};
 use ang_gen::generate;
 use ang_host::{Driver, HostEvent};
 use ang_kinds::{Fault, List};
 use ang_meaning::{Routine, Slot};
-use ang_names::Names;
+use ang_names_known::Names;
 use ang_typed::Typed;
 use ang_view::View;
 use ang_vm::{Machine, Table, run};
@@ -136,15 +138,16 @@ impl Modules {
         push_place(&mut self.table.modules, &mut self.loaded, no_code(alloc))
     }
 
-    /// Builds a module, where there is one of that number: compiles its tree, and makes the machine's code of
-    /// it.
+    /// Builds the module of that number, which is not built, with no import bound yet: compiles its tree, and
+    /// makes the machine's code of it.
     ///
     /// # Errors
     /// Want of memory. It is also answered where a number of a body, a function, a global or a class has more
     /// than 32 bits, which no checked module has.
     pub fn load(&mut self, alloc: Global, home: u32, loaded: LoadedModule) -> Result<(), AllocError>
         requires sound { SoundProgram loaded.view (view_typed loaded.tree) }
-        requires unbound { loaded.links ≡ [] }
+        requires unbound { loaded.links ≡ list_map (λ h. None) loaded.tree.imports }
+        requires empty { loaded_at self.old home ≡ None }
         ensures placed { OnOk result (self.new ≡ slice_set self.old home (Some loaded)) }
         ensures unchanged { OnErr result (self.new ≡ self.old) }
     {
@@ -162,12 +165,41 @@ impl Modules {
         Ok(())
     }
 
-    /// The module of that number is not built any more. It takes no memory.
-    pub fn clear(&mut self, alloc: Global, home: u32)
-        ensures cleared { self.new ≡ slice_set self.old home None }
+    /// The module of that number is not built any more, and every import that is bound to a function of it is
+    /// unbound. It takes no memory.
+    pub fn unload(&mut self, alloc: Global, home: u32)
+        ensures unloaded { self.new ≡ unbound_in home (slice_set self.old home None) }
     {
         put_code(&mut self.table.modules, home, no_code(alloc));
         put_loaded(&mut self.loaded, home, None);
+        unbind_codes(home, &mut self.table.modules);
+        unbind_places(alloc, home, &mut self.loaded);
+    }
+
+    /// Binds an import of a module to a function of another one, or of the same. An earlier binding is replaced.
+    /// It takes no memory.
+    pub fn bind(&mut self, alloc: Global, home: u32, index: usize, exporter: u32, number: usize)
+        requires within { home < length self.old }
+        requires fits { LinkFits (modules_of self.old) home index
+            (record { home = exporter; number = number }) }
+        ensures bound { self.new
+            ≡ linked_in home index (Some (record { home = exporter; number = number })) self.old }
+    {
+        let codes = &mut self.table.modules;
+        let function = Routine {
+            home: exporter,
+            number: number as u32,
+        };
+        bind_import(alloc, codes, &mut self.loaded, home, index, Some(function));
+    }
+
+    /// Unbinds an import of a module, where there is one of that number. It takes no memory.
+    pub fn unbind(&mut self, alloc: Global, home: u32, index: usize)
+        requires within { home < length self.old }
+        ensures unbound { self.new ≡ linked_in home index None self.old }
+    {
+        let codes = &mut self.table.modules;
+        bind_import(alloc, codes, &mut self.loaded, home, index, None);
     }
 
     /// What a module is loaded with, where it is built.
@@ -226,6 +258,8 @@ impl Modules {
             → AllByRecursion (IsAskedIn (modules_of self.now)) events.new.items }
         ensures counted { IsCounted []
             (world_of ⟦<dyn Driver as Driver>⟧ (lent machine.new events.new)) }
+        ensures globals { list_map length (values_in machine.new.store.globals)
+            ≡ list_map length (values_in machine.old.store.globals) }
         ensures moves { (roles : ListOf Role) → AgreesWith roles (modules_of self.now)
             → StoreMoves ⟦<dyn Driver as Driver>⟧ roles (lent machine.old events.old)
             (lent machine.new events.new) }
@@ -267,6 +301,8 @@ impl Modules {
             → AllByRecursion (IsAskedIn (modules_of self.now)) events.new.items }
         ensures counted { IsCounted []
             (world_of ⟦<dyn Driver as Driver>⟧ (lent machine.new events.new)) }
+        ensures globals { list_map length (values_in machine.new.store.globals)
+            ≡ list_map length (values_in machine.old.store.globals) }
         ensures moves { (roles : ListOf Role) → AgreesWith roles (modules_of self.now)
             → StoreMoves ⟦<dyn Driver as Driver>⟧ roles (lent machine.old events.old)
             (lent machine.new events.new) }

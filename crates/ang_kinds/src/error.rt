@@ -2,8 +2,7 @@
 use crate::{EntityNo, List, Mask, Place};
 use thiserror::Error;
 
-/// What is wrong at one place of a script (docs/LANGUAGE.md). Those marked "not yet" come from no build of this
-/// version.
+/// What is wrong at one place of a script (docs/LANGUAGE.md).
 #[derive(Clone, Copy, PartialEq, Eq, Debug)]
 pub enum ErrorKind {
     /// A section has more than 65,536 bytes, or a token more than 255.
@@ -20,25 +19,24 @@ pub enum ErrorKind {
     Syntax,
     /// A name that is declared already.
     Duplicate,
-    /// One declaration too many (4,096 functions, as many globals), or parameter (32), or local (1,024 alive at
-    /// once).
+    /// One declaration too many (4,096 functions, as many globals, 256 classes and interfaces), or
+    /// member (256), or parameter (32), or local (1,024 alive at once).
     Limit,
     /// A type that neither the script declares nor the module sees.
     UnknownType,
     /// A type that cannot stand there.
     BadType,
-    /// An object type where only a handle can stand. Not yet.
+    /// An object type where only a handle can stand.
     ByValue,
-    /// A base that is no class or interface to be derived from, or that leads back to the class itself. Not
-    /// yet.
+    /// A base that is no class or interface to be derived from, or that leads back to the class itself.
     BadBase,
-    /// A type that an import cannot have. Not yet.
+    /// A type that an import cannot have.
     BadImport,
-    /// An `override` of nothing, of a `final` method, or with another result. Not yet.
+    /// An `override` of nothing, of a `final` method, or with another result.
     BadOverride,
-    /// A class that lacks a method of an interface above it. Not yet.
+    /// A class that lacks a method of an interface above it.
     MissingMethod,
-    /// A class whose handle fields lead back to the class itself. Not yet.
+    /// A class whose handle fields lead back to the class itself.
     Cyclic,
     /// A name that nothing has.
     UnknownName,
@@ -48,9 +46,9 @@ pub enum ErrorKind {
     Ambiguous,
     /// A change of what is `const`.
     Const,
-    /// A private member used outside its class. Not yet.
+    /// A private member used outside its class.
     Private,
-    /// A protected member used outside its class and those derived from it. Not yet.
+    /// A protected member used outside its class and those derived from it.
     Protected,
     /// A condition, or an operand of a logical operator, that is no `bool`.
     NotBool,
@@ -58,16 +56,14 @@ pub enum ErrorKind {
     BadConversion,
     /// An `&out` argument that is not the name of a variable which can be written.
     BadOut,
-    /// An assignment of objects or handles by value. Not yet.
+    /// An assignment of objects or handles by value.
     NoAssign,
     /// A `break` or `continue` outside a loop.
     Jump,
-    /// A type that has no constructor or factory without parameters. Not yet.
+    /// A type that has no constructor or factory without parameters.
     NoDefault,
     /// A path through a function with a result that does not return.
     NoReturn,
-    /// A part of the language that the engine does not have yet.
-    NotYet,
 }
 
 /// One error of a build.
@@ -92,8 +88,8 @@ pub enum Unbuilt {
     Memory,
 }
 
-/// A hidden entity without which a use in a script was refused: with the entity seen, the use would
-/// have been that entity's.
+/// A hidden entity that a refused use asked for: with it, and the types that its declaration names,
+/// the use would have been that entity's; or one of those types.
 #[derive(Clone, Copy, PartialEq, Eq, Debug)]
 pub struct Denial {
     /// The place of the refused use.

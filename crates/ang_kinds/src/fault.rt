@@ -4,7 +4,7 @@ use thiserror::Error;
 /// Why a script's run was cut short. What the script changed stands, and all that it held is given up.
 #[derive(Clone, Copy, PartialEq, Eq, Debug, Error)]
 pub enum Fault {
-    /// A null handle where an object was needed. It is of objects, which no script has yet.
+    /// A null handle where an object was needed.
     #[error("null handle")]
     Null,
     /// An integer division or remainder by 0.
@@ -13,7 +13,7 @@ pub enum Fault {
     /// The least value of a signed type divided by -1, or its remainder.
     #[error("overflow in a division")]
     DivideOverflow,
-    /// A call of an imported function that is not bound. It is of imports, which no script has yet.
+    /// A call of an imported function that is not bound.
     #[error("unbound import")]
     Unbound,
     /// The command's budget of ticks is used up.
@@ -28,7 +28,7 @@ pub enum Fault {
     /// The driver's answer was not of the declared type and range.
     #[error("an answer of the host that is not of the declared type")]
     BadAnswer,
-    /// A factory of the host made no object. It is of objects, which no script has yet.
+    /// A factory of the host made no object.
     #[error("no object was made")]
     NoObject,
     /// Want of memory, in the engine or in the driver.

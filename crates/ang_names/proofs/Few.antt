@@ -11,11 +11,11 @@ use Rattle.ang_names_known.specs.Items.{each_after, list_or}
 use Rattle.ang_names_known.specs.Spaces.{AreFamilies, Space}
 use Rattle.ang_names_listed.specs.declared.listed.Declared.{Declared}
 use Rattle.ang_names_listed.specs.Declarations.{Declaring, declarations_of, families_of}
-use Rattle.ang_names_listed.specs.Taken.{is_first_above, is_taken, name_refusal, name_refusals, plain_refusal}
+use Rattle.ang_names_listed.specs.Taken.{is_first_above, is_taken, name_refusal, name_refusals}
+use Rattle.ang_types.specs.Refusals.{plain_refusal}
 use Rattle.ang_names_listed.proofs.Few as listed
-use Rattle.ang_names_written.specs.NotYet.{not_yet}
 use Rattle.ang_names_written.specs.Sources.{Source}
-use Rattle.ang_names.specs.declared.phase.Phase.TheVariants as phase
+use Rattle.ang_names.specs.Phases as phase
 use Rattle.ang_names.specs.Phases.{all_phases, errors_in, first_refusals, refusals_of}
 use Rattle.ang_names_resolved.specs.Resolved.{families_after, families_in, functions_in, is_parent, names_of, signatures_of, space_of_declared}
 
@@ -75,31 +75,24 @@ pub are_families : (V : RegistrationList) (ds : List Declared) → length (famil
 unfolding names_of
 are_families V ds le = families_are (space_of_declared V ds) ds le
 
-later_empty : {A : Type 0} (xs ys : List A) → list_or xs ys ≡ [] → ys ≡ []
-later_empty [] ys e = e
-later_empty (x ∷ xs) ys e = cc
-
 first_empty : {A : Type 0} (xs ys : List A) → list_or xs ys ≡ [] → xs ≡ []
 first_empty [] ys e = refl
 first_empty (x ∷ xs) ys e = cc
 
 pub few_where_none : (V : RegistrationList) (all : List Declared) (found : List Refused) → found ≡ name_refusals V all → found ≡ []
     → length (families_of all) ≤ 256
-few_where_none V all found e empty = listed.few_families V all (sym e ∙ empty)
+few_where_none V all found e empty = listed.names_are_few V all (sym e ∙ empty)
 
--- where nothing is beyond what is built, the phases decide
-pub nothing_beyond : (V : RegistrationList) (ss : List Source) (all : List Declared) (found : List Refused) → found ≡ map plain_refusal (not_yet ss)
-    → found ≡ [] → all ≡ declarations_of ss → first_refusals V all all_phases ≡ refusals_of V ss
+-- the phases decide
+pub phases_decide : (V : RegistrationList) (ss : List Source) (all : List Declared) → all ≡ declarations_of ss → first_refusals V all all_phases ≡ refusals_of V ss
 unfolding refusals_of
-nothing_beyond V ss all found e empty l =
-    ap (λ ds. first_refusals V ds all_phases) l ∙ ap (λ rs. list_or rs (first_refusals V (declarations_of ss) all_phases)) (sym empty ∙ e)
+phases_decide V ss all l = ap (λ ds. first_refusals V ds all_phases) l
 
 pub accepted_few : (V : RegistrationList) (ss : List Source) → refusals_of V ss ≡ [] → length (families_of (declarations_of ss)) ≤ 256
 unfolding refusals_of name_refusals
 accepted_few V ss e =
-    let phases = later_empty (map plain_refusal (not_yet ss)) (first_refusals V (declarations_of ss) all_phases) e in
-    let names : name_refusals V (declarations_of ss) ≡ [] = first_empty (name_refusals V (declarations_of ss)) _ phases in
-    listed.few_families V (declarations_of ss) names
+    let names : name_refusals V (declarations_of ss) ≡ [] = first_empty (name_refusals V (declarations_of ss)) _ e in
+    listed.names_are_few V (declarations_of ss) names
 
 pub accepted_families : (V : RegistrationList) (ss : List Source) → refusals_of V ss ≡ [] → AreFamilies (names_of V (declarations_of ss)).families
 accepted_families V ss e = are_families V (declarations_of ss) (accepted_few V ss e)
@@ -129,10 +122,6 @@ names_silent V all =
     holds_of_all (λ before d. option_to_list (name_refusal V before d)) AsksNothing
     (λ before d. choice_silent (is_taken V before d) (is_first_above before d.part) _ _) [] all
 
-plain_silent : (es : List Error) → All AsksNothing (map plain_refusal es)
-plain_silent [] = λ k d l. absurd (omega (arith, l))
-plain_silent (e ∷ es) = All-append AsksNothing (plain_refusal e ∷ []) (map plain_refusal es) (one_silent (plain_refusal e) refl) (plain_silent es)
-
 silent_in : (rs : List Refused) (r : Refused) → All AsksNothing rs → Contains rs r → IsSome r.asks → ⊥
 silent_in rs r h c asks =
     let none : r.asks ≡ None = subst AsksNothing c.2 (h c.0 r c.1) in
@@ -150,14 +139,7 @@ pub asked_families : (V : RegistrationList) (ss : List Source) (r : Refused) →
 unfolding refusals_of name_refusals
 asked_families V ss r c asks =
     let ds = declarations_of ss in
-    let early = map plain_refusal (not_yet ss) in
-    let later = first_refusals V ds all_phases in
-    elim (either_list early later) [
-      | inl e ↦ absurd (silent_in early r (plain_silent (not_yet ss)) (subst (λ rs. Contains rs r) e c) asks)
-      | inr none ↦
-          let c' : Contains later r = subst (λ rs. Contains rs r) none.1 c in
-          elim (either_list (name_refusals V ds) (later_phases V ds)) [
-            | inl e ↦ absurd (silent_in (name_refusals V ds) r (names_silent V ds) (subst (λ rs. Contains rs r) e c') asks)
-            | inr free ↦ listed.few_families V ds free.0
-          ]
+    elim (either_list (name_refusals V ds) (later_phases V ds)) [
+      | inl e ↦ absurd (silent_in (name_refusals V ds) r (names_silent V ds) (subst (λ rs. Contains rs r) e c) asks)
+      | inr free ↦ listed.names_are_few V ds free.0
     ]

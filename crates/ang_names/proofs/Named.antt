@@ -12,8 +12,8 @@ use Rattle.ang_names_listed.specs.declared.listed.Declared.{Declared}
 use Rattle.ang_names_listed.specs.Declarations.{Declaring, family_name}
 use Rattle.ang_names_listed.specs.declared.listed.Shape.{Shape}
 use Rattle.ang_names_resolved.specs.Resolved.{space_of_declared}
-use Rattle.ang_names.specs.declared.phase.Phase.TheVariants as phase
-use Rattle.ang_names.specs.Meant.{shape_named, type_refusal}
+use Rattle.ang_names.specs.Phases as phase
+use Rattle.ang_names.specs.Refusals.{shape_named, type_refusal}
 use Rattle.ang_names.specs.Phases.{refusals}
 
 by_name : (b : Bool) (s : Shape) (later : Option Shape) → (if b then Some s else later) ≡ option_or (if b then Some s else None) later

@@ -24,9 +24,9 @@ use Rattle.ang_names_listed.specs.Taken.{each_refused}
 use Rattle.ang_names_resolved.specs.declared.tables.Tables.{Tables}
 use Rattle.ang_names_resolved.specs.Resolved.{families_in, holds, is_parent, space_of_declared}
 use Rattle.ang_names_resolved.specs.Tables.{AreTables}
-use Rattle.ang_names.specs.declared.phase.Phase.TheVariants as phase
+use Rattle.ang_names.specs.Phases as phase
 use Rattle.ang_names_heirs.specs.Heirs.{ancestor_refusal, at_name, cycle_refusal, heir_refusal}
-use Rattle.ang_names_heirs.specs.Numbered.{heritage_refusals, refused_from, ring_refusal}
+use Rattle.ang_names_heirs.specs.ByNumber.{heritage_refusals, refused_from, ring_refusal}
 use Rattle.ang_names.specs.Phases.{families, first_refusals, of_family, refusals, with_number}
 use Rattle.ang_names.proofs.Few.{family_number}
 

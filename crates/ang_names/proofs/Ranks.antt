@@ -20,13 +20,13 @@ use Rattle.ang_names_known.specs.Items.{each_after, list_or}
 use Rattle.ang_names_known.specs.Spaces.{Space}
 use Rattle.ang_names_listed.specs.declared.listed.Declared.{Declared}
 use Rattle.ang_names_listed.specs.Declarations.{Declaring, declarations_of, families_of, family_name}
-use Rattle.ang_names_listed.specs.Taken.{each_refused, plain_refusal}
+use Rattle.ang_types.specs.Refusals.{plain_refusal}
+use Rattle.ang_names_listed.specs.Taken.{each_refused}
 use Rattle.ang_names_resolved.specs.Resolved.{families_after, families_in, field_types_at, functions_in, held_by, holds, is_base, is_parent, is_place, is_under_or, names_of, names_place, place_of, signatures_of, space_of_declared}
-use Rattle.ang_names_written.specs.NotYet.{not_yet}
 use Rattle.ang_names_written.specs.Sources.{Source, text_of}
-use Rattle.ang_names.specs.declared.phase.Phase.TheVariants as phase
+use Rattle.ang_names.specs.Phases as phase
 use Rattle.ang_names_heirs.specs.Heirs.{ancestor_refusal, at_name, cycle_refusal}
-use Rattle.ang_names_heirs.specs.Numbered.{refused_from}
+use Rattle.ang_names_heirs.specs.ByNumber.{refused_from}
 use Rattle.ang_names.specs.Phases.{all_phases, families, first_refusals, of_family, refusals, refusals_of}
 use Rattle.ang_names.specs.Ranks.{can_hold, family_at, is_own_ancestor, reaches_itself}
 use Rattle.ang_names.proofs.Few.{family_number}
@@ -184,7 +184,7 @@ rank_is V all c f there =
 
 phases_pass : (V : RegistrationList) (ss : List Source) → refusals_of V ss ≡ [] → first_refusals V (declarations_of ss) all_phases ≡ []
 unfolding refusals_of
-phases_pass V ss e = (both_empty (map plain_refusal (not_yet ss)) (first_refusals V (declarations_of ss) all_phases) e).1
+phases_pass V ss e = e
 
 pub ancestors : (V : RegistrationList) (ss : List Source) (c : ℕ) → refusals_of V ss ≡ [] → is_own_ancestor ss c ≡ false
 ancestors V ss c e = no_ancestor V (declarations_of ss) (phases_pass V ss e) c

@@ -1,3 +1,3 @@
-pub mod Meant
+pub mod Refusals
 pub mod Phases
 pub mod Ranks

@@ -11,15 +11,25 @@ use Rattle.ang_names_known.specs.Items.{list_or}
 use Rattle.ang_names_listed.specs.declared.listed.Declared.{Declared}
 use Rattle.ang_names_listed.specs.declared.listed.Part.{Part}
 use Rattle.ang_names_listed.specs.declared.listed.Part.TheVariants as part
-use Rattle.ang_names.specs.declared.phase.Phase.{Phase}
-use Rattle.ang_names.specs.declared.phase.Phase.TheVariants as phase
 use Rattle.ang_names_listed.specs.Declarations.{declarations_of, families_of}
-use Rattle.ang_names_listed.specs.Taken.{name_refusal, plain_refusal, each_refused}
+use Rattle.ang_names_listed.specs.Taken.{name_refusal, each_refused}
 use Rattle.ang_names_heirs.specs.Heirs.{ancestor_refusal, heir_refusal, cycle_refusal}
-use Rattle.ang_names.specs.Meant.{type_refusal}
+use Rattle.ang_names.specs.Refusals.{type_refusal}
 use Rattle.ang_names_resolved.specs.Resolved.{families_in, space_of_declared}
-use Rattle.ang_names_written.specs.NotYet.{not_yet}
 use Rattle.ang_names_written.specs.Sources.{Source}
+
+-- The phases, each of which looks at all declarations:
+pub data Phase : Type 0 where
+  -- whether the declaration's name is free, and one of few enough
+  Names : Phase
+  -- whether its types and bases are known and can stand where they stand, and whether its members' names are free
+  Types : Phase
+  -- whether a class or an interface stands above itself
+  Ancestors : Phase
+  -- whether its members fit with what it inherits
+  Heirs : Phase
+  -- whether a class reaches itself through its fields
+  Cycles : Phase
 
 -- ---- of one family, by its number
 
@@ -41,11 +51,11 @@ module _ (V : RegistrationList) (all : List Declared) where
 
   -- why a phase refuses a declaration, after those before it
   abbrev pub refusal : Phase → List Declared → Declared → Option Refused
-  refusal phase.Names before d = name_refusal V before d
-  refusal phase.Types before d = type_refusal (space_of_declared V all) all d
-  refusal phase.Ancestors before d = of_family (ancestor_refusal (families_of all)) families before d.part
-  refusal phase.Heirs before d = of_family (heir_refusal families) families before d.part
-  refusal phase.Cycles before d = of_family (cycle_refusal (space_of_declared V all) (families_of all)) families before d.part
+  refusal Names before d = name_refusal V before d
+  refusal Types before d = type_refusal (space_of_declared V all) all d
+  refusal Ancestors before d = of_family (ancestor_refusal (families_of all)) families before d.part
+  refusal Heirs before d = of_family (heir_refusal families) families before d.part
+  refusal Cycles before d = of_family (cycle_refusal (space_of_declared V all) (families_of all)) families before d.part
 
   -- each declaration's refusal, in their order
   abbrev pub refusals : Phase → List Refused
@@ -58,12 +68,11 @@ module _ (V : RegistrationList) (all : List Declared) where
 
 -- the phases, in order
 abbrev pub all_phases : List Phase
-all_phases = phase.Names ∷ phase.Types ∷ phase.Ancestors ∷ phase.Heirs ∷ phase.Cycles ∷ []
+all_phases = Names ∷ Types ∷ Ancestors ∷ Heirs ∷ Cycles ∷ []
 
--- What is refused of the declarations of these sections over what the module sees, those beyond what is built first: none where each
--- phase accepts each of them.
+-- What is refused of the declarations of these sections over what the module sees: none where each phase accepts each of them.
 unfoldable pub refusals_of : RegistrationList → List Source → List Refused
-refusals_of V ss = list_or (map plain_refusal (not_yet ss)) (first_refusals V (declarations_of ss) all_phases)
+refusals_of V ss = first_refusals V (declarations_of ss) all_phases
 
 abbrev pub errors_in : List Refused → List Error
 errors_in rs = map (λ (r : Refused). r.error) rs

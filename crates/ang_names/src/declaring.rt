@@ -54,8 +54,8 @@ fn declared_by<'a>(
     }
 }
 
-/// What scripts declare, over what their module sees of the host; or the errors of what is not built yet, else those of the
-/// first phase that refuses some of the declarations, in their order.
+/// What scripts declare, over what their module sees of the host; or the errors of the first phase that
+/// refuses some of the declarations, in their order.
 ///
 /// `Errors` are those, of which there is one at least; `Memory` is want of memory.
 pub fn declare<'a>(alloc: Global, view: &'a View, scripts: &'a [Script]) -> Result<Names, Unbuilt>
@@ -90,8 +90,7 @@ pub fn names_over<'a>(
     names_of(alloc, view, all.as_slice())
 }
 
-/// What is not built yet, else what the first phase that refuses some declarations refuses, with what each refused use asks.
-/// Denials ask it again.
+/// What the first phase that refuses some declarations refuses, with what each refused use asks. Denials ask it again.
 ///
 /// The only error is want of memory.
 pub fn phase_refusals<'a>(

@@ -1,7 +1,7 @@
 //! Classes and interfaces by name.
 ghost use Rattle.std.specs.Prelude.{◌≡◌, option_copied, option_to_list};
 ghost use Rattle.ang_names_listed.specs.Declarations.{declaring_of, families_of};
-ghost use Rattle.ang_names.specs.Meant as spec;
+ghost use Rattle.ang_names.specs.Refusals as spec;
 
 use ang_names_listed::{Declared, Part, Shape};
 use ang_names_written::text_at;

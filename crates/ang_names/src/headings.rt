@@ -3,7 +3,7 @@ ghost use Rattle.std.specs.Prelude.{◌≡◌, Some, None, IfOk, nat_lt, length,
 ghost use Rattle.std.specs.Option.{option_or};
 ghost use Rattle.ang_types.specs.declared.asks.Asks.TheVariants as asking;
 ghost use Rattle.ang_names_written.specs.Types.{is_unknown_type as names_no_type};
-ghost use Rattle.ang_names.specs.Meant as spec;
+ghost use Rattle.ang_names.specs.Refusals as spec;
 
 use ang_kinds::ErrorKind;
 use ang_lex::Token;
@@ -33,11 +33,7 @@ pub fn refusal_if(
         return Ok(None);
     }
     let error = error_at(alloc, text, kind, name)?;
-    Ok(Some(Refused {
-        error,
-        asks: None,
-        is_there: false,
-    }))
+    Ok(Some(Refused::plain(error)))
 }
 
 fn is_unknown_type(kind: ErrorKind) -> bool
@@ -157,42 +153,35 @@ pub fn parameter_list_refusal(
     parameters_refusal(alloc, space, text, imported, params)
 }
 
-/// What is refused of the heading of a function or a method: the first type that can't stand there, or too many parameters.
-///
-/// The only error is want of memory.
-pub fn function_refusal(
-    alloc: Global,
-    space: &Space<'_>,
-    text: &[u8],
-    name: &Token,
-    declared: &TypeName,
-    params: &[Parameter],
-) -> Result<Option<Refused>, AllocError>
-    ensures exact { IfOk result (λ r. r
-        ≡ spec.function_refusal space.now text.now name.now declared.now params.now) }
+fn result_role(imported: bool) -> Role
+    ensures exact { result ≡ spec.result_role imported }
 {
-    if let Some(refused) = type_refusal_of(alloc, space, text, Role::Result, declared)? {
-        return Ok(Some(refused));
+    if imported {
+        Role::ImportResult
+    } else {
+        Role::Result
     }
-    parameter_list_refusal(alloc, space, text, false, name, params)
 }
 
-/// What is refused of the heading of an import.
+/// What is refused of the heading of an import, or of any other function or a method: the first type that can't stand
+/// there, or too many parameters.
 ///
 /// The only error is want of memory.
-pub fn import_refusal(
+pub fn heading_refusal(
     alloc: Global,
     space: &Space<'_>,
     text: &[u8],
+    imported: bool,
     name: &Token,
     declared: &TypeName,
     params: &[Parameter],
 ) -> Result<Option<Refused>, AllocError>
     ensures exact { IfOk result (λ r. r
-        ≡ spec.import_refusal space.now text.now name.now declared.now params.now) }
+        ≡ spec.heading_refusal space.now text.now imported name.now declared.now params.now) }
 {
-    if let Some(refused) = type_refusal_of(alloc, space, text, Role::ImportResult, declared)? {
+    let role = result_role(imported);
+    if let Some(refused) = type_refusal_of(alloc, space, text, role, declared)? {
         return Ok(Some(refused));
     }
-    parameter_list_refusal(alloc, space, text, true, name, params)
+    parameter_list_refusal(alloc, space, text, imported, name, params)
 }

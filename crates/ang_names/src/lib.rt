@@ -1,8 +1,8 @@
 //! The names of a build: what scripts declare, over what their module sees of the host.
 //!
 //! `declare` goes over all declarations in phases, in the order of sections and text (docs/LANGUAGE.md, "Names of a build"); the
-//! first phase that refuses some gives the errors, and what is not built yet is refused in front of all. Else it gives
-//! families, functions, imports and globals, with what their types mean.
+//! first phase that refuses some gives the errors. Else it gives families, functions, imports and globals, with what their
+//! types mean.
 #![tactic(auto)]
 
 mod declaring;
@@ -10,7 +10,6 @@ mod families;
 mod headings;
 pub mod laws;
 mod members;
-mod phase;
 mod phases;
 
 pub use ang_kinds::Unbuilt;
@@ -20,5 +19,4 @@ pub use ang_names_known::{
 };
 pub use ang_names_resolved::heading_of;
 pub use declaring::{declare, names_over, phase_refusals, unbuilt};
-pub use headings::function_refusal;
-pub use phase::Phase;
+pub use headings::heading_refusal;

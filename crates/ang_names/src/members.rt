@@ -4,7 +4,7 @@ ghost use Rattle.std.specs.List.{list_any};
 ghost use Rattle.std.specs.Option.{option_or};
 ghost use Rattle.ang_names_listed.specs.Declarations.{families_of};
 ghost use Rattle.ang_names_written.specs.Sources.{text_of};
-ghost use Rattle.ang_names.specs.Meant as spec;
+ghost use Rattle.ang_names.specs.Refusals as spec;
 
 use crate::families::base_named;
 use crate::headings::{parameter_list_refusal, refusal_if, type_refusal_of};

@@ -1,29 +1,28 @@
 //! The phases of a build over the declarations.
 ghost use Rattle.std.specs.Prelude.{◌≡◌, ◌≤◌, ◌*◌, [], ◌∷◌, length, map as list_map, IfOk};
+ghost use Rattle.ang_types.specs.Refusals.{plain_refusal};
 ghost use Rattle.ang_names_listed.specs.Declarations.{declarations_of, families_of};
 ghost use Rattle.ang_names_listed.specs.Taken as taken;
-ghost use Rattle.ang_names_written.specs.NotYet.{not_yet};
 ghost use Rattle.ang_names_written.specs.Sources.{source_of};
-ghost use Rattle.ang_names.specs.Meant as meant;
-ghost use Rattle.ang_names_heirs.specs.Numbered as numbered;
+ghost use Rattle.ang_names.specs.Refusals as refusing;
+ghost use Rattle.ang_names_heirs.specs.ByNumber as numbered;
 ghost use Rattle.ang_names.specs.Phases as spec;
-ghost use Rattle.ang_names.specs.declared.phase.Phase.TheVariants as phase;
 
-use crate::headings::{function_refusal, import_refusal, type_refusal_of};
+use crate::headings::{heading_refusal, type_refusal_of};
 use crate::members::family_refusal;
 use ang_kinds::{Error, ErrorKind, List};
-use ang_names_heirs::{heir_refusals, push_refused, ring_refusals};
+use ang_names_heirs::{heir_refusals, ring_refusals};
 use ang_names_known::{Family, Space};
-use ang_names_listed::{Declared, Part, name_refusals};
+use ang_names_listed::{Declared, Part, name_refusals, push_refused};
 use ang_names_resolved::{Tables, families_among, space_of};
-use ang_names_written::{Role, not_yet_errors};
+use ang_names_written::Role;
 use ang_tree::Script;
 use ang_types::Refused;
 use ang_view::View;
 use std::alloc::{AllocError, Global};
 
 /// What is refused of the types, bases and members of one of the declarations.
-#[tactic(auto, unfolding(crate::specs::Meant::type_refusal))]
+#[tactic(auto, unfolding(crate::specs::Refusals::type_refusal))]
 fn type_refusal(
     alloc: Global,
     space: &Space<'_>,
@@ -31,16 +30,18 @@ fn type_refusal(
     declared: &Declared<'_>,
 ) -> Result<Option<Refused>, AllocError>
     ensures exact { IfOk result
-        (λ r. r ≡ meant.type_refusal space.now all.now declared.now) }
+        (λ r. r ≡ refusing.type_refusal space.now all.now declared.now) }
 {
     let text = declared.text.bytes();
     let name = &declared.name;
     match &declared.part {
         Part::Family(shape) => family_refusal(alloc, space, all, declared, shape),
         Part::Function(ty, params) => {
-            function_refusal(alloc, space, text, name, ty, params.items())
+            heading_refusal(alloc, space, text, false, name, ty, params.items())
         }
-        Part::Import(ty, params) => import_refusal(alloc, space, text, name, ty, params.items()),
+        Part::Import(ty, params) => {
+            heading_refusal(alloc, space, text, true, name, ty, params.items())
+        }
         Part::Global(ty) => type_refusal_of(alloc, space, text, Role::Variable, ty),
     }
 }
@@ -51,7 +52,7 @@ fn type_refusals_in(
     all: &[Declared<'_>],
 ) -> Result<Vec<Refused>, AllocError>
     ensures exact { IfOk result (λ found. found.items
-        ≡ taken.each_refused (λ before d. meant.type_refusal space.now all.now d) all.now) }
+        ≡ taken.each_refused (λ before d. refusing.type_refusal space.now all.now d) all.now) }
 {
     let mut found = Vec::new(alloc);
     for declared in all {
@@ -69,7 +70,7 @@ fn type_refusals<'a>(
 ) -> Result<Vec<Refused>, AllocError>
     requires few { length (families_of all.now) ≤ 256 }
     ensures exact { IfOk result
-        (λ found. found.items ≡ spec.refusals view.now all.now phase.Types) }
+        (λ found. found.items ≡ spec.refusals view.now all.now spec.Types) }
 {
     let space = space_of(alloc, view, all)?;
     type_refusals_in(alloc, &space, all)
@@ -135,7 +136,7 @@ fn heritage_refusals<'a>(
 ) -> Result<Vec<Refused>, AllocError>
     requires few { length (families_of all.now) ≤ 256 }
     ensures exact { IfOk result (λ found. found.items ≡ spec.first_refusals view.now all.now
-        (phase.Ancestors ∷ phase.Heirs ∷ phase.Cycles ∷ [])) }
+        (spec.Ancestors ∷ spec.Heirs ∷ spec.Cycles ∷ [])) }
 {
     let space = space_of(alloc, view, all)?;
     let (families, tables) = families_among(alloc, &space, all)?;
@@ -150,7 +151,7 @@ fn later_refusals<'a>(
 ) -> Result<Vec<Refused>, AllocError>
     requires few { length (families_of all.now) ≤ 256 }
     ensures exact { IfOk result (λ found. found.items ≡ spec.first_refusals view.now all.now
-        (phase.Types ∷ phase.Ancestors ∷ phase.Heirs ∷ phase.Cycles ∷ [])) }
+        (spec.Types ∷ spec.Ancestors ∷ spec.Heirs ∷ spec.Cycles ∷ [])) }
 {
     let found = type_refusals(alloc, view, all)?;
     if !found.is_empty() {
@@ -185,40 +186,9 @@ fn names_refused(
     ensures exact { IfOk result
         (λ found. found.items ≡ taken.name_refusals view.now all.now) }
     ensures by_phase { IfOk result
-        (λ found. found.items ≡ spec.refusals view.now all.now phase.Names) }
+        (λ found. found.items ≡ spec.refusals view.now all.now spec.Names) }
 {
     name_refusals(alloc, view, all)
-}
-
-/// An error with which no entry of the host could help.
-fn plain_refusal(alloc: Global, error: &Error) -> Result<Refused, AllocError>
-    ensures exact { IfOk result (λ r. r ≡ taken.plain_refusal error.now) }
-{
-    let error = copied(alloc, error)?;
-    Ok(Refused {
-        error,
-        asks: None,
-        is_there: false,
-    })
-}
-
-fn plain_refusals(alloc: Global, errors: &[Error]) -> Result<Vec<Refused>, AllocError>
-    ensures exact { IfOk result (λ rs. rs.items ≡ list_map taken.plain_refusal errors.now) }
-{
-    let mut found = Vec::new(alloc);
-    for error in errors {
-        found.push(plain_refusal(alloc, error)?)?;
-    }
-    Ok(found)
-}
-
-/// What is beyond what is built.
-fn not_yet_refusals(alloc: Global, scripts: &[Script]) -> Result<Vec<Refused>, AllocError>
-    ensures exact { IfOk result (λ rs. rs.items
-        ≡ list_map taken.plain_refusal (not_yet (list_map source_of scripts.now))) }
-{
-    let errors = not_yet_errors(alloc, scripts)?;
-    plain_refusals(alloc, errors.as_slice())
 }
 
 /// What is refused of the declarations of these scripts.
@@ -235,22 +205,7 @@ pub fn refusals_over<'a>(
     ensures exact { IfOk result (λ found. found.items
         ≡ spec.refusals_of view.now (list_map source_of scripts.now)) }
 {
-    let found = not_yet_refusals(alloc, scripts)?;
-    if !found.is_empty() {
-        return Ok(found);
-    }
     first_refusals(alloc, view, all)
-}
-
-fn copied(alloc: Global, error: &Error) -> Result<Error, AllocError>
-    ensures exact { IfOk result (λ e. e ≡ error.now) }
-{
-    let name = Vec::from_slice(alloc, error.name.as_slice())?;
-    Ok(Error {
-        kind: error.kind,
-        place: error.place,
-        name: List::from_vec(name),
-    })
 }
 
 /// The errors of what is refused, in order.

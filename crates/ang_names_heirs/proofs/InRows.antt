@@ -11,14 +11,16 @@ use Rattle.ang_names_known.specs.declared.names.FoundField.{FoundField}
 use Rattle.ang_names_known.specs.declared.names.Method.{Method}
 use Rattle.ang_names_known.specs.Lookup.{Numbered, declares_method, families_at, fields_in, field_named, field_of, first_field, has_member, has_method, kin_of, own_field, with_family}
 use Rattle.ang_names_rows.specs.Hashes.{name_hash, numbers_of}
+use Rattle.ang_names_rows.proofs.Hashed.{numbers_from, numbers_are}
 use Rattle.ang_names_heirs.specs.Heirs.{cannot_override}
-use Rattle.ang_names_heirs.specs.Numbered.{methods_in}
+use Rattle.ang_names_heirs.specs.ByNumber.{methods_in}
 use Rattle.ang_names_heirs.specs.declared.indexed.MemberRows.{MemberRows}
 use Rattle.ang_names_heirs.specs.Rows.{declares, field_hashes, field_row, field_row_in, first_at, is_at, member_rows, method_hashes, method_row, method_row_in, passing, slot_hashes, slot_row, slot_row_in}
 
 -- ---- the rows of a family
 
 slot_row_of : (slot : ℕ) (o : Option Family) → slot_row_in slot (option_map member_rows o) ≡ slot_row slot (methods_in o)
+unfolding numbers_of
 slot_row_of slot None = refl
 slot_row_of slot (Some f) = refl
 
@@ -28,6 +30,7 @@ slot_row_known fs rows n slot h =
     ap (λ rs. slot_row_in slot (slice_get rs n)) h ∙ ap (slot_row_in slot) (slice_get-map member_rows fs n) ∙ slot_row_of slot (slice_get fs n)
 
 field_row_of : (name : List ℕ) (o : Option Family) → field_row_in name (option_map member_rows o) ≡ field_row name (fields_in o)
+unfolding numbers_of
 field_row_of name None = refl
 field_row_of name (Some f) = refl
 
@@ -37,6 +40,7 @@ field_row_known fs rows n name h =
     ap (λ rs. field_row_in name (slice_get rs n)) h ∙ ap (field_row_in name) (slice_get-map member_rows fs n) ∙ field_row_of name (slice_get fs n)
 
 method_row_of : (name : List ℕ) (o : Option Family) → method_row_in name (option_map member_rows o) ≡ method_row name (methods_in o)
+unfolding numbers_of
 method_row_of name None = refl
 method_row_of name (Some f) = refl
 
@@ -63,31 +67,31 @@ one_first p all x false false r i row h here rest = rest
 
 module _ {A : Type 0} (p : A → Bool) (k : A → ℕ) (h : ℕ) (all : List A) (kept : (x : A) → p x ≡ true → (k x == h) ≡ true) where
   any_from : (xs : List A) (i : ℕ) → ((j : ℕ) → slice_get all (i + j) ≡ slice_get xs j)
-      → list_any (λ n. is_at p (slice_get all n)) (numbers_of h i (map k xs)) ≡ list_any p xs
+      → list_any (λ n. is_at p (slice_get all n)) (numbers_from h i (map k xs)) ≡ list_any p xs
   any_from [] i stands = refl
   any_from (x ∷ xs) i stands =
       let first : i + 0 ≡ i = omega arith in
       let here : is_at p (slice_get all i) ≡ p x = ap (λ n. is_at p (slice_get all n)) (sym first) ∙ ap (is_at p) (stands 0) in
-      one_any (λ n. is_at p (slice_get all n)) (k x == h) (p x) (list_any p xs) i (numbers_of h (i + 1) (map k xs)) (kept x) here
+      one_any (λ n. is_at p (slice_get all n)) (k x == h) (p x) (list_any p xs) i (numbers_from h (i + 1) (map k xs)) (kept x) here
       (any_from xs (i + 1) (λ j. let up : (i + 1) + j ≡ i + suc j = omega arith in ap (slice_get all) up ∙ stands (suc j)))
 
   first_from : (xs : List A) (i : ℕ) → ((j : ℕ) → slice_get all (i + j) ≡ slice_get xs j)
-      → first_at p all (numbers_of h i (map k xs)) ≡ find p xs
+      → first_at p all (numbers_from h i (map k xs)) ≡ find p xs
   first_from [] i stands = refl
   first_from (x ∷ xs) i stands =
       let first : i + 0 ≡ i = omega arith in
       let here : passing p (slice_get all i) ≡ (if p x then Some x else None) = ap (λ n. passing p (slice_get all n)) (sym first) ∙ ap (passing p) (stands 0) in
-      one_first p all x (k x == h) (p x) (find p xs) i (numbers_of h (i + 1) (map k xs)) (kept x) here
+      one_first p all x (k x == h) (p x) (find p xs) i (numbers_from h (i + 1) (map k xs)) (kept x) here
       (first_from xs (i + 1) (λ j. let up : (i + 1) + j ≡ i + suc j = omega arith in ap (slice_get all) up ∙ stands (suc j)))
 
   at_once : (j : ℕ) → slice_get all (0 + j) ≡ slice_get all j
   at_once j = let first : 0 + j ≡ j = omega arith in ap (slice_get all) first
 
-  any_in_row : list_any (λ n. is_at p (slice_get all n)) (numbers_of h 0 (map k all)) ≡ list_any p all
-  any_in_row = any_from all 0 at_once
+  any_in_row : list_any (λ n. is_at p (slice_get all n)) (numbers_of h (map k all)) ≡ list_any p all
+  any_in_row = ap (list_any (λ n. is_at p (slice_get all n))) (sym (numbers_are h (map k all))) ∙ any_from all 0 at_once
 
-  first_in_row : first_at p all (numbers_of h 0 (map k all)) ≡ find p all
-  first_in_row = first_from all 0 at_once
+  first_in_row : first_at p all (numbers_of h (map k all)) ≡ find p all
+  first_in_row = ap (first_at p all) (sym (numbers_are h (map k all))) ∙ first_from all 0 at_once
 
 -- what is looked up in the row of a family's own members is what all of these have
 module _ {A R : Type 0} (part : Option Family → List A) (row_of : List A → List ℕ) (look : List A → List ℕ → R) (whole : List A → R)

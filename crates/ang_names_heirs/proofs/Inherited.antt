@@ -10,8 +10,8 @@ use Rattle.ang_names_known.specs.declared.names.Method.{Method}
 use Rattle.ang_names_known.specs.Items.{is_empty}
 use Rattle.ang_names_known.specs.Lookup as lookup
 use Rattle.ang_names_known.specs.Lookup.{Numbered, FoundMethod, families_at, kin_of, method_in_slot, methods_of, stands_in, with_family}
-use Rattle.ang_names_heirs.specs.Heirs.{cannot_override, of_interfaces}
-use Rattle.ang_names_heirs.specs.Numbered.{in_slot, interface_methods, interface_methods_at, methods_at, methods_in}
+use Rattle.ang_names_heirs.specs.Heirs.{cannot_override, of_interfaces, in_slot}
+use Rattle.ang_names_heirs.specs.ByNumber.{interface_methods, interface_methods_at, methods_at, methods_in}
 
 -- ---- the first that passes
 

@@ -17,7 +17,7 @@ use Rattle.ang_names_known.specs.Lookup.{Numbered, FoundMethod, families_at, met
 use Rattle.ang_names_known.specs.Items.{is_empty}
 use Rattle.ang_names_known.specs.Spaces.{Space}
 use Rattle.ang_names_listed.specs.Declarations.{Declaring}
-use Rattle.ang_names_listed.specs.Taken.{plain_refusal}
+use Rattle.ang_types.specs.Refusals.{plain_refusal}
 use Rattle.ang_names_resolved.specs.Resolved.{stands_above, is_cyclic}
 
 abbrev pub refused_at : ErrorKind → Place → List ℕ → Refused
@@ -53,14 +53,17 @@ has_public_method fs c wanted = is_met_by wanted (method_in_slot fs c wanted.slo
 abbrev pub of_interfaces : List Numbered → List Method
 of_interfaces fs = flat_map (λ (f : Numbered). if f.1.is_class then [] else f.1.methods) fs
 
+-- the first of these methods that family c does not have
+abbrev pub missing_among : List Family → ℕ → List Method → Option Method
+missing_among fs c ms = find (λ (m : Method). not (has_public_method fs c m)) ms
+
 abbrev pub missing_by : Family → Option Method → Option Refused
 missing_by f None = None
 missing_by f (Some m) = Some (refused_at kind.MissingMethod f.place m.function.name)
 
 -- The first method, in order of sections and text, of an interface above the class that the class does not have, own or inherited.
 abbrev pub missing_method : List Family → ℕ → Family → Option Refused
-missing_method fs c f =
-    missing_by f (find (λ (m : Method). not (has_public_method fs c m)) (of_interfaces (families_at fs f.above)))
+missing_method fs c f = missing_by f (missing_among fs c (of_interfaces (families_at fs f.above)))
 
 -- ---- members
 
@@ -73,10 +76,12 @@ inherits fs (Some b) name = has_member fs b name
 abbrev pub field_refusal : List Family → Family → Field → Option Refused
 field_refusal fs f x = if inherits fs f.base x.name then Some (refused_at kind.Duplicate x.place x.name) else None
 
+abbrev pub in_slot : ℕ → List Method → List Method
+in_slot slot ms = filter (λ (x : Method). x.slot == slot) ms
+
 -- all methods of the base classes that the method would stand for, the nearest first
 abbrev pub overridden : List Family → Family → Method → List Method
-overridden fs f m =
-    filter (λ (x : Method). x.slot == m.slot) (flat_map (λ (b : Numbered). b.1.methods) (families_at fs (drop 1 f.order)))
+overridden fs f m = in_slot m.slot (flat_map (λ (b : Numbered). b.1.methods) (families_at fs (drop 1 f.order)))
 
 abbrev pub cannot_override : Method → Method → Bool
 cannot_override m old = old.is_final || not (same_type old.function.result.ty m.function.result.ty)

@@ -1,3 +1,3 @@
 pub mod Heirs
-pub mod Numbered
+pub mod ByNumber
 pub mod Rows

@@ -7,7 +7,7 @@ use Rattle.ang_names_known.specs.declared.names.Field.{Field}
 use Rattle.ang_names_known.specs.declared.names.Method.{Method}
 use Rattle.ang_names_known.specs.Lookup.{fields_in}
 use Rattle.ang_names_rows.specs.Hashes.{name_hash, numbers_of}
-use Rattle.ang_names_heirs.specs.Numbered.{methods_in}
+use Rattle.ang_names_heirs.specs.ByNumber.{methods_in}
 use Rattle.ang_names_heirs.specs.declared.indexed.MemberRows.{MemberRows}
 
 abbrev pub slot_hashes : List Method → List ℕ
@@ -26,27 +26,27 @@ member_rows f =
 
 -- the places of the methods whose slots have the hash of this one
 abbrev pub slot_row : ℕ → List Method → List ℕ
-slot_row slot ms = numbers_of (slot % 256) 0 (slot_hashes ms)
+slot_row slot ms = numbers_of (slot % 256) (slot_hashes ms)
 
 -- the places of the fields whose names have the hash of this one
 abbrev pub field_row : List ℕ → List Field → List ℕ
-field_row name xs = numbers_of (name_hash name) 0 (field_hashes xs)
+field_row name xs = numbers_of (name_hash name) (field_hashes xs)
 
 -- the places of the methods whose names have the hash of this one
 abbrev pub method_row : List ℕ → List Method → List ℕ
-method_row name ms = numbers_of (name_hash name) 0 (method_hashes ms)
+method_row name ms = numbers_of (name_hash name) (method_hashes ms)
 
 abbrev pub slot_row_in : ℕ → Option MemberRows → List ℕ
 slot_row_in slot None = []
-slot_row_in slot (Some r) = numbers_of (slot % 256) 0 r.slots
+slot_row_in slot (Some r) = numbers_of (slot % 256) r.slots
 
 abbrev pub field_row_in : List ℕ → Option MemberRows → List ℕ
 field_row_in name None = []
-field_row_in name (Some r) = numbers_of (name_hash name) 0 r.fields
+field_row_in name (Some r) = numbers_of (name_hash name) r.fields
 
 abbrev pub method_row_in : List ℕ → Option MemberRows → List ℕ
 method_row_in name None = []
-method_row_in name (Some r) = numbers_of (name_hash name) 0 r.methods
+method_row_in name (Some r) = numbers_of (name_hash name) r.methods
 
 -- there is one, and it passes
 abbrev pub is_at : {A : Type 0} → (A → Bool) → Option A → Bool

@@ -1,16 +1,18 @@
 //! Members that don't fit with what a class inherits.
-ghost use Rattle.std.specs.Prelude.{◌≡◌, ◌==◌, ◌&&◌, IfOk, bytes_eq, drop, find, option_map};
+ghost use Rattle.std.specs.Prelude.{◌≡◌, ◌==◌, ◌&&◌, IfOk, bytes_eq, find, option_map};
 ghost use Rattle.std.specs.Prelude.{option_copied, slice_get};
 ghost use Rattle.std.specs.List.{list_any};
 ghost use Rattle.ang_names_known.specs.Lookup as lookup;
 ghost use Rattle.ang_names_heirs.specs.Heirs as spec;
-ghost use Rattle.ang_names_heirs.specs.Numbered as numbered;
+ghost use Rattle.ang_names_heirs.specs.ByNumber as numbered;
 ghost use Rattle.ang_names_heirs.specs.Rows as rows;
 
 use crate::indexed::{HashedName, Indexed, index_members};
-use crate::rings::{push_refused, refused_at};
+use crate::rings::refused_at;
 use ang_kinds::{ErrorKind, Place};
+use ang_names_heritage::after_first;
 use ang_names_known::{Access, Family, Field, Method, same_type};
+use ang_names_listed::push_refused;
 use ang_types::Refused;
 use std::alloc::{AllocError, Global};
 
@@ -144,7 +146,7 @@ fn missing_among<'m>(
     methods: &'m [Method],
 ) -> Option<&'m Method>
     ensures exact { option_copied result
-        ≡ numbered.missing_among families.now class methods.now }
+        ≡ spec.missing_among families.now class methods.now }
 {
     for method in methods {
         if !has_public_method(families, class, method) {
@@ -156,7 +158,7 @@ fn missing_among<'m>(
 
 /// The first method that a class has not, of the interfaces among these classes and interfaces.
 fn first_missing<'f>(families: &'f Indexed<'_>, class: usize, above: &[usize]) -> Option<&'f Method>
-    ensures exact { option_copied result ≡ numbered.missing_among
+    ensures exact { option_copied result ≡ spec.missing_among
         families.now class (numbered.interface_methods_at families.now above.now) }
 {
     for number in above {
@@ -406,17 +408,10 @@ fn is_refused(families: &Indexed<'_>, above: &[usize], method: &Method) -> bool
 #[tactic(auto, using(crate::proofs::Inherited::none_in_slot, crate::proofs::Inherited::refused_in_slot))]
 fn is_bad_override(families: &Indexed<'_>, above: &[usize], method: &Method) -> bool
     ensures exact { result ≡ spec.is_bad_override method.now
-        (numbered.in_slot method.now.slot (numbered.methods_at families.now above.now)) }
+        (spec.in_slot method.now.slot (numbered.methods_at families.now above.now)) }
 {
     let is_override_of_none = method.is_override && !is_inherited(families, above, method.slot);
     is_override_of_none || is_refused(families, above, method)
-}
-
-/// All but the first of some numbers.
-fn behind_first(places: &[usize]) -> &[usize]
-    ensures exact { result.now ≡ drop 1 places.now }
-{
-    places.get(1..).unwrap_or(&[])
 }
 
 #[tactic(auto, using(crate::proofs::Inherited::methods_known))]
@@ -429,7 +424,7 @@ fn method_refusal(
     ensures exact { IfOk result
         (λ r. r ≡ spec.method_refusal families.now family.now method.now) }
 {
-    let above = behind_first(family.order.as_slice());
+    let above = after_first(family.order.as_slice());
     if !is_bad_override(families, above, method) {
         return Ok(None);
     }

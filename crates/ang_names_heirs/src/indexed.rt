@@ -3,7 +3,7 @@
 ghost use Rattle.std.specs.Prelude.{◌≡◌, map as list_map, slice_get, IfOk};
 ghost use Rattle.ang_names_known.specs.Lookup as lookup;
 ghost use Rattle.ang_names_rows.specs.Hashes.{name_hash as hash_of};
-ghost use Rattle.ang_names_heirs.specs.Numbered as numbered;
+ghost use Rattle.ang_names_heirs.specs.ByNumber as numbered;
 ghost use Rattle.ang_names_heirs.specs.Rows as spec;
 
 use ang_names_known::{Family, Field, Method};

@@ -7,4 +7,4 @@ mod indexed;
 mod rings;
 
 pub use heirs::heir_refusals;
-pub use rings::{push_refused, refused_at, ring_refusals};
+pub use rings::{refused_at, ring_refusals};

@@ -1,11 +1,12 @@
 //! Refusals of classes and interfaces at their names, and those that lead to themselves.
-ghost use Rattle.std.specs.Prelude.{◌≡◌, ◌≤◌, ◌*◌, ◌++◌, length, option_to_list, IfOk, OnOk};
+ghost use Rattle.std.specs.Prelude.{◌≡◌, ◌≤◌, ◌*◌, length, IfOk};
 ghost use Rattle.ang_names_heirs.specs.Heirs as spec;
-ghost use Rattle.ang_names_heirs.specs.Numbered as numbered;
+ghost use Rattle.ang_names_heirs.specs.ByNumber as numbered;
 
 use ang_kinds::{Error, ErrorKind, List, Place};
 use ang_names_heritage::has_edge;
 use ang_names_known::Family;
+use ang_names_listed::push_refused;
 use ang_types::Refused;
 use std::alloc::{AllocError, Global};
 
@@ -26,11 +27,7 @@ pub fn refused_at(
         place,
         name: List::from_vec(name),
     };
-    Ok(Refused {
-        error,
-        asks: None,
-        is_there: false,
-    })
+    Ok(Refused::plain(error))
 }
 
 /// Where something holds, an error at the name of a class or an interface.
@@ -47,18 +44,6 @@ fn at_name(
     }
     let refused = refused_at(alloc, kind, family.place, family.name.as_slice())?;
     Ok(Some(refused))
-}
-
-/// Puts what is refused, if anything is, behind what was refused before.
-///
-/// The only error is want of memory.
-pub fn push_refused(found: &mut Vec<Refused>, refused: Option<Refused>) -> Result<(), AllocError>
-    ensures pushed { OnOk result (found.new.items ≡ found.old.items ++ option_to_list refused) }
-{
-    if let Some(refused) = refused {
-        found.push(refused)?;
-    }
-    Ok(())
 }
 
 /// The classes and interfaces that lead to themselves by a table that is closed, each refused at its name.

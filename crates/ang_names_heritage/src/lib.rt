@@ -14,7 +14,7 @@ mod making;
 mod orders;
 
 pub use making::{closed, first_of, push_joined_row, push_row, push_spread_row};
-pub use orders::{above_of, has_edge, order_of, reach_of};
+pub use orders::{above_of, after_first, has_edge, order_of, reach_of};
 
 /// Closes a table of `n` rows and columns, 256 at most: entry (i, j) then says whether some way of one edge or
 /// more leads from i to j. It takes no memory, and some `n`³ steps.

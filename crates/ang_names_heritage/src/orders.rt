@@ -1,5 +1,5 @@
 //! What stands above a place, as lists of numbers.
-ghost use Rattle.std.specs.Prelude.{ℕ, Bool, false, ◌≡◌, ◌*◌, ◌<◌, ◌≤◌, ◌||◌, length, replicate, IfOk, OnOk, slice_index_or};
+ghost use Rattle.std.specs.Prelude.{ℕ, Bool, false, ◌≡◌, ◌*◌, ◌<◌, ◌≤◌, ◌||◌, drop, length, replicate, IfOk, OnOk, slice_index_or};
 ghost use Rattle.ang_names_heritage.specs.Graphs as spec;
 ghost use Rattle.ang_names_heritage.specs.Graphs.{leads, numbers_below};
 ghost use Rattle.ang_names_heritage.specs.Tables.{Shows, edges_of, is_next};
@@ -123,4 +123,11 @@ pub fn has_edge(edges: &[bool], n: usize, i: usize, j: usize) -> bool
     ensures exact { result ≡ edges_of edges.now n i j }
 {
     i < n && j < n && edges[i * n + j]
+}
+
+/// All but the first of some places. It takes no memory.
+pub fn after_first(places: &[usize]) -> &[usize]
+    ensures exact { result.now ≡ drop 1 places.now }
+{
+    places.get(1..).unwrap_or(&[])
 }

@@ -90,6 +90,10 @@ is_wanted (wanted.Function name) x = is_function x.kind && bytes_eq x.signature.
 is_wanted (wanted.Factory n) x = is_factory x.kind && is_number n x.owner
 is_wanted (wanted.Method n name) x = is_method x.kind && (is_number n x.owner && bytes_eq x.signature.name name)
 
+abbrev pub wants_in : Wanted → Option Entry → Bool
+wants_in w None = false
+wants_in w (Some x) = is_wanted w x
+
 -- what is found in the entry of a number
 abbrev pub found : Wanted → RegistrationList → ℕ → Option Entry → Option HostFunction
 found w V n None = None

@@ -1,6 +1,6 @@
 //! What a module sees of the host, by name and by type.
 ghost use Rattle.std.specs.Prelude.{◌≡◌, ◌++◌, IfOk, OnOk, Some, option_map, option_to_list};
-ghost use Rattle.ang_view.specs.Registration.{entry_at, is_number};
+ghost use Rattle.ang_view.specs.Registration.{entry_at};
 ghost use Rattle.ang_view.specs.Types.{type_named};
 ghost use Rattle.ang_names_known.specs.Host as spec;
 
@@ -8,7 +8,7 @@ use crate::borrowed::Text;
 use crate::space::type_number;
 use ang_kinds::{EntityNo, List, Param, Pass, Shape, TypeRef};
 use ang_types::ArgType;
-use ang_view::{Entry, EntryKind, View};
+use ang_view::{Entry, EntryKind, View, belongs_to};
 use std::alloc::{AllocError, Global};
 
 /// A function, a factory or a method of the host that a module sees.
@@ -134,15 +134,6 @@ fn function_in(
     }))
 }
 
-fn belongs_to(owner: Option<EntityNo>, number: u32) -> bool
-    ensures exact { result ≡ is_number number owner }
-{
-    match owner {
-        None => false,
-        Some(EntityNo(own)) => own == number,
-    }
-}
-
 fn is_wanted(wanted: &Wanted<'_>, entry: &Entry) -> bool
     ensures exact { result ≡ spec.is_wanted wanted.now entry.now }
 {
@@ -152,11 +143,11 @@ fn is_wanted(wanted: &Wanted<'_>, entry: &Entry) -> bool
                 && entry.signature.name.as_slice() == name.bytes()
         }
         Wanted::Factory(number) => {
-            matches!(entry.kind, EntryKind::Factory) && belongs_to(entry.owner, *number)
+            matches!(entry.kind, EntryKind::Factory) && belongs_to(entry.owner, *number as usize)
         }
         Wanted::Method(number, name) => {
             matches!(entry.kind, EntryKind::Method)
-                && belongs_to(entry.owner, *number)
+                && belongs_to(entry.owner, *number as usize)
                 && entry.signature.name.as_slice() == name.bytes()
         }
     }
@@ -180,6 +171,16 @@ pub fn found_at(
     }
 }
 
+/// Whether the entry of this number is wanted.
+fn wants_at(view: &View, wanted: &Wanted<'_>, entity: EntityNo) -> bool
+    ensures exact { result ≡ spec.wants_in wanted.now (entry_at view.now entity.0) }
+{
+    match view.get(entity) {
+        None => false,
+        Some(entry) => is_wanted(wanted, entry),
+    }
+}
+
 fn push_function(
     functions: &mut Vec<HostFunction>,
     function: Option<HostFunction>,
@@ -191,6 +192,24 @@ fn push_function(
         functions.push(function)?;
     }
     Ok(())
+}
+
+/// Puts what is found in the entry of this number at the end: most entries are not wanted, and nothing is made of them.
+fn push_found(
+    alloc: Global,
+    functions: &mut Vec<HostFunction>,
+    view: &View,
+    wanted: &Wanted<'_>,
+    entity: EntityNo,
+) -> Result<(), AllocError>
+    ensures pushed { OnOk result (functions.new.items ≡ functions.old.items ++ option_to_list
+        (spec.found wanted.now view.now entity.0 (entry_at view.now entity.0))) }
+{
+    if !wants_at(view, wanted, entity) {
+        return Ok(());
+    }
+    let function = found_at(alloc, view, wanted, entity)?;
+    push_function(functions, function)
 }
 
 /// The functions, factories or methods of the host that are wanted, in the order of their numbers.
@@ -206,9 +225,7 @@ pub fn host_where(
 {
     let mut functions = Vec::new(alloc);
     for number in 0..view.len() {
-        let entity = EntityNo(number as u32);
-        let function = found_at(alloc, view, wanted, entity)?;
-        push_function(&mut functions, function)?;
+        push_found(alloc, &mut functions, view, wanted, EntityNo(number as u32))?;
     }
     Ok(functions)
 }
@@ -223,7 +240,7 @@ fn is_wanted_property(wanted: &WantedProperty<'_>, entry: &Entry) -> bool
         }
         WantedProperty::Member(number, name) => {
             matches!(entry.kind, EntryKind::Property)
-                && belongs_to(entry.owner, *number)
+                && belongs_to(entry.owner, *number as usize)
                 && entry.signature.name.as_slice() == name.bytes()
         }
     }

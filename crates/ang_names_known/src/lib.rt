@@ -6,6 +6,7 @@
 #![tactic(auto)]
 
 mod borrowed;
+mod family_types;
 mod functions;
 mod host;
 pub mod laws;
@@ -16,6 +17,7 @@ mod names;
 mod space;
 
 pub use borrowed::Text;
+pub use family_types::{FIRST_FAMILY, family_of_type, family_type};
 pub use functions::{functions_named, parameters_of};
 pub use host::{
     HostFunction, HostProperty, Wanted, WantedProperty, found_at, host_where, property_at,
@@ -31,4 +33,4 @@ pub use names::{
     Access, Constructor, Default, Family, Field, FoundField, Method, Names, Origin, ScriptFunction,
     ScriptGlobal, ScriptParameter, Written,
 };
-pub use space::{Named, Space, type_number};
+pub use space::{Named, Space, family_or_host, type_number};

@@ -2,8 +2,8 @@
 ghost use Rattle.std.specs.Prelude.{◌≡◌, ◌<◌, All, map, replicate, [], IfOk};
 ghost use Rattle.ang_names_known.specs.Spaces as spaces;
 
+use crate::family_types::{FIRST_FAMILY, family_type};
 use crate::names::Names;
-use crate::space::FIRST_FAMILY;
 use ang_types::Lineage;
 use std::alloc::{AllocError, Global};
 
@@ -43,7 +43,7 @@ fn types_of(alloc: Global, families: &[usize]) -> Result<Vec<u32>, AllocError>
 {
     let mut types = Vec::new(alloc);
     for family in families {
-        types.push(FIRST_FAMILY + *family as u32)?;
+        types.push(family_type(*family))?;
     }
     Ok(types)
 }

@@ -5,13 +5,11 @@ ghost use Rattle.ang_view.specs.Types.{type_named};
 ghost use Rattle.ang_names_known.specs.Spaces as spaces;
 
 use crate::borrowed::Text;
+use crate::family_types::family_type;
 use crate::names::{Family, Names};
 use ang_kinds::EntityNo;
 use ang_view::View;
 use std::marker::Model;
-
-/// The number of the first family as a type, above those of all entries.
-pub(crate) const FIRST_FAMILY: u32 = 1024;
 
 /// What a name means as a type.
 #[derive(Clone, Copy, PartialEq, Eq, Debug)]
@@ -127,12 +125,14 @@ fn known_as(families: &[Family], name: &[u8]) -> Option<usize>
         .position(|family| name == family.name.as_slice())
 }
 
-fn family_or_host(family: Option<usize>, host: Option<u32>) -> Named
+/// What a name means as a type that is the name of this family, or else of this host type. It takes
+/// no memory.
+pub fn family_or_host(family: Option<usize>, host: Option<u32>) -> Named
     requires few { IfSome family (λ c. c < 256) }
     ensures exact { result ≡ spaces.family_or_host family host }
 {
     match family {
-        Some(family) => Named::Object(FIRST_FAMILY + family as u32),
+        Some(family) => Named::Object(family_type(family)),
         None => match host {
             Some(number) => Named::Object(number),
             None => Named::Unknown,

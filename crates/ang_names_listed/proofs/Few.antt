@@ -53,6 +53,6 @@ module _ (V : RegistrationList) where
       subst (λ all. length (families_of all) ≤ 256) (append_assoc before (d ∷ []) ds)
       (few_after (before ++ d ∷ []) ds parts.1 (one_more before d parts.0 le))
 
-  pub few_families : (all : List Declared) → name_refusals V all ≡ [] → length (families_of all) ≤ 256
+  pub names_are_few : (all : List Declared) → name_refusals V all ≡ [] → length (families_of all) ≤ 256
   unfolding name_refusals families_of
-  few_families all e = few_after [] all e (omega arith)
+  names_are_few all e = few_after [] all e (omega arith)

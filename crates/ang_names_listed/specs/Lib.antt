@@ -1,2 +1,3 @@
 pub mod Declarations
+pub mod Earlier
 pub mod Taken

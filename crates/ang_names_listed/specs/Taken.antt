@@ -8,6 +8,7 @@ use Rattle.ang_kinds.specs.declared.error.ErrorKind.TheVariants as kind
 use Rattle.ang_kinds.specs.declared.types.Param.{Param}
 use Rattle.ang_tree.specs.declared.declaration.Parameter.{Parameter}
 use Rattle.ang_types.specs.declared.asks.Refused.{Refused}
+use Rattle.ang_types.specs.Refusals.{plain_refusal}
 use Rattle.ang_view.specs.declared.entry.Entry.{Entry}
 use Rattle.ang_view.specs.declared.entry.EntryKind.{EntryKind}
 use Rattle.ang_view.specs.declared.entry.EntryKind.TheVariants as entry
@@ -20,10 +21,6 @@ use Rattle.ang_names_listed.specs.declared.listed.Part.TheVariants as part
 use Rattle.ang_names_listed.specs.Declarations.{declared_name, families_of}
 use Rattle.ang_names_written.specs.Sources.{error_at}
 use Rattle.ang_names_written.specs.Spellings.{same_spellings, same_as_host}
-
--- an error that no entry of the host could help
-abbrev pub plain_refusal : Error → Refused
-plain_refusal e = record { error = e; asks = None; is_there = false }
 
 -- ---- against earlier declarations
 

@@ -6,8 +6,8 @@ ghost use Rattle.ang_names_listed.specs.Declarations.{families_of};
 ghost use Rattle.ang_names_listed.specs.Taken.{name_refusals};
 
 /// Where no name is refused there are few enough classes and interfaces for a table of what stands above each.
-#[tactic(auto, using(crate::proofs::Few::few_families))]
-pub fn few_families()
+#[tactic(auto, using(crate::proofs::Few::names_are_few))]
+pub fn names_are_few()
     ensures few { (V : RegistrationList) (all : List Declared) →
         name_refusals V all ≡ [] → length (families_of all) ≤ 256 }
 {}

@@ -2,6 +2,7 @@
 //! are taken (docs/LANGUAGE.md, "Names of a build").
 #![tactic(auto)]
 
+mod earlier;
 mod families;
 pub mod laws;
 mod listed;
@@ -12,4 +13,4 @@ mod taken;
 pub use families::{Declaring, families_of};
 pub use listed::{Attributes, Declared, Member, MemberKind, Part, Shape};
 pub use listing::declarations_of;
-pub use taken::name_refusals;
+pub use taken::{declares_function, name_refusals, push_refused};

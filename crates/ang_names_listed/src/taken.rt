@@ -1,15 +1,16 @@
 //! Names that are taken, and too many of them.
-ghost use Rattle.std.specs.Prelude.{◌≡◌, ◌++◌, IfOk, OnOk, Some, count_by, length, option_to_list};
+ghost use Rattle.std.specs.Prelude.{◌≡◌, ◌++◌, IfOk, OnOk, Some, option_to_list};
 ghost use Rattle.std.specs.List.{list_any};
+ghost use Rattle.ang_types.specs.Refusals.{plain_refusal};
 ghost use Rattle.ang_view.specs.Registration.{entry_at};
 ghost use Rattle.ang_names_written.specs.Sources as sources;
-ghost use Rattle.ang_names_listed.specs.Declarations.{families_of};
-ghost use Rattle.ang_names_listed.specs.Declarations as declarations;
+ghost use Rattle.ang_names_listed.specs.Earlier as earlier;
 ghost use Rattle.ang_names_listed.specs.Taken as spec;
 
+use crate::earlier::{Earlier, declared_name};
 use crate::listed::{Declared, Part};
 use ang_kinds::{EntityNo, ErrorKind, Param};
-use ang_names_written::{error_at, have_same_types, have_same_types_as_host, text_at};
+use ang_names_written::{error_at, have_same_types, have_same_types_as_host};
 use ang_tree::Parameter;
 use ang_types::Refused;
 use ang_view::{Entry, EntryKind, View};
@@ -26,12 +27,6 @@ const MOST_IMPORTS: usize = 256;
 
 /// The globals of one module.
 const MOST_GLOBALS: usize = 4096;
-
-fn declared_name<'a>(declared: &Declared<'a>) -> &'a [u8]
-    ensures exact { result.now ≡ declarations.declared_name declared.now }
-{
-    text_at(declared.text.bytes(), &declared.name)
-}
 
 /// Whether a function with these parameters can't have the name of what is declared there.
 fn excludes_function(text: &[u8], params: &[Parameter], other_text: &[u8], other: &Part<'_>) -> bool
@@ -122,66 +117,54 @@ fn is_taken_by_host(view: &View, declared: &Declared<'_>) -> bool
     false
 }
 
-fn is_taken_before(before: &[Declared<'_>], declared: &Declared<'_>) -> bool
+/// Whether a declaration clashes with the earlier one of this number.
+fn clashes_with_earlier(before: &[Declared<'_>], number: usize, declared: &Declared<'_>) -> bool
+    ensures exact { result ≡ earlier.clashes_at before.now declared.now number }
+{
+    let Some(earlier) = before.get(number) else {
+        return false;
+    };
+    clashes(declared, earlier)
+}
+
+/// Whether a declaration clashes with one of the earlier ones of these numbers.
+fn clashes_with_one(before: &[Declared<'_>], row: &[usize], declared: &Declared<'_>) -> bool
+    ensures exact { result ≡ list_any (earlier.clashes_at before.now declared.now) row.now }
+{
+    row.iter()
+        .any(|number| clashes_with_earlier(before, *number, declared))
+}
+
+fn is_taken_before(before: &Earlier<'_, '_>, declared: &Declared<'_>) -> bool
     ensures exact { result ≡ list_any (spec.clashes declared.now) before.now }
 {
-    before.iter().any(|earlier| clashes(declared, earlier))
+    clashes_with_one(before.items(), before.row(declared), declared)
 }
 
 #[tactic(auto, unfolding(crate::specs::Taken::is_taken))]
-fn is_taken(view: &View, before: &[Declared<'_>], declared: &Declared<'_>) -> bool
+fn is_taken(view: &View, before: &Earlier<'_, '_>, declared: &Declared<'_>) -> bool
     ensures exact { result ≡ spec.is_taken view.now before.now declared.now }
 {
     is_taken_before(before, declared) || is_taken_by_host(view, declared)
 }
 
-fn declares_family(part: &Part<'_>) -> bool
-    ensures exact { result ≡ spec.declares_family part.now }
-{
-    matches!(part, Part::Family(_))
-}
-
-fn declares_function(part: &Part<'_>) -> bool
+/// Whether a function is declared there, and no import. It takes no memory.
+pub fn declares_function(part: &Part<'_>) -> bool
     ensures exact { result ≡ spec.declares_function part.now }
 {
     matches!(part, Part::Function(_, _))
 }
 
-fn declares_import(part: &Part<'_>) -> bool
-    ensures exact { result ≡ spec.declares_import part.now }
-{
-    matches!(part, Part::Import(_, _))
-}
-
-fn declares_global(part: &Part<'_>) -> bool
-    ensures exact { result ≡ spec.declares_global part.now }
-{
-    matches!(part, Part::Global(_))
-}
-
-/// How many classes and interfaces there are.
-#[tactic(auto, using(crate::proofs::Counts::families_counted))]
-fn family_count(before: &[Declared<'_>]) -> usize
-    ensures exact { result ≡ length (families_of before.now) }
-{
-    before.iter().filter(|d| declares_family(&d.part)).count()
-}
-
 /// Whether as many of the kind stand before it as a module can have.
-fn is_first_above(before: &[Declared<'_>], part: &Part<'_>) -> bool
+fn is_first_above(before: &Earlier<'_, '_>, part: &Part<'_>) -> bool
     ensures exact { result ≡ spec.is_first_above before.now part.now }
 {
+    let counts = before.counts();
     match part {
-        Part::Family(_) => family_count(before) == MOST_FAMILIES,
-        Part::Function(_, _) => {
-            before.iter().filter(|d| declares_function(&d.part)).count() == MOST_FUNCTIONS
-        }
-        Part::Import(_, _) => {
-            before.iter().filter(|d| declares_import(&d.part)).count() == MOST_IMPORTS
-        }
-        Part::Global(_) => {
-            before.iter().filter(|d| declares_global(&d.part)).count() == MOST_GLOBALS
-        }
+        Part::Family(_) => counts.families == MOST_FAMILIES,
+        Part::Function(_, _) => counts.functions == MOST_FUNCTIONS,
+        Part::Import(_, _) => counts.imports == MOST_IMPORTS,
+        Part::Global(_) => counts.globals == MOST_GLOBALS,
     }
 }
 
@@ -192,21 +175,17 @@ fn refused_name(
     kind: ErrorKind,
 ) -> Result<Refused, AllocError>
     ensures exact { IfOk result (λ r. r
-        ≡ spec.plain_refusal (sources.error_at kind declared.now.text declared.now.name)) }
+        ≡ plain_refusal (sources.error_at kind declared.now.text declared.now.name)) }
 {
     let error = error_at(alloc, declared.text.bytes(), kind, &declared.name)?;
-    Ok(Refused {
-        error,
-        asks: None,
-        is_there: false,
-    })
+    Ok(Refused::plain(error))
 }
 
 #[tactic(auto, unfolding(crate::specs::Taken::name_refusal))]
 fn name_refusal(
     alloc: Global,
     view: &View,
-    before: &[Declared<'_>],
+    before: &Earlier<'_, '_>,
     declared: &Declared<'_>,
 ) -> Result<Option<Refused>, AllocError>
     ensures exact { IfOk result (λ r. r ≡ spec.name_refusal view.now before.now declared.now) }
@@ -222,7 +201,10 @@ fn name_refusal(
     Ok(Some(refused))
 }
 
-fn push_refused(found: &mut Vec<Refused>, refused: Option<Refused>) -> Result<(), AllocError>
+/// Puts what is refused, if anything is, after what was refused before.
+///
+/// The only error is want of memory.
+pub fn push_refused(found: &mut Vec<Refused>, refused: Option<Refused>) -> Result<(), AllocError>
     ensures pushed { OnOk result (found.new.items ≡ found.old.items ++ option_to_list refused) }
 {
     if let Some(refused) = refused {
@@ -244,9 +226,11 @@ pub fn name_refusals(
     ensures exact { IfOk result (λ found. found.items ≡ spec.name_refusals view.now all.now) }
 {
     let mut found = Vec::new(alloc);
+    let mut before = Earlier::new(alloc, all.len())?;
     for (i, declared) in all.iter().enumerate() {
-        let refused = name_refusal(alloc, view, &all[..i], declared)?;
+        let refused = name_refusal(alloc, view, &before, declared)?;
         push_refused(&mut found, refused)?;
+        before.grow(&all[..i + 1], declared)?;
     }
     Ok(found)
 }

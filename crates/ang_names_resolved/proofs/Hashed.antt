@@ -5,6 +5,7 @@ use Rattle.std.proofs.Common.{arith, refl, sym, ap, ◌∙◌}
 use Rattle.std.proofs.lemmas.Slice.Eq.{bytes_eq-Decides}
 use Rattle.ang_names_known.specs.declared.names.ScriptFunction.{ScriptFunction}
 use Rattle.ang_names_rows.specs.Hashes.{name_hash, numbers_of}
+use Rattle.ang_names_rows.proofs.Hashed.{numbers_from, numbers_are}
 use Rattle.ang_names_resolved.specs.Resolved.{same_signature, slot_of}
 use Rattle.ang_names_resolved.specs.Hashes.{is_same_at, is_same_in, name_hashes}
 
@@ -34,12 +35,12 @@ module _ (all : List (ScriptFunction × Bool)) (s : ScriptFunction × Bool) wher
   one false false i past at row h here rest = rest ∙ omega arith
 
   from_here : (xs : List (ScriptFunction × Bool)) (i past : ℕ) → ((k : ℕ) → slice_get all (i + k) ≡ slice_get xs k) → past ≡ i + length xs
-      → unwrap_or (find (is_same_at all s) (numbers_of hash i (name_hashes xs))) past ≡ i + position_or_len (same_signature s) xs
+      → unwrap_or (find (is_same_at all s) (numbers_from hash i (name_hashes xs))) past ≡ i + position_or_len (same_signature s) xs
   from_here [] i past stands e = e
   from_here (x ∷ xs) i past stands e =
       let first : i + 0 ≡ i = omega arith in
       let here : is_same_at all s i ≡ same_signature s x = ap (is_same_at all s) (sym first) ∙ ap (is_same_in s) (stands 0) in
-      one (name_hash x.0.name == hash) (same_signature s x) i past (position_or_len (same_signature s) xs) (numbers_of hash (i + 1) (name_hashes xs))
+      one (name_hash x.0.name == hash) (same_signature s x) i past (position_or_len (same_signature s) xs) (numbers_from hash (i + 1) (name_hashes xs))
       (same_hash x) here
       (from_here xs (i + 1) past (λ k. let up : (i + 1) + k ≡ i + suc k = omega arith in ap (slice_get all) up ∙ stands (suc k)) (omega (arith, e)))
 
@@ -64,7 +65,8 @@ module _ (all : List (ScriptFunction × Bool)) (s : ScriptFunction × Bool) wher
       let least = not_below (position_or_len (same_signature s) xs) (length xs) e in
       omega (arith, most, least)
 
-  pub first_in_row : unwrap_or (find (is_same_at all s) (numbers_of hash 0 (name_hashes all))) (length all) ≡ slot_of all s
+  pub first_in_row : unwrap_or (find (is_same_at all s) (numbers_of hash (name_hashes all))) (length all) ≡ slot_of all s
   first_in_row =
-      from_here all 0 (length all) (λ k. let first : 0 + k ≡ k = omega arith in ap (slice_get all) first) (omega arith)
+      ap (λ row. unwrap_or (find (is_same_at all s) row) (length all)) (sym (numbers_are hash (name_hashes all)))
+      ∙ from_here all 0 (length all) (λ k. let first : 0 + k ≡ k = omega arith in ap (slice_get all) first) (omega arith)
       ∙ omega arith ∙ sym (within (position_or_len (same_signature s) all) (length all) (nat_lt (position_or_len (same_signature s) all) (length all)) refl (short all))

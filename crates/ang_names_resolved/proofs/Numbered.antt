@@ -87,9 +87,9 @@ body_next is_class first ms i m body next h lt is e =
 -- a method behind those before it
 pub one_method : (E : Space) (all : List (ScriptFunction × Bool)) (d : Declaring) (m : Member) (body : ℕ) (y : TypeName) (ps : List Parameter) (a : Attributes) (k : MemberKind)
     (f : ScriptFunction) (method : Method) (was now : List Method) → k ≡ member.Method y ps a → f ≡ heading_of E d.origin d.text m.name y ps
-    → method ≡ method_with E all d m body f a → now ≡ was ++ method ∷ [] → now ≡ was ++ methods_by E all d m body k
+    → method ≡ method_with all d m body f a → now ≡ was ++ method ∷ [] → now ≡ was ++ methods_by E all d m body k
 one_method E all d m body y ps a k f method was now kind heading made pushed =
-    pushed ∙ ap (λ x. was ++ x ∷ []) (made ∙ ap (λ g. method_with E all d m body g a) heading) ∙ ap (λ o. was ++ methods_by E all d m body o) (sym kind)
+    pushed ∙ ap (λ x. was ++ x ∷ []) (made ∙ ap (λ g. method_with all d m body g a) heading) ∙ ap (λ o. was ++ methods_by E all d m body o) (sym kind)
 
 pub next_methods : (E : Space) (all : List (ScriptFunction × Bool)) (d : Declaring) (first : ℕ) (ms : List Member) (i : ℕ) (m : Member) (body : ℕ) (was now : List Method)
     → body ≡ first + length (with_bodies d.shape.is_class (take i ms))
@@ -98,12 +98,12 @@ pub next_methods : (E : Space) (all : List (ScriptFunction × Bool)) (d : Declar
 next_methods E all d first ms i m body was now n h lt is pushed =
     turned (methods_after E all d first) ms i m was now h lt is (pushed ∙ ap (λ k. was ++ methods_by E all d m k m.kind) n)
 
-pub next_constructors : (E : Space) (all : List (ScriptFunction × Bool)) (d : Declaring) (first : ℕ) (ms : List Member) (i : ℕ) (m : Member) (body : ℕ) (was now : List Constructor)
+pub next_constructors : (E : Space) (d : Declaring) (first : ℕ) (ms : List Member) (i : ℕ) (m : Member) (body : ℕ) (was now : List Constructor)
     → body ≡ first + length (with_bodies d.shape.is_class (take i ms))
-    → was ≡ each_after (constructors_after E all d first) [] (take i ms) → i < length ms → m ≡ get_or ms i m
-    → now ≡ was ++ constructors_by E all d m body m.kind → now ≡ each_after (constructors_after E all d first) [] (take (i + 1) ms)
-next_constructors E all d first ms i m body was now n h lt is pushed =
-    turned (constructors_after E all d first) ms i m was now h lt is (pushed ∙ ap (λ k. was ++ constructors_by E all d m k m.kind) n)
+    → was ≡ each_after (constructors_after E d first) [] (take i ms) → i < length ms → m ≡ get_or ms i m
+    → now ≡ was ++ constructors_by E d m body m.kind → now ≡ each_after (constructors_after E d first) [] (take (i + 1) ms)
+next_constructors E d first ms i m body was now n h lt is pushed =
+    turned (constructors_after E d first) ms i m was now h lt is (pushed ∙ ap (λ k. was ++ constructors_by E d m k m.kind) n)
 
 -- ---- families
 

@@ -57,6 +57,9 @@ parameter_role imported p = if imported then imported_role p else own_role p
 abbrev pub no_result : Written
 no_result = record { ty = type.Void; constant = false; const_handle = false }
 
+abbrev pub function_with : Origin → List ℕ → Token → Written → List ScriptParameter → ScriptFunction
+function_with o text x result ps = record { name = text_of text x; place = x.place; result = result; params = ps; origin = o }
+
 abbrev pub field_with : Declaring → Member → ℕ → Written → Field
 field_with d m number w = record { name = text_of d.text m.name; place = m.name.place; written = w; access = m.access; number = number }
 
@@ -73,14 +76,9 @@ module _ (E : Space) where
     name = name_of text p.name;
   }
 
+  -- a function or an import, with this result
   abbrev pub function_as : Origin → List ℕ → Token → Written → Bool → List Parameter → ScriptFunction
-  function_as o text x result imported ps = record {
-    name = text_of text x;
-    place = x.place;
-    result = result;
-    params = map (parameter_of text imported) ps;
-    origin = o;
-  }
+  function_as o text x result imported ps = function_with o text x result (map (parameter_of text imported) ps)
 
   -- a function or a method
   abbrev pub heading_of : Origin → List ℕ → Token → TypeName → List Parameter → ScriptFunction
@@ -184,33 +182,37 @@ abbrev pub body_number : Bool → ℕ → Option ℕ
 body_number true n = Some n
 body_number false n = None
 
+-- a method with this heading, where all methods are these
+abbrev pub method_with : List (ScriptFunction × Bool) → Declaring → Member → ℕ → ScriptFunction → Attributes → Method
+method_with all d m body f a = record {
+  function = f;
+  access = m.access;
+  read_only = a.read_only;
+  is_final = a.is_final;
+  is_override = a.is_override;
+  slot = slot_of all (f, a.read_only);
+  body = body_number d.shape.is_class body;
+}
+
 -- In the space of a build, whose methods are these:
 module _ (E : Space) (all : List (ScriptFunction × Bool)) where
-  abbrev pub method_with : Declaring → Member → ℕ → ScriptFunction → Attributes → Method
-  method_with d m body f a = record {
-    function = f;
-    access = m.access;
-    read_only = a.read_only;
-    is_final = a.is_final;
-    is_override = a.is_override;
-    slot = slot_of all (f, a.read_only);
-    body = body_number d.shape.is_class body;
-  }
-
   abbrev pub methods_by : Declaring → Member → ℕ → MemberKind → List Method
   methods_by d m body (member.Field y) = []
-  methods_by d m body (member.Method y ps a) = method_with d m body (heading_of E d.origin d.text m.name y ps) a ∷ []
+  methods_by d m body (member.Method y ps a) = method_with all d m body (heading_of E d.origin d.text m.name y ps) a ∷ []
   methods_by d m body (member.Constructor ps) = []
-
-  abbrev pub constructors_by : Declaring → Member → ℕ → MemberKind → List Constructor
-  constructors_by d m body (member.Field y) = []
-  constructors_by d m body (member.Method y ps a) = []
-  constructors_by d m body (member.Constructor ps) = record { function = maker_of E d.origin d.text m.name ps; body = body } ∷ []
 
   -- A body's number is how many stand before it: `first` before the family, and those of the members before it.
   abbrev pub methods_after : Declaring → ℕ → List Member → Member → List Method
   methods_after d first before m = methods_by d m (first + length (with_bodies d.shape.is_class before)) m.kind
 
+-- In the space of a build:
+module _ (E : Space) where
+  abbrev pub constructors_by : Declaring → Member → ℕ → MemberKind → List Constructor
+  constructors_by d m body (member.Field y) = []
+  constructors_by d m body (member.Method y ps a) = []
+  constructors_by d m body (member.Constructor ps) = record { function = maker_of E d.origin d.text m.name ps; body = body } ∷ []
+
+  -- Constructors are numbered as methods are, among the same bodies.
   abbrev pub constructors_after : Declaring → ℕ → List Member → Member → List Constructor
   constructors_after d first before m = constructors_by d m (first + length (with_bodies d.shape.is_class before)) m.kind
 
@@ -293,12 +295,12 @@ is_cyclic E ds c = reaches E ds c c
 
 -- ---- all of them
 
+-- how many fields the base classes of class c have
+abbrev pub inherited_fields : Space → List Declaring → ℕ → ℕ
+inherited_fields E ds c = length (field_types_at E ds (drop 1 (order_of (is_base ds) (length ds) c)))
+
 -- In the space of a build, whose families and methods are these:
 module _ (E : Space) (ds : List Declaring) (all : List (ScriptFunction × Bool)) where
-  -- how many fields the base classes of class c have
-  abbrev pub inherited_fields : ℕ → ℕ
-  inherited_fields c = length (field_types_at E ds (drop 1 (order_of (is_base ds) (length ds) c)))
-
   -- family c, before whose bodies stand `first` others
   abbrev pub family_with : ℕ → ℕ → Declaring → Family
   family_with c first d = record {
@@ -309,9 +311,9 @@ module _ (E : Space) (ds : List Declaring) (all : List (ScriptFunction × Bool))
     above = above (is_parent ds) (length ds) c;
     order = order_of (gives_members ds d.shape.is_class) (length ds) c;
     rank = reach_of (holds E ds) (length ds) c;
-    fields = each_after (fields_after E d (inherited_fields c)) [] d.shape.members;
+    fields = each_after (fields_after E d (inherited_fields E ds c)) [] d.shape.members;
     methods = each_after (methods_after E all d first) [] d.shape.members;
-    constructors = each_after (constructors_after E all d first) [] d.shape.members;
+    constructors = each_after (constructors_after E d first) [] d.shape.members;
     origin = d.origin;
   }
 

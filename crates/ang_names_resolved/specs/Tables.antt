@@ -1,5 +1,5 @@
 -- What stands above what, and what reaches what, as tables over the numbers of classes and interfaces.
-use Rattle.std.specs.Prelude.{ℕ, ◌==◌, List, [], Bool, true, false, length, filter, Option, Some, None, slice_get}
+use Rattle.std.specs.Prelude.{ℕ, ◌≡◌, ◌==◌, List, [], Bool, true, false, length, filter, Option, Some, None, slice_get}
 use Rattle.std.specs.List.{filter_map, list_any}
 use Rattle.ang_names_heritage.specs.Graphs.{leads, order_of}
 use Rattle.ang_names_heritage.specs.Tables.{Shows}
@@ -12,7 +12,7 @@ use Rattle.ang_names_listed.specs.declared.listed.MemberKind.TheVariants as memb
 use Rattle.ang_names_listed.specs.Declarations.{Declaring}
 use Rattle.ang_names_written.specs.Sources.{text_of}
 use Rattle.ang_names_resolved.specs.declared.tables.Tables.{Tables}
-use Rattle.ang_names_resolved.specs.Resolved.{place_of, is_parent, is_base, is_class_at, holds, held_by, field_type}
+use Rattle.ang_names_resolved.specs.Resolved.{place_of, is_parent, is_base, is_class_at, holds, held_by, field_type, signatures_of}
 
 -- the numbers of the families that one names as its bases
 abbrev pub base_places : List Declaring → Declaring → List ℕ
@@ -47,9 +47,11 @@ holds_itself E ds i d = list_any (λ k. k == d) (held_of E (slice_get ds i))
 abbrev pub carries : Space → List Declaring → ℕ → ℕ → Bool
 carries E ds i d = list_any (λ k. holds_itself E ds k d) (order_of (is_base ds) (length ds) i)
 
--- The tables of the families of a build: what each one's bases are, and of these the class; what stands above each, and what each reaches.
+-- The tables of the families of a build: what each one's bases are, and of these the class; what stands above each, and what
+-- each reaches; and the methods of all.
 pub record AreTables (E : Space) (ds : List Declaring) (t : Tables) : Type 0 where
   pub parents : Shows t.parents.items (length ds) (is_parent ds)
   pub bases : Shows t.bases.items (length ds) (is_base ds)
   pub above : Shows t.above.items (length ds) (leads (is_parent ds) (length ds))
   pub reach : Shows t.reach.items (length ds) (leads (holds E ds) (length ds))
+  pub signatures : t.signatures ≡ signatures_of E ds

@@ -1,5 +1,5 @@
 //! The classes and interfaces of a build, with what stands above each.
-ghost use Rattle.std.specs.Prelude.{◌≡◌, ◌≤◌, ◌<◌, [], drop, length, slice_get, IfOk};
+ghost use Rattle.std.specs.Prelude.{◌≡◌, ◌≤◌, ◌<◌, [], length, slice_get, IfOk};
 ghost use Rattle.ang_names_heritage.specs.Graphs as graphs;
 ghost use Rattle.ang_names_heritage.specs.Graphs.{leads};
 ghost use Rattle.ang_names_heritage.specs.Tables.{Shows};
@@ -10,10 +10,9 @@ ghost use Rattle.ang_names_resolved.specs.Tables as tables;
 
 use crate::held::field_count;
 use crate::members::{body_after, constructors_of, fields_of, methods_of};
-use crate::slots::{Signatures, signatures_of};
 use crate::tables::Tables;
 use ang_kinds::List;
-use ang_names_heritage::{above_of, first_of, order_of, reach_of};
+use ang_names_heritage::{above_of, after_first, first_of, order_of, reach_of};
 use ang_names_known::{Family, Space};
 use ang_names_listed::Declaring;
 use ang_names_written::copy_at;
@@ -143,13 +142,6 @@ fn field_counts(families: &[Declaring<'_, '_>], places: &[usize]) -> Result<usiz
     Ok(count)
 }
 
-/// All but the first of some numbers.
-fn behind_first(places: &[usize]) -> &[usize]
-    ensures exact { result.now ≡ drop 1 places.now }
-{
-    places.get(1..).unwrap_or(&[])
-}
-
 /// How many fields the base classes of a class have.
 fn inherited_fields(
     alloc: Global,
@@ -161,10 +153,10 @@ fn inherited_fields(
     requires there { number < length families.now }
     requires bases { Shows bases.now (length families.now) (spec.is_base families.now) }
     ensures exact { (E : spaces.Space) → IfOk result
-        (λ count. count ≡ spec.inherited_fields E families.now [] number) }
+        (λ count. count ≡ spec.inherited_fields E families.now number) }
 {
     let chain = chain_of(alloc, families, bases, number)?;
-    field_counts(families, behind_first(&chain))
+    field_counts(families, after_first(&chain))
 }
 
 /// The class or interface of this number, the first of whose bodies has the number `first`.
@@ -173,7 +165,6 @@ fn family_with(
     space: &Space<'_>,
     families: &[Declaring<'_, '_>],
     known: &Tables,
-    signatures: &Signatures,
     number: usize,
     first: usize,
     family: &Declaring<'_, '_>,
@@ -181,8 +172,8 @@ fn family_with(
     requires few { length families.now ≤ 256 }
     requires there { number < length families.now }
     requires known { tables.AreTables space.now families.now known.now }
-    ensures exact { IfOk result (λ f. f
-        ≡ spec.family_with space.now families.now signatures.now number first family.now) }
+    ensures exact { IfOk result (λ f. f ≡ spec.family_with space.now families.now
+        (spec.signatures_of space.now families.now) number first family.now) }
 {
     let is_class = family.shape().is_class;
     let inherited = inherited_fields(alloc, families, &known.bases, number)?;
@@ -190,7 +181,7 @@ fn family_with(
     let above = all_above(alloc, families, &known.above, number)?;
     let order = order_in(alloc, space, families, known, is_class, number)?;
     let fields = fields_of(alloc, space, family, inherited)?;
-    let methods = methods_of(alloc, space, signatures, family, first)?;
+    let methods = methods_of(alloc, space, &known.signatures, family, first)?;
     let constructors = constructors_of(alloc, space, family, first)?;
     Ok(Family {
         name,
@@ -207,7 +198,7 @@ fn family_with(
     })
 }
 
-/// The classes and interfaces of these declarations, whose tables these are. Their bodies come behind those of the functions.
+/// The classes and interfaces of these declarations, whose tables these are. Their bodies come after those of the functions.
 ///
 /// The only error is want of memory.
 pub fn families_in(
@@ -223,29 +214,10 @@ pub fn families_in(
         space.now families.now (spec.signatures_of space.now families.now)
         functions) [] families.now) }
 {
-    let signatures = signatures_of(alloc, space, families)?;
-    families_of(alloc, space, families, known, &signatures, functions)
-}
-
-fn families_of(
-    alloc: Global,
-    space: &Space<'_>,
-    families: &[Declaring<'_, '_>],
-    known: &Tables,
-    signatures: &Signatures,
-    functions: usize,
-) -> Result<List<Family>, AllocError>
-    requires few { length families.now ≤ 256 }
-    requires known { tables.AreTables space.now families.now known.now }
-    ensures exact { IfOk result (λ fs. fs ≡ each_after (spec.families_after
-        space.now families.now signatures.now functions) [] families.now) }
-{
     let mut found = Vec::new(alloc);
     let mut first = functions;
     for (number, family) in families.iter().enumerate() {
-        found.push(family_with(
-            alloc, space, families, known, signatures, number, first, family,
-        )?)?;
+        found.push(family_with(alloc, space, families, known, number, first, family)?)?;
         first = body_after(family, first)?;
     }
     Ok(List::from_vec(found))

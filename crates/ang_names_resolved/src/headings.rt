@@ -41,7 +41,10 @@ fn parameter_of(
     })
 }
 
-fn parameters_of(
+/// The parameters of an import, or of any other function.
+///
+/// The only error is want of memory.
+pub fn parameters_of(
     alloc: Global,
     space: &Space<'_>,
     text: &[u8],
@@ -59,26 +62,22 @@ fn parameters_of(
     Ok(List::from_vec(found))
 }
 
-/// A function whose result is known.
+/// A function with this result and these parameters.
 ///
 /// The only error is want of memory.
-pub fn function_as(
+pub fn function_with(
     alloc: Global,
-    space: &Space<'_>,
     origin: Origin,
     text: &[u8],
     name: &Token,
     result_type: Written,
-    imported: bool,
-    params: &[Parameter],
+    params: List<ScriptParameter>,
 ) -> Result<ScriptFunction, AllocError>
-    ensures exact { IfOk result (λ f. f ≡ spec.function_as
-        space.now origin text.now name.now result_type imported params.now) }
+    ensures exact { IfOk result (λ f. f
+        ≡ spec.function_with origin text.now name.now result_type params) }
 {
-    let copy = copy_at(alloc, text, name)?;
-    let params = parameters_of(alloc, space, text, imported, params)?;
     Ok(ScriptFunction {
-        name: copy,
+        name: copy_at(alloc, text, name)?,
         place: name.place,
         result: result_type,
         params,
@@ -102,7 +101,8 @@ pub fn heading_of(
         ≡ spec.heading_of space.now origin text.now name.now declared.now params.now) }
 {
     let result_type = written_in(space, Role::Result, text, declared);
-    function_as(alloc, space, origin, text, name, result_type, false, params)
+    let params = parameters_of(alloc, space, text, false, params)?;
+    function_with(alloc, origin, text, name, result_type, params)
 }
 
 /// The heading of a constructor, which gives nothing.
@@ -124,5 +124,6 @@ pub fn maker_of(
         constant: false,
         const_handle: false,
     };
-    function_as(alloc, space, origin, text, name, nothing, false, params)
+    let params = parameters_of(alloc, space, text, false, params)?;
+    function_with(alloc, origin, text, name, nothing, params)
 }

@@ -4,14 +4,11 @@ ghost use Rattle.ang_names_known.specs.Spaces as spaces;
 ghost use Rattle.ang_names_resolved.specs.Resolved as spec;
 ghost use Rattle.ang_names_resolved.specs.Tables as tables;
 
-use ang_names_known::{Space, Written};
+use ang_names_known::{Space, Written, family_of_type};
 use ang_names_listed::{Declaring, MemberKind};
 use ang_names_written::{Role, written_in};
 use ang_types::ArgType;
 use std::alloc::{AllocError, Global};
-
-/// The number of the first class or interface as a type.
-const FIRST_FAMILY: u32 = 1024;
 
 /// The type of a member, if it is a field.
 pub fn field_type(
@@ -25,19 +22,14 @@ pub fn field_type(
         MemberKind::Field(declared) => {
             Some(written_in(space, Role::Field, family.text(), declared))
         }
-        MemberKind::Method(_, _, _) => None,
-        MemberKind::Constructor(_) => None,
+        MemberKind::Method(_, _, _) | MemberKind::Constructor(_) => None,
     }
 }
 
 fn is_field(kind: &MemberKind<'_>) -> bool
     ensures exact { result ≡ tables.is_field kind.now }
 {
-    match kind {
-        MemberKind::Field(_) => true,
-        MemberKind::Method(_, _, _) => false,
-        MemberKind::Constructor(_) => false,
-    }
+    matches!(kind, MemberKind::Field(_))
 }
 
 /// How many fields a class or an interface declares itself.
@@ -50,17 +42,6 @@ pub fn field_count(family: &Declaring<'_, '_>) -> usize
         .iter()
         .filter(|member| is_field(&member.kind))
         .count()
-}
-
-/// The class or interface of a type's number.
-fn family_of_type(number: u32) -> Option<usize>
-    ensures exact { result ≡ spaces.family_of_type number }
-{
-    if number < FIRST_FAMILY {
-        None
-    } else {
-        Some((number - FIRST_FAMILY) as usize)
-    }
 }
 
 /// The class or interface to which a type is a handle.

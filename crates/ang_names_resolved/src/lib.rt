@@ -14,5 +14,6 @@ mod tables;
 
 pub use headings::{heading_of, parameter_role};
 pub use resolved::{families_among, names_of};
+pub use slots::Signatures;
 pub use space::space_of;
 pub use tables::Tables;

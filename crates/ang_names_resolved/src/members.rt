@@ -1,8 +1,6 @@
 //! Fields, methods and constructors, each with its number.
-ghost use Rattle.std.specs.Prelude.{◌≡◌, ◌+◌, ◌++◌, Bool, List, [], ◌∷◌, length, option_to_list, if◌then◌else◌, IfOk, OnOk};
-ghost use Rattle.ang_names_known.specs.declared.names.ScriptFunction as known;
+ghost use Rattle.std.specs.Prelude.{◌≡◌, ◌+◌, ◌++◌, [], ◌∷◌, length, option_to_list, if◌then◌else◌, IfOk, OnOk};
 ghost use Rattle.ang_names_known.specs.Items.{each_after};
-ghost use Rattle.ang_names_known.specs.Spaces as spaces;
 ghost use Rattle.ang_names_resolved.specs.Resolved as spec;
 
 use crate::headings::{heading_of, maker_of};
@@ -141,8 +139,8 @@ fn method_with(
     function: ScriptFunction,
     attributes: Attributes,
 ) -> Method
-    ensures exact { (E : spaces.Space) → result ≡ spec.method_with
-        E signatures.now family.now member.now body function attributes }
+    ensures exact { result ≡ spec.method_with
+        signatures.now family.now member.now body function attributes }
 {
     let slot = slot_of(signatures, &function, attributes.read_only);
     Method {
@@ -183,8 +181,7 @@ fn push_method(
             found.push(method_with(signatures, family, member, body, function, *attributes))?;
             Ok(())
         }
-        MemberKind::Field(_) => Ok(()),
-        MemberKind::Constructor(_) => Ok(()),
+        MemberKind::Field(_) | MemberKind::Constructor(_) => Ok(()),
     }
 }
 
@@ -221,9 +218,8 @@ fn push_constructor(
     body: usize,
     found: &mut Vec<Constructor>,
 ) -> Result<(), AllocError>
-    ensures pushed { (all : List (known.ScriptFunction × Bool)) → OnOk result (found.new.items
-        ≡ found.old.items ++ spec.constructors_by space.now all family.now member.now body
-        member.now.kind) }
+    ensures pushed { OnOk result (found.new.items ≡ found.old.items
+        ++ spec.constructors_by space.now family.now member.now body member.now.kind) }
 {
     match &member.kind {
         MemberKind::Constructor(params) => {
@@ -238,8 +234,7 @@ fn push_constructor(
             found.push(Constructor { function, body })?;
             Ok(())
         }
-        MemberKind::Field(_) => Ok(()),
-        MemberKind::Method(_, _, _) => Ok(()),
+        MemberKind::Field(_) | MemberKind::Method(_, _, _) => Ok(()),
     }
 }
 
@@ -252,8 +247,8 @@ pub fn constructors_of(
     family: &Declaring<'_, '_>,
     first: usize,
 ) -> Result<List<Constructor>, AllocError>
-    ensures exact { (all : List (known.ScriptFunction × Bool)) → IfOk result (λ ks. ks ≡ each_after
-        (spec.constructors_after space.now all family.now first) [] family.now.shape.members) }
+    ensures exact { IfOk result (λ ks. ks ≡ each_after
+        (spec.constructors_after space.now family.now first) [] family.now.shape.members) }
 {
     let members = family.shape().members.as_slice();
     let mut found = Vec::new(alloc);

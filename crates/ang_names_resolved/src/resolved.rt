@@ -4,17 +4,16 @@ ghost use Rattle.std.specs.List.{filter_map};
 ghost use Rattle.ang_names_known.specs.Spaces as spaces;
 ghost use Rattle.ang_names_listed.specs.Declarations.{declared_name};
 ghost use Rattle.ang_names_listed.specs.Declarations as listed;
-ghost use Rattle.ang_names_listed.specs.Taken as taken;
 ghost use Rattle.ang_names_resolved.specs.Resolved as spec;
 ghost use Rattle.ang_names_resolved.specs.Tables as tables;
 
 use crate::families::families_in;
-use crate::headings::{function_as, heading_of};
+use crate::headings::{function_with, heading_of, parameters_of};
 use crate::space::space_of;
 use crate::tables::{Tables, tables_of};
 use ang_kinds::List;
 use ang_names_known::{Family, Names, ScriptFunction, ScriptGlobal, Space};
-use ang_names_listed::{Declared, Part, families_of};
+use ang_names_listed::{Declared, Part, declares_function, families_of};
 use ang_names_written::{Role, copy_at, written_in};
 use ang_tree::{Parameter, TypeName};
 use ang_view::View;
@@ -31,16 +30,14 @@ fn import_of(
         (λ f. f ≡ spec.import_of space.now declared.now ty.now params.now) }
 {
     let text = declared.text.bytes();
-    let origin = declared.origin;
     let result_type = written_in(space, Role::ImportResult, text, ty);
-    function_as(
+    let params = parameters_of(alloc, space, text, true, params)?;
+    function_with(
         alloc,
-        space,
-        origin,
+        declared.origin,
         text,
         &declared.name,
         result_type,
-        true,
         params,
     )
 }
@@ -182,17 +179,6 @@ fn declared_names(alloc: Global, all: &[Declared<'_>]) -> Result<List<List<u8>>,
         names.push(name)?;
     }
     Ok(List::from_vec(names))
-}
-
-fn declares_function(part: &Part<'_>) -> bool
-    ensures exact { result ≡ taken.declares_function part.now }
-{
-    match part {
-        Part::Function(_, _) => true,
-        Part::Family(_) => false,
-        Part::Import(_, _) => false,
-        Part::Global(_) => false,
-    }
 }
 
 /// How many functions are declared.

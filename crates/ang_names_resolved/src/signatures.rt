@@ -33,8 +33,7 @@ fn signature_of(
             )?;
             Ok(Some((function, attributes.read_only)))
         }
-        MemberKind::Field(_) => Ok(None),
-        MemberKind::Constructor(_) => Ok(None),
+        MemberKind::Field(_) | MemberKind::Constructor(_) => Ok(None),
     }
 }
 

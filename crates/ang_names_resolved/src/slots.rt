@@ -96,7 +96,7 @@ impl Signatures {
     /// The numbers of the methods whose names have this hash, in order.
     fn row(&self, hash: usize) -> &[usize]
         requires small { hash < 256 }
-        ensures exact { result.now ≡ numbers_of hash 0 (hashed.name_hashes self.now) }
+        ensures exact { result.now ≡ numbers_of hash (hashed.name_hashes self.now) }
     {
         self.rows.row(hash)
     }

@@ -7,14 +7,15 @@ ghost use Rattle.ang_names_resolved.specs.Resolved as spec;
 ghost use Rattle.ang_names_resolved.specs.Tables as tables;
 
 use crate::held::held_places;
+use crate::slots::{Signatures, signatures_of};
 use ang_names_heritage::{closed, order_of, push_joined_row, push_row, push_spread_row};
 use ang_names_known::Space;
 use ang_names_listed::Declaring;
 use ang_names_written::text_at;
 use std::alloc::{AllocError, Global};
 
-/// What stands above what, and what reaches what, of the classes and interfaces of a build: tables of a row for each, with an
-/// entry for each.
+/// What the families of a build are made by: what stands above what, and what reaches what, as tables
+/// of a row for each class or interface with an entry for each; and the methods of all.
 #[derive(Drop)]
 pub struct Tables {
     /// The bases that one names.
@@ -25,6 +26,8 @@ pub struct Tables {
     pub above: Vec<bool>,
     /// All that one reaches through what its fields can hold.
     pub reach: Vec<bool>,
+    /// The methods of all, in order.
+    pub signatures: Signatures,
 }
 
 /// The number of the class or interface of this name.
@@ -254,10 +257,12 @@ pub fn tables_of(
     let bases = bases_of(alloc, families)?;
     let above = above_of(alloc, families, &parents)?;
     let reach = reach_of(alloc, space, families, &bases, &above)?;
+    let signatures = signatures_of(alloc, space, families)?;
     Ok(Tables {
         parents,
         bases,
         above,
         reach,
+        signatures,
     })
 }

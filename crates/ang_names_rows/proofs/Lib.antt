@@ -1,1 +1,3 @@
+pub mod Grown
 pub mod Hashed
+pub mod InRow

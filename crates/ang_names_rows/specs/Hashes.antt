@@ -1,7 +1,8 @@
 -- Rows of numbers by hashes, so that what is looked for is found among few. Which hash something has shows in nothing.
-use Rattle.std.specs.Prelude.{ℕ, zero, suc, ◌+◌, ◌*◌, ◌%◌, ◌==◌, if◌then◌else◌, List, [], ◌∷◌}
+use Rattle.std.specs.Prelude.{ℕ, ◌+◌, ◌*◌, ◌%◌, ◌==◌, List, [], ◌∷◌, filter, length, map, slice_index_or}
+use Rattle.std.specs.List.{range_with_len}
 
--- the hash of a name of these bytes, behind a part of it that has the hash h
+-- the hash of a name of these bytes, after a part of it that has the hash h
 abbrev pub hash_from : ℕ → List ℕ → ℕ
 hash_from h [] = h
 hash_from h (b ∷ bs) = hash_from ((h * 31 + b) % 256) bs
@@ -9,12 +10,10 @@ hash_from h (b ∷ bs) = hash_from ((h * 31 + b) % 256) bs
 unfoldable pub name_hash : List ℕ → ℕ
 name_hash name = hash_from 0 name
 
--- the numbers of what has the hash h, the first of all having the number n
-abbrev pub numbers_of : ℕ → ℕ → List ℕ → List ℕ
-numbers_of h n [] = []
-numbers_of h n (x ∷ xs) = if x == h then n ∷ numbers_of h (n + 1) xs else numbers_of h (n + 1) xs
+-- The numbers of what has the hash h, where these are the hashes of all in order.
+unfoldable pub numbers_of : ℕ → List ℕ → List ℕ
+numbers_of h hashes = filter (λ n. slice_index_or hashes n 0 == h) (range_with_len 0 (length hashes))
 
--- A row for each of n hashes from h on.
-unfoldable pub rows_from : List ℕ → ℕ → ℕ → List (List ℕ)
-rows_from xs h zero = []
-rows_from xs h (suc n) = numbers_of h 0 xs ∷ rows_from xs (h + 1) n
+-- A row for each of the first n hashes.
+unfoldable pub rows_of : List ℕ → ℕ → List (List ℕ)
+rows_of hashes n = map (λ h. numbers_of h hashes) (range_with_len 0 n)

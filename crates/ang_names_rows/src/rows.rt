@@ -18,13 +18,13 @@ pub struct Rows {
 
 impl Model for Rows {
     ghost use Rattle.std.specs.Prelude.{◌≡◌, ℕ, List};
-    ghost use Rattle.ang_names_rows.specs.Hashes.{rows_from};
+    ghost use Rattle.ang_names_rows.specs.Hashes.{rows_of};
 
     ghost Value = { List ℕ };
 
     ghost view = { λ r. r.hashes.items };
 
-    ghost invariant = { λ r. r.rows.items ≡ rows_from r.hashes.items 0 256 };
+    ghost invariant = { λ r. r.rows.items ≡ rows_of r.hashes.items 256 };
 }
 
 /// The hash of a number.
@@ -61,7 +61,7 @@ pub fn name_hash(name: &[u8]) -> usize
 
 /// The numbers of what has a hash.
 fn numbers_of(alloc: Global, hashes: &[usize], hash: usize) -> Result<List<usize>, AllocError>
-    ensures exact { IfOk result (λ row. row ≡ spec.numbers_of hash 0 hashes.now) }
+    ensures exact { IfOk result (λ row. row ≡ spec.numbers_of hash hashes.now) }
 {
     let mut row = Vec::new(alloc);
     for (number, other) in hashes.iter().enumerate() {
@@ -72,10 +72,10 @@ fn numbers_of(alloc: Global, hashes: &[usize], hash: usize) -> Result<List<usize
     Ok(List::from_vec(row))
 }
 
-/// A row for each of so many hashes.
-#[tactic(auto, unfolding(crate::specs::Hashes::rows_from))]
+/// A row for each of the first `count` hashes.
+#[tactic(auto, unfolding(crate::specs::Hashes::rows_of))]
 fn rows_from(alloc: Global, hashes: &[usize], count: usize) -> Result<Vec<List<usize>>, AllocError>
-    ensures exact { IfOk result (λ rows. rows.items ≡ spec.rows_from hashes.now 0 count) }
+    ensures exact { IfOk result (λ rows. rows.items ≡ spec.rows_of hashes.now count) }
 {
     let mut rows = Vec::new(alloc);
     for hash in 0..count {
@@ -110,7 +110,7 @@ impl Rows {
     #[tactic(auto, using(crate::proofs::Hashed::row_of_hash))]
     pub fn row(&self, hash: usize) -> &[usize]
         requires small { hash < 256 }
-        ensures exact { result.now ≡ spec.numbers_of hash 0 self.now }
+        ensures exact { result.now ≡ spec.numbers_of hash self.now }
     {
         row_at(self.rows.as_slice(), hash)
     }

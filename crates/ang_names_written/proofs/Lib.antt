@@ -1,2 +1,1 @@
-pub mod FirstTokens
 pub mod Lists

@@ -1,4 +1,3 @@
-pub mod NotYet
 pub mod Sources
 pub mod Spellings
 pub mod Types

@@ -6,12 +6,9 @@ use crate::role::Role;
 use crate::sources::text_at;
 use ang_kinds::{ErrorKind, Pass};
 use ang_lex::{Token, TokenKind};
-use ang_names_known::{Named, Space, Written};
+use ang_names_known::{FIRST_FAMILY, Named, Space, Written};
 use ang_tree::{Handle, Reference, TypeName};
 use ang_types::ArgType;
-
-/// The number of the first family as a type.
-const FIRST_FAMILY: u32 = 1024;
 
 /// A primitive type and `void` have no handles.
 fn without_handle(ty: ArgType, handle: &Option<Handle>) -> Result<ArgType, ErrorKind>

@@ -3,3 +3,4 @@ pub mod Ranks
 pub mod Overloads
 pub mod Best
 pub mod Rivals
+pub mod Refusals

@@ -1,4 +1,6 @@
 //! What is asked of a name that is used, and refusals that keep it.
+ghost use Rattle.std.specs.Prelude.{◌≡◌};
+ghost use Rattle.ang_types.specs.Refusals.{plain_refusal};
 
 use crate::ArgType;
 use ang_kinds::{Error, List};
@@ -34,4 +36,17 @@ pub struct Refused {
     pub asks: Option<Asks>,
     /// Whether a local, a parameter, a field or a method has the name there.
     pub is_there: bool,
+}
+
+impl Refused {
+    /// An error with which no entry of the host could help. It takes no memory.
+    pub fn plain(error: Error) -> Refused
+        ensures exact { result ≡ plain_refusal error }
+    {
+        Refused {
+            error,
+            asks: None,
+            is_there: false,
+        }
+    }
 }

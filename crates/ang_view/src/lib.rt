@@ -13,4 +13,7 @@ mod view;
 
 pub use entry::{Entry, EntryKind};
 pub use lookup::{FoundType, find_type, number_of_type, type_index};
-pub use view::{View, function_index, hidden_of, mentions_type, spells, view_of, whole_of};
+pub use view::{
+    View, belongs_to, function_index, hidden_of, mentions_type, names_entry, spells, view_of,
+    whole_of,
+};

@@ -1,5 +1,5 @@
 //! What a module of a mask sees of a registration list.
-ghost use Rattle.std.specs.Prelude.{◌≡◌, ◌<◌, ◌≤◌, length, IfOk, IfSome, option_map};
+ghost use Rattle.std.specs.Prelude.{◌≡◌, ◌<◌, ◌≤◌, length, Some, IfOk, IfSome, option_map};
 ghost use Rattle.std.specs.Option.{option_copied};
 ghost use Rattle.std.specs.List.{list_all, position};
 ghost use Rattle.ang_view.specs.Hidden.{hidden, hidden_entry};
@@ -213,16 +213,22 @@ fn names(entry: &Entry, number: usize, other: &Option<Entry>) -> bool
 {
     match other {
         None => false,
-        Some(other) => {
-            !matches!(entry.kind, EntryKind::HostType)
-                && matches!(other.kind, EntryKind::HostType)
-                && (belongs_to(entry.owner, number)
-                    || mentions_type(&entry.signature, other.signature.name.as_slice()))
-        }
+        Some(other) => names_entry(entry, number, other),
     }
 }
 
-fn belongs_to(owner: Option<EntityNo>, number: usize) -> bool
+/// Whether the declaration of an entry names another one, which has this number.
+pub fn names_entry(entry: &Entry, number: usize, other: &Entry) -> bool
+    ensures exact { result ≡ is_named_by entry.now number (Some other.now) }
+{
+    !matches!(entry.kind, EntryKind::HostType)
+        && matches!(other.kind, EntryKind::HostType)
+        && (belongs_to(entry.owner, number)
+            || mentions_type(&entry.signature, other.signature.name.as_slice()))
+}
+
+/// Whether the owner of an entry is the one of this number.
+pub fn belongs_to(owner: Option<EntityNo>, number: usize) -> bool
     ensures exact { result ≡ is_number number owner }
 {
     match owner {

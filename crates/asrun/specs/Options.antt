@@ -2,7 +2,7 @@
 use Rattle.std.specs.Prelude.{ℕ, Bool, true, List, Option, Some, None, is_some, nat_le, ◌&&◌, if◌then◌else◌, codes}
 use Rattle.std.specs.Option.{option_and_then}
 use Rattle.clap.specs.Words.{App, Rule, new_app, new_rule, with_rule, matches_of, first_of, takes}
-use Rattle.asrun_session.specs.Fields.{decimal_of}
+use Rattle.asrun_lines.specs.Fields.{decimal_of}
 
 -- `--profile` and `--session` are wanted, `--budget` isn't
 abbrev pub profile_rule : Rule

@@ -3,7 +3,7 @@ ghost use Rattle.std.specs.Prelude.{◌≡◌, ◌≤◌, Some, IfOk, IfSome, co
 ghost use Rattle.clap.specs.Words.{app_of, first_value, found_of};
 ghost use Rattle.asrun.specs.Options.{program, budget_given, is_complete};
 
-use asrun_session::decimal;
+use asrun_lines::decimal;
 use clap::{Arg, ArgMatches, Command};
 use std::alloc::{AllocError, Global};
 

@@ -1,8 +1,8 @@
 -- Doing a session action by action.
-use Rattle.std.proofs.Common.{◌≡◌, ℕ, ◌+◌, Bool, true, false, cond, ◌&&◌, List, [], ◌∷◌, ◌++◌, length, take, map, Option, Some, None, refl, sym, ap, ◌∙◌, append_assoc, arith}
+use Rattle.std.proofs.Common.{◌≡◌, ◌≤◌, ◌-◌, ℕ, zero, suc, ◌+◌, Bool, true, false, cond, ◌&&◌, List, [], ◌∷◌, ◌++◌, length, take, map, Option, Some, None, refl, sym, ap, ◌∙◌, append_assoc, arith}
 use Rattle.std.specs.List.{list_all}
 use Rattle.std.specs.Io.KnownBytes.{Appends}
-use Rattle.std.proofs.lemmas.List.{append-nil, take-append-le}
+use Rattle.std.proofs.lemmas.List.{append-nil, length-append, take-append-le}
 use Rattle.std.proofs.Math.Seq.{take-append_seam, take-append-add}
 use Rattle.std.specs.declared.alloc.Global.{Global}
 use Rattle.std.specs.declared.dyn_box.DynBox.{DynBox}
@@ -12,9 +12,9 @@ use Rattle.ang_host.proofs.Events.{AllFollow-none, AllFollow-join}
 use Rattle.ang_view.specs.Registration.{RegistrationList}
 use Rattle.ang_registry.specs.Roles.{roles_of}
 use Rattle.ang_engine.specs.Step.{Runs}
-use Rattle.ang_engine.specs.World.{World}
+use Rattle.ang_engine_world.specs.World.{World}
 use Rattle.asrun_session.specs.Session.{Session, behind_action}
-use Rattle.asrun_session.specs.Deeds.{Deed, Ran, Set, Does, action_of, commands_in, replies_in, deed_events, events_in, deed_text, text_in, is_ok, bad_line_text, IsDone, IsCut, IsPrinted, IsHalfPrinted}
+use Rattle.asrun_session.specs.Deeds.{Deed, Ran, Set, Does, action_of, commands_in, replies_in, deed_events, events_in, deed_text, text_in, is_ok, bad_line_text, but_last, told_behind, IsDone, IsCut, IsPrinted, IsHalfPrinted}
 use Rattle.asrun_session.specs.Drivers.{ByEvents}
 use Rattle.asrun_session.specs.Writing.{HasFront}
 use Rattle.asrun_session.specs.declared.action.Action.{Action}
@@ -74,9 +74,43 @@ appends_nothing : (o : Option (List ℕ)) → Appends o o []
 appends_nothing None = tt
 appends_nothing (Some xs) = sym (append-nil xs)
 
+pub front_none : (o : Option (List ℕ)) (text : List ℕ) → HasFront o o text
+front_none o text = record { count = 0; within = omega arith; printed = appends_nothing o }
+
+-- a text, and a front of one more that stands behind it
+abbrev front_behind : (old mid new : Option (List ℕ)) (text one tail all : List ℕ) → all ≡ text ++ (one ++ tail)
+    → Appends old mid text → HasFront mid new one → HasFront old new all
+front_behind old mid new text one tail all e p q = record {
+  count = length text + q.count;
+  within = omega (arith, q.within, ap length e, length-append text (one ++ tail), length-append one tail);
+  printed = rw (e, take-append-add text (one ++ tail) q.count, take-append-le q.count one tail q.within)
+      (appends_both old mid new text (take q.count one) p q.printed);
+}
+
+-- the first deeds have no more text than all
+text_front : (k : ℕ) (ds : List Deed) → length (text_in (take k ds)) ≤ length (text_in ds)
+text_front zero ds = omega arith
+text_front (suc k) [] = omega arith
+text_front (suc k) (d ∷ ds) =
+    omega (arith, text_front k ds, length-append (deed_text d) (text_in (take k ds)), length-append (deed_text d) (text_in ds))
+
+-- the deeds before one more
+but_last_is : (ds : List Deed) (d : Deed) → but_last (ds ++ d ∷ []) ≡ ds
+but_last_is ds d =
+    let others : length (ds ++ d ∷ []) - 1 ≡ length ds = omega (arith, length-append ds (d ∷ [])) in
+    ap (λ k. take k (ds ++ d ∷ [])) others ∙ take-append_seam ds (d ∷ [])
+
 -- a session that was not begun
 pub cut_nothing : (R : RegistrationList) (w : World) (s : Session) (o : Option (List ℕ)) → IsCut R w s o o [] w
-cut_nothing R w s o = record { deeds = []; left = s.actions; actions = refl; replies = refl; events = refl; count = 0; printed = appends_nothing o }
+cut_nothing R w s o = record {
+  deeds = [];
+  left = s.actions;
+  actions = refl;
+  replies = refl;
+  events = refl;
+  printed = front_none o (told_behind s.actions s.bad_line);
+  whole = omega arith;
+}
 
 module _ {V : Type 0} {P : V → Type 0} (m : Meanings P) (R : RegistrationList) where
   follow_more : (xs ys zs : List (DynBox V Global P)) (ds : List Deed) (d : Deed)
@@ -119,14 +153,10 @@ module _ {V : Type 0} {P : V → Type 0} (m : Meanings P) (R : RegistrationList)
       actions = h.actions ∙ ap (λ s. map action_of h.deeds ++ s.actions) e ∙ ap (λ x. map action_of h.deeds ++ x ∷ next.actions) (sym p.action) ∙ sym (actions_more h.deeds p.deed next.actions);
       replies = runs_of R w after (h.deeds ++ p.deed ∷ []) (does_more R w v after h.deeds p.deed h.does p.does);
       events = refl;
-      count = length (text_in h.deeds) + p.front.count;
-      printed = rw (
-        text_more h.deeds p.deed,
-        append_assoc,
-        take-append-add (text_in h.deeds) (deed_text p.deed ++ bad_line_text whole.bad_line) p.front.count,
-        take-append-le p.front.count (deed_text p.deed) (bad_line_text whole.bad_line) p.front.within,
-      )
-          (appends_both old mid new (text_in h.deeds) (take p.front.count (deed_text p.deed)) h.printed p.front.printed);
+      printed = front_behind old mid new (text_in h.deeds) (deed_text p.deed) (told_behind next.actions whole.bad_line) _
+          (ap (λ t. t ++ told_behind next.actions whole.bad_line) (text_more h.deeds p.deed)
+          ∙ append_assoc (text_in h.deeds) (deed_text p.deed) (told_behind next.actions whole.bad_line)) h.printed p.front;
+      whole = rw (but_last_is h.deeds p.deed) (omega arith);
     },
     follow_more xs ys zs h.deeds p.deed h.follow p.follow,
   )
@@ -142,8 +172,12 @@ module _ {V : Type 0} {P : V → Type 0} (m : Meanings P) (R : RegistrationList)
       actions = h.actions;
       replies = runs_of R w after h.deeds h.does;
       events = refl;
-      count = length (text_in h.deeds);
-      printed = rw (take-append_seam (text_in h.deeds) (bad_line_text whole.bad_line)) h.printed;
+      printed = record {
+        count = length (text_in h.deeds);
+        within = omega (arith, length-append (text_in h.deeds) (told_behind left.actions whole.bad_line));
+        printed = rw (take-append_seam (text_in h.deeds) (told_behind left.actions whole.bad_line)) h.printed;
+      };
+      whole = text_front (length h.deeds - 1) h.deeds;
     },
     h.follow,
   )
@@ -175,13 +209,13 @@ module _ {V : Type 0} {P : V → Type 0} (m : Meanings P) (R : RegistrationList)
         events_in h.deeds,
         record {
           deeds = h.deeds;
-          left = left.actions;
-          actions = h.actions;
+          left = [];
+          actions = h.actions ∙ ap (λ s. map action_of h.deeds ++ s.actions) e;
           replies = runs_of R w after h.deeds h.does;
           events = refl;
-          count = length (text_in h.deeds) + p.count;
-          printed = rw (bad, take-append-add (text_in h.deeds) (bad_line_text (Some n)) p.count)
-              (appends_both old mid new (text_in h.deeds) (take p.count (bad_line_text (Some n))) h.printed p.printed);
+          printed = front_behind old mid new (text_in h.deeds) (bad_line_text (Some n)) [] _
+              (ap (λ b. text_in h.deeds ++ bad_line_text b) bad ∙ ap (λ t. text_in h.deeds ++ t) (sym (append-nil (bad_line_text (Some n))))) h.printed p;
+          whole = omega (arith, text_front (length h.deeds - 1) h.deeds);
         },
         h.follow,
       )
@@ -203,6 +237,3 @@ module _ {V : Type 0} {P : V → Type 0} (m : Meanings P) (R : RegistrationList)
         },
         h.follow,
       )
-
-pub front_none : (o : Option (List ℕ)) (text : List ℕ) → HasFront o o text
-front_none o text = record { count = 0; within = omega arith; printed = appends_nothing o }

@@ -22,7 +22,7 @@ use Rattle.ang_meaning.proofs.Tables.{get_inserted, get_without}
 use Rattle.ang_view.specs.Registration.{RegistrationList}
 use Rattle.ang_registry.specs.Roles.{roles_of}
 use Rattle.ang_engine.specs.Ending.{ends_of}
-use Rattle.ang_engine.specs.World.{World as EngineWorld, running, globals_ended, all_ended, engine_ended}
+use Rattle.ang_engine_world.specs.World.{World as EngineWorld, running, globals_ended, all_ended, engine_ended}
 use Rattle.ang_engine.proofs.GlobalsEnd.{ending_lists_ends}
 use Rattle.asrun_session.specs.LastEnds.{ends_in, AreLastEnds}
 
@@ -108,9 +108,9 @@ back_share d k (v ∷ vs) w = give_share d k v (give_back vs w) ∙ back_share d
 globals_share : (d k i : ℕ) (r : World) → of d k (globals_ended i r) ≡ of d k r
 globals_share d k i r = back_share d k (slice_index_or r.globals i []) (record r { globals = slice_set r.globals i [] })
 
-all_share : (d k n : ℕ) (r : World) → of d k (all_ended n r) ≡ of d k r
-all_share d k zero r = refl
-all_share d k (suc n) r = all_share d k n (globals_ended n r) ∙ globals_share d k n r
+all_share : (d k : ℕ) (is : List ℕ) (r : World) → of d k (all_ended is r) ≡ of d k r
+all_share d k [] r = refl
+all_share d k (i ∷ is) r = globals_share d k i (all_ended is r) ∙ all_share d k is r
 
 -- ---- an object that was alive and is not any more has ended
 
@@ -157,7 +157,7 @@ module _ {V : Type 0} {P : V → Type 0} (m : Meanings P) (R : RegistrationList)
       subst (λ l. 1 ≤ ends_in d k l) (sym listed.1)
       (some_end d k listed.0 (subst (λ l. live_along k true (events_of d l) ≡ false) listed.1 (subst (λ b. live_along k b (events_of d (engine_ended w).events) ≡ false) t after))) in
       let total : ends_in d k (engine_ended w).events + alive (map.get ((engine_ended w).hosts d) k) ≡ alive z =
-      all_share d k (length w.globals) (running w []) ∙ omega arith ∙ ap (λ hs. alive (map.get (hs d) k)) hosts in
+      all_share d k w.modules.order (running w []) ∙ omega arith ∙ ap (λ hs. alive (map.get (hs d) k)) hosts in
       once z (ends_in d k (engine_ended w).events) _ (live_along k false (events_of d es)) total before some
 
   pub last_ends : w.hosts ≡ counts_by (states_of m zs) → AreFresh (states_of m xs) → AreFresh (states_of m ys) → DriversFollow m (roles_of R) xs es zs

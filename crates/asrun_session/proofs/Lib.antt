@@ -1,11 +1,7 @@
 pub mod Appending
-pub mod Arguments
-pub mod Cuts
 pub mod Doing
-pub mod FirstLines
 pub mod LastEnds
 pub mod Loading
-pub mod Numerals
 pub mod ReadBytes
 pub mod Taking
 pub mod Telling

@@ -5,7 +5,7 @@ use Rattle.ang_kinds.specs.declared.mask.EntityNo.{EntityNo}
 use Rattle.ang_registry.specs.declared.error.RegError.{RegError}
 use Rattle.ang_registry.specs.declared.error.RegError.TheVariants.{Memory as NoMemory}
 use Rattle.ang_registry.specs.Registrations.{Registrations}
-use Rattle.asrun_session.specs.Lines.{shown_of}
+use Rattle.asrun_lines.specs.Lines.{shown_of}
 use Rattle.asrun_session.specs.Profile.{loaded, line_entered, Loads, registered, IsJudged}
 use Rattle.asrun_session.specs.declared.profile.ProfileFault.{ProfileFault}
 use Rattle.asrun_session.specs.declared.profile.ProfileFault.TheVariants.{Refused}

@@ -13,7 +13,7 @@ use Rattle.ang_meaning.specs.Counting.{counts_by}
 use Rattle.ang_view.specs.Registration.{RegistrationList}
 use Rattle.ang_registry.specs.Roles.{roles_of}
 use Rattle.ang_engine.specs.Sound.{HaveDrivers}
-use Rattle.ang_engine.specs.World.{World, no_modules, engine_ended}
+use Rattle.ang_engine_world.specs.World.{World, no_modules, engine_ended}
 use Rattle.asrun_session.specs.Deeds.{IsDone, IsCut}
 use Rattle.asrun_session.specs.Drivers.{AreListed, AreBack, ByEvents, WasDiscarded, DidNothing, EngineRefusal, IsRefused, AreRefused, engine_text}
 use Rattle.asrun_session.specs.Reading.{unread}
@@ -23,7 +23,7 @@ use Rattle.asrun_session.specs.declared.ending.Status.{Status}
 use Rattle.asrun_session.specs.declared.ending.Status.TheVariants.{BadInput}
 use Rattle.asrun_session.specs.declared.ending.Stop.{Stop}
 use Rattle.asrun_session.specs.declared.ending.Stop.TheVariants.{Memory}
-use Rattle.asrun_session.specs.Lines.{lines_of}
+use Rattle.asrun_lines.specs.Lines.{lines_of}
 use Rattle.asrun_session.specs.Session.{session_from}
 use Rattle.asrun_session.proofs.Doing.{cut_nothing, follow_nothing}
 use Rattle.asrun_session.proofs.LastEnds.{last_ends}

@@ -1,8 +1,8 @@
 -- A session's lines, one after the other.
 use Rattle.std.proofs.Common.{◌≡◌, ℕ, zero, suc, ◌+◌, ◌≤◌, true, false, List, [], ◌∷◌, length, drop, Some, None, refl, sym, ap, ◌∙◌, arith, add-zero}
 use Rattle.std.specs.Option.{option_and_then}
-use Rattle.asrun_session.specs.Lines.{shown_of, is_skipped}
-use Rattle.asrun_session.specs.SessionLines.{session_line_of}
+use Rattle.asrun_lines.specs.Lines.{shown_of, is_skipped}
+use Rattle.asrun_lines.specs.SessionLines.{session_line_of}
 use Rattle.asrun_session.specs.Session.{Act, act_of, session_from, behind_action, budget_after}
 
 -- the lines of a section are passed over

@@ -1,5 +1,5 @@
 -- What a session did (docs/EMBEDDING.md, "The program").
-use Rattle.std.specs.Prelude.{◌≡◌, ℕ, Bool, true, false, List, [], ◌∷◌, ◌++◌, take, map, flat_map, Option, Some, None, codes, decimal, if◌then◌else◌}
+use Rattle.std.specs.Prelude.{◌≡◌, ◌≤◌, ◌-◌, ℕ, Bool, true, false, List, [], ◌∷◌, ◌++◌, length, take, map, flat_map, Option, Some, None, codes, decimal, if◌then◌else◌}
 use Rattle.std.specs.List.{list_all}
 use Rattle.std.specs.Io.KnownBytes.{Appends}
 use Rattle.std.specs.declared.alloc.Global.{Global}
@@ -9,12 +9,12 @@ use Rattle.ang_host.specs.Meanings.{Meanings}
 use Rattle.ang_host.specs.declared.event.HostEvent.{HostEvent}
 use Rattle.ang_view.specs.Registration.{RegistrationList}
 use Rattle.ang_registry.specs.Roles.{roles_of}
-use Rattle.ang_engine.specs.declared.command.Command.{Command}
-use Rattle.ang_engine.specs.declared.reply.Outcome.{Outcome}
-use Rattle.ang_engine.specs.declared.reply.Outcome.TheVariants.{Done, Failed, Refused}
-use Rattle.ang_engine.specs.declared.reply.Reply.{Reply}
+use Rattle.ang_engine_world.specs.declared.command.Command.{Command}
+use Rattle.ang_engine_world.specs.declared.reply.Outcome.{Outcome}
+use Rattle.ang_engine_world.specs.declared.reply.Outcome.TheVariants.{Done, Failed, Refused}
+use Rattle.ang_engine_world.specs.declared.reply.Reply.{Reply}
 use Rattle.ang_engine.specs.Step.{Takes, Runs}
-use Rattle.ang_engine.specs.World.{World}
+use Rattle.ang_engine_world.specs.World.{World}
 use Rattle.asrun_session.specs.Session.{Session}
 use Rattle.asrun_text.specs.Text.{newline, reply_text}
 use Rattle.asrun_session.specs.Writing.{HasFront}
@@ -96,8 +96,17 @@ pub record IsDone (R : RegistrationList) (w : World) (session : Session) (old ne
   pub printed : Appends old new (text_in deeds ++ bad_line_text session.bad_line)
   pub ending : status ≡ status_of session.bad_line deeds
 
+-- all deeds but the last one
+abbrev pub but_last : List Deed → List Deed
+but_last ds = take (length ds - 1) ds
+
+-- a line of another form is told where no action is left
+abbrev pub told_behind : List Action → Option ℕ → List ℕ
+told_behind [] bad_line = bad_line_text bad_line
+told_behind (a ∷ left) bad_line = []
+
 -- The session was cut short: its first commands ran, these are the events of their replies, and a
--- front of their text was printed.
+-- front of their text was printed, in which each reply but the last one stands whole.
 pub record IsCut (R : RegistrationList) (w : World) (session : Session) (old new : Option (List ℕ))
     (es : List HostEvent) (after : World) : Type 0 where
   pub deeds : List Deed
@@ -105,8 +114,8 @@ pub record IsCut (R : RegistrationList) (w : World) (session : Session) (old new
   pub actions : session.actions ≡ map action_of deeds ++ left
   pub replies : Runs R w (commands_in deeds) (replies_in deeds) after
   pub events : es ≡ events_in deeds
-  pub count : ℕ
-  pub printed : Appends old new (take count (text_in deeds ++ bad_line_text session.bad_line))
+  pub printed : HasFront old new (text_in deeds ++ told_behind left session.bad_line)
+  pub whole : length (text_in (but_last deeds)) ≤ printed.count
 
 -- one action was done, the drivers followed its events, and its text was printed
 pub record IsPrinted {V : Type 0} {P : V → Type 0} (m : Meanings P) (R : RegistrationList)

@@ -3,13 +3,8 @@ pub mod Deeds
 pub mod Drivers
 pub mod Engines
 pub mod LastEnds
-pub mod Fields
-pub mod Values
-pub mod Lines
-pub mod ProfileLines
 pub mod Profile
 pub mod Reading
 pub mod Session
-pub mod SessionLines
 pub mod Whole
 pub mod Writing

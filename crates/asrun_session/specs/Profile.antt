@@ -6,8 +6,8 @@ use Rattle.ang_kinds.specs.declared.mask.EntityNo.{EntityNo}
 use Rattle.ang_registry.specs.Declarations.{declared_type, declared_factory, declared_method, declared_property, declared_function}
 use Rattle.ang_registry.specs.Refusals.{refusal_of_type, with_type, refusal_of_factory, with_factory, refusal_of_method, with_method, refusal_of_property, with_property, refusal_of_function, with_function, refusal_of_global, with_global, refusal_of_blank, with_blank}
 use Rattle.ang_registry.specs.declared.error.RegError.TheVariants.{Memory as NoMemory}
-use Rattle.asrun_session.specs.Lines.{shown_of, is_skipped}
-use Rattle.asrun_session.specs.ProfileLines.{Entry, DefaultMask, HostType, Factory, Method, Property, Function, Global, Blank, entry_of}
+use Rattle.asrun_lines.specs.Lines.{shown_of, is_skipped}
+use Rattle.asrun_lines.specs.ProfileLines.{Entry, DefaultMask, HostType, Factory, Method, Property, Function, Global, Blank, entry_of}
 use Rattle.asrun_session.specs.declared.profile.ProfileFault.{ProfileFault}
 use Rattle.asrun_session.specs.declared.profile.ProfileFault.TheVariants.{BadLine, Refused}
 use Rattle.asrun_session.specs.declared.profile.ProfileStop.{ProfileStop}

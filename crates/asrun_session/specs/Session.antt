@@ -1,14 +1,14 @@
 -- What a session says (docs/EMBEDDING.md, "The program").
 use Rattle.std.specs.Prelude.{ℕ, zero, suc, ◌+◌, nat_le, List, [], ◌∷◌, length, take, Option, Some, None, option_and_then, if◌then◌else◌}
 use Rattle.std.specs.List.{concat}
-use Rattle.ang_engine.specs.declared.command.Command.{Command}
-use Rattle.ang_engine.specs.declared.command.Command.TheVariants.{NewModule, AddSection, Build, Call}
-use Rattle.asrun_session.specs.Lines.{shown_of, is_skipped}
-use Rattle.asrun_session.specs.SessionLines.{session_line_of}
+use Rattle.ang_engine_world.specs.declared.command.Command.{Command}
+use Rattle.ang_engine_world.specs.declared.command.Command.TheVariants.{NewModule, SetMask, AddSection, Build, Bind, Unbind, Call, Discard}
+use Rattle.asrun_lines.specs.Lines.{shown_of, is_skipped}
+use Rattle.asrun_lines.specs.SessionLines.{session_line_of}
 use Rattle.asrun_session.specs.declared.action.Action.{Action}
 use Rattle.asrun_session.specs.declared.action.Action.TheVariants as action
-use Rattle.asrun_session.specs.declared.session_line.SessionLine.{SessionLine}
-use Rattle.asrun_session.specs.declared.session_line.SessionLine.TheVariants as line
+use Rattle.asrun_lines.specs.declared.session_lines.SessionLine.{SessionLine}
+use Rattle.asrun_lines.specs.declared.session_lines.SessionLine.TheVariants as line
 
 -- an action, and how many of the lines behind it are its section's
 pub record Act : Type 0 where
@@ -34,7 +34,12 @@ section_act behind name lines =
 abbrev pub act_of : ℕ → List (List ℕ) → SessionLine → Option Act
 act_of budget behind (line.Module name mask) = command (NewModule name mask)
 act_of budget behind (line.Section name lines) = section_act behind name lines
+act_of budget behind (line.Mask name mask) = command (SetMask name mask)
 act_of budget behind (line.Build name) = command (Build name budget)
+act_of budget behind (line.Bind name index exporter decl) =
+    command (Bind name index exporter decl)
+act_of budget behind (line.Unbind name index) = command (Unbind name index)
+act_of budget behind (line.Discard name) = command (Discard name)
 act_of budget behind (line.Call name args decl) = command (Call name decl args budget)
 act_of budget behind (line.Budget ticks) = Some (record { action = action.Budget ticks; lines = 0 })
 

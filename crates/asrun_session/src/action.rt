@@ -1,14 +1,13 @@
 //! What the lines of a session do.
 ghost use Rattle.std.specs.Prelude.{◌+◌, ◌≤◌, IfOk, length, option_and_then};
 ghost use Rattle.asrun_session.specs.Acts.{Gives};
-ghost use Rattle.asrun_session.specs.Lines.{lines_of};
+ghost use Rattle.asrun_lines.specs.Lines.{lines_of};
 ghost use Rattle.asrun_session.specs.Session.{act_of, section_act};
-ghost use Rattle.asrun_session.specs.SessionLines.{session_line_of};
+ghost use Rattle.asrun_lines.specs.SessionLines.{session_line_of};
 
-use crate::lines::first_lines;
-use crate::session_line::{LineError, SessionLine, session_line};
 use ang_engine::Command;
 use ang_kinds::List;
+use asrun_lines::{LineError, SessionLine, first_lines, session_line};
 use std::alloc::Global;
 
 /// What a line of a session does.
@@ -63,7 +62,21 @@ pub fn read_act<'a>(
     let action = match session_line(alloc, line)? {
         SessionLine::Section { name, lines } => return section(alloc, name, lines, rest),
         SessionLine::Module { name, mask } => Action::Command(Command::NewModule { name, mask }),
+        SessionLine::Mask { name, mask } => Action::Command(Command::SetMask { name, mask }),
         SessionLine::Build { name } => Action::Command(Command::Build { name, budget }),
+        SessionLine::Bind {
+            name,
+            index,
+            exporter,
+            decl,
+        } => Action::Command(Command::Bind {
+            name,
+            index,
+            exporter,
+            decl,
+        }),
+        SessionLine::Unbind { name, index } => Action::Command(Command::Unbind { name, index }),
+        SessionLine::Discard { name } => Action::Command(Command::Discard { name }),
         SessionLine::Call { name, args, decl } => Action::Command(Command::Call {
             name,
             decl,

@@ -1,13 +1,12 @@
 //! Registering what a profile says.
 ghost use Rattle.std.specs.Prelude.{◌≡◌, ◌<◌, ◌^◌, length};
-ghost use Rattle.asrun_session.specs.Lines.{lines_of};
+ghost use Rattle.asrun_lines.specs.Lines.{lines_of};
 ghost use Rattle.asrun_session.specs.Profile.{line_entered, loaded, Loads, entered, IsJudged};
-ghost use Rattle.asrun_session.specs.ProfileLines.{entry_of};
+ghost use Rattle.asrun_lines.specs.ProfileLines.{entry_of};
 
-use crate::lines::{first_line, is_skipped, shown};
-use crate::profile_line::{ProfileLine, profile_line};
 use ang_kinds::EntityNo;
 use ang_registry::{RegError, Registry};
+use asrun_lines::{ProfileLine, first_line, is_skipped, profile_line, shown};
 
 /// What ends a run at a line of a profile. Lines are numbered from 1.
 #[derive(Clone, Copy, PartialEq, Eq, Debug)]

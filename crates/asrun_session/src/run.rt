@@ -6,7 +6,7 @@ ghost use Rattle.ang_engine.specs.Sound.{IsSound};
 ghost use Rattle.asrun_session.specs.Deeds.{bad_line_text, is_done};
 ghost use Rattle.asrun_session.specs.Drivers.{kinds_of};
 ghost use Rattle.asrun_session.specs.Engines.{Prints, HalfPrints, RunsLines, StopsLines};
-ghost use Rattle.asrun_session.specs.Lines.{lines_of};
+ghost use Rattle.asrun_lines.specs.Lines.{lines_of};
 ghost use Rattle.asrun_session.specs.Reading.{unread};
 ghost use Rattle.asrun_session.specs.Session.{session_from, budget_after};
 ghost use Rattle.asrun_text.specs.Text.{reply_text};
@@ -15,12 +15,11 @@ ghost use Rattle.asrun_session.specs.declared.action.Action.TheVariants as actio
 
 use crate::action::{Action, read_act};
 use crate::ending::{Status, Stop};
-use crate::lines::{first_line, is_skipped, shown};
-use crate::session_line::LineError;
 use crate::text::push_bad_line;
 use crate::writing::write_text;
 use ang_engine::{Command, Engine, Outcome, Reply};
 use ang_host::Driver;
+use asrun_lines::{LineError, first_line, is_skipped, shown};
 use asrun_text::push_reply;
 use std::alloc::Global;
 use std::io::Write;

@@ -19,11 +19,11 @@ use Rattle.ang_host.specs.declared.answer.HostReply.{HostReply}
 use Rattle.ang_host.specs.declared.answer.HostReply.TheVariants as reply
 use Rattle.ang_host.specs.declared.event.HostEvent.{HostEvent}
 use Rattle.ang_host.specs.declared.event.HostEvent.TheVariants as event
-use Rattle.ang_engine.specs.declared.reply.Outcome.{Outcome}
-use Rattle.ang_engine.specs.declared.reply.Outcome.TheVariants as outcome
-use Rattle.ang_engine.specs.declared.reply.Refusal.{Refusal}
-use Rattle.ang_engine.specs.declared.reply.Refusal.TheVariants as refusal
-use Rattle.ang_engine.specs.declared.reply.Reply.{Reply}
+use Rattle.ang_engine_world.specs.declared.reply.Outcome.{Outcome}
+use Rattle.ang_engine_world.specs.declared.reply.Outcome.TheVariants as outcome
+use Rattle.ang_engine_world.specs.declared.reply.Refusal.{Refusal}
+use Rattle.ang_engine_world.specs.declared.reply.Refusal.TheVariants as refusal
+use Rattle.ang_engine_world.specs.declared.reply.Reply.{Reply}
 
 abbrev pub newline : List ℕ
 newline = 10 ∷ []
@@ -125,7 +125,6 @@ kind_text kind.NoAssign = codes "NoAssign"
 kind_text kind.Jump = codes "Jump"
 kind_text kind.NoDefault = codes "NoDefault"
 kind_text kind.NoReturn = codes "NoReturn"
-kind_text kind.NotYet = codes "NotYet"
 
 -- a name, or `-` where it is empty
 abbrev pub name_text : List ℕ → List ℕ
@@ -158,6 +157,8 @@ refusal_text refusal.BuildMemory = codes "BuildMemory"
 refusal_text refusal.BuildErrors = codes "BuildErrors"
 refusal_text (refusal.InitFailed f) = codes "InitFailed " ++ fault_text f
 refusal_text refusal.NoFunction = codes "NoFunction"
+refusal_text refusal.NoImport = codes "NoImport"
+refusal_text refusal.SignatureDiffers = codes "SignatureDiffers"
 refusal_text refusal.NotCallable = codes "NotCallable"
 refusal_text refusal.BadArguments = codes "BadArguments"
 refusal_text refusal.Memory = codes "Memory"

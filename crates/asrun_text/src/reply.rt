@@ -126,7 +126,6 @@ fn kind_name(kind: ErrorKind) -> &'static str
         ErrorKind::Jump => "Jump",
         ErrorKind::NoDefault => "NoDefault",
         ErrorKind::NoReturn => "NoReturn",
-        ErrorKind::NotYet => "NotYet",
     }
 }
 
@@ -346,6 +345,8 @@ fn push_refusal(out: &mut Vec<u8>, refusal: Refusal) -> Result<(), AllocError>
         Refusal::BuildErrors => push_text(out, "BuildErrors"),
         Refusal::InitFailed(fault) => push_init_failed(out, fault),
         Refusal::NoFunction => push_text(out, "NoFunction"),
+        Refusal::NoImport => push_text(out, "NoImport"),
+        Refusal::SignatureDiffers => push_text(out, "SignatureDiffers"),
         Refusal::NotCallable => push_text(out, "NotCallable"),
         Refusal::BadArguments => push_text(out, "BadArguments"),
         Refusal::Memory => push_text(out, "Memory"),

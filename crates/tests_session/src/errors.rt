@@ -12,13 +12,13 @@ const SECTIONS: [(&str, &str, &str); 32] = [
     (PROFILE, "int f(", "error Syntax 0:1:7 -\n"),
     (
         PROFILE,
-        "int a, b; import void f() from \"b\";",
-        "error NotYet 0:1:11 -\n",
+        "int a, b; import void a() from \"b\";",
+        "error Duplicate 0:1:23 a\n",
     ),
     (
         PROFILE,
-        "int a; int a; import void f() from \"b\";",
-        "error NotYet 0:1:15 -\n",
+        "import Nope f() from \"b\"; import void g(int &out x) from \"b\";",
+        "error UnknownType 0:1:8 Nope\nerror BadImport 0:1:41 int\n",
     ),
     (PROFILE, "int a; int a;", "error Duplicate 0:1:12 a\n"),
     (

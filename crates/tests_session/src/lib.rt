@@ -8,6 +8,8 @@ mod errors;
 #[cfg(test)]
 mod harness;
 #[cfg(test)]
+mod modules;
+#[cfg(test)]
 mod sessions;
 #[cfg(test)]
 mod statements;

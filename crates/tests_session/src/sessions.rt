@@ -39,8 +39,8 @@ const RUNS: [(&str, &str, &str, Status); 33] = [
     ),
     (
         PROFILE,
-        "module a 00000001\nsection a 1\nvoid m() {}\nsection a 1\n; import void f() from \"b\";\nbuild a\n",
-        "ok\nok\nok\nerror NotYet 1:1:3 -\nrefused BuildErrors\n",
+        "module a 00000001\nsection a 1\nvoid m() {}\nsection a 1\n; import Nope f() from \"b\";\nbuild a\n",
+        "ok\nok\nok\nerror UnknownType 1:1:10 Nope\nrefused BuildErrors\n",
         Status::SomeRefused,
     ),
     (PROFILE, "", "", Status::AllOk),
@@ -161,7 +161,7 @@ const RUNS: [(&str, &str, &str, Status); 33] = [
     ),
     (
         PROFILE,
-        "module a 00000001\nmask a 00000002\n",
+        "module a 00000001\nmask a 0000002\n",
         "ok\nline 2 BadLine\n",
         Status::BadInput,
     ),

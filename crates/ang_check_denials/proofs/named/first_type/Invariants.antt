@@ -1,5 +1,6 @@
 use Rattle.std.proofs.Common.{◌≡◌, drop}
-use Rattle.ang_check_denials.specs.Added.{first_number, is_type_with}
+use Rattle.ang_check_denials.specs.Added.{is_type_with}
+use Rattle.ang_check_denials.proofs.Types.{first_number}
 use Rattle.ang_check_denials.proofs.named.first_type.Given as goal
 
 abbrev pub invariant-loop-number : goal.invariant-loop-number

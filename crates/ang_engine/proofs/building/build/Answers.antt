@@ -1,13 +1,13 @@
 use Rattle.std.proofs.Common.{◌≡◌, rules, refl, true, false}
 use Rattle.ang_heap.specs.Stores.{world_of}
 use Rattle.ang_vm.specs.Machines.{lent}
-use Rattle.ang_engine.specs.declared.reply.Outcome.TheVariants.{Refused}
-use Rattle.ang_engine.specs.declared.reply.Refusal.TheVariants.{NoModule, BadBudget}
-use Rattle.ang_engine.specs.World.{World, left_to}
-use Rattle.ang_engine.specs.Engines.{states_in}
+use Rattle.ang_engine_world.specs.declared.reply.Outcome.TheVariants.{Refused}
+use Rattle.ang_engine_world.specs.declared.reply.Refusal.TheVariants.{NoModule, BadBudget}
+use Rattle.ang_engine_world.specs.World.{World, left_to}
+use Rattle.ang_engine_world.specs.States.{states_in}
 use Rattle.ang_engine.specs.Outcomes.{building}
 use Rattle.ang_engine.specs.Step.{build_within, is_budget}
-use Rattle.ang_engine.proofs.Finding.{found-same, on_module-none}
+use Rattle.ang_engine_world.proofs.Finding.{found_same, on_module-none}
 use Rattle.ang_engine.proofs.Leading.{leads-at_once, leads-same}
 use Rattle.ang_engine.proofs.Asking.{asked-nothing, kept-same}
 use Rattle.ang_engine.proofs.Refusing.{begun_build}
@@ -20,7 +20,7 @@ returns-in_default-clause-done g c =
     let ls = c.args.list.now.code in
     let w : World = left_to (states_in c.args.list.now) (world_of (λ v. (g.dyn-1.0.entry v).1) (lent c.args.machine.now c.args.events.now)) in
     leads-at_once (building R c.args.name.now c.args.budget w) (Refused NoModule) w
-    (λ rest. on_module-none c.args.name.now w rest (build_within c.args.budget R w) (found-same _ _ _ ls _ _ (c.in_default.ensures.exact ls) c.deref.ensures.value refl))
+    (λ rest. on_module-none c.args.name.now w rest (build_within c.args.budget R w) (found_same _ _ _ ls _ _ (c.in_default.ensures.exact ls) c.deref.ensures.value refl))
 
 pub returns-in_default-clause-asked : goal.returns-in_default-clause-asked
 returns-in_default-clause-asked g c =
@@ -34,7 +34,7 @@ returns-then-not-may_run-clause-done g c =
     let b : is_budget c.args.budget ≡ false = search rules in
     let w : World = left_to (states_in c.args.list.now) (world_of (λ v. (g.dyn-1.0.entry v).1) (lent c.args.machine.now c.args.events.now)) in
     leads-at_once (building R c.args.name.now c.args.budget w) (Refused BadBudget) w
-    (λ rest. building-refused R c.args.name.now c.args.budget w c.in-Some.home rest (found-same _ _ _ ls _ _ (c.in-Some.ensures.exact ls) c.deref.ensures.value refl) b)
+    (λ rest. building-refused R c.args.name.now c.args.budget w c.in-Some.home rest (found_same _ _ _ ls _ _ (c.in-Some.ensures.exact ls) c.deref.ensures.value refl) b)
 
 pub returns-then-not-may_run-clause-asked : goal.returns-then-not-may_run-clause-asked
 returns-then-not-may_run-clause-asked g c =
@@ -48,7 +48,7 @@ returns-clause-done g c =
     let b : is_budget c.args.budget ≡ true = search rules in
     let w : World = left_to (states_in c.args.list.now) (world_of (λ v. (g.dyn-1.0.entry v).1) (lent c.args.machine.now c.args.events.now)) in
     leads-same _ (building R c.args.name.now c.args.budget w) _ _ _
-    (λ rest. building-found R c.args.name.now c.args.budget w c.in-Some.home rest (found-same _ _ _ ls _ _ (c.in-Some.ensures.exact ls) c.deref.ensures.value refl) b)
+    (λ rest. building-found R c.args.name.now c.args.budget w c.in-Some.home rest (found_same _ _ _ ls _ _ (c.in-Some.ensures.exact ls) c.deref.ensures.value refl) b)
     refl c.build_module.ensures.done
 
 pub returns-clause-refused : goal.returns-clause-refused

@@ -1,7 +1,6 @@
-use Rattle.std.proofs.Common.{Some, None, ap, ◌∙◌}
-use Rattle.std.specs.Prelude.{slice_set}
-use Rattle.ang_engine.proofs.Lists.{set_set}
+use Rattle.ang_engine.proofs.Unloading.{unloaded_same, unloaded_again}
 use Rattle.ang_engine.proofs.building.load.Goals as goal
 
-pub returns-clause-cleared : goal.returns-clause-cleared
-returns-clause-cleared c = ap (λ l. slice_set l c.args.home None) c.in_ok-load.ensures.placed ∙ set_set c.args.code.now c.args.home (Some c.args.loaded) None
+pub returns-clause-unloaded : goal.returns-clause-unloaded
+returns-clause-unloaded c =
+    unloaded_again c.args.code.now c.load.new.self c.args.home c.args.loaded c.requires.empty c.requires.free c.in_ok-load.ensures.placed

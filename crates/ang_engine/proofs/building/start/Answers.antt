@@ -1,14 +1,15 @@
-use Rattle.std.proofs.Common.{[], Some, Ok, Err, length, sym, subst}
+use Rattle.std.proofs.Common.{[], Some, Ok, Err, length, map, sym, subst}
 use Rattle.std.specs.Prelude.{slice_set}
 use Rattle.ang_host.specs.Boxes.{members}
 use Rattle.ang_meaning.specs.declared.slot.Slot.TheVariants.{Bits}
 use Rattle.ang_meaning.specs.World.{World}
+use Rattle.ang_heap.specs.Globals.{values_in}
 use Rattle.ang_heap.specs.Stores.{world_of}
 use Rattle.ang_vm.specs.Machines.{lent}
 use Rattle.ang_engine_modules.specs.Loaded.{modules_of}
 use Rattle.ang_engine_modules.specs.Modules.{AreDriversThere}
-use Rattle.ang_engine.specs.Engines.{program_in}
-use Rattle.ang_engine.proofs.Starting.{first_values, started-by, begun-world, run-begun, run-loaded}
+use Rattle.ang_engine_world.specs.States.{program_in}
+use Rattle.ang_engine.proofs.Starting.{first_values, none_set, put_lengths, ended_lengths, set_again, started-by, begun-world, run-begun, run-loaded}
 use Rattle.ang_engine.proofs.Asking.{run-join, run-ended}
 use Rattle.ang_engine.proofs.building.start.Goals as goal
 
@@ -63,3 +64,25 @@ returns-in-Err-initialize-clause-asked g c =
     (run-loaded (λ v. (g.dyn-1.0.entry v).1) c.load.new.code (slice_set c.args.code.now c.args.home (Some c.args.loaded)) s t
     c.in-Ok.ensures.loaded c.initialize.ensures.asked c.initialize.ensures.moves c.initialize.ensures.ready c.initialize.ensures.counted)
     (run-ended (λ v. (g.dyn-1.0.entry v).1) ms c.args.home t u (c.end_globals.ensures.ended []) c.end_globals.ensures.moves))
+
+pub returns-in-Err-clause-globals : goal.returns-in-Err-clause-globals
+returns-in-Err-clause-globals g c = (0, none_set (values_in c.args.machine.now.store.globals) c.args.home c.requires.none)
+
+pub returns-in-Ok-initialize-clause-globals : goal.returns-in-Ok-initialize-clause-globals
+returns-in-Ok-initialize-clause-globals g c = (
+  length c.in-Ok.values.items,
+  put_lengths (values_in c.args.machine.now.store.globals) (values_in c.put_globals.new.globals) (values_in c.initialize.new.machine.store.globals) c.args.home c.in-Ok.values.items
+      c.put_globals.ensures.set c.initialize.ensures.globals,
+)
+
+pub returns-in-Err-initialize-clause-globals : goal.returns-in-Err-initialize-clause-globals
+returns-in-Err-initialize-clause-globals g c =
+    let gs = values_in c.args.machine.now.store.globals in
+    let hs = values_in c.initialize.new.machine.store.globals in
+    let u : World = world_of (λ v. (g.dyn-1.0.entry v).1) (lent c.initialize.new.machine c.initialize.new.events) in
+    let v : World = world_of (λ v. (g.dyn-1.0.entry v).1) (lent c.end_globals.new.machine c.end_globals.new.events) in (
+      0,
+      set_again (map length gs) (map length hs) (map length v.globals) c.args.home (length c.in-Ok.values.items) 0
+          (put_lengths gs (values_in c.put_globals.new.globals) hs c.args.home c.in-Ok.values.items c.put_globals.ensures.set c.initialize.ensures.globals)
+          (ended_lengths c.args.home u v (c.end_globals.ensures.ended [])),
+    )

@@ -1,4 +1,4 @@
-use Rattle.std.proofs.Common.{◌≡◌, List, [], length, vec_len, vec_capacity}
+use Rattle.std.proofs.Common.{◌≡◌, ◌≤◌, List, [], take, length, vec_len, vec_capacity}
 use Rattle.ang_host.specs.declared.event.Role.{Role}
 use Rattle.ang_host.specs.Members.{states_of}
 use Rattle.ang_host.specs.Boxes.{members}
@@ -7,14 +7,15 @@ use Rattle.ang_meaning.specs.Counting.{CountedIn}
 use Rattle.ang_heap.specs.Globals.{values_in}
 use Rattle.ang_heap.specs.Parts.{counts_of, world_by, AreReady, PartsMove}
 use Rattle.ang_heap.specs.Heaps.{objects_of}
-use Rattle.ang_engine.specs.World.{all_ended}
+use Rattle.ang_engine_world.specs.World.{all_ended}
 use Rattle.ang_engine.proofs.ending.end_all.Given as goal
 
 abbrev pub invariant-loop-left : goal.invariant-loop-left
 invariant-loop-left g l = record {
   ended : (is : List Input)
-      → all_ended (length (values_in l.initial.globals)) (world_by (objects_of l.initial.heap) (counts_of (λ v. (g.dyn-1.0.entry v).1) (members l.initial.drivers)) (values_in l.initial.globals) l.initial.ends.items is)
-      ≡ all_ended l.left (world_by (objects_of l.heap) (counts_of (λ v. (g.dyn-1.0.entry v).1) (members l.drivers)) (values_in l.globals) l.ends.items is);
+      → all_ended l.order (world_by (objects_of l.initial.heap) (counts_of (λ v. (g.dyn-1.0.entry v).1) (members l.initial.drivers)) (values_in l.initial.globals) l.initial.ends.items is)
+      ≡ all_ended (take l.left l.order) (world_by (objects_of l.heap) (counts_of (λ v. (g.dyn-1.0.entry v).1) (members l.drivers)) (values_in l.globals) l.ends.items is);
+  within : l.left ≤ length l.order;
   counted : CountedIn [] (objects_of l.heap) (counts_of (λ v. (g.dyn-1.0.entry v).1) (members l.drivers)) (values_in l.globals);
   ready : AreReady (states_of (λ v. (g.dyn-1.0.entry v).1) (members l.drivers)) (vec_len l.ends) (vec_capacity l.ends);
   moves : (roles : List Role) → PartsMove (λ v. (g.dyn-1.0.entry v).1) roles (members l.initial.drivers) l.initial.ends.items (members l.drivers) l.ends.items;

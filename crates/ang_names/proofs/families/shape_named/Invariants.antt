@@ -1,6 +1,6 @@
 use Rattle.std.proofs.Common.{◌≡◌, drop}
 use Rattle.std.specs.List.{filter_map}
-use Rattle.ang_names.specs.Meant.{shape_named}
+use Rattle.ang_names.specs.Refusals.{shape_named}
 use Rattle.ang_names_listed.specs.Declarations.{declaring_of}
 use Rattle.ang_names.proofs.families.shape_named.Given as goal
 

@@ -1,5 +1,5 @@
 use Rattle.std.proofs.Common.{◌≡◌, drop}
-use Rattle.ang_names.specs.Meant.{parameters_refusal}
+use Rattle.ang_names.specs.Refusals.{parameters_refusal}
 use Rattle.ang_names.proofs.headings.parameters_refusal.Given as goal
 
 abbrev pub invariant-loop-param : goal.invariant-loop-param

@@ -1,7 +1,7 @@
 use Rattle.std.proofs.Common.{◌≡◌, drop}
 use Rattle.std.specs.Prelude.{false}
 use Rattle.ang_names_listed.specs.Declarations.{families_of}
-use Rattle.ang_names.specs.Meant.{bases_refusal}
+use Rattle.ang_names.specs.Refusals.{bases_refusal}
 use Rattle.ang_names.proofs.members.bases_refusal.Given as goal
 
 abbrev pub invariant-loop-base : goal.invariant-loop-base

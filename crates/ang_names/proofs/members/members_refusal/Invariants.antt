@@ -1,5 +1,5 @@
 use Rattle.std.proofs.Common.{◌≡◌, [], take, drop}
-use Rattle.ang_names.specs.Meant.{members_refusal}
+use Rattle.ang_names.specs.Refusals.{members_refusal}
 use Rattle.ang_names.proofs.members.members_refusal.Given as goal
 
 abbrev pub invariant-loop-i : goal.invariant-loop-i

@@ -2,7 +2,7 @@ use Rattle.std.specs.Prelude.{bytes_eq, slice_get}
 use Rattle.std.specs.List.{list_any}
 use Rattle.std.proofs.Common.{ap, ◌∙◌}
 use Rattle.ang_names_known.specs.declared.names.Method.{Method}
-use Rattle.ang_names_heirs.specs.Numbered.{methods_in}
+use Rattle.ang_names_heirs.specs.ByNumber.{methods_in}
 use Rattle.ang_names_heirs.specs.Rows.{is_at, method_row}
 use Rattle.ang_names_heirs.proofs.InRows.{looked_up, method_in_row}
 use Rattle.ang_names_heirs.proofs.heirs.declares_method.Goals as goal

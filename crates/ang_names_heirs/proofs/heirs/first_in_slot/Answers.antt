@@ -2,7 +2,7 @@ use Rattle.std.specs.Prelude.{ℕ, ◌≡◌, ◌+◌, ◌==◌, Bool, None, dro
 use Rattle.std.specs.Option.{option_or}
 use Rattle.std.proofs.Common.{rules, sym, ap, ◌∙◌}
 use Rattle.ang_names_known.specs.declared.names.Method.{Method}
-use Rattle.ang_names_heirs.specs.Numbered.{methods_at, methods_in}
+use Rattle.ang_names_heirs.specs.ByNumber.{methods_at, methods_in}
 use Rattle.ang_names_heirs.proofs.Inherited.{first_from}
 use Rattle.ang_names_heirs.proofs.heirs.first_in_slot.Goals as goal
 

@@ -1,6 +1,6 @@
 use Rattle.std.proofs.Common.{◌≡◌, ◌==◌, drop, find}
 use Rattle.ang_names_known.specs.declared.names.Method.{Method}
-use Rattle.ang_names_heirs.specs.Numbered.{methods_at}
+use Rattle.ang_names_heirs.specs.ByNumber.{methods_at}
 use Rattle.ang_names_heirs.proofs.heirs.first_in_slot.Given as goal
 
 abbrev pub invariant-loop-number : goal.invariant-loop-number

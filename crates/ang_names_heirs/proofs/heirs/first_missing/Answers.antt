@@ -3,7 +3,7 @@ use Rattle.std.specs.Option.{option_or}
 use Rattle.std.proofs.Common.{rules, sym, ap, ◌∙◌}
 use Rattle.ang_names_known.specs.declared.names.Method.{Method}
 use Rattle.ang_names_heirs.specs.Heirs.{has_public_method}
-use Rattle.ang_names_heirs.specs.Numbered.{interface_methods, interface_methods_at}
+use Rattle.ang_names_heirs.specs.ByNumber.{interface_methods, interface_methods_at}
 use Rattle.ang_names_heirs.proofs.Inherited.{first_from}
 use Rattle.ang_names_heirs.proofs.heirs.first_missing.Goals as goal
 

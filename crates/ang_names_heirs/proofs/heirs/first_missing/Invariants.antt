@@ -1,5 +1,6 @@
 use Rattle.std.proofs.Common.{◌≡◌, drop}
-use Rattle.ang_names_heirs.specs.Numbered.{interface_methods_at, missing_among}
+use Rattle.ang_names_heirs.specs.Heirs.{missing_among}
+use Rattle.ang_names_heirs.specs.ByNumber.{interface_methods_at}
 use Rattle.ang_names_heirs.proofs.heirs.first_missing.Given as goal
 
 abbrev pub invariant-loop-number : goal.invariant-loop-number

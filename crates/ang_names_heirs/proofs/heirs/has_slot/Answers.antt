@@ -1,7 +1,7 @@
 use Rattle.std.specs.Prelude.{◌==◌, slice_get}
 use Rattle.std.specs.List.{list_any}
 use Rattle.ang_names_known.specs.declared.names.Method.{Method}
-use Rattle.ang_names_heirs.specs.Numbered.{methods_in}
+use Rattle.ang_names_heirs.specs.ByNumber.{methods_in}
 use Rattle.ang_names_heirs.specs.Rows.{is_at, slot_row}
 use Rattle.ang_names_heirs.proofs.InRows.{looked_up, slot_in_row}
 use Rattle.ang_names_heirs.proofs.heirs.has_slot.Goals as goal

@@ -1,6 +1,6 @@
 use Rattle.std.specs.Prelude.{◌==◌, find, option_copied}
 use Rattle.ang_names_known.specs.declared.names.Method.{Method}
-use Rattle.ang_names_heirs.specs.Numbered.{methods_in}
+use Rattle.ang_names_heirs.specs.ByNumber.{methods_in}
 use Rattle.ang_names_heirs.specs.Rows.{first_at, slot_row}
 use Rattle.ang_names_heirs.proofs.InRows.{first_in_slot_row, looked_up}
 use Rattle.ang_names_heirs.proofs.heirs.in_slot.Goals as goal

@@ -2,7 +2,7 @@ use Rattle.std.specs.Prelude.{◌==◌, ◌&&◌, slice_get}
 use Rattle.std.specs.List.{list_any}
 use Rattle.ang_names_known.specs.declared.names.Method.{Method}
 use Rattle.ang_names_heirs.specs.Heirs.{cannot_override}
-use Rattle.ang_names_heirs.specs.Numbered.{methods_in}
+use Rattle.ang_names_heirs.specs.ByNumber.{methods_in}
 use Rattle.ang_names_heirs.specs.Rows.{is_at, slot_row}
 use Rattle.ang_names_heirs.proofs.InRows.{looked_up, refused_in_row}
 use Rattle.ang_names_heirs.proofs.heirs.is_refused_by.Goals as goal

@@ -1,5 +1,5 @@
 use Rattle.std.proofs.Common.{◌≡◌, drop}
-use Rattle.ang_names_heirs.specs.Numbered.{missing_among}
+use Rattle.ang_names_heirs.specs.Heirs.{missing_among}
 use Rattle.ang_names_heirs.proofs.heirs.missing_among.Given as goal
 
 abbrev pub invariant-loop-method : goal.invariant-loop-method

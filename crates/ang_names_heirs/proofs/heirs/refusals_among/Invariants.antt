@@ -1,6 +1,6 @@
 use Rattle.std.proofs.Common.{◌≡◌, ◌++◌, drop}
 use Rattle.ang_names_heirs.specs.Heirs.{heir_refusal}
-use Rattle.ang_names_heirs.specs.Numbered.{refused_from}
+use Rattle.ang_names_heirs.specs.ByNumber.{refused_from}
 use Rattle.ang_names_heirs.proofs.heirs.refusals_among.Given as goal
 
 abbrev pub invariant-loop-number : goal.invariant-loop-number

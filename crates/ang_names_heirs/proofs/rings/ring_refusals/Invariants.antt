@@ -1,5 +1,5 @@
 use Rattle.std.proofs.Common.{◌≡◌, ◌++◌, drop, length}
-use Rattle.ang_names_heirs.specs.Numbered.{refused_from, ring_refusal}
+use Rattle.ang_names_heirs.specs.ByNumber.{refused_from, ring_refusal}
 use Rattle.ang_names_heirs.proofs.rings.ring_refusals.Given as goal
 
 abbrev pub invariant-loop-number : goal.invariant-loop-number

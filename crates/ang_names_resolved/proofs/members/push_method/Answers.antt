@@ -15,5 +15,5 @@ returns-in_ok-push-in-Method c =
     record {
       pushed =
           one_method E c.args.signatures.now d m c.args.body c.in-Method.result c.in-Method.params c.in-Method.attributes m.kind c.in_ok-function-in-Method.function
-          c.method_with.result c.args.found.now.items c.push.new.self.items kind heading (c.method_with.ensures.exact E) c.in_ok-push-in-Method.ensures.items;
+          c.method_with.result c.args.found.now.items c.push.new.self.items kind heading c.method_with.ensures.exact c.in_ok-push-in-Method.ensures.items;
     }

@@ -9,5 +9,5 @@ pub returns : goal.returns
 returns c =
     let all = c.args.signatures.now in
     let f = c.args.function.now in
-    let here : c.unwrap_or.result ≡ unwrap_or (find (is_same_at all (f, c.args.read_only)) (numbers_of (name_hash f.name) 0 (name_hashes all))) (length all) = search rules in
+    let here : c.unwrap_or.result ≡ unwrap_or (find (is_same_at all (f, c.args.read_only)) (numbers_of (name_hash f.name) (name_hashes all))) (length all) = search rules in
     record { exact = here ∙ first_in_row all (f, c.args.read_only) }

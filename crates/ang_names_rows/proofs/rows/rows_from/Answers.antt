@@ -7,4 +7,4 @@ use Rattle.ang_names_rows.proofs.rows.rows_from.Goals as goal
 pub loop-hash-preserved : goal.loop-hash-preserved
 loop-hash-preserved c =
     c.in_ok-push.ensures.items ∙ ap (λ r. c.loop-hash.rows.items ++ r ∷ []) c.in_ok-numbers_of.ensures.exact
-    ∙ ap (λ rows. rows ++ numbers_of c.loop-hash.hash 0 c.args.hashes.now ∷ []) c.loop-hash.invariant ∙ sym (rows_more c.args.hashes.now c.loop-hash.hash)
+    ∙ ap (λ rows. rows ++ numbers_of c.loop-hash.hash c.args.hashes.now ∷ []) c.loop-hash.invariant ∙ sym (rows_more c.args.hashes.now c.loop-hash.hash)

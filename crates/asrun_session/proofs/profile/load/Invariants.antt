@@ -1,5 +1,5 @@
 use Rattle.std.proofs.Common.{◌≡◌, ◌+◌, ◌≤◌, length}
-use Rattle.asrun_session.specs.Lines.{lines_of}
+use Rattle.asrun_lines.specs.Lines.{lines_of}
 use Rattle.asrun_session.specs.Profile.{loaded}
 use Rattle.asrun_session.proofs.profile.load.Given as goal
 

@@ -2,7 +2,7 @@ use Rattle.std.proofs.Common.{◌≡◌, ◌+◌, ◌≤◌, length}
 use Rattle.ang_engine.specs.Engines.{registrations, world_in, drivers_in}
 use Rattle.ang_engine.specs.Sound.{IsSound}
 use Rattle.asrun_session.specs.Drivers.{kinds_of}
-use Rattle.asrun_session.specs.Lines.{lines_of}
+use Rattle.asrun_lines.specs.Lines.{lines_of}
 use Rattle.asrun_session.specs.Session.{session_from}
 use Rattle.asrun_session.proofs.Doing.{HasDone}
 use Rattle.asrun_session.proofs.run.run_session.Given as goal

@@ -1,13 +1,13 @@
 use Rattle.std.proofs.Common.{refl}
 use Rattle.ang_engine.specs.Engines.{registrations, world_in}
-use Rattle.ang_engine.specs.declared.command.Command.TheVariants.{Build}
+use Rattle.ang_engine_world.specs.declared.command.Command.TheVariants.{Build}
 use Rattle.ang_engine.proofs.Whole.{applied-build, applied-memory, sound-asked}
 use Rattle.ang_engine.proofs.engine.Engine.build.Goals as goal
 
 pub returns-in_default-clause-applied : goal.returns-in_default-clause-applied
 returns-in_default-clause-applied g c =
     applied-memory (λ v. (g.dyn-1.0.entry v).1) (registrations c.args.self.now) (world_in (λ v. (g.dyn-1.0.entry v).1) c.args.self.now) c.args.self.now.machine.store
-    (Build c.args.name c.args.budget) _ c.answer.ensures.exact c.requires.sound.kept c.requires.sound.counted
+    (Build c.args.name c.args.budget) _ refl c.answer.ensures.exact c.requires.sound.kept c.requires.sound.counted
 
 pub returns-clause-applied : goal.returns-clause-applied
 returns-clause-applied g c =
@@ -18,4 +18,4 @@ returns-clause-applied g c =
 pub returns-clause-sound : goal.returns-clause-sound
 returns-clause-sound g c =
     sound-asked (λ v. (g.dyn-1.0.entry v).1) c.args.self.now (record c.args.self.now { modules = c.build-done.new.list; machine = c.build-done.new.machine }) _ _
-    c.requires.sound refl c.build-done.ensures.sound c.build-done.ensures.asked
+    c.requires.sound refl c.build-done.ensures.sound c.build-done.ensures.globals c.build-done.ensures.asked

@@ -1,14 +1,17 @@
-use Rattle.std.proofs.Common.{sym, subst}
+use Rattle.std.proofs.Common.{refl, sym, subst}
+use Rattle.ang_heap.specs.Globals.{values_in}
 use Rattle.ang_engine.specs.Engines.{registrations, world_in}
-use Rattle.ang_engine.specs.declared.command.Command.TheVariants.{Call}
+use Rattle.ang_engine_world.specs.declared.command.Command.TheVariants.{Call}
+use Rattle.ang_engine_world.specs.Sound.{HaveGlobals}
 use Rattle.ang_engine.specs.Sound.{AreSoundModules}
+use Rattle.ang_engine.proofs.Kept.{run_globals}
 use Rattle.ang_engine.proofs.Whole.{applied-call, applied-memory, sound-asked}
 use Rattle.ang_engine.proofs.engine.Engine.call.Goals as goal
 
 pub returns-in_default-clause-applied : goal.returns-in_default-clause-applied
 returns-in_default-clause-applied g c =
     applied-memory (λ v. (g.dyn-1.0.entry v).1) (registrations c.args.self.now) (world_in (λ v. (g.dyn-1.0.entry v).1) c.args.self.now) c.args.self.now.machine.store
-    (Call c.args.name c.args.decl c.args.args c.args.budget) _ c.answer.ensures.exact c.requires.sound.kept c.requires.sound.counted
+    (Call c.args.name c.args.decl c.args.args c.args.budget) _ refl c.answer.ensures.exact c.requires.sound.kept c.requires.sound.counted
 
 pub returns-clause-applied : goal.returns-clause-applied
 returns-clause-applied g c =
@@ -19,5 +22,9 @@ returns-clause-applied g c =
 
 pub returns-clause-sound : goal.returns-clause-sound
 returns-clause-sound g c =
+    let gs = values_in c.args.self.now.machine.store.globals in
+    let hs = values_in c.call_named-done.new.self.machine.store.globals in
     sound-asked (λ v. (g.dyn-1.0.entry v).1) c.args.self.now c.call_named-done.new.self _ _ c.requires.sound c.call_named-done.ensures.registrations
-    (subst (λ x. AreSoundModules (registrations c.args.self.now) x) (sym c.call_named-done.ensures.modules) c.requires.sound.modules) c.call_named-done.ensures.asked
+    (subst (λ x. AreSoundModules (registrations c.args.self.now) x) (sym c.call_named-done.ensures.modules) c.requires.sound.modules)
+    (subst (λ x. HaveGlobals x hs) (sym c.call_named-done.ensures.modules) (run_globals c.args.self.now.modules gs hs c.call_named-done.ensures.globals c.requires.sound.globals))
+    c.call_named-done.ensures.asked

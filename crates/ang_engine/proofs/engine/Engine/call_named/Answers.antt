@@ -1,17 +1,18 @@
-use Rattle.std.proofs.Common.{◌≡◌, ◌<◌, Some, None, true, false, length, refl, subst, inr, rules}
-use Rattle.std.specs.Prelude.{Ok, Err}
+use Rattle.std.proofs.Common.{◌≡◌, Some, None, true, false, refl, subst, inr, rules}
+use Rattle.std.specs.Prelude.{Ok, Err, IsSome, slice_index_or}
 use Rattle.ang_heap.specs.Stores.{world_of}
 use Rattle.ang_vm.specs.Machines.{lent}
 use Rattle.ang_engine_modules.specs.Loaded.{modules_of}
-use Rattle.ang_engine.specs.World.{module_named}
-use Rattle.ang_engine.specs.Engines.{registrations, world_in, states_in, program_in}
+use Rattle.ang_engine_world.specs.World.{module_named}
+use Rattle.ang_engine_world.specs.States.{states_in, program_in}
+use Rattle.ang_engine.specs.Engines.{registrations, world_in}
 use Rattle.ang_engine.specs.Step.{is_budget, choice_of, call}
-use Rattle.ang_engine.proofs.Worlds.{states_built}
+use Rattle.ang_engine.proofs.Places.{places_built}
 use Rattle.ang_engine.proofs.Entries.{drivers_there}
-use Rattle.ang_engine.proofs.Finding.{found-same, on_module-none}
+use Rattle.ang_engine_world.proofs.Finding.{found_same, on_module-none}
 use Rattle.ang_engine.proofs.Calls.{call-run}
 use Rattle.ang_engine.proofs.Named.{few_families, program_there, takes_chosen, chosen_refused, calling-unbuilt, calling-unbudgeted, calling-built}
-use Rattle.ang_engine.specs.declared.reply.Outcome.TheVariants.{Refused}
+use Rattle.ang_engine_world.specs.declared.reply.Outcome.TheVariants.{Refused}
 use Rattle.ang_engine.proofs.Refusing.{refused_anyway, called_ended}
 use Rattle.ang_engine.proofs.Asking.{asked-nothing, asked-run}
 use Rattle.ang_engine.proofs.engine.Engine.call_named.Goals as goal
@@ -21,7 +22,7 @@ use Rattle.ang_engine.proofs.engine.Engine.call_named.Goals as goal
 pub returns-in_default-clause-done : goal.returns-in_default-clause-done
 returns-in_default-clause-done g c =
     let w = world_in (λ v. (g.dyn-1.0.entry v).1) c.args.self.now in
-    (inr (λ rest. on_module-none c.args.name.now w rest (call c.args.decl.now c.args.args.now c.args.budget w) (found-same _ _ _ c.args.self.now.modules.code _ _ (c.in_default.ensures.exact c.args.self.now.modules.code) c.deref.ensures.value refl)), refl)
+    (inr (λ rest. on_module-none c.args.name.now w rest (call c.args.decl.now c.args.args.now c.args.budget w) (found_same _ _ _ c.args.self.now.modules.code _ _ (c.in_default.ensures.exact c.args.self.now.modules.code) c.deref.ensures.value refl)), refl)
 
 pub returns-in_default-clause-asked : goal.returns-in_default-clause-asked
 returns-in_default-clause-asked g c =
@@ -34,11 +35,11 @@ pub returns-in_default-loaded-clause-done : goal.returns-in_default-loaded-claus
 returns-in_default-loaded-clause-done g c =
     let m = c.args.self.now.modules in
     let w = world_in (λ v. (g.dyn-1.0.entry v).1) c.args.self.now in
-    let found : Some c.in-Some.home ≡ module_named c.args.name.now w = found-same _ _ _ m.code _ _ (c.in-Some.ensures.exact m.code) c.deref.ensures.value refl in
-    let lt : c.in-Some.home < length m.modules.items = subst (λ xs. c.in-Some.home < length xs) c.deref.ensures.value c.in-Some.ensures.within in (
+    let found : Some c.in-Some.home ≡ module_named c.args.name.now w = found_same _ _ _ m.code _ _ (c.in-Some.ensures.exact m.code) c.deref.ensures.value refl in
+    let there : IsSome (slice_index_or m.places.items c.in-Some.home None) = subst (λ xs. IsSome (slice_index_or xs c.in-Some.home None)) c.deref.ensures.value c.in-Some.ensures.there in (
       inr (λ rest.
           calling-unbuilt w c.args.name.now c.args.decl.now c.args.args.now c.args.budget c.in-Some.home found rest
-          (program_there m.modules.items m.code c.in-Some.home None lt c.in_default-loaded.ensures.exact)),
+          (program_there m.places.items m.code c.in-Some.home None there c.in_default-loaded.ensures.exact)),
       refl,
     )
 
@@ -53,13 +54,13 @@ pub returns-then-not-may_run-clause-done : goal.returns-then-not-may_run-clause-
 returns-then-not-may_run-clause-done g c =
     let m = c.args.self.now.modules in
     let w = world_in (λ v. (g.dyn-1.0.entry v).1) c.args.self.now in
-    let found : Some c.in-Some.home ≡ module_named c.args.name.now w = found-same _ _ _ m.code _ _ (c.in-Some.ensures.exact m.code) c.deref.ensures.value refl in
-    let lt : c.in-Some.home < length m.modules.items = subst (λ xs. c.in-Some.home < length xs) c.deref.ensures.value c.in-Some.ensures.within in
+    let found : Some c.in-Some.home ≡ module_named c.args.name.now w = found_same _ _ _ m.code _ _ (c.in-Some.ensures.exact m.code) c.deref.ensures.value refl in
+    let there : IsSome (slice_index_or m.places.items c.in-Some.home None) = subst (λ xs. IsSome (slice_index_or xs c.in-Some.home None)) c.deref.ensures.value c.in-Some.ensures.there in
     let l = c.in-Some-loaded.loaded.now in
     let may : is_budget c.args.budget ≡ false = search rules in (
       inr (λ rest.
           calling-unbudgeted w c.args.name.now c.args.decl.now c.args.args.now c.args.budget c.in-Some.home found (program_in l) rest
-          (program_there m.modules.items m.code c.in-Some.home (Some l) lt c.in-Some-loaded.ensures.exact) may),
+          (program_there m.places.items m.code c.in-Some.home (Some l) there c.in-Some-loaded.ensures.exact) may),
       refl,
     )
 
@@ -73,7 +74,7 @@ returns-then-not-may_run-clause-asked g c =
 pub choose-requires : goal.choose-requires
 choose-requires g c =
     let m = c.args.self.now.modules in
-    record { few = few_families (registrations c.args.self.now) m.modules.items m.code c.in-Some.home c.in-Some-loaded.loaded.now c.requires.sound.modules.each c.in-Some-loaded.ensures.exact }
+    record { few = few_families (registrations c.args.self.now) m.places.items m.code c.in-Some.home c.in-Some-loaded.loaded.now c.requires.sound.modules.each c.in-Some-loaded.ensures.exact }
 
 -- ---- no function is called
 
@@ -81,12 +82,12 @@ pub returns-in-Err-clause-done : goal.returns-in-Err-clause-done
 returns-in-Err-clause-done g c =
     let m = c.args.self.now.modules in
     let w = world_in (λ v. (g.dyn-1.0.entry v).1) c.args.self.now in
-    let found : Some c.in-Some.home ≡ module_named c.args.name.now w = found-same _ _ _ m.code _ _ (c.in-Some.ensures.exact m.code) c.deref.ensures.value refl in
-    let lt : c.in-Some.home < length m.modules.items = subst (λ xs. c.in-Some.home < length xs) c.deref.ensures.value c.in-Some.ensures.within in
+    let found : Some c.in-Some.home ≡ module_named c.args.name.now w = found_same _ _ _ m.code _ _ (c.in-Some.ensures.exact m.code) c.deref.ensures.value refl in
+    let there : IsSome (slice_index_or m.places.items c.in-Some.home None) = subst (λ xs. IsSome (slice_index_or xs c.in-Some.home None)) c.deref.ensures.value c.in-Some.ensures.there in
     let l = c.in-Some-loaded.loaded.now in
     let may : is_budget c.args.budget ≡ true = search rules in
     calling-built w c.args.name.now c.args.decl.now c.args.args.now c.args.budget c.in-Some.home found (program_in l) (Err c.in-Err.refusal) c.args.events.now.items w
-    (program_there m.modules.items m.code c.in-Some.home (Some l) lt c.in-Some-loaded.ensures.exact) may
+    (program_there m.places.items m.code c.in-Some.home (Some l) there c.in-Some-loaded.ensures.exact) may
     (chosen_refused c.in-Err.refusal (choice_of (program_in l) c.args.decl.now c.args.args.now) w c.in-Some.home c.args.budget c.in-Err.ensures.chosen)
 
 pub returns-in-Err-clause-asked : goal.returns-in-Err-clause-asked
@@ -102,34 +103,34 @@ returns-in-Err-clause-refused g c = refused_anyway (Refused c.in-Err.refusal) _ 
 pub run_chosen-requires-clause-drivers : goal.run_chosen-requires-clause-drivers
 run_chosen-requires-clause-drivers g c =
     let m = c.args.self.now.modules in
-    drivers_there (registrations c.args.self.now) m.modules.items m.code _ c.requires.sound.modules.each c.requires.sound.in_list
+    drivers_there (registrations c.args.self.now) m.places.items m.code _ c.requires.sound.modules.each c.requires.sound.in_list
 
 pub run_chosen-requires-clause-takes : goal.run_chosen-requires-clause-takes
 run_chosen-requires-clause-takes g c =
     let m = c.args.self.now.modules in
-    takes_chosen (registrations c.args.self.now) m.modules.items m.code c.in-Some.home c.in-Some-loaded.loaded.now c.args.decl.now c.args.args.now c.in-Ok.chosen
+    takes_chosen (registrations c.args.self.now) m.places.items m.code c.in-Some.home c.in-Some-loaded.loaded.now c.args.decl.now c.args.args.now c.in-Ok.chosen
     c.requires.sound.modules.each c.in-Some-loaded.ensures.exact c.in-Ok.ensures.chosen
 
 pub returns-in-Ok-clause-done : goal.returns-in-Ok-clause-done
 returns-in-Ok-clause-done g c =
     let m = c.args.self.now.modules in
     let w = world_in (λ v. (g.dyn-1.0.entry v).1) c.args.self.now in
-    let found : Some c.in-Some.home ≡ module_named c.args.name.now w = found-same _ _ _ m.code _ _ (c.in-Some.ensures.exact m.code) c.deref.ensures.value refl in
-    let lt : c.in-Some.home < length m.modules.items = subst (λ xs. c.in-Some.home < length xs) c.deref.ensures.value c.in-Some.ensures.within in
+    let found : Some c.in-Some.home ≡ module_named c.args.name.now w = found_same _ _ _ m.code _ _ (c.in-Some.ensures.exact m.code) c.deref.ensures.value refl in
+    let there : IsSome (slice_index_or m.places.items c.in-Some.home None) = subst (λ xs. IsSome (slice_index_or xs c.in-Some.home None)) c.deref.ensures.value c.in-Some.ensures.there in
     let l = c.in-Some-loaded.loaded.now in
     let may : is_budget c.args.budget ≡ true = search rules in
     calling-built w c.args.name.now c.args.decl.now c.args.args.now c.args.budget c.in-Some.home found (program_in l) (Ok c.run_chosen.result) c.run_chosen.new.events.items _
-    (program_there m.modules.items m.code c.in-Some.home (Some l) lt c.in-Some-loaded.ensures.exact) may
+    (program_there m.places.items m.code c.in-Some.home (Some l) there c.in-Some-loaded.ensures.exact) may
     (call-run (program_in l) (modules_of m.code) c.args.decl.now c.args.args.now c.in-Some.home c.args.budget c.in-Ok.chosen c.in-Ok.ensures.chosen.0 c.run_chosen.result (states_in m)
     (world_of (λ v. (g.dyn-1.0.entry v).1) (lent c.args.self.now.machine c.args.events.now)) (world_of (λ v. (g.dyn-1.0.entry v).1) (lent c.run_chosen.new.machine c.run_chosen.new.events))
-    (states_built (registrations c.args.self.now) m.modules.items m.code c.requires.sound.modules.each) c.requires.first c.in-Ok.ensures.chosen.1 c.run_chosen.ensures.means)
+    (places_built (registrations c.args.self.now) m.places.items m.code m.order.items c.requires.sound.modules.each) c.requires.first c.in-Ok.ensures.chosen.1 c.run_chosen.ensures.means)
 
 pub returns-in-Ok-clause-asked : goal.returns-in-Ok-clause-asked
 returns-in-Ok-clause-asked g c =
     let m = c.args.self.now.modules in
     asked-run (λ v. (g.dyn-1.0.entry v).1) (registrations c.args.self.now) c.args.self.now.machine.store c.run_chosen.new.machine.store c.args.events.now c.run_chosen.new.events
-    c.requires.first c.requires.ready c.requires.sound.counted m.modules.items m.code m.code (world_of (λ v. (g.dyn-1.0.entry v).1) c.run_chosen.new.machine.store)
-    c.requires.sound.modules.each c.requires.sound.modules.few c.run_chosen.ensures.asked
+    c.requires.first c.requires.ready c.requires.sound.counted m.places.items m.code m.code m.order.items
+    (world_of (λ v. (g.dyn-1.0.entry v).1) c.run_chosen.new.machine.store) c.requires.sound.modules.each c.requires.sound.modules.apart c.run_chosen.ensures.asked
 
 pub returns-in-Ok-clause-refused : goal.returns-in-Ok-clause-refused
 returns-in-Ok-clause-refused g c =

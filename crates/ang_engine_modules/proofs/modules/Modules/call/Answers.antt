@@ -38,6 +38,13 @@ returns-clause-counted g c =
     (world_of (λ v. (g.dyn-1.0.entry v).1) (lent c.args.machine.now c.args.events.now)) (world_of (λ v. (g.dyn-1.0.entry v).1) (lent c.run.new.machine c.run.new.events))
     c.run.result c.requires.counted c.requires.takes c.run.ensures.told).counted
 
+pub returns-clause-globals : goal.returns-clause-globals
+returns-clause-globals g c =
+    let x = c.self.inside in
+    (call_ended x.table x.loaded.items c.args.self.now c.self.invariant c.self.view_is c.args.budget c.args.home c.args.number c.args.args.now
+    (world_of (λ v. (g.dyn-1.0.entry v).1) (lent c.args.machine.now c.args.events.now)) (world_of (λ v. (g.dyn-1.0.entry v).1) (lent c.run.new.machine c.run.new.events))
+    c.run.result c.requires.counted c.requires.takes c.run.ensures.told).globals
+
 pub returns-clause-moves : goal.returns-clause-moves
 returns-clause-moves g c = λ roles agrees.
     let x = c.self.inside in

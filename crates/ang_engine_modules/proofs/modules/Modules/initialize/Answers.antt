@@ -35,6 +35,14 @@ returns-clause-counted g c =
     (world_of (λ v. (g.dyn-1.0.entry v).1) (lent c.run_initializers.new.machine c.run_initializers.new.events))
     (completed c.run_initializers.result) c.function_count-first.ensures.exact c.body_count-end.ensures.exact c.run_initializers.ensures.begun).counted
 
+pub returns-clause-globals : goal.returns-clause-globals
+returns-clause-globals g c =
+    let x = c.self.inside in
+    (initializers_ended x.table x.loaded.items c.args.self.now c.self.invariant c.self.view_is c.args.budget c.args.home c.function_count-first.result c.body_count-end.result
+    (world_of (λ v. (g.dyn-1.0.entry v).1) (lent c.args.machine.now c.args.events.now))
+    (world_of (λ v. (g.dyn-1.0.entry v).1) (lent c.run_initializers.new.machine c.run_initializers.new.events))
+    (completed c.run_initializers.result) c.function_count-first.ensures.exact c.body_count-end.ensures.exact c.run_initializers.ensures.begun).globals
+
 pub returns-clause-moves : goal.returns-clause-moves
 returns-clause-moves g c = λ roles agrees.
     let x = c.self.inside in

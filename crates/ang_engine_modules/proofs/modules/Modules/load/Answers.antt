@@ -1,4 +1,5 @@
-use Rattle.std.proofs.Common.{Some, ◌∙◌}
+use Rattle.std.proofs.Common.{◌∙◌, ap}
+use Rattle.ang_engine_modules.specs.Loaded.{loaded_at}
 use Rattle.ang_engine_modules.proofs.Loading.{coded, loaded_put}
 use Rattle.ang_engine_modules.proofs.modules.Modules.load.Goals as goal
 
@@ -6,6 +7,7 @@ pub invariant_of-self : goal.invariant_of-self
 invariant_of-self c =
     let x = c.self.inside in
     let e = c.in_ok-code.ensures in
-    loaded_put x.table _ x.loaded.items _ c.self.invariant c.args.home c.in_ok-code.code (Some c.args.loaded) c.put_code.ensures.put c.put_loaded.ensures.put
+    loaded_put x.table _ x.loaded.items _ c.self.invariant c.args.home c.in_ok-code.code c.args.loaded c.put_code.ensures.put c.put_loaded.ensures.put
     (coded c.args.home c.in_ok-code.code c.args.loaded c.in_ok-codes.codes.items (e.name ∙ c.as_slice.ensures.same) e.bodies e.few e.imports e.bound e.entities e.classes e.slots
     c.in_ok-codes.ensures.params c.in_ok-codes.ensures.code c.requires.sound c.requires.unbound)
+    (ap (λ l. loaded_at l c.args.home) c.self.view_is ∙ c.requires.empty) c.requires.unbound

@@ -1,0 +1,66 @@
+-- What comes with an entry is that entry, or a type.
+use Rattle.std.specs.Prelude.{ℕ, ◌≡◌, ◌==◌, Bool, true, false, not, ◌&&◌, ◌||◌, cond, List, [], ◌∷◌, length, filter, Option, Some, None}
+use Rattle.std.specs.List.{list_any}
+use Rattle.std.proofs.Common.{arith, refl, ap, ◌∙◌}
+use Rattle.ang_view.specs.declared.entry.Entry.{Entry}
+use Rattle.ang_view.specs.Hidden.{is_unmet, is_with, names_entry, numbers_of}
+use Rattle.ang_view.specs.Registration.{RegistrationList, entry_at, is_named_by, is_number, is_type, mentions}
+use Rattle.ang_check_denials.specs.Names.{is_type_entry}
+
+middle : (a b c : Bool) → b ≡ false → ((a && b) && c) ≡ false
+middle true true c e = cc
+middle true false c e = refl
+middle false b c e = refl
+
+not_named : (x : Entry) (n : ℕ) (o : Option Entry) → is_type_entry o ≡ false → is_named_by x n o ≡ false
+not_named x n None e = refl
+not_named x n (Some t) e = middle (not (is_type x.kind)) (is_type t.kind) (is_number n x.owner || mentions x.signature t.signature.name) e
+
+names_none : (o : Option Entry) (n : ℕ) (t : Option Entry) → is_type_entry t ≡ false → names_entry o n t ≡ false
+names_none None n t e = refl
+names_none (Some x) n t e = not_named x n t e
+
+neither : (b c : Bool) → b ≡ false → c ≡ false → (b || c) ≡ false
+neither true c e f = cc
+neither false c e f = f
+
+not_either : (b c : Bool) → (b || c) ≡ false → (b ≡ false) × (c ≡ false)
+not_either true c e = cc
+not_either false c e = (refl, e)
+
+other_number : (x y : ℕ) → (x == y) ≡ false → (y == x) ≡ false
+other_number x y e = search arith
+
+and_none : (b : Bool) → (b && false) ≡ false
+and_none true = refl
+and_none false = refl
+
+only_types : (R : RegistrationList) (y : ℕ) (hs : List ℕ) → list_any (λ x. x == y) hs ≡ false → is_type_entry (entry_at R y) ≡ false
+    → list_any (λ x. is_with R x y) hs ≡ false
+only_types R y [] e t = refl
+only_types R y (x ∷ hs) e t =
+    let parts = not_either (x == y) (list_any (λ k. k == y) hs) e in
+    let here : is_with R x y ≡ false = neither (y == x) (names_entry (entry_at R x) y (entry_at R y)) (other_number x y parts.0) (names_none (entry_at R x) y (entry_at R y) t) in
+    ap (λ b. b || list_any (λ k. is_with R k y) hs) here ∙ only_types R y hs parts.1 t
+
+-- what is no type and none of some entries comes with none of them
+pub none_comes : (R : RegistrationList) (m y : ℕ) (hs : List ℕ) → is_type_entry (entry_at R y) ≡ false → list_any (λ x. x == y) hs ≡ false
+    → (is_unmet R m y && list_any (λ x. is_with R x y) hs) ≡ false
+none_comes R m y hs t e = ap (λ b. is_unmet R m y && b) (only_types R y hs e t) ∙ and_none (is_unmet R m y)
+
+none_kept : (R : RegistrationList) (m : ℕ) (ns : List ℕ) → filter (λ y. is_unmet R m y && list_any (λ x. is_with R x y) []) ns ≡ []
+none_kept R m [] = refl
+none_kept R m (n ∷ ns) =
+    let here = and_none (is_unmet R m n) in
+    let rest = none_kept R m ns in
+    λ i. cond (here i) (n ∷ rest i) (rest i)
+
+no_entries : (hs : List ℕ) → length hs ≡ 0 → hs ≡ []
+no_entries [] e = refl
+no_entries (h ∷ hs) e = absurd (omega (arith, e))
+
+-- nothing comes with no entry
+pub none_denied : (R : RegistrationList) (m : ℕ) (hs : List ℕ) → length hs ≡ 0
+    → filter (λ y. is_unmet R m y && list_any (λ x. is_with R x y) hs) (numbers_of R) ≡ []
+none_denied R m hs e =
+    ap (λ ks. filter (λ y. is_unmet R m y && list_any (λ x. is_with R x y) ks) (numbers_of R)) (no_entries hs e) ∙ none_kept R m (numbers_of R)

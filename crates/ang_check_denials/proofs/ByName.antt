@@ -1,0 +1,240 @@
+-- A hidden entry that helps a use stands in the row of the name that the use seeks.
+use Rattle.std.specs.Prelude.{ℕ, zero, suc, ◌≡◌, ◌≤◌, ◌<◌, ◌+◌, ◌==◌, Bool, true, false, cond, not, ◌&&◌, ◌||◌, if◌then◌else◌, is_some, IfSome, bytes_eq, List, [], ◌∷◌, filter, length, map, Option, Some, None}
+use Rattle.std.specs.List.{range_with_len}
+use Rattle.std.specs.Option.{option_or}
+use Rattle.std.proofs.Common.{arith, refl, sym, ap, ◌∙◌}
+use Rattle.std.proofs.lemmas.Slice.Eq.{bytes_eq-Decides}
+use Rattle.ang_kinds.specs.declared.mask.EntityNo.{EntityNo}
+use Rattle.ang_types.specs.declared.arg_type.ArgType.{ArgType}
+use Rattle.ang_types.specs.declared.arg_type.ArgType.TheVariants as type
+use Rattle.ang_types.specs.declared.asks.Asks.{Asks}
+use Rattle.ang_types.specs.declared.asks.Asks.TheVariants as asks
+use Rattle.ang_types.specs.declared.asks.Refused.{Refused}
+use Rattle.ang_types.specs.declared.candidate.Candidate.{Candidate}
+use Rattle.ang_types.specs.Ranks.{Ancestors}
+use Rattle.ang_view.specs.declared.entry.Entry.{Entry}
+use Rattle.ang_view.specs.declared.entry.EntryKind.{EntryKind}
+use Rattle.ang_view.specs.declared.entry.EntryKind.TheVariants as entry
+use Rattle.ang_view.specs.Hidden.{hidden_entry, is_hidden, numbers_of, seen_with}
+use Rattle.ang_view.specs.Registration.{RegistrationList, entry_at, is_function, is_function_named, is_number, is_type, seen}
+use Rattle.ang_view.specs.Types.{is_type_named}
+use Rattle.ang_view.proofs.Lists.{and_gives}
+use Rattle.ang_names_known.specs.declared.host.HostProperty.{HostProperty}
+use Rattle.ang_names_known.specs.declared.host.Wanted.TheVariants as wanted
+use Rattle.ang_names_known.specs.declared.host.WantedProperty.{WantedProperty}
+use Rattle.ang_names_known.specs.declared.host.WantedProperty.TheVariants as property
+use Rattle.ang_names_known.specs.declared.space.Named.{Named}
+use Rattle.ang_names_known.specs.Added.{added_property}
+use Rattle.ang_names_known.specs.Host.{first_found, found, function_of_entry, host_type, is_factory, is_global, is_method, is_property, is_wanted, is_wanted_property, property_found, property_where, property_with}
+use Rattle.ang_names_known.proofs.Adding.{past_end, same_number}
+use Rattle.ang_names_rows.specs.Hashes.{name_hash}
+use Rattle.ang_names_rows.proofs.Hashed.{numbers_are, numbers_from}
+use Rattle.ang_check_uses.specs.Uses.{Scope, candidates_of, host_methods, resolution_of}
+use Rattle.ang_check_denials.specs.Added.{adds, call_wins, factories, has_global, is_called_by, is_factory_of, is_number_of, is_property_of, is_type_number, named_with, plain, wins, with_receiver}
+use Rattle.ang_check_denials.specs.Denials.{helps, means_entry, stays}
+use Rattle.ang_check_denials.specs.Names.{help_hash, help_hashes, help_row, name_meant, name_sought, own_name, owner_name}
+use Rattle.ang_check_denials.proofs.Helping.{entry_at-hidden, helps_is, hidden_unseen, seen_helps_not}
+use Rattle.ang_check_denials.proofs.Meaning.{wins_wanted}
+
+-- ---- the name of an entry
+
+no_factory : (p : EntryKind → Bool) → p entry.Factory ≡ false → (k : EntryKind) → p k ≡ true → is_factory k ≡ false
+no_factory p f entry.HostType e = refl
+no_factory p f entry.Factory e = let no' : false ≡ true = sym f ∙ e in cc
+no_factory p f entry.Method e = refl
+no_factory p f entry.Property e = refl
+no_factory p f entry.Function e = refl
+no_factory p f entry.Global e = refl
+
+-- what is no factory is meant by its own name
+own_meant : (p : EntryKind → Bool) → p entry.Factory ≡ false → (R : RegistrationList) (y : Entry) (name : List ℕ)
+    → p y.kind ≡ true → bytes_eq y.signature.name name ≡ true → name_meant R (Some y) ≡ name
+own_meant p f R y name e n =
+    ap (λ b. if b then owner_name R y.owner else y.signature.name) (no_factory p f y.kind e) ∙ (bytes_eq-Decides y.signature.name name).0 n
+
+factory_meant : (R : RegistrationList) (y : Entry) → is_factory y.kind ≡ true → name_meant R (Some y) ≡ owner_name R y.owner
+factory_meant R y e = ap (λ b. if b then owner_name R y.owner else y.signature.name) e
+
+function_name : (R : RegistrationList) (name : List ℕ) (o : Option Entry) → is_function_named name o ≡ true → name_meant R o ≡ name
+function_name R name None e = cc
+function_name R name (Some y) e =
+    let both = and_gives (is_function y.kind) (bytes_eq y.signature.name name) e in own_meant is_function refl R y name both.0 both.1
+
+type_name : (R : RegistrationList) (name : List ℕ) (o : Option Entry) → is_type_named name o ≡ true → name_meant R o ≡ name
+type_name R name None e = cc
+type_name R name (Some y) e =
+    let both = and_gives (is_type y.kind) (bytes_eq y.signature.name name) e in own_meant is_type refl R y name both.0 both.1
+
+type_own_name : (name : List ℕ) (o : Option Entry) → is_type_named name o ≡ true → own_name o ≡ name
+type_own_name name None e = cc
+type_own_name name (Some t) e = (bytes_eq-Decides t.signature.name name).0 (and_gives (is_type t.kind) (bytes_eq t.signature.name name) e).1
+
+owner_of_name : (R : RegistrationList) (name : List ℕ) (o : Option EntityNo) → is_type_number R name o ≡ true → owner_name R o ≡ name
+owner_of_name R name None e = cc
+owner_of_name R name (Some n) e = type_own_name name (entry_at R n.0) e
+
+factory_name : (R : RegistrationList) (name : List ℕ) (o : Option Entry) → is_factory_of R name o ≡ true → name_meant R o ≡ name
+factory_name R name None e = cc
+factory_name R name (Some y) e =
+    let both = and_gives (is_factory y.kind) (is_type_number R name y.owner) e in factory_meant R y both.0 ∙ owner_of_name R name y.owner both.1
+
+called_name : (R : RegistrationList) (name : List ℕ) (o : Option Entry) (b c : Bool) → is_function_named name o ≡ b → is_factory_of R name o ≡ c → (b || c) ≡ true
+    → name_meant R o ≡ name
+called_name R name o true c f g e = function_name R name o f
+called_name R name o false true f g e = factory_name R name o g
+called_name R name o false false f g e = cc
+
+owner_number : (R : RegistrationList) (n : ℕ) (o : Option EntityNo) → is_number n o ≡ true → owner_name R o ≡ own_name (entry_at R n)
+owner_number R n None e = cc
+owner_number R n (Some k) e = let same : k.0 ≡ n = search (arith, e) in ap (λ j. own_name (entry_at R j)) same
+
+-- ---- what wins has the name
+
+made_name : (ancestors : Ancestors) (cs : List Candidate) (args : List ArgType) (R : RegistrationList) (x n : ℕ) (o : Option Entry)
+    → wins ancestors plain cs args (found (wanted.Factory n) R x o) ≡ true → name_meant R o ≡ own_name (entry_at R n)
+made_name ancestors cs args R x n None e = cc
+made_name ancestors cs args R x n (Some y) e =
+    let both = wins_wanted ancestors plain cs args (is_wanted (wanted.Factory n) y) (function_of_entry R x y) e in
+    let parts = and_gives (is_factory y.kind) (is_number n y.owner) both in
+    factory_meant R y parts.0 ∙ owner_number R n y.owner parts.1
+
+method_name : (ancestors : Ancestors) (cs : List Candidate) (args : List ArgType) (R : RegistrationList) (name : List ℕ) (x n : ℕ) (o : Option Entry)
+    → wins ancestors (with_receiver n) cs args (found (wanted.Method n name) R x o) ≡ true → name_meant R o ≡ name
+method_name ancestors cs args R name x n None e = cc
+method_name ancestors cs args R name x n (Some y) e =
+    let all = wins_wanted ancestors (with_receiver n) cs args (is_wanted (wanted.Method n name) y) (function_of_entry R x y) e in
+    let parts = and_gives (is_method y.kind) (is_number n y.owner && bytes_eq y.signature.name name) all in
+    let others = and_gives (is_number n y.owner) (bytes_eq y.signature.name name) parts.1 in
+    own_meant is_method refl R y name parts.0 others.1
+
+own_wins : (x : ℕ) (o seen : Option HostProperty) → is_property_of x seen ≡ false → is_property_of x (added_property o seen) ≡ true → is_some o ≡ true
+own_wins x None seen f e = let no' : false ≡ true = sym f ∙ e in cc
+own_wins x (Some p) seen f e = refl
+
+some_wanted : (b : Bool) (o : Option HostProperty) → is_some (cond b o None) ≡ true → b ≡ true
+some_wanted true o e = refl
+some_wanted false o e = cc
+
+global_name : (R : RegistrationList) (name : List ℕ) (x : ℕ) (o : Option Entry) → is_some (property_found (property.Global name) R x o) ≡ true → name_meant R o ≡ name
+global_name R name x None e = cc
+global_name R name x (Some y) e =
+    let both = some_wanted (is_wanted_property (property.Global name) y) (property_with x y (host_type R y.signature.result)) e in
+    let parts = and_gives (is_global y.kind) (bytes_eq y.signature.name name) both in
+    own_meant is_global refl R y name parts.0 parts.1
+
+member_name : (R : RegistrationList) (name : List ℕ) (x n : ℕ) (o : Option Entry) → is_some (property_found (property.Member n name) R x o) ≡ true → name_meant R o ≡ name
+member_name R name x n None e = cc
+member_name R name x n (Some y) e =
+    let all = some_wanted (is_wanted_property (property.Member n name) y) (property_with x y (host_type R y.signature.result)) e in
+    let parts = and_gives (is_property y.kind) (is_number n y.owner && bytes_eq y.signature.name name) all in
+    let others = and_gives (is_number n y.owner) (bytes_eq y.signature.name name) parts.1 in
+    own_meant is_property refl R y name parts.0 others.1
+
+-- ---- the property that is seen is no hidden one
+
+numbered : (w : WantedProperty) (V : RegistrationList) (k : ℕ) (o : Option Entry) → IfSome (property_found w V k o) (λ h. h.entity.0 ≡ k)
+numbered w V k None = tt
+numbered w V k (Some y) = by_test (is_wanted_property w y) (host_type V y.signature.result)
+  where
+    by_test : (b : Bool) (t : Option ArgType) → IfSome (cond b (property_with k y t) None) (λ h. h.entity.0 ≡ k)
+    by_test false t = tt
+    by_test true None = tt
+    by_test true (Some t) = refl
+
+first_apart : (x n : ℕ) (o r : Option HostProperty) → IfSome o (λ h. h.entity.0 ≡ n) → (n ≡ x → o ≡ None) → is_property_of x r ≡ false
+    → is_property_of x (option_or o r) ≡ false
+first_apart x n None r e f rest = rest
+first_apart x n (Some p) r e f rest = same_number p.entity.0 x (λ s. let no' : Some p ≡ None = f (sym e ∙ s) in cc)
+
+search_apart : (w : WantedProperty) (V : RegistrationList) (x n : ℕ) (os : RegistrationList) → ((j : ℕ) → n + j ≡ x → entry_at os j ≡ None)
+    → is_property_of x (first_found (property_found w V) n os) ≡ false
+search_apart w V x n [] h = refl
+search_apart w V x n (o ∷ os) h =
+    first_apart x n (property_found w V n o) (first_found (property_found w V) (n + 1) os) (numbered w V n o)
+    (λ s. let first : n + 0 ≡ x = omega (arith, s) in ap (property_found w V n) (h 0 first))
+    (search_apart w V x (n + 1) os (λ j s. let up : n + suc j ≡ x = omega (arith, s) in h (suc j) up))
+
+property_apart : (w : WantedProperty) (V : RegistrationList) (x : ℕ) → entry_at V x ≡ None → is_property_of x (property_where w V) ≡ false
+unfolding property_where
+property_apart w V x e = search_apart w V x 0 V (λ j s. let same : j ≡ x = omega (arith, s) in ap (entry_at V) same ∙ e)
+
+-- ---- what helps has the name
+
+adds_name : (R : RegistrationList) (m : ℕ) (s : Scope) (name : List ℕ) (x : ℕ) (t : Named) (a : Asks) → s.view ≡ seen R m → entry_at (seen R m) x ≡ None
+    → adds R s name x t a ≡ true → name_meant R (entry_at R x) ≡ name_sought R name a
+adds_name R m s name x t asks.Value view unseen e =
+    let won = (and_gives (not (has_global s.names.globals name)) _ e).1 in
+    let apart = ap (λ V. is_property_of x (property_where (property.Global name) V)) view ∙ property_apart (property.Global name) (seen R m) x unseen in
+    global_name R name x (entry_at R x)
+    (own_wins x (property_found (property.Global name) R x (entry_at R x)) (property_where (property.Global name) s.view) apart won)
+adds_name R m s name x t asks.Type view unseen e =
+    type_name R name (entry_at R x) (and_gives (is_type_named name (entry_at R x)) (is_number_of x t) e).0
+adds_name R m s name x t (asks.Call args) view unseen e =
+    called_name R name (entry_at R x) (is_function_named name (entry_at R x)) (is_factory_of R name (entry_at R x)) refl refl
+    (and_gives (is_called_by R name x) (call_wins R s name args x t) e).0
+adds_name R m s name x t (asks.Make n args) view unseen e = made_name s.ancestors (factories s.view n) args R x n (entry_at R x) e
+adds_name R m s name x t (asks.Default n) view unseen e = made_name s.ancestors (factories s.view n) [] R x n (entry_at R x) e
+adds_name R m s name x t (asks.Property n) view unseen e =
+    let apart = ap (λ V. is_property_of x (property_where (property.Member n name) V)) view ∙ property_apart (property.Member n name) (seen R m) x unseen in
+    member_name R name x n (entry_at R x)
+    (own_wins x (property_found (property.Member n name) R x (entry_at R x)) (property_where (property.Member n name) s.view) apart e)
+adds_name R m s name x t (asks.Method n c args) view unseen e =
+    method_name s.ancestors (candidates_of (host_methods s.view n name)) (type.Object n c ∷ args) R name x n (entry_at R x) e
+
+not_true : (b : Bool) → not b ≡ true → b ≡ false
+not_true true e = cc
+not_true false e = refl
+
+equal : (n : ℕ) → (n == n) ≡ true
+equal n = search arith
+
+-- An entry that helps a use has the name that the use seeks.
+pub helps_by_name : (R : RegistrationList) (m : ℕ) (s : Scope) (r : Refused) (a : Asks) (x : ℕ) → s.view ≡ seen R m → x < 1024
+    → helps R m s r a x ≡ true → name_meant R (entry_at R x) ≡ name_sought R r.error.name a
+helps_by_name R m s r a x view lt e =
+    let means = means_entry x (resolution_of (record s { view = seen_with R m x }) r.error.name a) in
+    let parts = and_gives (is_hidden R m x) (not (stays s r a (entry_at R x)) && means) e in
+    let others = and_gives (not (stays s r a (entry_at R x))) means parts.1 in
+    let taken = not_true (stays s r a (entry_at R x)) others.0 in
+    adds_name R m s r.error.name x (named_with R m s x r.error.name) a view (hidden_unseen R m x parts.0)
+    (helps_is R m s r a x view lt parts.0 taken ∙ e)
+
+has_hash : (R : RegistrationList) (m : ℕ) (s : Scope) (r : Refused) (a : Asks) (x : ℕ) → s.view ≡ seen R m → x < 1024
+    → helps R m s r a x ≡ true → (help_hash R m x == name_hash (name_sought R r.error.name a)) ≡ true
+has_hash R m s r a x view lt e =
+    let h = name_hash (name_sought R r.error.name a) in
+    let there : is_hidden R m x ≡ true = (and_gives (is_hidden R m x) _ e).0 in
+    ap (λ b. (if b then name_hash (name_meant R (entry_at R x)) else 256) == h) there
+    ∙ ap (λ name. name_hash name == h) (helps_by_name R m s r a x view lt e)
+    ∙ equal h
+
+-- ---- the row
+
+left_out : (q : Bool) (n : ℕ) (ks rest : List ℕ) → (q ≡ true → false ≡ true) → ks ≡ rest → ks ≡ cond q (n ∷ rest) rest
+left_out true n ks rest h e = let no' : false ≡ true = h refl in cc
+left_out false n ks rest h e = e
+
+one_more : (p : ℕ → Bool) (b : Bool) (n : ℕ) (row rest : List ℕ) → (p n ≡ true → b ≡ true) → filter p row ≡ rest
+    → filter p (if b then n ∷ row else row) ≡ cond (p n) (n ∷ rest) rest
+one_more p true n row rest h e = ap (λ ks. cond (p n) (n ∷ ks) ks) e
+one_more p false n row rest h e = left_out (p n) n (filter p row) rest h e
+
+in_row : (p : ℕ → Bool) (f : ℕ → ℕ) (h : ℕ) → ((k : ℕ) → k < 1024 → p k ≡ true → (f k == h) ≡ true) → (n count : ℕ) → n + count ≤ 1024
+    → filter p (numbers_from h n (map f (range_with_len n count))) ≡ filter p (range_with_len n count)
+in_row p f h has n zero few = refl
+in_row p f h has n (suc count) few =
+    one_more p (f n == h) n (numbers_from h (n + 1) (map f (range_with_len (n + 1) count))) (filter p (range_with_len (n + 1) count))
+    (has n (omega (arith, few))) (in_row p f h has (n + 1) count (omega (arith, few)))
+
+-- All that help are in the row.
+pub row_helps : (R : RegistrationList) (m : ℕ) (s : Scope) (r : Refused) (a : Asks) (row : List ℕ) → s.view ≡ seen R m → length R ≤ 1024
+    → row ≡ help_row R m r.error.name a → filter (helps R m s r a) row ≡ filter (helps R m s r a) (numbers_of R)
+row_helps R m s r a row view few e =
+    let h = name_hash (name_sought R r.error.name a) in
+    let most : 0 + length R ≤ 1024 = omega (arith, few) in
+    ap (filter (helps R m s r a)) (e ∙ sym (numbers_are h (help_hashes R m)))
+    ∙ in_row (helps R m s r a) (help_hash R m) h (λ k lt help. has_hash R m s r a k view lt help) 0 (length R) most
+
+-- no entry stands past the end
+pub past_helps_not : (R : RegistrationList) (m : ℕ) (s : Scope) (r : Refused) (a : Asks) (x : ℕ) → length R ≤ x → helps R m s r a x ≡ false
+past_helps_not R m s r a x le = seen_helps_not R m s r a x (ap is_some (entry_at-hidden R m x ∙ ap (hidden_entry R m) (past_end R x le)))

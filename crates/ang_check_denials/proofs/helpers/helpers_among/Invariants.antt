@@ -1,0 +1,7 @@
+use Rattle.std.proofs.Common.{◌≡◌, take}
+use Rattle.std.specs.Prelude.{filter}
+use Rattle.ang_check_denials.specs.Denials.{helps}
+use Rattle.ang_check_denials.proofs.helpers.helpers_among.Given as goal
+
+abbrev pub invariant-loop-place : goal.invariant-loop-place
+invariant-loop-place l = l.numbers.items ≡ filter (helps l.masked.list l.masked.mask l.scope l.refused l.asks) (take l.place-index l.row)

@@ -1,2 +1,0 @@
-pub mod TreeLaws
-pub mod TurnLaws

@@ -1,0 +1,3 @@
+pub mod Worlds
+pub mod Operations
+pub mod Keeping

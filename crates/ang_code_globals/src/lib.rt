@@ -1,0 +1,7 @@
+//! A run of code writes globals, and makes and drops none: each module has as many behind it as before
+//! (docs/MEANING.md, "Code").
+//!
+//! `specs/` says what that means; `laws` says that it holds.
+#![tactic(auto)]
+
+pub mod laws;

@@ -1,0 +1,4 @@
+//! What a module's mask hides from it is not felt.
+#![tactic(auto)]
+
+pub mod laws;

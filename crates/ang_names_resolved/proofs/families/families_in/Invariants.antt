@@ -1,0 +1,10 @@
+use Rattle.std.proofs.Common.{◌≡◌, ◌+◌, [], length, take}
+use Rattle.std.specs.List.{flat_map}
+use Rattle.ang_names_known.specs.Items.{each_after}
+use Rattle.ang_names_resolved.specs.Resolved.{body_members, families_after, signatures_of}
+use Rattle.ang_names_resolved.proofs.families.families_in.Given as goal
+
+abbrev pub invariant-loop-number : goal.invariant-loop-number
+invariant-loop-number l =
+    (l.found.items ≡ each_after (families_after l.space l.families (signatures_of l.space l.families) l.functions) [] (take l.number l.families))
+    × (l.first ≡ l.functions + length (flat_map body_members (take l.number l.families)))

@@ -1,0 +1,4 @@
+pub mod Arguments
+pub mod Cuts
+pub mod FirstLines
+pub mod Numerals

@@ -1,0 +1,5 @@
+pub mod Fields
+pub mod Values
+pub mod Lines
+pub mod ProfileLines
+pub mod SessionLines

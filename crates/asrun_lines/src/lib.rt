@@ -1,0 +1,14 @@
+//! What the lines of a profile and of a session say (docs/FORMATS.md, "Lines" to "Session"): their fields, and
+//! what each form of a line spells.
+#![tactic(auto)]
+
+mod fields;
+mod lines;
+mod profile_lines;
+mod session_lines;
+mod values;
+
+pub use fields::decimal;
+pub use lines::{first_line, first_lines, is_skipped, shown};
+pub use profile_lines::{ProfileLine, profile_line};
+pub use session_lines::{LineError, SessionLine, session_line};

@@ -1,0 +1,148 @@
+//! The lines of a profile.
+ghost use Rattle.std.specs.Prelude.{◌≡◌, option_map};
+ghost use Rattle.asrun_lines.specs.ProfileLines.{entry, type_of, member_of, own_of, entry_behind, entry_of};
+
+use crate::fields::{field, mask, number, rest};
+use ang_kinds::Mask;
+
+/// A line of a profile that is neither empty nor a comment. A declaration is the rest of its line.
+#[derive(Drop)]
+pub enum ProfileLine<'a> {
+    /// `mask M`: the default mask of what is registered next.
+    Mask(Mask),
+    /// `type NAME DRIVER`: a type of host objects.
+    HostType {
+        /// The type's name.
+        name: &'a [u8],
+        /// The driver of its objects.
+        driver: u32,
+    },
+    /// `factory TYPE F DECL`: a factory.
+    Factory {
+        /// The type whose objects it makes.
+        type_name: &'a [u8],
+        /// The driver's number of the factory.
+        f: u32,
+        /// The declaration.
+        decl: &'a [u8],
+    },
+    /// `method TYPE F DECL`: a method.
+    Method {
+        /// The type that has it.
+        type_name: &'a [u8],
+        /// The driver's number of the method.
+        f: u32,
+        /// The declaration.
+        decl: &'a [u8],
+    },
+    /// `property TYPE F DECL`: an object property.
+    Property {
+        /// The type that has it.
+        type_name: &'a [u8],
+        /// The driver's number of the property.
+        f: u32,
+        /// The declaration.
+        decl: &'a [u8],
+    },
+    /// `function DRIVER F DECL`: a host function.
+    Function {
+        /// The driver that answers.
+        driver: u32,
+        /// The driver's number of the function.
+        f: u32,
+        /// The declaration.
+        decl: &'a [u8],
+    },
+    /// `global DRIVER F DECL`: a global property.
+    Global {
+        /// The driver that answers.
+        driver: u32,
+        /// The driver's number of the property.
+        f: u32,
+        /// The declaration.
+        decl: &'a [u8],
+    },
+    /// `blank`: a number without an entry.
+    Blank,
+}
+
+#[tactic(auto, unfolding(crate::specs::ProfileLines::type_of))]
+fn type_line(text: &[u8]) -> Option<ProfileLine<'_>>
+    ensures exact { option_map entry result ≡ type_of text.now }
+{
+    let (name, text) = field(text)?;
+    let driver = number(text)?;
+    Some(ProfileLine::HostType { name, driver })
+}
+
+/// `TYPE F DECL`
+#[tactic(auto, unfolding(crate::specs::ProfileLines::member_of))]
+fn member(text: &[u8]) -> Option<(&[u8], u32, &[u8])>
+    ensures exact { option_map (λ m. (m.0.now, m.1, m.2.now)) result ≡ member_of text.now }
+{
+    let (type_name, text) = field(text)?;
+    let (f, text) = field(text)?;
+    let f = number(f)?;
+    let decl = rest(text)?;
+    Some((type_name, f, decl))
+}
+
+/// `DRIVER F DECL`
+#[tactic(auto, unfolding(crate::specs::ProfileLines::own_of))]
+fn own(text: &[u8]) -> Option<(u32, u32, &[u8])>
+    ensures exact { option_map (λ o. (o.0, o.1, o.2.now)) result ≡ own_of text.now }
+{
+    let (driver, text) = field(text)?;
+    let driver = number(driver)?;
+    let (f, text) = field(text)?;
+    let f = number(f)?;
+    let decl = rest(text)?;
+    Some((driver, f, decl))
+}
+
+/// What a line spells behind its first word.
+#[tactic(auto, unfolding(crate::specs::ProfileLines::entry_behind))]
+fn line_behind<'a>(word: &[u8], text: &'a [u8]) -> Option<ProfileLine<'a>>
+    ensures exact { option_map entry result ≡ entry_behind word.now text.now }
+{
+    if word == b"mask".as_slice() {
+        let mask = mask(text)?;
+        return Some(ProfileLine::Mask(mask));
+    }
+    if word == b"type".as_slice() {
+        return type_line(text);
+    }
+    if word == b"factory".as_slice() {
+        let (type_name, f, decl) = member(text)?;
+        return Some(ProfileLine::Factory { type_name, f, decl });
+    }
+    if word == b"method".as_slice() {
+        let (type_name, f, decl) = member(text)?;
+        return Some(ProfileLine::Method { type_name, f, decl });
+    }
+    if word == b"property".as_slice() {
+        let (type_name, f, decl) = member(text)?;
+        return Some(ProfileLine::Property { type_name, f, decl });
+    }
+    if word == b"function".as_slice() {
+        let (driver, f, decl) = own(text)?;
+        return Some(ProfileLine::Function { driver, f, decl });
+    }
+    if word == b"global".as_slice() {
+        let (driver, f, decl) = own(text)?;
+        return Some(ProfileLine::Global { driver, f, decl });
+    }
+    None
+}
+
+/// What the line spells. None where it is of another form.
+#[tactic(auto, unfolding(crate::specs::ProfileLines::entry_of))]
+pub fn profile_line(line: &[u8]) -> Option<ProfileLine<'_>>
+    ensures exact { option_map entry result ≡ entry_of line.now }
+{
+    if line == b"blank".as_slice() {
+        return Some(ProfileLine::Blank);
+    }
+    let (word, text) = field(line)?;
+    line_behind(word, text)
+}

@@ -1,5 +1,0 @@
-use Rattle.asrun_session.proofs.FirstLines.{HasTaken}
-use Rattle.asrun_session.proofs.lines.first_lines.Given as goal
-
-abbrev pub invariant-loop : goal.invariant-loop
-invariant-loop l = HasTaken l.text l.rest l.counter
