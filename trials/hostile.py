@@ -306,7 +306,7 @@ LIMITS = [
         "refused NoFunction",
     ),
     Limit("sections that wait", 64, lambda n: "module m 00000001\n" + section(";") * n, OK, "refused Limit"),
-    Limit("modules", 1, lambda n: named(n, "module m%d 00000001\n"), OK, "refused Limit"),
+    Limit("modules", 64, lambda n: named(n, "module m%d 00000001\n"), OK, "refused Limit"),
     Limit("bytes of a module's name", 255, lambda n: f"module {'m' * n} 00000001\n", OK, "refused BadName"),
     Limit("registrations", 1024, lambda n: profiled(named(n, "function 0 0 void f%d()\n")), "", "profile 1025 Limit"),
     Limit(
