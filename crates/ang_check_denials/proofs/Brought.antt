@@ -1,11 +1,14 @@
 -- What comes with an entry is that entry, or a type.
 use Rattle.std.specs.Prelude.{ℕ, ◌≡◌, ◌==◌, Bool, true, false, not, ◌&&◌, ◌||◌, cond, List, [], ◌∷◌, length, filter, Option, Some, None}
 use Rattle.std.specs.List.{list_any}
-use Rattle.std.proofs.Common.{arith, refl, ap, ◌∙◌}
+use Rattle.std.proofs.Common.{arith, refl, sym, ap, ◌∙◌}
 use Rattle.ang_view.specs.declared.entry.Entry.{Entry}
 use Rattle.ang_view.specs.Hidden.{is_unmet, is_with, names_entry, numbers_of}
 use Rattle.ang_view.specs.Registration.{RegistrationList, entry_at, is_named_by, is_number, is_type, mentions}
-use Rattle.ang_check_denials.specs.Names.{is_type_entry}
+use Rattle.ang_view.proofs.Lists.{and_gives}
+use Rattle.ang_check_denials.specs.Names.{Picked, is_type_entry, type_numbers}
+use Rattle.ang_check_denials.proofs.Kept.{any_kept}
+use Rattle.ang_check_denials.proofs.Merging.{merged, merged_has_all}
 
 middle : (a b c : Bool) → b ≡ false → ((a && b) && c) ≡ false
 middle true true c e = cc
@@ -31,6 +34,10 @@ not_either false c e = (refl, e)
 other_number : (x y : ℕ) → (x == y) ≡ false → (y == x) ≡ false
 other_number x y e = search arith
 
+or_true : (b : Bool) → (b || true) ≡ true
+or_true true = refl
+or_true false = refl
+
 and_none : (b : Bool) → (b && false) ≡ false
 and_none true = refl
 and_none false = refl
@@ -44,9 +51,45 @@ only_types R y (x ∷ hs) e t =
     ap (λ b. b || list_any (λ k. is_with R k y) hs) here ∙ only_types R y hs parts.1 t
 
 -- what is no type and none of some entries comes with none of them
-pub none_comes : (R : RegistrationList) (m y : ℕ) (hs : List ℕ) → is_type_entry (entry_at R y) ≡ false → list_any (λ x. x == y) hs ≡ false
+none_comes : (R : RegistrationList) (m y : ℕ) (hs : List ℕ) → is_type_entry (entry_at R y) ≡ false → list_any (λ x. x == y) hs ≡ false
     → (is_unmet R m y && list_any (λ x. is_with R x y) hs) ≡ false
 none_comes R m y hs t e = ap (λ b. is_unmet R m y && b) (only_types R y hs e t) ∙ and_none (is_unmet R m y)
+
+truth_is_none : (b : Bool) → b ≡ true → b ≡ false → ⊥
+truth_is_none true e f = cc
+truth_is_none false e f = cc
+
+module _ (passes : ℕ → Bool) (y : ℕ) where
+  passes_by : (n : ℕ) (rest b : Bool) → (passes n && (n == y)) ≡ b → (rest ≡ true → passes y ≡ true) → (b || rest) ≡ true → passes y ≡ true
+  passes_by n rest true t h e =
+      let both = and_gives (passes n) (n == y) t in
+      let same : n ≡ y = search (arith, both.1) in
+      ap passes (sym same) ∙ both.0
+  passes_by n rest false t h e = h e
+
+  one_passes : (ns : List ℕ) → list_any (λ x. passes x && (x == y)) ns ≡ true → passes y ≡ true
+  one_passes [] e = cc
+  one_passes (n ∷ ns) e = passes_by n (list_any (λ x. passes x && (x == y)) ns) (passes n && (n == y)) refl (one_passes ns) e
+
+module _ (R : RegistrationList) (m : ℕ) (hs : List ℕ) (picked : Picked R hs) where
+  either_by : (y : ℕ) (t o : Bool) → is_type_entry (entry_at R y) ≡ t → list_any (λ x. x == y) hs ≡ o
+      → (is_unmet R m y && list_any (λ x. is_with R x y) hs) ≡ true → (picked.passes y || t) ≡ true
+  either_by y true o s f e = or_true (picked.passes y)
+  either_by y false true s f e =
+      let one = sym (any_kept picked.passes (λ x. x == y) (numbers_of R)) ∙ ap (list_any (λ x. x == y)) (sym picked.are) ∙ f in
+      ap (λ b. b || false) (one_passes picked.passes y (numbers_of R) one)
+  either_by y false false s f e = absurd (truth_is_none (is_unmet R m y && list_any (λ x. is_with R x y) hs) e (none_comes R m y hs s f))
+
+  -- What comes with one of these is one of them or a type.
+  pub all_denied : (ts : List ℕ) → ts ≡ type_numbers R
+      → filter (λ y. is_unmet R m y && list_any (λ x. is_with R x y) hs) (merged hs ts)
+      ≡ filter (λ y. is_unmet R m y && list_any (λ x. is_with R x y) hs) (numbers_of R)
+  all_denied ts e =
+      let denied : ℕ → Bool = λ y. is_unmet R m y && list_any (λ x. is_with R x y) hs in
+      ap (λ ks. filter denied (merged ks ts)) picked.are
+      ∙ ap (λ ks. filter denied (merged (filter picked.passes (numbers_of R)) ks)) e
+      ∙ merged_has_all denied picked.passes (λ y. is_type_entry (entry_at R y))
+      (λ y d. either_by y (is_type_entry (entry_at R y)) (list_any (λ x. x == y) hs) refl refl d) 0 (length R)
 
 none_kept : (R : RegistrationList) (m : ℕ) (ns : List ℕ) → filter (λ y. is_unmet R m y && list_any (λ x. is_with R x y) []) ns ≡ []
 none_kept R m [] = refl

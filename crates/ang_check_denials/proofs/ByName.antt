@@ -214,7 +214,7 @@ left_out : (q : Bool) (n : ℕ) (ks rest : List ℕ) → (q ≡ true → false �
 left_out true n ks rest h e = let no' : false ≡ true = h refl in cc
 left_out false n ks rest h e = e
 
-one_more : (p : ℕ → Bool) (b : Bool) (n : ℕ) (row rest : List ℕ) → (p n ≡ true → b ≡ true) → filter p row ≡ rest
+pub one_more : (p : ℕ → Bool) (b : Bool) (n : ℕ) (row rest : List ℕ) → (p n ≡ true → b ≡ true) → filter p row ≡ rest
     → filter p (if b then n ∷ row else row) ≡ cond (p n) (n ∷ rest) rest
 one_more p true n row rest h e = ap (λ ks. cond (p n) (n ∷ ks) ks) e
 one_more p false n row rest h e = left_out (p n) n (filter p row) rest h e

@@ -25,7 +25,7 @@ any_with : (b : Bool) (q : ℕ → Bool) (n : ℕ) (ks : List ℕ) (rest : Bool)
 any_with true q n ks rest e = ap (λ r. q n || r) e
 any_with false q n ks rest e = e
 
-any_kept : (h q : ℕ → Bool) (ns : List ℕ) → list_any q (filter h ns) ≡ list_any (λ x. h x && q x) ns
+pub any_kept : (h q : ℕ → Bool) (ns : List ℕ) → list_any q (filter h ns) ≡ list_any (λ x. h x && q x) ns
 any_kept h q [] = refl
 any_kept h q (n ∷ ns) = any_with (h n) q n (filter h ns) (list_any (λ x. h x && q x) ns) (any_kept h q ns)
 

@@ -3,5 +3,6 @@ pub mod ByName
 pub mod Helping
 pub mod Kept
 pub mod Meaning
+pub mod Merging
 pub mod Places
 pub mod Types

@@ -2,3 +2,4 @@ pub mod Added
 pub mod Denials
 pub mod Masked
 pub mod Names
+pub mod Rising

@@ -1,5 +1,5 @@
 -- The names by which uses can mean entries, and hidden entries by the hashes of these names. Which hash a name has shows in nothing.
-use Rattle.std.specs.Prelude.{ℕ, Bool, false, if◌then◌else◌, List, [], map, Option, Some, None}
+use Rattle.std.specs.Prelude.{ℕ, ◌≡◌, Bool, false, if◌then◌else◌, List, [], map, filter, Option, Some, None}
 use Rattle.ang_kinds.specs.declared.mask.EntityNo.{EntityNo}
 use Rattle.ang_types.specs.declared.asks.Asks.{Asks}
 use Rattle.ang_types.specs.declared.asks.Asks.TheVariants as asks
@@ -53,3 +53,12 @@ help_row R m name a = hashes.numbers_of (name_hash (name_sought R name a)) (help
 abbrev pub is_type_entry : Option Entry → Bool
 is_type_entry None = false
 is_type_entry (Some t) = is_type t.kind
+
+-- some of the numbers of a list, rising
+pub record Picked (R : RegistrationList) (ns : List ℕ) : Type 0 where
+  pub passes : ℕ → Bool
+  pub are : ns ≡ filter passes (numbers_of R)
+
+-- the numbers of the types of a list
+abbrev pub type_numbers : RegistrationList → List ℕ
+type_numbers R = filter (λ y. is_type_entry (entry_at R y)) (numbers_of R)

@@ -4,11 +4,12 @@ ghost use Rattle.std.specs.List.{list_any, flat_map};
 ghost use Rattle.ang_view.specs.Hidden.{is_unmet, is_with, numbers_of};
 ghost use Rattle.ang_view.specs.Registration.{seen};
 ghost use Rattle.ang_check_denials.specs.Denials as spec;
-ghost use Rattle.ang_check_denials.specs.Names.{help_hashes};
+ghost use Rattle.ang_check_denials.specs.Names.{Picked, help_hashes, type_numbers};
 
 use crate::helpers::{helpers, push_kept};
 use crate::masked::Masked;
-use crate::sought::help_rows;
+use crate::rising::{behind, lower_first};
+use crate::sought::{help_rows, type_numbers};
 use ang_check_uses::Scope;
 use ang_kinds::{Denial, EntityNo};
 use ang_names_rows::Rows;
@@ -24,27 +25,24 @@ fn comes_with_one(masked: &Masked<'_>, helpers: &[u32], number: u32) -> bool
         .any(|added| masked.comes_with(*added, number))
 }
 
-/// Whether a number is one of these.
-fn is_one_of(helpers: &[u32], number: u32) -> bool
-    ensures exact { result ≡ list_any (λ x. x == number) helpers.now }
-{
-    helpers.iter().any(|added| *added == number)
-}
-
-/// Whether an entry, whose own mask does not meet the module's, comes with one of these: what does is one of them or a type.
-#[tactic(auto, using(crate::proofs::Brought::none_comes))]
+/// Whether an entry, whose own mask does not meet the module's, comes with one of these.
 fn is_denied(masked: &Masked<'_>, helpers: &[u32], number: u32) -> bool
     ensures exact { result ≡ (is_unmet masked.now.list masked.now.mask number
         && list_any (λ x. is_with masked.now.list x number) helpers.now) }
 {
-    if !masked.has_type(number) && !is_one_of(helpers, number) {
-        return false;
-    }
     masked.is_unmet(number) && comes_with_one(masked, helpers, number)
 }
 
-/// The numbers of the entries that come with one of these and whose own masks do not meet the module's, rising.
-fn denied_with(alloc: Global, masked: &Masked<'_>, helpers: &[u32]) -> Result<Vec<u32>, AllocError>
+/// The numbers of the entries that come with one of these and whose own masks do not meet the module's, rising: what comes
+/// with one of these is one of them or one of `types`, which are all types of the list.
+fn denied_with(
+    alloc: Global,
+    masked: &Masked<'_>,
+    types: &[u32],
+    helpers: &[u32],
+) -> Result<Vec<u32>, AllocError>
+    requires types { types.now ≡ type_numbers masked.now.list }
+    requires helpers { Picked masked.now.list helpers.now }
     ensures exact { IfOk result (λ numbers. numbers.items ≡ filter
         (λ y. is_unmet masked.now.list masked.now.mask y
         && list_any (λ x. is_with masked.now.list x y) helpers.now)
@@ -54,7 +52,11 @@ fn denied_with(alloc: Global, masked: &Masked<'_>, helpers: &[u32]) -> Result<Ve
     if helpers.is_empty() {
         return Ok(numbers);
     }
-    for number in 0..masked.len() {
+    let mut left = helpers;
+    let mut types_left = types;
+    while let Some(number) = lower_first(left, types_left) {
+        left = behind(left, number);
+        types_left = behind(types_left, number);
         push_kept(&mut numbers, is_denied(masked, helpers, number), number)?;
     }
     Ok(numbers)
@@ -65,18 +67,20 @@ fn denied_numbers(
     alloc: Global,
     masked: &Masked<'_>,
     hidden: &Rows,
+    types: &[u32],
     scope: &Scope<'_>,
     refused: &Refused,
     asks: &Asks,
 ) -> Result<Vec<u32>, AllocError>
     requires view { scope.now.view ≡ seen masked.now.list masked.now.mask }
     requires hidden { hidden.now ≡ help_hashes masked.now.list masked.now.mask }
+    requires types { types.now ≡ type_numbers masked.now.list }
     ensures exact { IfOk result (λ numbers. numbers.items ≡ filter
         (spec.denied masked.now.list masked.now.mask scope.now refused.now asks.now)
         (numbers_of masked.now.list)) }
 {
     let helpers = helpers(alloc, masked, hidden, scope, refused, asks)?;
-    denied_with(alloc, masked, helpers.as_slice())
+    denied_with(alloc, masked, types, helpers.as_slice())
 }
 
 fn row(masked: &Masked<'_>, refused: &Refused, number: u32) -> Denial
@@ -112,18 +116,20 @@ fn push_denied(
     rows: &mut Vec<Denial>,
     masked: &Masked<'_>,
     hidden: &Rows,
+    types: &[u32],
     scope: &Scope<'_>,
     refused: &Refused,
 ) -> Result<(), AllocError>
     requires view { scope.now.view ≡ seen masked.now.list masked.now.mask }
     requires hidden { hidden.now ≡ help_hashes masked.now.list masked.now.mask }
+    requires types { types.now ≡ type_numbers masked.now.list }
     ensures pushed { OnOk result (rows.new.items ≡ rows.old.items
         ++ spec.rows_for masked.now.list masked.now.mask scope.now refused.now) }
 {
     let Some(asks) = &refused.asks else {
         return Ok(());
     };
-    let numbers = denied_numbers(alloc, masked, hidden, scope, refused, asks)?;
+    let numbers = denied_numbers(alloc, masked, hidden, types, scope, refused, asks)?;
     push_rows(rows, masked, refused, numbers.as_slice())
 }
 
@@ -142,9 +148,18 @@ pub fn denied(
         (spec.rows_for masked.now.list masked.now.mask scope.now) refused.now) }
 {
     let hidden = help_rows(alloc, masked)?;
+    let types = type_numbers(alloc, masked)?;
     let mut rows = Vec::new(alloc);
     for one in refused {
-        push_denied(alloc, &mut rows, masked, &hidden, scope, one)?;
+        push_denied(
+            alloc,
+            &mut rows,
+            masked,
+            &hidden,
+            types.as_slice(),
+            scope,
+            one,
+        )?;
     }
     Ok(rows)
 }

@@ -3,6 +3,7 @@ ghost use Rattle.std.specs.Prelude.{◌≡◌, IfOk};
 ghost use Rattle.ang_view.specs.Registration.{entry_at};
 ghost use Rattle.ang_check_denials.specs.Names as spec;
 
+use crate::helpers::push_kept;
 use crate::masked::Masked;
 use ang_kinds::EntityNo;
 use ang_names_rows::{Rows, name_hash, rows_of};
@@ -81,6 +82,19 @@ pub fn help_rows(alloc: Global, masked: &Masked<'_>) -> Result<Rows, AllocError>
 {
     let hashes = help_hashes(alloc, masked)?;
     rows_of(alloc, hashes)
+}
+
+/// The numbers of the types of the list, rising.
+///
+/// The only error is want of memory.
+pub fn type_numbers(alloc: Global, masked: &Masked<'_>) -> Result<Vec<u32>, AllocError>
+    ensures exact { IfOk result (λ numbers. numbers.items ≡ spec.type_numbers masked.now.list) }
+{
+    let mut numbers = Vec::new(alloc);
+    for number in 0..masked.len() {
+        push_kept(&mut numbers, masked.has_type(number), number)?;
+    }
+    Ok(numbers)
 }
 
 /// The name of the entries that a use of this name can mean.

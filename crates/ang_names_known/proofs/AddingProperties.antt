@@ -73,7 +73,7 @@ first-is f R (x ∷ xs) n h =
     let rest = first-is f R xs (n + 1) (λ j. let e : n + suc j ≡ n + 1 + j = omega arith in h (suc j) ∙ ap (entry_at R) e) in
     λ i. option_or (f n (here i)) (rest i)
 
-property_where-is : (w : WantedProperty) (V : RegistrationList) → property_where w V ≡ first_n (λ k. property_found w V k (entry_at V k)) 0 (length V)
+pub property_where-is : (w : WantedProperty) (V : RegistrationList) → property_where w V ≡ first_n (λ k. property_found w V k (entry_at V k)) 0 (length V)
 unfolding property_where
 property_where-is w V = first-is (property_found w V) V V 0 (λ j. let e : j ≡ 0 + j = omega arith in ap (entry_at V) e)
 

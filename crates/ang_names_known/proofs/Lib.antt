@@ -4,3 +4,4 @@ pub mod Kin
 pub mod NearestMethods
 pub mod SoFar
 pub mod Turns
+pub mod Among

@@ -4,3 +4,4 @@ pub mod Items
 pub mod Lookup
 pub mod Spaces
 pub mod Nearest
+pub mod Among

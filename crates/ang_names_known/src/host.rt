@@ -2,6 +2,7 @@
 ghost use Rattle.std.specs.Prelude.{◌≡◌, ◌++◌, IfOk, OnOk, Some, option_map, option_to_list};
 ghost use Rattle.ang_view.specs.Registration.{entry_at};
 ghost use Rattle.ang_view.specs.Types.{type_named};
+ghost use Rattle.ang_names_known.specs.Among.{found_among, property_among};
 ghost use Rattle.ang_names_known.specs.Host as spec;
 
 use crate::borrowed::Text;
@@ -212,10 +213,45 @@ fn push_found(
     push_function(functions, function)
 }
 
+/// Puts what is found in the entry of this number at the end, if there is such an entry.
+#[tactic(auto, using(crate::proofs::Adding::past_end))]
+fn push_numbered(
+    alloc: Global,
+    functions: &mut Vec<HostFunction>,
+    view: &View,
+    wanted: &Wanted<'_>,
+    number: usize,
+) -> Result<(), AllocError>
+    ensures pushed { OnOk result (functions.new.items ≡ functions.old.items ++ option_to_list
+        (spec.found wanted.now view.now number (entry_at view.now number))) }
+{
+    if number >= view.len() {
+        return Ok(());
+    }
+    push_found(alloc, functions, view, wanted, EntityNo(number as u32))
+}
+
+/// What is wanted among the entries of these numbers.
+fn functions_among(
+    alloc: Global,
+    view: &View,
+    wanted: &Wanted<'_>,
+    numbers: &[usize],
+) -> Result<Vec<HostFunction>, AllocError>
+    ensures among { IfOk result (λ found. found.items
+        ≡ found_among wanted.now view.now numbers.now) }
+{
+    let mut functions = Vec::new(alloc);
+    for number in numbers {
+        push_numbered(alloc, &mut functions, view, wanted, *number)?;
+    }
+    Ok(functions)
+}
+
 /// The functions, factories or methods of the host that are wanted, in the order of their numbers.
 ///
 /// The only error is want of memory.
-#[tactic(auto, unfolding(crate::specs::Host::host_where))]
+#[tactic(auto, using(crate::proofs::Among::functions_in, crate::proofs::Among::factories_in, crate::proofs::Among::methods_in))]
 pub fn host_where(
     alloc: Global,
     view: &View,
@@ -223,11 +259,13 @@ pub fn host_where(
 ) -> Result<Vec<HostFunction>, AllocError>
     ensures exact { IfOk result (λ found. found.items ≡ spec.host_where wanted.now view.now) }
 {
-    let mut functions = Vec::new(alloc);
-    for number in 0..view.len() {
-        push_found(alloc, &mut functions, view, wanted, EntityNo(number as u32))?;
+    match wanted {
+        Wanted::Function(name) => functions_among(alloc, view, wanted, view.named(name.bytes())),
+        Wanted::Factory(number) => {
+            functions_among(alloc, view, wanted, view.factories(EntityNo(*number)))
+        }
+        Wanted::Method(_, name) => functions_among(alloc, view, wanted, view.named(name.bytes())),
     }
-    Ok(functions)
 }
 
 fn is_wanted_property(wanted: &WantedProperty<'_>, entry: &Entry) -> bool
@@ -276,16 +314,50 @@ pub fn property_at(
     }
 }
 
-/// The property that is wanted, if the module sees it. It takes no memory.
-#[tactic(auto, unfolding(crate::specs::Host::property_where))]
-pub fn property_where(view: &View, wanted: &WantedProperty<'_>) -> Option<HostProperty>
-    ensures exact { result ≡ spec.property_where wanted.now view.now }
+/// The property of the entry of this number, if there is such an entry.
+#[tactic(auto, using(crate::proofs::Adding::past_end))]
+fn property_numbered(
+    view: &View,
+    wanted: &WantedProperty<'_>,
+    number: usize,
+) -> Option<HostProperty>
+    ensures exact { result
+        ≡ spec.property_found wanted.now view.now number (entry_at view.now number) }
 {
-    for number in 0..view.len() {
-        let found = property_at(view, wanted, EntityNo(number as u32));
+    if number >= view.len() {
+        return None;
+    }
+    property_at(view, wanted, EntityNo(number as u32))
+}
+
+/// The first property that is wanted among the entries of these numbers.
+fn property_among_these(
+    view: &View,
+    wanted: &WantedProperty<'_>,
+    numbers: &[usize],
+) -> Option<HostProperty>
+    ensures among { result ≡ property_among wanted.now view.now numbers.now }
+{
+    for number in numbers {
+        let found = property_numbered(view, wanted, *number);
         if found.is_some() {
             return found;
         }
     }
     None
+}
+
+/// The property that is wanted, if the module sees it. It takes no memory.
+#[tactic(auto, using(crate::proofs::Among::global_in, crate::proofs::Among::member_in))]
+pub fn property_where(view: &View, wanted: &WantedProperty<'_>) -> Option<HostProperty>
+    ensures exact { result ≡ spec.property_where wanted.now view.now }
+{
+    match wanted {
+        WantedProperty::Global(name) => {
+            property_among_these(view, wanted, view.named(name.bytes()))
+        }
+        WantedProperty::Member(_, name) => {
+            property_among_these(view, wanted, view.named(name.bytes()))
+        }
+    }
 }

@@ -2,3 +2,4 @@ pub mod Lists
 pub mod Entries
 pub mod Seen
 pub mod ViewTypes
+pub mod Named

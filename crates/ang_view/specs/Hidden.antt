@@ -1,10 +1,10 @@
 -- What a mask hides, and the view with a hidden entry added, as denials ask it (docs/LANGUAGE.md, "Denials"; the AngelScript manual,
 -- "Access masks and exposing different interfaces").
-use Rattle.std.specs.Prelude.{ℕ, ◌+◌, ◌==◌, Bool, true, false, not, ◌&&◌, ◌||◌, if◌then◌else◌, is_some, List, [], ◌∷◌, map, length, Option, Some, None}
+use Rattle.std.specs.Prelude.{ℕ, ◌+◌, ◌==◌, Bool, false, not, ◌||◌, if◌then◌else◌, is_some, List, [], ◌∷◌, map, length, Option, Some, None}
 use Rattle.std.specs.List.{range_with_len}
 use Rattle.ang_kinds.specs.Masks.{meets}
 use Rattle.ang_view.specs.declared.entry.Entry.{Entry}
-use Rattle.ang_view.specs.Registration.{RegistrationList, entry_at, is_named_by, is_seen, seen, seen_entry}
+use Rattle.ang_view.specs.Registration.{RegistrationList, entry_at, is_named_by, is_seen, seen_entry}
 
 -- the numbers of a list, blanks included
 abbrev pub numbers_of : RegistrationList → List ℕ

@@ -3,3 +3,4 @@ pub mod Types
 pub mod Numbers
 pub mod Values
 pub mod Hidden
+pub mod Named

@@ -14,7 +14,7 @@ pub struct FoundType {
     pub driver: u32,
 }
 
-fn is_type_named(entry: &Option<Entry>, name: &[u8]) -> bool
+pub(crate) fn is_type_named(entry: &Option<Entry>, name: &[u8]) -> bool
     ensures exact { result ≡ spec.is_type_named name.now entry.now }
 {
     match entry {

@@ -1,37 +1,55 @@
 //! What a module of a mask sees of a registration list.
-ghost use Rattle.std.specs.Prelude.{◌≡◌, ◌<◌, ◌≤◌, length, Some, IfOk, IfSome, option_map};
+ghost use Rattle.std.specs.Prelude.{◌≡◌, ◌<◌, ◌≤◌, length, map, Some, IfOk, IfSome, IsTrue, option_map};
 ghost use Rattle.std.specs.Option.{option_copied};
 ghost use Rattle.std.specs.List.{list_all, position};
 ghost use Rattle.ang_view.specs.Hidden.{hidden, hidden_entry};
-ghost use Rattle.ang_view.specs.Types.{type_named};
+ghost use Rattle.ang_view.specs.Named as spec;
+ghost use Rattle.ang_view.specs.Named.{name_in, name_hashes};
+ghost use Rattle.ang_view.specs.Types.{is_type_named, type_named};
 ghost use Rattle.ang_view.specs.Registration.{entry_at, is_type, is_function, is_spelled_with, mentions, is_number, is_named_by, named, has_mask_for, is_seen, seen_entry, seen, is_function_named, function_named};
 
 use crate::copy::{copy_entries, copy_entry};
-use crate::lookup::number_of_type;
+use crate::lookup::is_type_named;
 use crate::{Entry, EntryKind};
 use ang_kinds::{EntityNo, Mask, Signature, TypeRef};
+use ang_names_rows::{NameRows, Rows, number_hash, rows_of};
 use std::alloc::{AllocError, Global};
 use std::marker::Model;
 
+/// The hash of what stands in no row.
+const NO_ROW: usize = 256;
+
 /// What a module of a mask sees of a registration list: the list, in which each entry that it does not
 /// see is a blank. Numbers are those of the list (docs/EMBEDDING.md, "Masks").
+///
+/// Contracts see the list. Beside it stand the numbers of its entries by the hashes of their names, and those of
+/// its factories by the hashes of their types' numbers.
 #[derive(Drop)]
 pub struct View {
     entries: Vec<Option<Entry>>,
+    names: NameRows,
+    factories: Rows,
 }
 
 impl Model for View {
-    ghost use Rattle.std.specs.Prelude.{◌≤◌, length};
+    ghost use Rattle.std.specs.Prelude.{◌≡◌, ◌≤◌, length, map};
+    ghost use Rattle.ang_view.specs.Named.{maker_hash, name_hashes};
     ghost use Rattle.ang_view.specs.Registration.{RegistrationList};
 
     ghost Value = { RegistrationList };
 
     ghost view = { λ v. v.entries.items };
 
-    ghost invariant = { λ v. length v.entries.items ≤ 1024 };
+    ghost invariant = { λ v. (length v.entries.items ≤ 1024)
+        × (v.names.hashes ≡ name_hashes v.names.rows v.entries.items)
+        × (v.factories ≡ map maker_hash v.entries.items) };
 }
 
 impl View {
+    ghost use Rattle.std.specs.Prelude.{◌≡◌, ℕ, Bool, filter, length};
+    ghost use Rattle.ang_view.specs.Hidden.{numbers_of};
+    ghost use Rattle.ang_view.specs.Named.{WantsFactory, WantsName};
+
     /// The number of entries, blanks included: at most 1,024.
     pub fn len(&self) -> usize
         ensures exact { result ≡ length self.now }
@@ -52,8 +70,123 @@ impl View {
     pub fn find_type(&self, name: &[u8]) -> Option<EntityNo>
         ensures exact { option_map (λ number. number.0) result ≡ type_named self.now name.now }
     {
-        number_of_type(&self.entries, name)
+        let place = first_type(&self.entries, self.named(name), name)?;
+        Some(EntityNo(place as u32))
     }
+
+    /// Rising numbers among which are those of all entries of this name: who looks for such entries alone finds
+    /// here what it finds among all. It takes no memory.
+    #[tactic(auto, using(crate::proofs::Named::all_in_row))]
+    pub fn named(&self, name: &[u8]) -> &[usize]
+        ensures all { (test : ℕ → Bool) → WantsName self.now name.now test
+            → filter test result.now ≡ filter test (numbers_of self.now) }
+    {
+        self.names.row(name)
+    }
+
+    /// Rising numbers among which are those of all factories of the type of this number: who looks for these alone
+    /// finds here what it finds among all entries. It takes no memory.
+    #[tactic(auto, using(crate::proofs::Named::all_makers))]
+    pub fn factories(&self, ty: EntityNo) -> &[usize]
+        ensures all { (test : ℕ → Bool) → WantsFactory self.now ty.0 test
+            → filter test result.now ≡ filter test (numbers_of self.now) }
+    {
+        self.factories.row(number_hash(ty.0 as usize))
+    }
+}
+
+/// Whether the entry of this number is the type of this name.
+fn is_type_at(entries: &[Option<Entry>], number: usize, name: &[u8]) -> bool
+    ensures exact { result ≡ is_type_named name.now (entry_at entries.now number) }
+    ensures within { IsTrue result → number < length entries.now }
+{
+    match entries.get(number) {
+        None => false,
+        Some(entry) => is_type_named(entry, name),
+    }
+}
+
+/// The first of these numbers whose entry is the type of this name.
+fn first_type(entries: &[Option<Entry>], numbers: &[usize], name: &[u8]) -> Option<usize>
+    ensures exact { result
+        ≡ spec.first_of (λ n. is_type_named name.now (entry_at entries.now n)) numbers.now }
+    ensures within { IfSome result (λ place. place < length entries.now) }
+{
+    for number in numbers {
+        if is_type_at(entries, *number, name) {
+            return Some(*number);
+        }
+    }
+    None
+}
+
+fn owner_hash(owner: Option<EntityNo>) -> usize
+    ensures exact { result ≡ spec.owner_hash owner }
+{
+    match owner {
+        None => NO_ROW,
+        Some(EntityNo(number)) => number_hash(number as usize),
+    }
+}
+
+fn maker_hash(entry: &Option<Entry>) -> usize
+    ensures exact { result ≡ spec.maker_hash entry.now }
+{
+    match entry {
+        None => NO_ROW,
+        Some(entry) => {
+            if matches!(entry.kind, EntryKind::Factory) {
+                owner_hash(entry.owner)
+            } else {
+                NO_ROW
+            }
+        }
+    }
+}
+
+/// The numbers of the factories by the hashes of their types' numbers.
+fn factories_of(alloc: Global, entries: &[Option<Entry>]) -> Result<Rows, AllocError>
+    ensures exact { IfOk result (λ rows. rows ≡ map spec.maker_hash entries.now) }
+{
+    let mut hashes = Vec::new(alloc);
+    for entry in entries {
+        hashes.push(maker_hash(entry))?;
+    }
+    rows_of(alloc, hashes)
+}
+
+fn name_of(entry: &Option<Entry>) -> &[u8]
+    ensures exact { result.now ≡ name_in entry.now }
+{
+    match entry {
+        None => &[],
+        Some(entry) => entry.signature.name.as_slice(),
+    }
+}
+
+/// The numbers of the entries by the hashes of their names.
+fn names_of(alloc: Global, entries: &[Option<Entry>]) -> Result<NameRows, AllocError>
+    ensures exact { IfOk result (λ names. names.hashes ≡ name_hashes names.rows entries.now) }
+{
+    let mut names = NameRows::new(alloc, entries.len())?;
+    for entry in entries {
+        names.push(name_of(entry))?;
+    }
+    Ok(names)
+}
+
+/// These entries as a view.
+fn view_with(alloc: Global, entries: Vec<Option<Entry>>) -> Result<View, AllocError>
+    requires few { length entries.items ≤ 1024 }
+    ensures same { IfOk result (λ view. view ≡ entries.items) }
+{
+    let names = names_of(alloc, entries.as_slice())?;
+    let factories = factories_of(alloc, entries.as_slice())?;
+    Ok(View {
+        entries,
+        names,
+        factories,
+    })
 }
 
 /// The view of the mask.
@@ -62,7 +195,7 @@ pub fn view_of(alloc: Global, entries: &[Option<Entry>], mask: Mask) -> Result<V
     ensures exact { IfOk result (λ view. view ≡ seen entries.now mask.0) }
 {
     let view = seen_entries(alloc, entries, mask)?;
-    Ok(View { entries: view })
+    view_with(alloc, view)
 }
 
 #[tactic(auto, unfolding(crate::specs::Registration::seen))]
@@ -108,7 +241,7 @@ pub fn hidden_of(alloc: Global, entries: &[Option<Entry>], mask: Mask) -> Result
     ensures exact { IfOk result (λ view. view ≡ hidden entries.now mask.0) }
 {
     let view = hidden_entries(alloc, entries, mask)?;
-    Ok(View { entries: view })
+    view_with(alloc, view)
 }
 
 #[tactic(auto, unfolding(crate::specs::Hidden::hidden))]
@@ -153,7 +286,7 @@ pub fn whole_of(alloc: Global, entries: &[Option<Entry>]) -> Result<View, AllocE
     ensures exact { IfOk result (λ view. view ≡ entries.now) }
 {
     let view = copy_entries(alloc, entries)?;
-    Ok(View { entries: view })
+    view_with(alloc, view)
 }
 
 /// The index of the first function of the name that the mask sees.

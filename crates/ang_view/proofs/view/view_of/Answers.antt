@@ -2,8 +2,8 @@ use Rattle.std.proofs.Common.{◌≡◌, length, arith, ap, ◌∙◌}
 use Rattle.ang_view.proofs.Seen.{length-seen}
 use Rattle.ang_view.proofs.view.view_of.Goals as goal
 
-pub invariant_of-result : goal.invariant_of-result
-invariant_of-result c =
+pub view_with-requires : goal.view_with-requires
+view_with-requires c =
     let as_many : length c.in_ok-view.view.items ≡ length c.args.entries.now =
     ap length c.in_ok-view.ensures.exact ∙ length-seen c.args.entries.now c.args.mask.0 in
-    omega (arith, as_many)
+    record { few = omega (arith, as_many) }
