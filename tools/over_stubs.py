@@ -227,7 +227,7 @@ def write_stub(crate, folder, wanted, gone):
     for part in ("specs", "proofs"):
         for path in files_of(f"{crate.folder}/{part}"):
             place = os.path.relpath(path, crate.folder)
-            is_of_function = os.path.basename(path) in ("Answers.antt", "Invariants.antt", "Proof.antt")
+            is_of_function = part == "proofs" and os.path.basename(path) in ("Answers.antt", "Invariants.antt", "Proof.antt")
             if not is_of_function or re.search(r"/[^/+]+\+[^/]*/", place):
                 write(f"{to}/{place}", read(path))
 

@@ -90,6 +90,8 @@ pub struct Frame {
 pub struct RoutineCode {
     /// How each parameter takes its argument, the last parameter first.
     pub params: Vec<Passing>,
+    /// The primitive type of its value, if it is of one. An initializer's value is of none.
+    pub result: Option<Prim>,
     /// How many values it puts above its parameters at most.
     pub height: usize,
     /// The instructions.

@@ -1,4 +1,5 @@
 //! Bodies of script functions and of initializers.
+use ang_kinds::Prim;
 use ang_meaning::{Callee, Change, Operation, Passing, Target};
 
 /// An expression. A local is counted from the innermost one, which is 0; parameters are locals.
@@ -55,6 +56,8 @@ pub enum Statement {
 pub struct Body {
     /// How each parameter takes its argument, the last parameter first.
     pub params: Vec<Passing>,
+    /// The primitive type of its value, if it is of one. An initializer's value is of none.
+    pub result: Option<Prim>,
     /// What it does.
     pub statement: Statement,
 }

@@ -1,5 +1,5 @@
 -- A command that binds an import.
-use Rattle.std.proofs.Common.{◌≡◌, ◌<◌, ◌≤◌, refl, ap, sym, ◌∙◌, subst, inl, inr, ℕ, Bool, true, false, List, length, Option, Some, None, option_map}
+use Rattle.std.proofs.Common.{◌≡◌, ◌≤◌, refl, ap, sym, ◌∙◌, inl, inr, ℕ, Bool, true, false, List, length, Option, Some, None, option_map}
 use Rattle.std.specs.Prelude.{Result, Ok, Err, IfSome, IsNone, IsSome, if◌then◌else◌, slice_get, slice_index_or, slice_set}
 use Rattle.std.specs.List.{AllZip}
 use Rattle.ang_view.specs.Registration.{RegistrationList}
@@ -15,12 +15,12 @@ use Rattle.ang_engine_modules.specs.Modules.{LinkFits}
 use Rattle.ang_engine_world.specs.declared.module.Module.{Module}
 use Rattle.ang_engine_world.specs.declared.reply.Outcome.TheVariants.{Done}
 use Rattle.ang_engine_world.specs.declared.reply.Refusal.{Refusal}
-use Rattle.ang_engine_world.specs.declared.reply.Refusal.TheVariants.{NoModule, NotBuilt, NoFunction, NoImport, SignatureDiffers}
+use Rattle.ang_engine_world.specs.declared.reply.Refusal.TheVariants.{NoModule, NotBuilt, NoFunction, SignatureDiffers}
 use Rattle.ang_engine_world.specs.World.{Program, ModuleState, World, module_named, module_in, module_at, left_to}
 use Rattle.ang_engine_world.specs.States.{program_in, place_of, places_of}
 use Rattle.ang_engine_world.specs.Commands.{Stepped, answered, refused, linked, on_both, with_link}
 use Rattle.ang_engine_world.specs.Outcomes.{IsDone}
-use Rattle.ang_engine_world.proofs.Worlds.{places_at, places_loaded, zip_length}
+use Rattle.ang_engine_world.proofs.Worlds.{places_at, places_loaded}
 use Rattle.ang_engine.specs.Outcomes.{IsLinked, IsRefusedBy, binding}
 use Rattle.ang_engine.specs.Sound.{IsSoundPlace}
 use Rattle.ang_engine.specs.Step.{link_to, link_to_number, link_of, bound, bind_programs, bind}

@@ -22,7 +22,7 @@ use Rattle.ang_engine.specs.declared.building.BuildRefused.TheVariants as why
 use Rattle.ang_engine_world.specs.declared.reply.Reply.{Reply}
 use Rattle.ang_engine_world.specs.declared.reply.Outcome.TheVariants.{Done, Refused}
 use Rattle.ang_engine_world.specs.declared.reply.Refusal.TheVariants.{BuildMemory, InitFailed}
-use Rattle.ang_engine_world.specs.World.{Program, ModuleState, ModuleStates, World, placed, unbound_from, built_in, running, left_to, globals_ended}
+use Rattle.ang_engine_world.specs.World.{Program, ModuleState, ModuleStates, World, placed, all_unbound_from, built_in, running, left_to, globals_ended}
 use Rattle.ang_engine.specs.Engines.{resolved_in}
 use Rattle.ang_engine_world.specs.States.{program_in}
 use Rattle.ang_engine.specs.Step.{Leads, after_errors, errors_reply, emptied, with_program, program_over, globals_begun, started, initialized, after_build, build}
@@ -35,7 +35,7 @@ module _ (R : RegistrationList) (w : World) (i : ℕ) (m : ModuleState) (budget 
     (silent : answers_listed u.events ≡ []) where
   -- no import leads to it
   abbrev pub others : World
-  others = unbound_from i w
+  others = all_unbound_from i w
 
   -- ---- a build that runs no initializer
 

@@ -1,14 +1,15 @@
 -- How a call leads to its reply.
-use Rattle.std.proofs.Common.{◌≡◌, ◌<◌, refl, ap, sym, ◌∙◌, subst, ℕ, suc, Bool, true, false, List, [], ◌∷◌, ◌++◌, length, get_or, arith, Option, Some, None, map}
+use Rattle.std.proofs.Common.{◌≡◌, refl, ap, sym, ◌∙◌, subst, ℕ, zero, suc, Bool, true, false, List, [], ◌∷◌, ◌++◌, length, take, arith, Option, Some, None, map}
 use Rattle.std.specs.Prelude.{Result, Ok, Err, reverse, slice_get, if◌then◌else◌}
 use Rattle.std.proofs.lemmas.List.{length-map, reverse-append}
-use Rattle.std.proofs.lemmas.Option.{slice_get_read}
 use Rattle.ang_kinds.specs.declared.fault.Fault.{Fault}
 use Rattle.ang_kinds.specs.declared.primitive.Primitive.{Primitive}
 use Rattle.ang_kinds.specs.declared.primitive.Primitive.TheVariants.{I8, I16, I32, I64, U8, U16, U32, U64, Bool as TruthType}
 use Rattle.ang_kinds.specs.declared.value.Value.{Value}
 use Rattle.ang_kinds.specs.declared.value.Value.TheVariants.{Int, Uint, Bool as Truth, Key}
 use Rattle.ang_view.specs.Registration.{RegistrationList}
+use Rattle.ang_types.specs.declared.arg_type.ArgType.{ArgType}
+use Rattle.ang_types.specs.declared.arg_type.ArgType.TheVariants.{Void, Null, Plain, Object, Handle}
 use Rattle.ang_typed.specs.declared.program.Parameter.{Parameter}
 use Rattle.ang_typed.specs.Typed as t
 use Rattle.ang_names_known.specs.declared.names.Names.{Names}
@@ -25,9 +26,11 @@ use Rattle.ang_meaning.specs.Counting.{Thing, names as names_in, how_many}
 use Rattle.ang_meaning.specs.World.{Input, World as RunWorld, with_inputs}
 use Rattle.ang_meaning.specs.Told.{answers_told, answers_listed}
 use Rattle.ang_meaning.proofs.Counting.{many_append, bits_name_none}
-use Rattle.ang_engine_call.specs.Calls.{is_callable, primitive_of, plain_slot, arguments_of, arguments_for, argument_of, in_front}
+use Rattle.ang_source.specs.Meaning as source
+use Rattle.ang_code.specs.Values.{answer_of}
+use Rattle.ang_engine_call.specs.Calls.{is_callable, primitive_of, result_of, plain_slot, arguments_of, arguments_for, argument_of, in_front}
 use Rattle.ang_engine_call.specs.Named.{function_named_by}
-use Rattle.ang_engine_modules.specs.Modules.{Module, module_at, TakesSoMany}
+use Rattle.ang_engine_modules.specs.Modules.{Module, module_at, result_in, TakesSoMany}
 use Rattle.ang_engine_modules.specs.Executed.{call_of}
 use Rattle.ang_engine_modules.specs.Ends.{end_of}
 use Rattle.ang_engine.specs.declared.calling.ChosenCall.{ChosenCall}
@@ -38,7 +41,7 @@ use Rattle.ang_engine_world.specs.World.{Program, ModuleStates, World, built_in,
 use Rattle.ang_engine.specs.Step.{Chosen, Not}
 use Rattle.ang_engine.specs.Step.{choice_of, of_number, of_function, with_arguments, Leads, call_chosen, call_ended, called}
 use Rattle.ang_engine_world.specs.Commands.{reply_of}
-use Rattle.ang_engine.specs.Outcomes.{NameNothing, HasCalled, outcome_by}
+use Rattle.ang_engine.specs.Outcomes.{NameNothing, HasCalled, IsTyped, outcome_as, outcome_by}
 use Rattle.ang_engine.proofs.Leading.{told_by}
 
 -- ---- the function of a call
@@ -46,10 +49,6 @@ use Rattle.ang_engine.proofs.Leading.{told_by}
 pub chosen-found : (n : ℕ) (f : ScriptFunction) (vs : List Value) (slots : List Slot) → is_callable f ≡ true → arguments_of f vs ≡ Some slots
     → of_function n (Some f) vs ≡ Chosen n f slots
 chosen-found n f vs slots c a = ap (λ b. if b then (with_arguments n f (arguments_of f vs)) else (Not NotCallable)) c ∙ ap (with_arguments n f) a
-
--- what stands at a place of a list, which was read as this one
-pub function-at : (xs ys : List ScriptFunction) (n : ℕ) (f : ScriptFunction) → xs ≡ ys → n < length ys → f ≡ get_or xs n f → slice_get ys n ≡ Some f
-function-at xs ys n f same within h = slice_get_read ys (length ys) n f refl within (h ∙ ap (λ l. get_or l n f) same)
 
 -- a choice of a function is one of the list, with an argument for each parameter
 pub record IsOneOf (fs : List ScriptFunction) (n : ℕ) (f : ScriptFunction) (slots : List Slot) : Type 0 where
@@ -186,7 +185,44 @@ takes-named V names ss ms m n f slots has one =
       params = ap length here.same ∙ length-map f.params typed_parameter ∙ sym one.count;
     }
 
+-- and gives a value of the same type there
+typed-same : (ty : ArgType) → source.primitive_of ty ≡ primitive_of ty
+typed-same Void = refl
+typed-same Null = refl
+typed-same (Plain p) = refl
+typed-same (Object n r) = refl
+typed-same (Handle n r) = refl
+
+taken-at : {A : Type 0} (n k : ℕ) (xs : List A) (x : A) → slice_get (take n xs) k ≡ Some x → slice_get xs k ≡ Some x
+taken-at zero k xs x e = absurd (cc)
+taken-at (suc n) k [] x e = absurd (cc)
+taken-at (suc n) zero (y ∷ xs) x e = e
+taken-at (suc n) (suc k) (y ∷ xs) x e = taken-at n k xs x e
+
+pub typed-named : (V : RegistrationList) (names : Names) (ss : List Source) (ms : List Module) (m n : ℕ) (f : ScriptFunction)
+    → HasNames V names ss (module_at ms m).tree → slice_get names.functions n ≡ Some f → IsTyped ms names m n
+typed-named V names ss ms m n f has at =
+    let named : slice_get (map (λ (h : ScriptFunction). h.result.ty) names.functions) n ≡ Some f.result.ty = get-map (λ (h : ScriptFunction). h.result.ty) names.functions n f at in
+    let front : slice_get (take (length names.functions) (map (λ (g : t.Function). g.result) (module_at ms m).tree.functions)) n ≡ Some f.result.ty =
+    ap (λ xs. slice_get xs n) has.results ∙ named in
+    let here = map-get (λ (g : t.Function). g.result) (module_at ms m).tree.functions n f.result.ty
+    (taken-at (length names.functions) n (map (λ (g : t.Function). g.result) (module_at ms m).tree.functions) f.result.ty front) in
+    record {
+      function = f;
+      at = at;
+      result = ap result_in here.at ∙ ap source.primitive_of here.same ∙ typed-same f.result.ty;
+    }
+
 -- ---- its run
+
+-- the outcome of a call whose value is of the type of the function
+outcome-of : (f : ScriptFunction) (r : Result Slot Fault) → outcome_as (answer_of (primitive_of f.result.ty) r) ≡ outcome_by f r
+unfolding result_of
+outcome-of f (Ok v) = refl
+outcome-of f (Err fault) = refl
+
+pub answered-by : (type : Option Primitive) (f : ScriptFunction) (r : Result Slot Fault) → type ≡ primitive_of f.result.ty → outcome_as (answer_of type r) ≡ outcome_by f r
+answered-by type f r e = ap (λ o. outcome_as (answer_of o r)) e ∙ outcome-of f r
 
 called-so : (f : ScriptFunction) (r : Result Slot Fault) (x : RunWorld) (w : World) (rest : List Input)
     → called r (with_inputs rest x) w f ≡ record { reply = reply_of (outcome_by f r) x.events []; world = left_to w.modules x; left = rest }

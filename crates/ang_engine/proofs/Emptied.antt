@@ -1,5 +1,5 @@
 -- A module that is built anew, among the others.
-use Rattle.std.proofs.Common.{◌≡◌, ap, sym, ◌∙◌, subst, ℕ, List, length, Option, Some, None, map}
+use Rattle.std.proofs.Common.{◌≡◌, ap, sym, ◌∙◌, subst, ℕ, List, Option, Some, None, map}
 use Rattle.std.specs.Prelude.{option_map, slice_index_or, slice_set}
 use Rattle.std.specs.List.{AllZip}
 use Rattle.ang_view.specs.Registration.{RegistrationList}

@@ -1,5 +1,5 @@
 -- The entries that modules may ask.
-use Rattle.std.proofs.Common.{◌≡◌, ◌<◌, ◌≤◌, ◌+◌, refl, ap, sym, ◌∙◌, subst, ℕ, zero, suc, true, false, List, [], ◌∷◌, All, Option, Some, None, length, arith}
+use Rattle.std.proofs.Common.{◌≡◌, ◌+◌, refl, ap, sym, ◌∙◌, subst, ℕ, zero, suc, true, false, List, [], ◌∷◌, All, Option, Some, None, arith}
 use Rattle.std.specs.Prelude.{Bool, cond, IsSome, if◌then◌else◌, position, slice_get, slice_index_or}
 use Rattle.std.specs.List.{AllByRecursion, AllZip, position_from}
 use Rattle.std.proofs.lemmas.List.Elements.{All-nil, All-cons}

@@ -1,6 +1,6 @@
 -- What an import can be bound to.
-use Rattle.std.proofs.Common.{◌≡◌, refl, ap, sym, ◌∙◌, subst, ℕ, Bool, true, false, List, [], ◌∷◌, ◌++◌, Option, Some, None, map}
-use Rattle.std.specs.Prelude.{Result, Ok, Err, ◌&&◌, bytes_eq, if◌then◌else◌, option_map, reverse, slice_get}
+use Rattle.std.proofs.Common.{◌≡◌, refl, ap, sym, ◌∙◌, subst, ℕ, Bool, true, false, List, [], ◌∷◌, Option, Some, None, map}
+use Rattle.std.specs.Prelude.{Result, Ok, Err, ◌&&◌, if◌then◌else◌, option_map, reverse, slice_get}
 use Rattle.std.proofs.lemmas.Slice.Eq.{bytes_eq-Decides}
 use Rattle.ang_kinds.specs.declared.error.Error.{Error}
 use Rattle.ang_view.specs.Registration.{RegistrationList}
@@ -30,7 +30,6 @@ use Rattle.ang_engine_modules.specs.Modules.{module_at, LinkFits}
 use Rattle.ang_engine_modules.proofs.Loading.{module_loaded}
 use Rattle.ang_engine_world.specs.declared.reply.Refusal.TheVariants.{SignatureDiffers}
 use Rattle.ang_engine_world.specs.World.{Program}
-use Rattle.ang_engine_world.specs.States.{program_in}
 use Rattle.ang_engine_world.proofs.Lists.{get-map, map-get, get-front}
 use Rattle.ang_engine.specs.Engines.{resolved_in}
 use Rattle.ang_engine.specs.Sound.{IsBuiltBy}

@@ -27,8 +27,8 @@ use Rattle.ang_engine.specs.Sound.{IsBuiltBy, IsSoundPlace}
 use Rattle.ang_engine.specs.Step.{Choice, choice_of, call, call_chosen, call_program, is_budget}
 use Rattle.ang_engine_world.specs.Commands.{refused}
 use Rattle.ang_engine_world.specs.Outcomes.{IsRefused}
-use Rattle.ang_engine.specs.Outcomes.{IsChosen, IsCalled, calling}
-use Rattle.ang_engine.proofs.Calls.{choice-one, takes-named}
+use Rattle.ang_engine.specs.Outcomes.{IsChosen, IsTyped, IsCalled, calling}
+use Rattle.ang_engine.proofs.Calls.{choice-one, takes-named, typed-named}
 use Rattle.ang_engine_world.proofs.Finding.{on_module-found}
 use Rattle.ang_engine.proofs.Leading.{leads-same}
 
@@ -99,6 +99,14 @@ pub takes_chosen : (R : RegistrationList) (ms : List (Option Module)) (ls : List
 takes_chosen R ms ls i l decl vs c h e chosen =
     let named = there_named R ms ls i l h e in
     takes-named l.view l.names named.0 (modules_of ls) i c.number chosen.0 c.args.items named.1 (choice-one (program_in l) decl vs c.number chosen.0 c.args.items chosen.1)
+
+-- and its value is of the type that the names say
+pub typed_chosen : (R : RegistrationList) (ms : List (Option Module)) (ls : List (Option LoadedModule)) (i : ℕ) (l : LoadedModule) (decl : List ℕ) (vs : List Value) (c : ChosenCall)
+    → AllZip (IsSoundPlace R) ms ls → Some l ≡ slice_index_or ls i None → IsChosen (Ok c) (choice_of (program_in l) decl vs)
+    → IsTyped (modules_of ls) l.names i c.number
+typed_chosen R ms ls i l decl vs c h e chosen =
+    let named = there_named R ms ls i l h e in
+    typed-named l.view l.names named.0 (modules_of ls) i c.number chosen.0 named.1 (choice-one (program_in l) decl vs c.number chosen.0 c.args.items chosen.1).at
 
 -- no function was chosen
 pub chosen_refused : (why : Refusal) (q : Choice) (w : World) (i budget : ℕ) → IsChosen (Err why) q → IsRefused why (call_chosen q w i budget) w w

@@ -1,5 +1,5 @@
 -- A module that is built anew, from the end of its globals to the reply.
-use Rattle.std.proofs.Common.{◌≡◌, ◌<◌, ◌≤◌, refl, ap, sym, ◌∙◌, subst, arith, ℕ, Bool, true, false, List, [], length, Option, Some, None, map, option_map}
+use Rattle.std.proofs.Common.{◌≡◌, ◌<◌, refl, ap, sym, ◌∙◌, subst, arith, ℕ, Bool, true, false, List, [], length, Option, Some, None, map, option_map}
 use Rattle.std.proofs.lemmas.List.{length-map}
 use Rattle.std.specs.Prelude.{Result, Ok, Err, OnOk, OnErr, IfOk, Vec, if◌then◌else◌, slice_index_or, slice_set}
 use Rattle.std.specs.List.{AllZip}
@@ -31,7 +31,7 @@ use Rattle.ang_engine.specs.declared.building.BuildRefused.TheVariants as why
 use Rattle.ang_engine_world.specs.declared.module.Module.{Module}
 use Rattle.ang_engine_world.specs.declared.reply.Refusal.TheVariants.{BadBudget}
 use Rattle.ang_engine_world.specs.Sound.{HasSameName}
-use Rattle.ang_engine_world.specs.World.{Program, ModuleState, ModuleStates, World, module_named, module_in, module_at, built_in, placed, unbound_from, running, left_to, globals_ended}
+use Rattle.ang_engine_world.specs.World.{Program, ModuleState, ModuleStates, World, module_named, module_in, module_at, built_in, placed, all_unbound_from, running, left_to, globals_ended}
 use Rattle.ang_engine_world.specs.States.{program_in, place_of, places_of}
 use Rattle.ang_engine.specs.Step.{Leads, emptied, with_program, build, build_within, is_budget}
 use Rattle.ang_engine_world.specs.Commands.{refused}
@@ -172,7 +172,7 @@ module _ {V : Type 0} {P : V → Type 0} (m : Meanings P) (R : RegistrationList)
     it_stood : module_at old home ≡ it
     it_stood = ap module_in (places_at ms ls home)
 
-    left_emptied : states_by cs ≡ placed (unbound_from home old) home (emptied it)
+    left_emptied : states_by cs ≡ placed (all_unbound_from home old) home (emptied it)
     left_emptied = ap states_by cleared ∙ ap (λ ps. record { places = ps; order = order }) (refused_states R ms ls home n order zip empty_here (unbuilt_place R n))
 
     left_sound : AllZip (IsSoundPlace R) (slice_set ms home n) cs
@@ -212,12 +212,12 @@ module _ {V : Type 0} {P : V → Type 0} (m : Meanings P) (R : RegistrationList)
       sound_with =
           subst (λ q. AllZip (IsSoundPlace R) (slice_set ms home n) (slice_set q home (Some l))) (sym cleared) (begun_zip R ms ls home n order zip empty_here (unbuilt_place R n) l built)
 
-      states_with : states_by with_it ≡ placed (unbound_from home old) home (with_program (program_in l) it)
+      states_with : states_by with_it ≡ placed (all_unbound_from home old) home (with_program (program_in l) it)
       states_with =
           ap (λ q. states_by (slice_set q home (Some l))) cleared
           ∙ ap (λ ps. record { places = ps; order = order }) (begun_states R ms ls home n order zip empty_here (unbuilt_place R n) l)
 
-      built_with : built_in (placed (unbound_from home old) home (with_program (program_in l) it)) ≡ modules_of with_it
+      built_with : built_in (placed (all_unbound_from home old) home (with_program (program_in l) it)) ≡ modules_of with_it
       built_with = begun_built R ms ls home n order zip empty_here (unbuilt_place R n) l built ∙ ap (λ q. modules_of (slice_set q home (Some l))) (sym cleared)
 
       pub begun-drivers : HaveDrivers R (length (members s.drivers)) → AreDriversThere (modules_of with_it) (length (members t.drivers))

@@ -18,7 +18,7 @@ use Rattle.ang_heap.specs.Stores.{world_of, IsReady, StoreBecomes, HasMoved}
 use Rattle.ang_engine_modules.specs.Loaded.{unbound_in}
 use Rattle.ang_engine_world.specs.declared.module.ModuleList.{ModuleList}
 use Rattle.ang_engine_world.specs.declared.reply.Outcome.TheVariants.{Done}
-use Rattle.ang_engine_world.specs.World.{World, ModuleStates, module_named, unbound_module, unbound_from, running, left_to, globals_ended}
+use Rattle.ang_engine_world.specs.World.{World, ModuleStates, module_named, unbound_module, all_unbound_from, running, left_to, globals_ended}
 use Rattle.ang_engine_world.specs.Commands.{reply_of, after_run, without, discard}
 use Rattle.ang_engine_world.specs.States.{places_of, states_in}
 use Rattle.ang_engine_world.proofs.Lists.{map_set}
@@ -62,7 +62,7 @@ module _ {V : Type 0} {P : V → Type 0} (m : Meanings P) (R : RegistrationList)
 
   module _ (zip : AllZip (IsSoundPlace R) x.places.items x.code) (places : y.places.items ≡ slice_set x.places.items home None) (code : y.code ≡ unbound_in home (slice_set x.code home None))
       (order : y.order.items ≡ filter (λ j. not (j == home)) x.order.items) where
-    removed_states : without home (unbound_from home before).modules ≡ states_in y
+    removed_states : without home (all_unbound_from home before).modules ≡ states_in y
     removed_states =
         ap (λ ps. record { places = ps; order = filter (λ j. not (j == home)) x.order.items }) (sym (removed_places R x home zip))
         ∙ ap (λ l. record { places = places_of (slice_set x.places.items home None) l; order = filter (λ j. not (j == home)) x.order.items }) (sym code)
@@ -74,7 +74,7 @@ module _ {V : Type 0} {P : V → Type 0} (m : Meanings P) (R : RegistrationList)
       used = [];
       tells = λ rest.
           on_module-found name before home rest (discard before) found
-          ∙ ap (λ u. Some (after_run (Done None) [] (without home (unbound_from home before).modules) u)) (has_ended rest)
+          ∙ ap (λ u. Some (after_run (Done None) [] (without home (all_unbound_from home before).modules) u)) (has_ended rest)
           ∙ ap (λ (ss : ModuleStates). Some (after_run (Done None) [] ss (with_inputs rest now))) removed_states;
       told = inl refl;
       answers = sym silent;

@@ -12,12 +12,12 @@ use Rattle.ang_meaning.specs.Counting.{Thing, how_many}
 use Rattle.ang_source.specs.Meaning.{routine}
 use Rattle.ang_names_known.specs.declared.names.Names.{Names}
 use Rattle.ang_names_known.specs.declared.names.ScriptFunction.{ScriptFunction}
-use Rattle.ang_engine_call.specs.Calls.{result_of}
+use Rattle.ang_engine_call.specs.Calls.{primitive_of, result_of}
 use Rattle.ang_engine_build.specs.declared.program.NoProgram.{NoProgram}
 use Rattle.ang_engine_build.specs.declared.program.NoProgram.TheVariants as no
 use Rattle.ang_engine_build.specs.Build.{Built, Errors, Compiled}
 use Rattle.ang_engine_modules.specs.declared.modules.LoadedModule.{LoadedModule}
-use Rattle.ang_engine_modules.specs.Modules.{Module}
+use Rattle.ang_engine_modules.specs.Modules.{Module, result_at}
 use Rattle.ang_engine_modules.specs.Executed.{call_of, initialization_of}
 use Rattle.ang_engine_modules.specs.Ends.{Ends}
 use Rattle.ang_engine.specs.declared.building.BuildRefused.{BuildRefused}
@@ -151,6 +151,18 @@ NameNothing vs = (x : Thing) → how_many x vs ≡ 0
 abbrev pub outcome_by : ScriptFunction → Result Slot Fault → Outcome
 outcome_by f (Ok v) = Done (result_of f v)
 outcome_by f (Err fault) = Failed fault
+
+-- how a call ended that was answered so
+abbrev pub outcome_as : Result (Option Value) Fault → Outcome
+outcome_as (Ok v) = Done v
+outcome_as (Err fault) = Failed fault
+
+-- Function n of module m, of which the names say the same as its tree: the primitive type of its
+-- value, if it is of one.
+pub record IsTyped (ms : List Module) (names : Names) (m n : ℕ) : Type 0 where
+  pub function : ScriptFunction
+  pub at : slice_get names.functions n ≡ Some function
+  pub result : result_at ms m n ≡ primitive_of function.result.ty
 
 -- The call was run of that function of module m, among these, and ended so, within the budget and
 -- from one world to the other.

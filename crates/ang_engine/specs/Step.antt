@@ -1,5 +1,5 @@
 -- What one command does: the reply, and the world after it (docs/MEANING.md, "A command").
-use Rattle.std.specs.Prelude.{ℕ, ◌≡◌, ◌⊎◌, Bool, true, false, ◌&&◌, nat_le, if◌then◌else◌, List, [], ◌∷◌, ◌++◌, length, slice_get, slice_set, Option, Some, None, IsSome, Result, Ok, Err, map as list_map}
+use Rattle.std.specs.Prelude.{ℕ, ◌≡◌, ◌⊎◌, Bool, true, false, ◌&&◌, nat_le, if◌then◌else◌, List, [], ◌∷◌, ◌++◌, slice_get, slice_set, Option, Some, None, IsSome, Result, Ok, Err, map as list_map}
 use Rattle.ang_kinds.specs.declared.error.Denial.{Denial}
 use Rattle.ang_kinds.specs.declared.error.Error.{Error}
 use Rattle.ang_kinds.specs.declared.fault.Fault.{Fault}
@@ -22,12 +22,11 @@ use Rattle.ang_engine_modules.specs.Ends.{Ended, end_of}
 use Rattle.ang_engine_world.specs.declared.command.Command.{Command}
 use Rattle.ang_engine_world.specs.declared.command.Command.TheVariants.{NewModule, SetMask, AddSection, Build, Bind, Unbind, Call, Discard}
 use Rattle.ang_engine_world.specs.declared.reply.Reply.{Reply}
-use Rattle.ang_engine_world.specs.declared.reply.Outcome.{Outcome}
 use Rattle.ang_engine_world.specs.declared.reply.Outcome.TheVariants.{Done, Failed, Refused}
 use Rattle.ang_engine_world.specs.declared.reply.Refusal.{Refusal}
 use Rattle.ang_engine_world.specs.declared.reply.Refusal.TheVariants.{NotBuilt, BadBudget, BuildMemory, BuildErrors, InitFailed, NoFunction, NoImport, SignatureDiffers, NotCallable, BadArguments, Memory}
-use Rattle.ang_engine_world.specs.World.{Program, ModuleState, ModuleStates, World, module_named, module_at, placed, unbound_from, built_in, running, left_to, globals_ended}
-use Rattle.ang_engine_world.specs.Commands.{Stepped, reply_of, answered, refused, after_run, linked, added_module, set_mask, add_section, unbind, discard, on_module, on_both}
+use Rattle.ang_engine_world.specs.World.{Program, ModuleState, ModuleStates, World, module_named, module_at, placed, all_unbound_from, built_in, running, left_to, globals_ended}
+use Rattle.ang_engine_world.specs.Commands.{Stepped, answered, refused, after_run, linked, added_module, set_mask, add_section, unbind, discard, on_module, on_both}
 
 -- a budget is a number of ticks from 1 to 2,147,483,647
 abbrev pub is_budget : ℕ → Bool
@@ -100,10 +99,10 @@ after_build V ds (Compiled q) w i m budget r =
 abbrev pub build : RegistrationList → World → ℕ → ModuleState → ℕ → List Input → Option Stepped
 build R w i m budget (Room true ∷ inputs) =
     Some (after_build (seen R m.mask) (denials_in R m.mask m.sections)
-    (build_of (seen R m.mask) m.sections) (unbound_from i w) i m budget
+    (build_of (seen R m.mask) m.sections) (all_unbound_from i w) i m budget
     (globals_ended i (running w inputs)))
 build R w i m budget (Room false ∷ inputs) =
-    Some (after_run (Refused BuildMemory) [] (placed (unbound_from i w) i (emptied m))
+    Some (after_run (Refused BuildMemory) [] (placed (all_unbound_from i w) i (emptied m))
     (globals_ended i (running w inputs)))
 build R w i m budget _ = None
 

@@ -40,8 +40,8 @@ fn choose_function(
     Ok(number)
 }
 
-/// The number of the function to which an import of module `home` can be bound by this declaration, among those of
-/// module `exporter`.
+/// The number of the function to which an import of module `home` can be bound by this declaration,
+/// among those of module `exporter`.
 fn choose_link(
     alloc: Global,
     code: &Modules,

@@ -1,5 +1,5 @@
 //! Builds.
-ghost use Rattle.std.specs.Prelude.{ℕ, List as ListOf, ◌≡◌, ◌<◌, ◌≤◌, ◌^◌, [], Option, Some, None, length, IfOk, IfErr, IsSome, OnOk, OnErr, slice_set, slice_index_or, map as list_map};
+ghost use Rattle.std.specs.Prelude.{ℕ, ◌≡◌, ◌<◌, ◌≤◌, ◌^◌, [], Option, Some, None, length, IfOk, IfErr, IsSome, OnOk, OnErr, slice_set, slice_index_or, map as list_map};
 ghost use Rattle.ang_host.specs.Boxes.{members};
 ghost use Rattle.ang_view.specs.Registration.{seen};
 ghost use Rattle.ang_source.specs.Sound.{SoundProgram};
@@ -189,8 +189,8 @@ fn load(
     code.first_globals(alloc, home)
 }
 
-/// Loads a module that has no globals, and runs the initializers of its globals. Where one fails its globals
-/// end.
+/// Loads a module that has no globals, and runs the initializers of its globals. Where one fails its
+/// globals end.
 ///
 /// # Errors
 /// `Memory` or `Initializer`. Then the module is not built.
@@ -311,7 +311,8 @@ fn build_module(
     }
 }
 
-/// Builds the module of that name: `Command::Build`. The events need room for the end of each live host object.
+/// Builds the module of that name: `Command::Build`. The events need room for the end of each live
+/// host object.
 pub fn build(
     alloc: Global,
     registry: &Registry,

@@ -7,12 +7,13 @@ ghost use Rattle.ang_heap.specs.Stores.{world_of, IsReady};
 ghost use Rattle.ang_vm.specs.Machines.{lent};
 ghost use Rattle.ang_engine_modules.specs.Loaded.{modules_of};
 ghost use Rattle.ang_engine_modules.specs.Modules.{TakesSoMany, AreDriversThere};
+ghost use Rattle.ang_names_known.specs.declared.names.Names.{Names};
 ghost use Rattle.ang_engine.specs.Asked.{HasRunOn};
 ghost use Rattle.ang_engine_world.specs.States.{program_in};
-ghost use Rattle.ang_engine.specs.Outcomes.{IsChosen, NameNothing, HasCalled, outcome_by};
+ghost use Rattle.ang_engine.specs.Outcomes.{IsChosen, NameNothing, HasCalled, IsTyped, outcome_as};
 ghost use Rattle.ang_engine.specs.Step.{choice_of, of_function};
 
-use ang_engine_call::{arguments, find_function, is_callable, result_value};
+use ang_engine_call::{arguments, find_function, is_callable};
 use ang_engine_modules::{LoadedModule, Modules};
 use ang_engine_world::{Outcome, Refusal};
 use ang_host::{Driver, HostEvent};
@@ -77,12 +78,12 @@ pub fn choose(
     )
 }
 
-/// How a call of the function ended.
-fn call_outcome(function: &ScriptFunction, ended: Result<Slot, Fault>) -> Outcome
-    ensures exact { result ≡ outcome_by function.now ended }
+/// How a call ended that was answered so.
+fn call_outcome(answer: Result<Option<Value>, Fault>) -> Outcome
+    ensures exact { result ≡ outcome_as answer }
 {
-    match ended {
-        Ok(value) => Outcome::Done(result_value(function, value)),
+    match answer {
+        Ok(value) => Outcome::Done(value),
         Err(fault) => Outcome::Failed(fault),
     }
 }
@@ -93,7 +94,6 @@ pub fn run_chosen(
     machine: &mut Machine,
     events: &mut Vec<HostEvent>,
     home: u32,
-    loaded: &LoadedModule,
     chosen: &ChosenCall,
     budget: u64,
 ) -> Outcome
@@ -103,10 +103,10 @@ pub fn run_chosen(
     requires plain { NameNothing chosen.now.args.items }
     requires counted { IsCounted []
         (world_of ⟦<dyn Driver as Driver>⟧ (lent machine.old events.old)) }
-    requires within { chosen.now.number < length loaded.now.names.functions }
     requires takes { TakesSoMany (modules_of code.now) home chosen.now.number
         (length chosen.now.args.items) }
-    ensures means { HasCalled (modules_of code.now) loaded.now.names home budget chosen.now
+    ensures means { (names : Names) → IsTyped (modules_of code.now) names home chosen.now.number
+        → HasCalled (modules_of code.now) names home budget chosen.now
         (world_of ⟦<dyn Driver as Driver>⟧ (lent machine.old events.old)) result
         (world_of ⟦<dyn Driver as Driver>⟧ (lent machine.new events.new)) }
     ensures asked { HasRunOn ⟦<dyn Driver as Driver>⟧ (modules_of code.now)
@@ -114,7 +114,6 @@ pub fn run_chosen(
     ensures globals { list_map length (values_in machine.new.store.globals)
         ≡ list_map length (values_in machine.old.store.globals) }
 {
-    let function = &loaded.names.functions.as_slice()[chosen.number];
-    let ended = code.call(machine, home, chosen.number, &chosen.args, budget, events);
-    call_outcome(function, ended)
+    let answer = code.call(machine, home, chosen.number, &chosen.args, budget, events);
+    call_outcome(answer)
 }

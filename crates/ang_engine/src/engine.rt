@@ -316,7 +316,6 @@ impl Engine {
                 &mut self.machine,
                 events,
                 home,
-                loaded,
                 &chosen,
                 budget,
             )),

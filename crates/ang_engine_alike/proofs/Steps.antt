@@ -27,8 +27,8 @@ use Rattle.ang_engine_world.specs.declared.reply.Outcome.{Outcome}
 use Rattle.ang_engine_world.specs.declared.reply.Outcome.TheVariants.{Done, Failed, Refused}
 use Rattle.ang_engine_world.specs.declared.reply.Refusal.{Refusal}
 use Rattle.ang_engine_world.specs.declared.reply.Refusal.TheVariants.{BadName, ModuleExists, Limit, NoModule, NotBuilt, NoImport, BadBudget, BuildMemory, InitFailed, Memory}
-use Rattle.ang_engine_world.specs.World.{Program, ModuleState, ModuleStates, World, module_named, module_at, placed, unbound_from, built_in, running, left_to, globals_ended}
-use Rattle.ang_engine_world.specs.Commands.{with_link, Stepped, reply_of, answered, refused, after_run, fresh_module, in_place, empty_place, where_free, added_module, set_mask, or_limit, add_section, unbound, unbind_program, unbind, without, discard, on_module, on_both, most_modules}
+use Rattle.ang_engine_world.specs.World.{Program, ModuleState, ModuleStates, World, module_named, module_at, placed, all_unbound_from, built_in, running, left_to, globals_ended}
+use Rattle.ang_engine_world.specs.Commands.{with_link, Stepped, reply_of, answered, refused, after_run, fresh_module, in_place, empty_place, where_free, added_module, set_mask, or_limit, add_section, unbind_import, unbind_program, unbind, without, discard, on_module, on_both, most_modules}
 use Rattle.ang_engine.specs.Step.{errors_reply, is_budget, emptied, program_over, with_program, globals_begun, initializers_end, initialized, started, after_errors, after_build, build, build_within, link_of, bound, bind_programs, bind, Choice, Chosen, Not, choice_of, called, call_ended, call_end, call_chosen, call_program, call, judged, granted, step}
 use Rattle.ang_engine_alike.proofs.Fitting.{bound_fits, chosen_fits, result_renamed, seen_values, seen_few}
 use Rattle.ang_engine_alike.proofs.Modules.{good_fresh, good_new, AreGood, good_kept, good_rebuilt, good_relinked, modules_sound, all_none}
@@ -164,13 +164,13 @@ module _ (apart : Type 0) where
 
     discard_alike : (i : ℕ) → BothAlike apart (discard W i (module_at W i) v.inputs) (discard U i (module_at W i) w.inputs)
     discard_alike i =
-        ran_alike (Done None) (without i (unbound_from i W).modules) r (globals_ended i V) (globals_ended i X)
+        ran_alike (Done None) (without i (all_unbound_from i W).modules) r (globals_ended i V) (globals_ended i X)
         (good_rebuilt ms i None _ good tt (λ k. refl)) (ended_counted i V counted) (ended_alike apart r i V X begins)
 
     -- ---- Unbind
 
     unbound_by : (i index : ℕ) (p : Program) (o : Option ScriptFunction) → (module_at W i).program ≡ Some p
-        → BothAlike apart (unbound o W i (module_at W i) p index v.inputs) (unbound o U i (module_at W i) p index w.inputs)
+        → BothAlike apart (unbind_import o W i (module_at W i) p index v.inputs) (unbind_import o U i (module_at W i) p index w.inputs)
     unbound_by i index p None here = kept NoImport
     unbound_by i index p (Some import) here =
         answered_alike (Done None) (placed W i (record (module_at W i) { program = Some (with_link index None p) })) r v w
@@ -235,10 +235,10 @@ module _ (apart : Type 0) where
 
     module _ (R : RegistrationList) (values : TakesValues R) (few : length R ≤ 1024) where
       abbrev others : ℕ → World
-      others i = unbound_from i W
+      others i = all_unbound_from i W
 
       abbrev others_too : ℕ → World
-      others_too i = unbound_from i U
+      others_too i = all_unbound_from i U
 
       -- emptied, and with a program
       emptied_good : (i : ℕ) → AreGood (placed (others i) i (emptied (module_at W i)))

@@ -7,7 +7,7 @@ use Rattle.ang_meaning.specs.World.{Input, Room, Said, Tallied, Fresh, World as 
 use Rattle.ang_engine_build.specs.Build.{Built, Errors, Compiled, build_of, denials_in}
 use Rattle.ang_engine_world.specs.declared.command.Command.{Command}
 use Rattle.ang_engine_world.specs.declared.command.Command.TheVariants.{NewModule, SetMask, AddSection, Build, Bind, Unbind, Call, Discard}
-use Rattle.ang_engine_world.specs.World.{ModuleState, World, module_named, module_at, unbound_from, running, globals_ended}
+use Rattle.ang_engine_world.specs.World.{ModuleState, World, module_named, module_at, all_unbound_from, running, globals_ended}
 use Rattle.ang_engine_world.specs.Commands.{Stepped, refused, on_module}
 use Rattle.ang_engine_world.specs.declared.reply.Refusal.TheVariants.{BadBudget}
 use Rattle.ang_engine.specs.Step.{is_budget, after_build, build, build_within, judged, granted, step}
@@ -30,8 +30,8 @@ module _ (R S : RegistrationList) (w : World) where
   build_same i budget m e (Room false ∷ is) = refl
   build_same i budget m e (Room true ∷ is) =
       let ends = globals_ended i (running w is) in
-      ap (λ V. Some (bare (after_build V (denials_in R m.mask m.sections) (build_of V m.sections) (unbound_from i w) i m budget ends))) e
-      ∙ ap (λ s. Some s) (after_bare (seen S m.mask) (denials_in R m.mask m.sections) (denials_in S m.mask m.sections) (build_of (seen S m.mask) m.sections) (unbound_from i w) i m budget ends)
+      ap (λ V. Some (bare (after_build V (denials_in R m.mask m.sections) (build_of V m.sections) (all_unbound_from i w) i m budget ends))) e
+      ∙ ap (λ s. Some s) (after_bare (seen S m.mask) (denials_in R m.mask m.sections) (denials_in S m.mask m.sections) (build_of (seen S m.mask) m.sections) (all_unbound_from i w) i m budget ends)
 
   within_same : (b : Bool) (i budget : ℕ) (m : ModuleState) (is : List Input) → (b ≡ true → seen R m.mask ≡ seen S m.mask)
       → option_map bare (if b then (build R w i m budget is) else (refused BadBudget w is)) ≡ option_map bare (if b then (build S w i m budget is) else (refused BadBudget w is))

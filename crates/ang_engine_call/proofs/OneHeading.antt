@@ -1,5 +1,5 @@
 -- No two functions of a build have one heading.
-use Rattle.std.proofs.Common.{◌≡◌, ◌≤◌, ℕ, zero, suc, Bool, true, false, ◌&&◌, ◌||◌, cond, List, [], ◌∷◌, ◌++◌, map, length, Option, Some, None, refl, sym, ap, ◌∙◌}
+use Rattle.std.proofs.Common.{◌≡◌, ◌≤◌, ℕ, zero, suc, Bool, true, false, ◌&&◌, ◌||◌, cond, List, [], ◌∷◌, ◌++◌, length, Option, Some, None, refl, sym, ap, ◌∙◌}
 use Rattle.std.specs.Prelude.{bytes_eq, option_to_list, slice_get}
 use Rattle.std.specs.List.{list_any, cons_option, filter_map}
 use Rattle.std.proofs.lemmas.List.Folds.{list_any-append}
@@ -17,11 +17,10 @@ use Rattle.ang_names_listed.specs.declared.listed.Part.{Part}
 use Rattle.ang_names_listed.specs.declared.listed.Part.TheVariants as part
 use Rattle.ang_names_listed.specs.Declarations.{Declaring, declarations_of, declared_name, families_of}
 use Rattle.ang_names_listed.specs.Taken.{excludes, clashes, clashes_with_host, is_taken, is_first_above, name_refusal}
-use Rattle.ang_types.specs.Refusals.{plain_refusal}
 use Rattle.ang_names.specs.Phases as phase
 use Rattle.ang_names.specs.Refusals.{parameter_limit, parameters_refusal, parameter_list_refusal, part_refusal, type_refusal, type_refusal_of}
 use Rattle.ang_names_written.specs.declared.role.Role.TheVariants as role
-use Rattle.ang_names.specs.Phases.{all_phases, first_refusals, refusals, refusals_of}
+use Rattle.ang_names.specs.Phases.{first_refusals, refusals, refusals_of}
 use Rattle.ang_names_resolved.specs.Resolved.{function_by, function_of, heading_of as meant_heading, names_of, space_of_declared}
 use Rattle.ang_engine_call.specs.Headings.{Heading, heading_of}
 use Rattle.ang_engine_call.specs.Named.{IsNamedBy, function_named_by}

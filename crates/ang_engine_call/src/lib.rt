@@ -1,5 +1,5 @@
 //! Calls of a script's functions from outside: which function a text names, whether it can be called, and
-//! what values it takes and gives (docs/EMBEDDING.md, "Commands").
+//! what values it takes (docs/EMBEDDING.md, "Commands"); `result_of` of `specs/` says what value it gives.
 //!
 //! A text names a function by its declaration without the body. Only primitives by value pass between a
 //! caller and a function.
@@ -10,9 +10,7 @@ mod callable;
 mod declaration;
 mod finding;
 pub mod laws;
-mod results;
 
 pub use argument_slots::arguments;
 pub use callable::is_callable;
 pub use finding::find_function;
-pub use results::result_value;

@@ -1,10 +1,11 @@
 -- The numbers of a module's bodies: those of its functions, and behind them those of its initializers.
-use Rattle.std.proofs.Common.{◌≡◌, ℕ, zero, suc, ◌+◌, ◌<◌, List, [], ◌∷◌, ◌++◌, length, Some, refl, ap, ◌∙◌, map, arith}
+use Rattle.std.proofs.Common.{◌≡◌, ℕ, zero, suc, ◌+◌, ◌<◌, List, [], ◌∷◌, ◌++◌, length, Option, Some, None, refl, ap, ◌∙◌, map, arith}
 use Rattle.std.specs.Prelude.{slice_get}
+use Rattle.ang_kinds.specs.declared.primitive.Primitive.{Primitive}
 use Rattle.ang_typed.specs.Typed as tree
 use Rattle.ang_meaning.specs.declared.routine.Routine.{Routine}
 use Rattle.ang_meaning.specs.declared.routine.Passing.{Passing}
-use Rattle.ang_source.specs.Meaning.{Code, passings_of, passings_in, initializers_from, routine}
+use Rattle.ang_source.specs.Meaning.{Code, passings_of, passings_in, primitive_of, results_in, initializers_from, routine}
 use Rattle.ang_engine_modules.specs.Executed.{routines_from, initializers_of}
 
 -- how a function takes its arguments
@@ -31,6 +32,16 @@ initializer_at : (fs : List tree.Function) (cs : List Code) (k n : ℕ) → n �
 initializer_at [] cs k n at h = let same : n ≡ k = omega arith in ap (λ i. slice_get (nothing_taken cs) i) same ∙ none_taken cs k h
 initializer_at (f ∷ fs) cs k zero at h = absurd (omega arith)
 initializer_at (f ∷ fs) cs k (suc n) at h = initializer_at fs cs k n (omega arith) h
+
+-- the primitive type of a function's value
+typed_at : (fs : List tree.Function) (cs : List Code) (n : ℕ) (f : tree.Function) → slice_get fs n ≡ Some f
+    → slice_get (map (λ (x : tree.Function). primitive_of x.result) fs ++ map {B = Option Primitive} (λ c. None) cs) n ≡ Some (primitive_of f.result)
+typed_at [] cs n f at = absurd (cc)
+typed_at (g ∷ fs) cs zero f at = let same : g ≡ f = cc in ap (λ (h : tree.Function). Some (primitive_of h.result)) same
+typed_at (g ∷ fs) cs (suc n) f at = typed_at fs cs n f at
+
+pub gives_as : (p : tree.Program) (n : ℕ) (f : tree.Function) → slice_get p.functions n ≡ Some f → slice_get (results_in p) n ≡ Some (primitive_of f.result)
+gives_as p n f at = typed_at p.functions (initializers_from 0 p.globals) n f at
 
 -- the place of a routine among those that are counted from a number on
 record PlaceFrom (first : ℕ) (cs : List Code) (n : ℕ) : Type 0 where

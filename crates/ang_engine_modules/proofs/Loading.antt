@@ -12,20 +12,21 @@ use Rattle.ang_meaning.specs.declared.routine.Passing.{Passing}
 use Rattle.ang_typed.specs.declared.program.Heading.{Heading}
 use Rattle.ang_typed.specs.Typed as tree
 use Rattle.ang_typed.specs.View.{view_typed}
-use Rattle.ang_source.specs.Meaning.{nothing, heading_among, initializers_from, passings_of, passings_in}
+use Rattle.ang_source.specs.Meaning.{nothing, heading_among, initializers_from, passings_of, passings_in, results_in, routine}
 use Rattle.ang_source.specs.Sound.{SoundProgram}
 use Rattle.ang_gen.specs.Compiled.{IsCompiled}
 use Rattle.ang_vm_stack.specs.declared.table.Table.{Table}
 use Rattle.ang_vm_stack.specs.declared.table.ModuleCode.{ModuleCode}
-use Rattle.ang_vm_stack.specs.Tables.{module_at as code_at}
+use Rattle.ang_vm_stack.specs.Tables.{module_at as code_at, result_in as result_among, result_of}
 use Rattle.ang_engine_modules.specs.declared.modules.LoadedModule.{LoadedModule}
-use Rattle.ang_engine_modules.specs.Modules.{Module, unbuilt, module_at, link_at, unbound_link, unbound_links, LinkFits, AreLinked, TakesSoMany}
+use Rattle.ang_engine_modules.specs.Modules.{Module, unbuilt, module_at, result_in, result_at, link_at, unbound_link, unbound_links, LinkFits, AreLinked, TakesSoMany}
 use Rattle.ang_engine_modules.specs.Executed.{initializers_of}
 use Rattle.ang_engine_modules.specs.Loaded.{loaded_at, module_of, modules_of, with_link, linked_in, without_links, unbound_in, uses_of, class_of, codes_of, IsCodeOf, IsTableOf, IsLoaded}
 use Rattle.ang_engine_modules.specs.Relinked.{bounds_of, IsRelinked, HasLink, HasUnbound}
 use Rattle.ang_engine_modules.specs.Numbers.{routines_at}
 use Rattle.ang_engine_modules.specs.Trees.{headings_in, classes_from}
 use Rattle.ang_engine_modules.proofs.Numbers.{routines_counted}
+use Rattle.ang_engine_modules.proofs.Bodies.{gives_as}
 
 -- ---- the code of one place
 
@@ -40,6 +41,7 @@ blank m c name bodies imports entities classes slots =
       name = name;
       entities = entities;
       passings = ap (list_map (λ b. b.params.items)) bodies;
+      results = ap (list_map (λ b. b.result)) bodies;
       compiled = subst (IsCompiled nothing) (sym bodies) none_compiled;
       few = omega (arith, none);
       imports = ap (list_map (λ y. y.params.items)) imports;
@@ -54,12 +56,13 @@ pub coded : (m : ℕ) (c : ModuleCode) (b : LoadedModule) (codes : List RoutineC
     → list_map (λ y. y.params.items) c.imports.items ≡ headings_in b.tree.imports → list_map (λ y. y.bound) c.imports.items ≡ list_map (λ h. None) b.tree.imports
     → c.entities.items ≡ uses_of b.view
     → list_map class_of c.classes.items ≡ classes_from m b.tree.classes 0 b.tree.classes → list_map (λ y. y.items) c.slots.items ≡ headings_in b.tree.methods
-    → list_map (λ x. x.params.items) codes ≡ passings_in (view_typed b.tree) → IsCompiled (view_typed b.tree) codes → SoundProgram b.view (view_typed b.tree)
+    → list_map (λ x. x.params.items) codes ≡ passings_in (view_typed b.tree) → list_map (λ x. x.result) codes ≡ results_in (view_typed b.tree) → IsCompiled (view_typed b.tree) codes → SoundProgram b.view (view_typed b.tree)
     → b.links ≡ list_map (λ h. None) b.tree.imports → IsCodeOf m (Some c) (module_of (Some b))
-coded m c b codes name bodies few imports bound entities classes slots params compiled sound unbound = record {
+coded m c b codes name bodies few imports bound entities classes slots params results compiled sound unbound = record {
   name = name;
   entities = entities;
   passings = ap (list_map (λ x. x.params.items)) bodies ∙ params;
+  results = ap (list_map (λ x. x.result)) bodies ∙ results;
   compiled = subst (IsCompiled (view_typed b.tree)) (sym bodies) compiled;
   few = few;
   imports = imports;
@@ -79,6 +82,7 @@ no_places m = record {
   name = refl;
   entities = refl;
   passings = refl;
+  results = refl;
   compiled = none_compiled;
   few = omega arith;
   imports = refl;
@@ -354,6 +358,7 @@ code_relinked m c d x ks ls h r same = record {
   name = r.name ∙ h.name;
   entities = r.entities ∙ h.entities;
   passings = ap (list_map (λ b. b.params.items)) r.bodies ∙ h.passings;
+  results = ap (list_map (λ b. b.result)) r.bodies ∙ h.results;
   compiled = subst (IsCompiled x.tree) (sym r.bodies) h.compiled;
   few = subst (λ l. length l < 2 ^ 32) (sym r.bodies) h.few;
   imports = r.params ∙ h.imports;
@@ -461,6 +466,11 @@ module _ (t t' : Table) (bs bs' : List (Option LoadedModule)) (is : IsLoaded t b
 
 -- ---- the numbers of a module's bodies
 
+result_listed : (cs : List RoutineCode) (n : ℕ) → result_among (slice_get cs n) ≡ option_flatten (slice_get (list_map (λ x. x.result) cs) n)
+result_listed [] n = refl
+result_listed (c ∷ cs) zero = refl
+result_listed (c ∷ cs) (suc n) = result_listed cs n
+
 module _ (t : Table) (ms : List Module) (is : IsTableOf t ms) (m : ℕ) where
   abbrev p : tree.Program
   p = (module_at ms m).tree
@@ -488,3 +498,11 @@ module _ (t : Table) (ms : List Module) (is : IsTableOf t ms) (m : ℕ) where
       let within : n < length p.functions = slice_get_within p.functions n takes.function takes.at in
       let few = (is.each m).few in
       omega (arith, within, counted, few)
+
+  -- the code of a function has the type of its value
+  pub typed : (n count : ℕ) → TakesSoMany ms m n count → result_of t (routine m n) ≡ result_at ms m n
+  typed n count takes =
+      result_listed (codes_of (code_at t m)) n
+      ∙ ap (λ l. option_flatten (slice_get l n)) (is.each m).results
+      ∙ ap option_flatten (gives_as p n takes.function takes.at)
+      ∙ sym (ap result_in takes.at)

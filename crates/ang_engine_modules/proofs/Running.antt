@@ -1,9 +1,10 @@
 -- What the machine's runs of a table mean, whichever modules it holds.
 use Rattle.std.proofs.Common.{◌≡◌, ◌+◌, ◌-◌, ◌<◌, ◌≤◌, ℕ, List, [], ◌∷◌, ◌++◌, Some, inl, inr, refl, sym, ap, subst, ◌∙◌}
-use Rattle.std.specs.Prelude.{length, reverse, slice_get, Result, Ok, Err}
+use Rattle.std.specs.Prelude.{length, reverse, slice_get, Option, Result, Ok, Err}
 use Rattle.std.specs.List.{AllByRecursion}
 use Rattle.std.proofs.lemmas.List.{append_assoc}
 use Rattle.ang_kinds.specs.declared.fault.Fault.{Fault}
+use Rattle.ang_kinds.specs.declared.value.Value.{Value}
 use Rattle.ang_meaning.specs.declared.slot.Slot.{Slot}
 use Rattle.ang_meaning.specs.declared.slot.Slot.TheVariants.{Bits}
 use Rattle.ang_meaning.specs.declared.routine.Routine.{Routine}
@@ -13,10 +14,11 @@ use Rattle.ang_meaning.specs.Setting.{Setting}
 use Rattle.ang_code.specs.Machine.{Config, call_begins, initializer_begins}
 use Rattle.ang_code.specs.Runs.{Stops}
 use Rattle.ang_code_globals.specs.Globals.{globals_of_each}
+use Rattle.ang_code.specs.Values.{answer_of}
 use Rattle.ang_source.specs.Meaning.{passings_in, routine}
 use Rattle.ang_vm_stack.specs.declared.table.Table.{Table}
-use Rattle.ang_vm_stack.specs.Tables.{setting_of, texts_of}
-use Rattle.ang_vm.specs.Machines.{HasRun, HasInitialized}
+use Rattle.ang_vm_stack.specs.Tables.{setting_of, texts_of, result_of}
+use Rattle.ang_vm.specs.Machines.{HasRun, HasCalled as CallEnded, HasInitialized}
 use Rattle.ang_engine_modules.specs.Modules.{Module, module_at, TakesSoMany, IsAskedIn}
 use Rattle.ang_engine_modules.specs.Executed.{setting_for, call_of, initializers_of, initialization_of}
 use Rattle.ang_engine_modules.specs.Initializing.{HaveComeTo}
@@ -24,6 +26,7 @@ use Rattle.ang_engine_modules.specs.Loaded.{IsTableOf}
 use Rattle.ang_engine_modules.specs.Numbers.{routines_at}
 use Rattle.ang_engine_modules.specs.Started.{HasEnded, HasCalled, HasBegun}
 use Rattle.ang_engine_modules.proofs.Settings.{setting_same}
+use Rattle.ang_engine_modules.proofs.Loading.{typed}
 use Rattle.ang_engine_modules.proofs.Bodies.{takes_nothing}
 use Rattle.ang_engine_modules.proofs.Numbers.{next_routine, no_routine}
 use Rattle.ang_engine_modules.proofs.Calls.{call_gives, call_stops, call_stands}
@@ -40,19 +43,29 @@ module _ (t : Table) where
   beginning z ticks m n w is = initializer_begins z (texts_of t) ticks (routine m n) (with_inputs is w)
 
   module _ (ms : List Module) (is : IsTableOf t ms) (budget m n : ℕ) (args : List Slot) (takes : TakesSoMany ms m n (length args)) (before after : World) (count : IsCounted (reverse args) before) where
-    called : (result : Result Slot Fault) → HasRun (setting_for ms 200) (texts_of t) (calling (setting_for ms 200) budget m n args before) result after
+    called : (result : Result Slot Fault) → CallEnded (setting_for ms 200) (texts_of t) (calling (setting_for ms 200) budget m n args before) result after
         → HasEnded ms (call_of ms budget m n args) before result after
     called (Ok v) (left, given) =
         subst (HasEnded ms (call_of ms budget m n args) before (Ok v)) (sym given.given) (call_gives t ms is budget m n args takes before v left given.end count given.runs)
     called (Err x) (inl run) = call_stops t ms is budget m n args takes before x after count run
     called (Err x) (inr (null, lost)) = absurd (call_stands t ms is budget m n args takes before lost.count (lost.told.used ++ []) (lost.told.tells []))
 
-  pub has_called : (budget m n : ℕ) (args : List Slot) (before after : World) (result : Result Slot Fault) → IsCounted (reverse args) before
-      → HasRun (setting_of t 200) (texts_of t) (calling (setting_of t 200) budget m n args before) result after
-      → HasCalled t budget m n args before result after
-  has_called budget m n args before after result count run = λ ms is takes.
-      called ms is budget m n args takes before after count result
-      (subst (λ z. HasRun z (texts_of t) (calling z budget m n args before) result after) (setting_same t ms is 200) run)
+  pub has_called : (budget m n : ℕ) (args : List Slot) (before after : World) (answer : Result (Option Value) Fault) → IsCounted (reverse args) before
+      → HasRun (setting_of t 200) (texts_of t) (result_of t (routine m n)) (calling (setting_of t 200) budget m n args before) answer after
+      → HasCalled t budget m n args before answer after
+  has_called budget m n args before after answer count run = λ ms is takes.
+      let ended = called ms is budget m n args takes before after count run.end
+      (subst (λ z. CallEnded z (texts_of t) (calling z budget m n args before) run.end after) (setting_same t ms is 200) run.called) in
+      record {
+        means = record {
+          result = run.end;
+          ends = ended.means;
+          answered = run.answered ∙ ap (λ type. answer_of type run.end) (typed t ms is m n (length args) takes);
+        };
+        asked = ended.asked;
+        counted = ended.counted;
+        globals = ended.globals;
+      }
 
 -- ---- initializers
 

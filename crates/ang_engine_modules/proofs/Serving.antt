@@ -6,6 +6,7 @@ use Rattle.ang_meaning.specs.declared.routine.Routine.{Routine}
 use Rattle.std.specs.Prelude.{Result, Ok, Err, OnOk, OnErr}
 use Rattle.ang_kinds.specs.declared.fault.Fault.{Fault}
 use Rattle.ang_host.specs.declared.event.Role.{Role}
+use Rattle.ang_kinds.specs.declared.value.Value.{Value}
 use Rattle.ang_meaning.specs.declared.slot.Slot.{Slot}
 use Rattle.ang_meaning.specs.World.{World, with_inputs}
 use Rattle.ang_meaning.specs.Counting.{IsCounted}
@@ -13,14 +14,14 @@ use Rattle.ang_code.specs.Machine.{call_begins}
 use Rattle.ang_source.specs.Meaning.{routine, passings_in}
 use Rattle.ang_vm_stack.specs.declared.table.ModuleCode.{ModuleCode}
 use Rattle.ang_vm_stack.specs.declared.table.Table.{Table}
-use Rattle.ang_vm_stack.specs.Tables.{module_at as code_at, setting_of, texts_of}
+use Rattle.ang_vm_stack.specs.Tables.{module_at as code_at, setting_of, texts_of, result_of}
 use Rattle.ang_vm_ask.specs.Entities.{DriversThere, HaveRoles}
 use Rattle.ang_vm.specs.Machines.{HasRun}
 use Rattle.ang_engine_modules.specs.declared.modules.LoadedModule.{LoadedModule}
-use Rattle.ang_engine_modules.specs.Modules.{unbuilt, module_at, LinkFits, TakesSoMany, AreDriversThere, AgreesWith}
+use Rattle.ang_engine_modules.specs.Modules.{unbuilt, module_at, result_at, LinkFits, TakesSoMany, AreDriversThere, AgreesWith}
 use Rattle.ang_engine_modules.specs.Executed.{call_of, initialization_of}
 use Rattle.ang_engine_modules.specs.Loaded.{modules_of, codes_of, IsCodeOf, IsTableOf, IsLoaded}
-use Rattle.ang_engine_modules.specs.Started.{HasEnded, HasBegun}
+use Rattle.ang_engine_modules.specs.Started.{HasEnded, HasAnswered, HasBegun}
 use Rattle.ang_engine_modules.proofs.Askable.{drivers_there, roles_are}
 use Rattle.ang_engine_modules.proofs.Loading.{small_number, numbered, loaded_same, loaded_pushed}
 use Rattle.ang_engine_modules.proofs.Running.{has_called}
@@ -41,10 +42,10 @@ module _ (t : Table) (xs now : List (Option LoadedModule)) (is : IsLoaded t xs) 
   pub have : (roles : List Role) → AgreesWith roles (modules_of now) → HaveRoles t roles
   have roles agrees = record { each = roles_are t (modules_of now) table_is roles agrees }
 
-  pub call_ended : (budget m n : ℕ) (args : List Slot) (before after : World) (result : Result Slot Fault) → IsCounted (reverse args) before → TakesSoMany (modules_of now) m n (length args)
-      → HasRun (setting_of t 200) (texts_of t) (λ is. call_begins (setting_of t 200) (texts_of t) budget (routine m n) (reverse args) (with_inputs is before)) result after
-      → HasEnded (modules_of now) (call_of (modules_of now) budget m n args) before result after
-  call_ended budget m n args before after result count takes run = has_called t budget m n args before after result count run (modules_of now) table_is takes
+  pub call_ended : (budget m n : ℕ) (args : List Slot) (before after : World) (answer : Result (Option Value) Fault) → IsCounted (reverse args) before → TakesSoMany (modules_of now) m n (length args)
+      → HasRun (setting_of t 200) (texts_of t) (result_of t (routine m n)) (λ is. call_begins (setting_of t 200) (texts_of t) budget (routine m n) (reverse args) (with_inputs is before)) answer after
+      → HasAnswered (modules_of now) (result_at (modules_of now) m n) (call_of (modules_of now) budget m n args) before answer after
+  call_ended budget m n args before after answer count takes run = has_called t budget m n args before after answer count run (modules_of now) table_is takes
 
   pub initializers_ended : (budget m first end : ℕ) (before after : World) (result : Result Slot Fault)
       → first ≡ length (module_at (modules_of now) m).tree.functions → end ≡ length (codes_of (code_at t m)) → HasBegun t budget m first end before result after

@@ -1,11 +1,14 @@
 -- How a run ended, and what it was told.
-use Rattle.std.specs.Prelude.{◌≡◌, ◌⊎◌, true, List, ◌++◌, Some, Result, Ok, Err}
+use Rattle.std.specs.Prelude.{◌≡◌, ◌⊎◌, true, List, ◌++◌, Option, Some, Result, Ok, Err}
 use Rattle.ang_kinds.specs.declared.fault.Fault.{Fault}
+use Rattle.ang_kinds.specs.declared.primitive.Primitive.{Primitive}
+use Rattle.ang_kinds.specs.declared.value.Value.{Value}
 use Rattle.ang_meaning.specs.declared.slot.Slot.{Slot}
 use Rattle.ang_meaning.specs.declared.slot.Slot.TheVariants.{Bits}
 use Rattle.ang_meaning.specs.World.{Input, World, with_inputs, give, give_all}
 use Rattle.ang_meaning.specs.Told.{has_room, stopped_by, answers_told, answers_listed}
 use Rattle.ang_meaning.specs.Results.{Reply, Yields, Raises}
+use Rattle.ang_code.specs.Values.{answer_of}
 
 -- its value or its fault, and the world that it left
 pub record Ended : Type 0 where
@@ -34,6 +37,13 @@ pub record Ends (go : World → Reply) (before : World) (result : Result Slot Fa
       ≡ record { result = result; world = with_inputs rest after }
   pub told : IsTold result used
   pub answers : answers_listed after.events ≡ answers_listed before.events ++ answers_told used
+
+-- A run ends so, and is answered by the type of its value.
+pub record Answers (type : Option Primitive) (go : World → Reply) (before : World)
+    (answer : Result (Option Value) Fault) (after : World) : Type 0 where
+  pub result : Result Slot Fault
+  pub ends : Ends go before result after
+  pub answered : answer ≡ answer_of type result
 
 -- the same of initializers, whose value is 0
 abbrev pub completed : {U : Type 0} → Result U Fault → Result Slot Fault

@@ -6,7 +6,7 @@ use Rattle.ang_typed.specs.View.{view_typed}
 use Rattle.ang_meaning.specs.declared.host.HostUse.{HostUse}
 use Rattle.ang_meaning.specs.declared.routine.Routine.{Routine}
 use Rattle.ang_code.specs.declared.instruction.RoutineCode.{RoutineCode}
-use Rattle.ang_source.specs.Meaning.{passings_in}
+use Rattle.ang_source.specs.Meaning.{passings_in, results_in}
 use Rattle.ang_source.specs.Sound.{SoundProgram}
 use Rattle.ang_lower.specs.Hosts.{asked_as}
 use Rattle.ang_gen.specs.Compiled.{IsCompiled}
@@ -68,6 +68,7 @@ pub record IsCodeOf (m : ℕ) (c : Option ModuleCode) (x : Module) : Type 0 wher
   pub name : list_in (λ y. y.name.items) c ≡ x.name
   pub entities : list_in (λ y. y.entities.items) c ≡ uses_of x.view
   pub passings : list_map (λ b. b.params.items) (codes_of c) ≡ passings_in x.tree
+  pub results : list_map (λ b. b.result) (codes_of c) ≡ results_in x.tree
   pub compiled : IsCompiled x.tree (codes_of c)
   pub few : length (codes_of c) < 2 ^ 32
   pub imports :

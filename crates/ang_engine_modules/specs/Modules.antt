@@ -2,6 +2,7 @@
 -- module").
 use Rattle.std.specs.Prelude.{◌≡◌, ◌<◌, ◌==◌, ℕ, List, [], Option, Some, None, IsSome, length, slice_get, slice_index_or, if◌then◌else◌, map}
 use Rattle.std.specs.Option.{option_flatten}
+use Rattle.ang_kinds.specs.declared.primitive.Primitive.{Primitive}
 use Rattle.ang_host.specs.declared.event.HostEvent.{HostEvent}
 use Rattle.ang_host.specs.declared.event.HostEvent.TheVariants.{Called, Ended}
 use Rattle.ang_host.specs.declared.event.Role.{Role}
@@ -9,7 +10,7 @@ use Rattle.ang_host.specs.Events.{role_at}
 use Rattle.ang_view.specs.declared.entry.Entry.{Entry}
 use Rattle.ang_view.specs.Registration.{RegistrationList, entry_at}
 use Rattle.ang_typed.specs.Typed as t
-use Rattle.ang_source.specs.Meaning.{nothing, heading_among, passings_in}
+use Rattle.ang_source.specs.Meaning.{nothing, primitive_of, heading_among, passings_in}
 use Rattle.ang_meaning.specs.declared.host.HostUse.{HostUse}
 use Rattle.ang_meaning.specs.declared.routine.Passing.{Passing}
 use Rattle.ang_meaning.specs.declared.routine.Routine.{Routine}
@@ -78,6 +79,14 @@ abbrev pub IsAskedIn : List Module → HostEvent → Type 0
 IsAskedIn ms (Called caller entity driver object args reply) =
     (m : ℕ) × (caller ≡ (module_at ms m).name) × IsSome (entry_in ms m entity.0)
 IsAskedIn ms (Ended driver key) = Unit {0}
+
+-- the primitive type of a function's value, where there is the function and its value is of one
+abbrev pub result_in : Option t.Function → Option Primitive
+result_in None = None
+result_in (Some f) = primitive_of f.result
+
+abbrev pub result_at : List Module → ℕ → ℕ → Option Primitive
+result_at ms m n = result_in (slice_get (module_at ms m).tree.functions n)
 
 -- the function of that number in module m takes so many arguments
 pub record TakesSoMany (ms : List Module) (m n count : ℕ) : Type 0 where

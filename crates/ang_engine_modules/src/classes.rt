@@ -1,5 +1,5 @@
 //! The classes of a module's tree as the machine's table has them.
-ghost use Rattle.std.specs.Prelude.{◌≡◌, ◌++◌, ◌∷◌, [], Some, None, MatchOption, IfOk, OnOk, length, option_and_then, slice_get, map as list_map};
+ghost use Rattle.std.specs.Prelude.{◌≡◌, ◌++◌, ◌∷◌, [], Some, None, MatchOption, IfOk, OnOk, option_and_then, slice_get, map as list_map};
 ghost use Rattle.ang_source.specs.Meaning.{kind_of, class_of as class_in};
 ghost use Rattle.ang_engine_modules.specs.Loaded as spec;
 ghost use Rattle.ang_engine_modules.specs.Trees.{own_methods, methods_by, script_class, classes_from};

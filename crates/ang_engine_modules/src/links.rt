@@ -96,7 +96,7 @@ fn bind_loaded(alloc: Global, place: &mut Option<LoadedModule>, index: usize, li
     }
 }
 
-/// Binds an import of the module of a number, in its code and in what it is loaded with, or unbinds it.
+/// Binds or unbinds an import of the module `home`, in its code and in what it is loaded with.
 pub fn bind_import(
     alloc: Global,
     codes: &mut Vec<ModuleCode>,

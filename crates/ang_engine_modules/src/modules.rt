@@ -11,9 +11,9 @@ ghost use Rattle.ang_vm.specs.Machines.{lent};
 ghost use Rattle.ang_typed.specs.View.{view_typed};
 ghost use Rattle.ang_source.specs.Sound.{SoundProgram};
 ghost use Rattle.ang_engine_modules.specs.Executed.{first_globals, call_of, initialization_of};
-ghost use Rattle.ang_engine_modules.specs.Ends.{Ends, completed};
+ghost use Rattle.ang_engine_modules.specs.Ends.{Ends, Answers, completed};
 ghost use Rattle.ang_engine_modules.specs.Loaded.{loaded_at, modules_of, linked_in, unbound_in};
-ghost use Rattle.ang_engine_modules.specs.Modules.{module_at, LinkFits, TakesSoMany, AreDriversThere, AgreesWith, IsAskedIn};
+ghost use Rattle.ang_engine_modules.specs.Modules.{module_at, result_at, LinkFits, TakesSoMany, AreDriversThere, AgreesWith, IsAskedIn};
 
 use crate::globals::defaults;
 use crate::links::{bind_import, unbind_codes, unbind_places};
@@ -21,7 +21,7 @@ use crate::runs::{body_count, run_initializers};
 use crate::tables::{code_of, no_code};
 use ang_gen::generate;
 use ang_host::{Driver, HostEvent};
-use ang_kinds::{Fault, List};
+use ang_kinds::{Fault, List, Value};
 use ang_meaning::{Routine, Slot};
 use ang_names_known::Names;
 use ang_typed::Typed;
@@ -46,11 +46,11 @@ pub struct LoadedModule {
     pub links: List<Option<Routine>>,
 }
 
-/// The modules of an engine, by number, each with its compiled code where it is built. Contracts see the list
-/// of what is built.
+/// The modules of an engine, by number, each with its compiled code where it is built. Contracts
+/// see the list of what is built.
 ///
-/// Names, views and trees are kept beside the code. No run reads them: contracts speak of them, and a call by
-/// declaration looks names and view up ([`Modules::loaded`]).
+/// Names, views and trees are kept beside the code. No run reads them: contracts speak of them, and
+/// a call by declaration looks names and view up ([`Modules::loaded`]).
 #[derive(Drop)]
 pub struct Modules {
     table: Table,
@@ -138,12 +138,12 @@ impl Modules {
         push_place(&mut self.table.modules, &mut self.loaded, no_code(alloc))
     }
 
-    /// Builds the module of that number, which is not built, with no import bound yet: compiles its tree, and
-    /// makes the machine's code of it.
+    /// Builds the module of that number, which is not built, with no import bound yet: compiles its
+    /// tree, and makes the machine's code of it.
     ///
     /// # Errors
-    /// Want of memory. It is also answered where a number of a body, a function, a global or a class has more
-    /// than 32 bits, which no checked module has.
+    /// Want of memory. It is also answered where a number of a body, a function, a global or a
+    /// class has more than 32 bits, which no checked module has.
     pub fn load(&mut self, alloc: Global, home: u32, loaded: LoadedModule) -> Result<(), AllocError>
         requires sound { SoundProgram loaded.view (view_typed loaded.tree) }
         requires unbound { loaded.links ≡ list_map (λ h. None) loaded.tree.imports }
@@ -151,22 +151,22 @@ impl Modules {
         ensures placed { OnOk result (self.new ≡ slice_set self.old home (Some loaded)) }
         ensures unchanged { OnErr result (self.new ≡ self.old) }
     {
-        let codes = generate(alloc, &loaded.tree)?;
+        let generated = generate(alloc, &loaded.tree)?;
         let code = code_of(
             alloc,
             home,
             loaded.name.as_slice(),
             &loaded.view,
             &loaded.tree,
-            codes,
+            generated,
         )?;
         put_code(&mut self.table.modules, home, code);
         put_loaded(&mut self.loaded, home, Some(loaded));
         Ok(())
     }
 
-    /// The module of that number is not built any more, and every import that is bound to a function of it is
-    /// unbound. It takes no memory.
+    /// The module of that number is not built any more, and every import that is bound to a
+    /// function of it is unbound. It takes no memory.
     pub fn unload(&mut self, alloc: Global, home: u32)
         ensures unloaded { self.new ≡ unbound_in home (slice_set self.old home None) }
     {
@@ -176,8 +176,8 @@ impl Modules {
         unbind_places(alloc, home, &mut self.loaded);
     }
 
-    /// Binds an import of a module to a function of another one, or of the same. An earlier binding is replaced.
-    /// It takes no memory.
+    /// Binds an import of a module to a function of another one, or of the same. An earlier binding
+    /// is replaced. It takes no memory.
     pub fn bind(&mut self, alloc: Global, home: u32, index: usize, exporter: u32, number: usize)
         requires within { home < length self.old }
         requires fits { LinkFits (modules_of self.old) home index
@@ -233,9 +233,9 @@ impl Modules {
         }
     }
 
-    /// Runs the initializers of a module's globals, in the order of declaration and on one budget of ticks. What
-    /// they ask and which objects end is listed behind the events, which need room for the end of each live host
-    /// object. A module that is not built has none.
+    /// Runs the initializers of a module's globals, in the order of declaration and on one budget
+    /// of ticks. What they ask and which objects end is listed behind the events, which need room
+    /// for the end of each live host object. A module that is not built has none.
     ///
     /// # Errors
     /// The fault that ended them.
@@ -272,10 +272,10 @@ impl Modules {
         run_initializers(&self.table, machine, home, first, end, budget, events)
     }
 
-    /// Calls the function of a number of a module with a budget of ticks, and answers its value; a `void`
-    /// function's value is 0. What the value holds has been given up. The arguments stand in the order of the
-    /// parameters. What the function asks and which objects end is listed behind the events, which need room for
-    /// the end of each live host object.
+    /// Calls the function of a number of a module with a budget of ticks, and answers its value,
+    /// where it is of a primitive type. Any other value has been given up. The arguments stand in
+    /// the order of the parameters. What the function asks and which objects end is listed behind
+    /// the events, which need room for the end of each live host object.
     ///
     /// # Errors
     /// The fault of the script.
@@ -287,14 +287,15 @@ impl Modules {
         args: &[Slot],
         budget: u64,
         events: &mut Vec<HostEvent>,
-    ) -> Result<Slot, Fault>
+    ) -> Result<Option<Value>, Fault>
         requires drivers { AreDriversThere (modules_of self.now)
             (length (members machine.old.store.drivers)) }
         requires takes { TakesSoMany (modules_of self.now) home number (length args.now) }
         requires ready { IsReady ⟦<dyn Driver as Driver>⟧ (lent machine.old events.old) }
         requires counted { IsCounted (reverse args.now)
             (world_of ⟦<dyn Driver as Driver>⟧ (lent machine.old events.old)) }
-        ensures means { Ends (call_of (modules_of self.now) budget home number args.now)
+        ensures means { Answers (result_at (modules_of self.now) home number)
+            (call_of (modules_of self.now) budget home number args.now)
             (world_of ⟦<dyn Driver as Driver>⟧ (lent machine.old events.old)) result
             (world_of ⟦<dyn Driver as Driver>⟧ (lent machine.new events.new)) }
         ensures asked { AllByRecursion (IsAskedIn (modules_of self.now)) events.old.items

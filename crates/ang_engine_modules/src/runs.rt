@@ -26,7 +26,7 @@ pub fn body_count(table: &Table, home: u32) -> usize
     }
 }
 
-/// Runs the initializers of the numbers from `first` on and below `end`, one after the other, on one budget.
+/// Runs the initializers of the numbers from `first` on and below `end` in turn, on one budget.
 ///
 /// # Errors
 /// The fault of the one that ended them.

@@ -6,6 +6,7 @@ ghost use Rattle.ang_engine_modules.specs.Trees.{headings_in, classes_from};
 use crate::classes::classes_of;
 use crate::entities::uses_of;
 use ang_code::RoutineCode;
+use ang_gen::Code;
 use ang_lower::passings;
 use ang_meaning::Passing;
 use ang_typed::{Heading, Typed};
@@ -87,18 +88,18 @@ fn imports_of(alloc: Global, headings: &[Heading]) -> Result<Vec<Import>, AllocE
 /// its tree declares.
 ///
 /// # Errors
-/// Want of memory. It is also answered where a number of a body or a class has more than 32 bits, as none of a
-/// checked module has.
+/// Want of memory. It is also answered where a number of a body or a class has more than 32 bits,
+/// as none of a checked module has.
 pub fn code_of(
     alloc: Global,
     home: u32,
     name: &[u8],
     view: &View,
     tree: &Typed,
-    codes: Vec<RoutineCode>,
+    code: Code,
 ) -> Result<ModuleCode, AllocError>
     ensures name { IfOk result (λ m. m.name.items ≡ name.now) }
-    ensures bodies { IfOk result (λ m. m.bodies.items ≡ codes.items) }
+    ensures bodies { IfOk result (λ m. m.bodies.items ≡ code) }
     ensures few { IfOk result (λ m. length m.bodies.items < 2 ^ 32) }
     ensures imports { IfOk result
         (λ m. list_map (λ y. y.params.items) m.imports.items ≡ headings_in tree.now.imports) }
@@ -110,6 +111,7 @@ pub fn code_of(
     ensures slots { IfOk result
         (λ m. list_map (λ y. y.items) m.slots.items ≡ headings_in tree.now.methods) }
 {
+    let codes = code.into_bodies();
     if codes.len() > u32::MAX as usize {
         return Err(AllocError);
     }

@@ -10,7 +10,7 @@ use Rattle.ang_engine_world.specs.declared.reply.Outcome.TheVariants.{Done}
 use Rattle.ang_engine_world.specs.declared.reply.Refusal.TheVariants.{NotBuilt, NoImport}
 use Rattle.ang_engine_world.specs.World.{Program, ModuleState, World, module_named, module_in, module_at}
 use Rattle.ang_engine_world.specs.States.{program_in, place_of, places_of}
-use Rattle.ang_engine_world.specs.Commands.{on_module, answered, refused, with_link, unbound, unbind_program, unbind}
+use Rattle.ang_engine_world.specs.Commands.{on_module, answered, refused, with_link, unbind_import, unbind_program, unbind}
 use Rattle.ang_engine_world.proofs.Finding.{on_module-found, with_places, here, stood}
 use Rattle.ang_engine_world.proofs.Worlds.{places_built}
 
@@ -68,10 +68,10 @@ module _ (ms : List (Option Module)) (ls : List (Option LoadedModule)) (order : 
   unbuilt_refused none = by_program None (ap (λ (s : ModuleState). s.program) (own_is None none) ∙ not_built d)
 
   module _ (l : LoadedModule) (at : loaded_at ls i ≡ Some l) (there : IsSome d) where
-    by_import : (o : Option ScriptFunction) → slice_get l.names.imports index ≡ o → on_module (module_named name w) w rest (unbind index w) ≡ unbound o w i own (program_in l) index rest
+    by_import : (o : Option ScriptFunction) → slice_get l.names.imports index ≡ o → on_module (module_named name w) w rest (unbind index w) ≡ unbind_import o w i own (program_in l) index rest
     by_import o is =
         by_program (Some (program_in l)) (ap (λ (s : ModuleState). s.program) (own_is (Some l) at) ∙ built d l there)
-        ∙ ap (λ q. unbound q w i own (program_in l) index rest) is
+        ∙ ap (λ q. unbind_import q w i own (program_in l) index rest) is
 
     pub no_import_refused : slice_get l.names.imports index ≡ None → on_module (module_named name w) w rest (unbind index w) ≡ refused NoImport w rest
     no_import_refused none = by_import None none

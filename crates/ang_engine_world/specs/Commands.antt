@@ -12,7 +12,7 @@ use Rattle.ang_engine_world.specs.declared.reply.Outcome.{Outcome}
 use Rattle.ang_engine_world.specs.declared.reply.Outcome.TheVariants.{Done, Refused}
 use Rattle.ang_engine_world.specs.declared.reply.Refusal.{Refusal}
 use Rattle.ang_engine_world.specs.declared.reply.Refusal.TheVariants.{BadName, ModuleExists, Limit, NoModule, NotBuilt, NoImport}
-use Rattle.ang_engine_world.specs.World.{Program, ModuleState, ModuleStates, World, module_named, module_at, placed, unbound_from, running, left_to, globals_ended}
+use Rattle.ang_engine_world.specs.World.{Program, ModuleState, ModuleStates, World, module_named, module_at, placed, all_unbound_from, running, left_to, globals_ended}
 
 -- the modules of one engine
 abbrev pub most_modules : ℕ
@@ -122,16 +122,17 @@ linked g w i m p index =
     record w { modules = placed w i (record m { program = Some (with_link index g p) }) }
 
 -- an import that is there is bound to none
-abbrev pub unbound : Option ScriptFunction → World → ℕ → ModuleState → Program → ℕ → List Input
-    → Option Stepped
-unbound None w i m p index inputs = refused NoImport w inputs
-unbound (Some import) w i m p index inputs = answered (Done None) (linked None w i m p index) inputs
+abbrev pub unbind_import :
+    Option ScriptFunction → World → ℕ → ModuleState → Program → ℕ → List Input → Option Stepped
+unbind_import None w i m p index inputs = refused NoImport w inputs
+unbind_import (Some import) w i m p index inputs =
+    answered (Done None) (linked None w i m p index) inputs
 
 abbrev pub unbind_program : Option Program → ℕ → World → ℕ → ModuleState → List Input
     → Option Stepped
 unbind_program None index w i m inputs = refused NotBuilt w inputs
 unbind_program (Some p) index w i m inputs =
-    unbound (slice_get p.names.imports index) w i m p index inputs
+    unbind_import (slice_get p.names.imports index) w i m p index inputs
 
 abbrev pub unbind : ℕ → World → ℕ → ModuleState → List Input → Option Stepped
 unbind index w i m inputs = unbind_program m.program index w i m inputs
@@ -148,7 +149,7 @@ without i ms = record {
 -- The module's globals end, every import that is bound to it is unbound, and it is gone.
 abbrev pub discard : World → ℕ → ModuleState → List Input → Option Stepped
 discard w i m inputs =
-    Some (after_run (Done None) [] (without i (unbound_from i w).modules)
+    Some (after_run (Done None) [] (without i (all_unbound_from i w).modules)
     (globals_ended i (running w inputs)))
 
 -- ---- a command

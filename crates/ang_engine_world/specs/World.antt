@@ -87,8 +87,8 @@ abbrev pub unbound_module : ℕ → ModuleState → ModuleState
 unbound_module i m = record m { program = option_map (unbound_program i) m.program }
 
 -- every import of any module that was bound to a function of module i is unbound
-abbrev pub unbound_from : ℕ → World → World
-unbound_from i w =
+abbrev pub all_unbound_from : ℕ → World → World
+all_unbound_from i w =
     record w {
       modules = record w.modules {
         places = list_map (option_map (unbound_module i)) w.modules.places;

@@ -35,7 +35,7 @@ pub fn unbind(alloc: Global, list: &mut ModuleList, name: &[u8], index: u32) -> 
     ensures order { list.new.order ≡ list.old.order }
     ensures code { OnOk result
         ((home : ℕ) × (list.new.code ≡ linked_in home index None list.old.code)) }
-    ensures no_code { OnErr result (list.new.code ≡ list.old.code) }
+    ensures code_unchanged { OnErr result (list.new.code ≡ list.old.code) }
 {
     let Some(home) = find(&list.places, name) else {
         return Err(Refusal::NoModule);

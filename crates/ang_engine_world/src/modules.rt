@@ -1,5 +1,5 @@
 //! The modules of an engine, by name, and their waiting sections.
-ghost use Rattle.std.specs.Prelude.{ℕ, ◌≡◌, ◌≢◌, ◌⊎◌, ◌<◌, ◌≤◌, ◌^◌, ◌++◌, ◌∷◌, [], List as ListOf, Option, Some, None, length, position, is_none, filter, not, ◌==◌, IsSome, IfSome, IfOk, IfErr, OnOk, OnErr, slice_get, slice_index_or, slice_set};
+ghost use Rattle.std.specs.Prelude.{ℕ, ◌≡◌, ◌≢◌, ◌⊎◌, ◌<◌, ◌≤◌, ◌^◌, ◌++◌, ◌∷◌, [], Option, Some, None, length, position, is_none, filter, not, ◌==◌, IsSome, IfSome, IfOk, IfErr, OnOk, OnErr, slice_get, slice_index_or, slice_set};
 ghost use Rattle.ang_meaning.specs.World.{World as RunWorld};
 ghost use Rattle.ang_heap.specs.Globals.{values_in};
 ghost use Rattle.ang_engine_modules.specs.Loaded.{unbound_in};
@@ -77,9 +77,9 @@ fn push_place(alloc: Global, list: &mut ModuleList, globals: &mut Globals) -> Re
     ensures places { OnOk result (list.new.places.items ≡ list.old.places.items ++ None ∷ []) }
     ensures code { OnOk result (list.new.code ≡ list.old.code ++ None ∷ []) }
     ensures globals { OnOk result (values_in globals.new ≡ values_in globals.old ++ [] ∷ []) }
-    ensures no_place { OnErr result (list.new.places.items ≡ list.old.places.items) }
-    ensures no_code { OnErr result (list.new.code ≡ list.old.code) }
-    ensures no_globals { OnErr result (values_in globals.new ≡ values_in globals.old) }
+    ensures places_unchanged { OnErr result (list.new.places.items ≡ list.old.places.items) }
+    ensures code_unchanged { OnErr result (list.new.code ≡ list.old.code) }
+    ensures globals_unchanged { OnErr result (values_in globals.new ≡ values_in globals.old) }
     ensures order { list.new.order ≡ list.old.order }
 {
     list.places.reserve(1)?;
@@ -102,9 +102,9 @@ fn ready_place(
     ensures ready { IfOk result (λ place. IsReadied list.old (values_in globals.old) list.new
         (values_in globals.new) place) }
     ensures limit { IfErr result (λ why. (why ≡ Memory) ⊎ ((why ≡ Limit) × IsFull list.old)) }
-    ensures no_place { OnErr result (list.new.places.items ≡ list.old.places.items) }
-    ensures no_code { OnErr result (list.new.code ≡ list.old.code) }
-    ensures no_globals { OnErr result (values_in globals.new ≡ values_in globals.old) }
+    ensures places_unchanged { OnErr result (list.new.places.items ≡ list.old.places.items) }
+    ensures code_unchanged { OnErr result (list.new.code ≡ list.old.code) }
+    ensures globals_unchanged { OnErr result (values_in globals.new ≡ values_in globals.old) }
     ensures order { list.new.order ≡ list.old.order }
 {
     if let Some(place) = first_empty(&list.places) {
@@ -134,10 +134,10 @@ fn put_module(
     ensures taken { OnOk result (HasTaken list.old (values_in globals.old) new_one list.new
         (values_in globals.new)) }
     ensures limit { IfErr result (λ why. (why ≡ Memory) ⊎ ((why ≡ Limit) × IsFull list.old)) }
-    ensures no_place { OnErr result (list.new.places.items ≡ list.old.places.items) }
-    ensures no_code { OnErr result (list.new.code ≡ list.old.code) }
-    ensures no_globals { OnErr result (values_in globals.new ≡ values_in globals.old) }
-    ensures no_order { OnErr result (list.new.order.items ≡ list.old.order.items) }
+    ensures places_unchanged { OnErr result (list.new.places.items ≡ list.old.places.items) }
+    ensures code_unchanged { OnErr result (list.new.code ≡ list.old.code) }
+    ensures globals_unchanged { OnErr result (values_in globals.new ≡ values_in globals.old) }
+    ensures order_unchanged { OnErr result (list.new.order.items ≡ list.old.order.items) }
 {
     if list.order.reserve(1).is_err() {
         return Err(Refusal::Memory);
@@ -176,7 +176,7 @@ pub fn add_module(
     ensures free { OnOk result ((i : ℕ) (m : Module)
         → slice_get list.old.places.items i ≡ Some (Some m) → m.name ≢ name) }
     ensures unchanged { OnErr result (IsSameList list.old list.new) }
-    ensures no_globals { OnErr result (values_in globals.new ≡ values_in globals.old) }
+    ensures globals_unchanged { OnErr result (values_in globals.new ≡ values_in globals.old) }
 {
     if !is_name(name.as_slice()) {
         return Err(Refusal::BadName);

@@ -21,15 +21,15 @@ use Rattle.ang_gen_body.specs.Code.{body_code}
 use Rattle.ang_gen_body.specs.Heights.{BelowBody}
 use Rattle.ang_gen_body.specs.Behaves.{outcome_of, IsCode}
 use Rattle.ang_gen_body.proofs.Bodies.{behaves}
-use Rattle.ang_source.specs.Meaning.{Codes, code_or, passings_in, called_with, initialized}
+use Rattle.ang_source.specs.Meaning.{Codes, code_or, passings_in, results_in, called_with, initialized}
 use Rattle.ang_source.specs.Sound.{module_of}
 use Rattle.ang_lower.specs.Same.{AreBodies, AreLowered, MeansSame}
 use Rattle.ang_lower.proofs.Follows.{everywhere}
 use Rattle.ang_lower.proofs.Methods.{methods_fit}
-use Rattle.ang_lower.proofs.Modules.{params_are, lowers_program, keeps_sound, sound_together}
+use Rattle.ang_lower.proofs.Modules.{params_are, results_are, lowers_program, keeps_sound, sound_together}
 use Rattle.ang_gen_body.specs.Programs.{IsBodyCode, items_in, statement_in, text_in, height_in, texts_of}
 use Rattle.ang_gen.specs.Compiled.{IsCompiled}
-use Rattle.ang_gen.specs.Behaves.{HasCodes, IsModule, sources_of, BehavesAsSource, MeansProgram, NeverStuck}
+use Rattle.ang_gen.specs.Behaves.{HasCodes, IsModule, RunsCode, sources_of, BehavesAsSource, MeansProgram, NeverStuck}
 
 -- ---- the codes of one module
 
@@ -42,6 +42,16 @@ params_same (b ∷ bs) (c ∷ cs) all = ap (λ l. l ∷ map (λ x. x.params.item
 
 pub takes : (p : tree.Program) (codes : List RoutineCode) → IsCompiled p codes → map (λ c. c.params.items) codes ≡ passings_in p
 takes p codes is = params_same is.bodies codes is.code ∙ params_are p is.bodies is.lowered
+
+-- and their values are of the types of their bodies'
+results_same : (bs : List Body) (cs : List RoutineCode) → AllZip IsBodyCode bs cs → map (λ c. c.result) cs ≡ map (λ b. b.result) bs
+results_same [] [] all = refl
+results_same [] (c ∷ cs) all = absurd all
+results_same (b ∷ bs) [] all = absurd all
+results_same (b ∷ bs) (c ∷ cs) all = ap (λ l. l ∷ map (λ x. x.result) cs) all.0.result ∙ ap (λ ls. b.result ∷ ls) (results_same bs cs all.1)
+
+pub gives : (p : tree.Program) (codes : List RoutineCode) → IsCompiled p codes → map (λ c. c.result) codes ≡ results_in p
+gives p codes is = results_same is.bodies codes is.code ∙ results_are p is.bodies is.lowered
 
 -- a body that takes these arguments, with its code
 record CodeAt (bs : List Body) (cs : List RoutineCode) (k : ℕ) (ps : List Passing) : Type 0 where
@@ -176,3 +186,12 @@ never_stuck z sources code b = record {
       let p = b.initializers ticks g w known in
       never z code p.0 n (initializer_begins z code ticks g w) (initialized z sources ticks g w) p.1;
 }
+
+-- nor is well-formed code
+pub none_lost : (z : Setting) (codes : ℕ → List RoutineCode) (code : Texts) → ((m : ℕ) → RunsCode z m (codes m) code) → LinksFit z → NeverStuck z code
+none_lost z codes code runs links =
+    never_stuck z (sources_of (λ m. (runs m).well_formed.program)) code
+    (behaves_as_source z (λ m. (runs m).well_formed.view) (λ m. (runs m).well_formed.program) code
+    (λ m.
+    let r = runs m in
+    record { sound = r.well_formed.sound; view = r.view; program = r.program; codes = codes m; compiled = r.well_formed.compiled; texts = r.texts }) links)

@@ -15,7 +15,7 @@ use Rattle.ang_source.specs.Meaning.{Codes, codes_of, code_or, routine, called_w
 use Rattle.ang_source.specs.Sound.{SoundProgram}
 use Rattle.ang_lower.specs.Hosts.{HasView}
 use Rattle.ang_lower.specs.Same.{HasProgram}
-use Rattle.ang_gen.specs.Compiled.{IsCompiled}
+use Rattle.ang_gen.specs.Compiled.{IsCompiled, IsWellFormed}
 
 -- ---- what runs
 
@@ -32,6 +32,14 @@ pub record IsModule (z : Setting) (m : ℕ) (V : RegistrationList) (p : t.Progra
   pub program : HasProgram z m p
   pub codes : List RoutineCode
   pub compiled : IsCompiled p codes
+  pub texts : HasCodes m codes code
+
+-- Module m of a run has well-formed code: what it sees of the host, its bodies, imports, methods and classes are those of the tree whose code it is, and its
+-- texts are these codes.
+pub record RunsCode (z : Setting) (m : ℕ) (codes : List RoutineCode) (code : Texts) : Type 0 where
+  pub well_formed : IsWellFormed codes
+  pub view : HasView z m well_formed.view
+  pub program : HasProgram z m well_formed.program
   pub texts : HasCodes m codes code
 
 -- the source of each routine, where modules have these trees by their numbers

@@ -1,9 +1,11 @@
 -- What the code of a module is (docs/MEANING.md, "Code").
 use Rattle.std.specs.Prelude.{◌≡◌, List, map}
 use Rattle.std.specs.List.{AllZip}
+use Rattle.ang_view.specs.Registration.{RegistrationList}
 use Rattle.ang_typed.specs.Typed as t
 use Rattle.ang_core.specs.declared.tree.Body.{Body}
 use Rattle.ang_code.specs.declared.instruction.RoutineCode.{RoutineCode}
+use Rattle.ang_source.specs.Sound.{SoundProgram}
 use Rattle.ang_lower.specs.Plain.{plain_body}
 use Rattle.ang_lower.specs.Lowered.{lowered_module}
 use Rattle.ang_gen_body.specs.Programs.{IsBodyCode}
@@ -13,3 +15,10 @@ pub record IsCompiled (p : t.Program) (codes : List RoutineCode) : Type 0 where
   pub bodies : List Body
   pub lowered : map plain_body bodies ≡ lowered_module p
   pub code : AllZip IsBodyCode bodies codes
+
+-- Code by which no run is lost: that of a tree which is sound over some view of the host.
+pub record IsWellFormed (codes : List RoutineCode) : Type 0 where
+  pub view : RegistrationList
+  pub program : t.Program
+  pub sound : SoundProgram view program
+  pub compiled : IsCompiled program codes

@@ -10,7 +10,7 @@ ghost use Rattle.ang_code.specs.Machine.{Texts};
 ghost use Rattle.ang_code.specs.declared.instruction.RoutineCode.{RoutineCode};
 ghost use Rattle.ang_gen_body.specs.Programs.{texts_of};
 ghost use Rattle.ang_source.specs.Meaning.{Codes, codes_in, nothing};
-ghost use Rattle.ang_gen.specs.Behaves.{HasCodes, IsModule, sources_of, BehavesAsSource, NeverStuck};
+ghost use Rattle.ang_gen.specs.Behaves.{HasCodes, IsModule, RunsCode, sources_of, BehavesAsSource, NeverStuck};
 
 /// Where each module is sound over what it sees of the host and runs its own compiled code, and imports and
 /// methods lead where they may, the machine ends as the source means: for every function, budget, arguments
@@ -51,5 +51,15 @@ pub fn unbound_imports_fit()
 pub fn never_stuck()
     ensures never { (z : Setting) (sources : Codes) (code : Texts)
         → BehavesAsSource z sources code
+        → NeverStuck z code }
+{}
+
+/// Where all modules run well-formed code, and imports and methods lead where they may, no run is ever lost: no
+/// instruction finds less on the stack than it takes, or no room for what it pushes, and no place has no
+/// instruction.
+pub fn no_run_is_lost()
+    ensures never { (z : Setting) (codes : ℕ → List RoutineCode) (code : Texts)
+        → ((m : ℕ) → RunsCode z m (codes m) code)
+        → LinksFit z
         → NeverStuck z code }
 {}

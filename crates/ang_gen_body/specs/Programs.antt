@@ -23,6 +23,7 @@ pub record IsHeight (height : ℕ) (b : Body) : Type 0 where
 -- the code of one body
 pub record IsBodyCode (b : Body) (code : RoutineCode) : Type 0 where
   pub params : code.params.items ≡ b.params.items
+  pub result : code.result ≡ b.result
   pub text : code.text.items ≡ body_code (parameter_count b) b.statement
   pub height : IsHeight code.height b
 

@@ -41,8 +41,8 @@ fn frame_peak(params: usize, s: &Statement) -> Result<usize, AllocError>
     Ok(inside.max(end))
 }
 
-/// Generates the code of one body: its instructions, how its parameters take their arguments, and the least
-/// number of values above the parameters within which it always stays.
+/// Generates the code of one body: its instructions, how its parameters take their arguments, the primitive
+/// type of its value, and the least number of values above the parameters within which it always stays.
 fn generate_body(alloc: Global, body: &Body) -> Result<RoutineCode, AllocError>
     ensures code { IfOk result (λ code. IsBodyCode body.now code) }
 {
@@ -52,14 +52,15 @@ fn generate_body(alloc: Global, body: &Body) -> Result<RoutineCode, AllocError>
     let params = body.params.clone()?;
     Ok(RoutineCode {
         params,
+        result: body.result,
         height: peak - count,
         text,
     })
 }
 
 /// Generates the code of one module's bodies, one code for each body, in their order: its instructions, how
-/// its parameters take their arguments, and the least number of values above the parameters within which it
-/// always stays.
+/// its parameters take their arguments, the primitive type of its value, and the least number of values above
+/// the parameters within which it always stays.
 ///
 /// # Errors
 /// Want of memory. It is also answered where a place on the stack would be past the numbers that

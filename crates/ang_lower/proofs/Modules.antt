@@ -2,6 +2,7 @@
 use Rattle.std.proofs.Common.{◌≡◌, ℕ, zero, suc, ◌+◌, ◌<◌, ◌≤◌, List, [], ◌∷◌, ◌++◌, length, refl, sym, ap, ◌∙◌, subst, arith, Option, Some, None, map}
 use Rattle.std.specs.Prelude.{false, slice_get}
 use Rattle.std.proofs.lemmas.Option.{get_or_from_slice_get}
+use Rattle.ang_kinds.specs.declared.primitive.Primitive.{Primitive}
 use Rattle.ang_view.specs.Registration.{RegistrationList}
 use Rattle.ang_typed.specs.Typed as tree
 use Rattle.ang_meaning.specs.declared.routine.Passing.{Passing}
@@ -9,7 +10,7 @@ use Rattle.ang_meaning.specs.Setting.{Setting}
 use Rattle.ang_core.specs.declared.tree.Body.{Body}
 use Rattle.ang_core.specs.Meaning.{Bodies}
 use Rattle.ang_core.specs.Sound.{LinksFit, AreSound}
-use Rattle.ang_source.specs.Meaning.{Code, of_function, Codes, passings_of, codes_of, codes_in, code_or, passings_in, initializer_of, initializers_from, nothing, routine}
+use Rattle.ang_source.specs.Meaning.{Code, of_function, Codes, passings_of, codes_of, codes_in, code_or, passings_in, primitive_of, results_in, initializer_of, initializers_from, nothing, routine}
 use Rattle.ang_source.specs.Sound.{Module, module_of, SoundOption, SoundStatements, SoundFunctions, SoundGlobals, SoundProgram}
 use Rattle.ang_lower.specs.Tree as stmt
 use Rattle.ang_lower.specs.Plain.{plain_stmt, plain_body}
@@ -157,3 +158,29 @@ pub params_are : (p : tree.Program) (bs : List Body) → map plain_body bs ≡ l
 params_are p bs exact =
     params_of_plain bs ∙ ap (λ l. map (λ b. b.params) l) exact
     ∙ functions_take p.functions (lowered_globals 0 p.globals) (map (λ x. []) (initializers_from 0 p.globals)) (globals_take_none p.globals 0)
+
+-- ---- results
+
+one_gives_none : (g : ℕ) (i : Option tree.Expr) (bs : List stmt.Whole) (xs : List Code) → map (λ b. b.result) bs ≡ map {B = Option Primitive} (λ x. None) xs
+    → map (λ b. b.result) (lowered_initializer g i ++ bs) ≡ map {B = Option Primitive} (λ x. None) (initializer_of g i ++ xs)
+one_gives_none g None bs xs e = e
+one_gives_none g (Some i) bs xs e = ap (λ l. None ∷ l) e
+
+globals_give_none : (gs : List tree.Global) (g : ℕ) → map (λ b. b.result) (lowered_globals g gs) ≡ map {B = Option Primitive} (λ x. None) (initializers_from g gs)
+globals_give_none [] g = refl
+globals_give_none (x ∷ gs) g = one_gives_none g x.initializer (lowered_globals (suc g) gs) (initializers_from (suc g) gs) (globals_give_none gs (suc g))
+
+functions_give : (fs : List tree.Function) (bs : List stmt.Whole) (rest : List (Option Primitive)) → map (λ b. b.result) bs ≡ rest
+    → map (λ b. b.result) (map lowered_function fs ++ bs) ≡ map (λ f. primitive_of f.result) fs ++ rest
+functions_give [] bs rest e = e
+functions_give (f ∷ fs) bs rest e = ap (λ l. primitive_of f.result ∷ l) (functions_give fs bs rest e)
+
+results_of_plain : (bs : List Body) → map (λ b. b.result) bs ≡ map (λ b. b.result) (map plain_body bs)
+results_of_plain [] = refl
+results_of_plain (b ∷ bs) = ap (λ l. b.result ∷ l) (results_of_plain bs)
+
+-- the bodies' values are of the types of the program
+pub results_are : (p : tree.Program) (bs : List Body) → map plain_body bs ≡ lowered_module p → map (λ b. b.result) bs ≡ results_in p
+results_are p bs exact =
+    results_of_plain bs ∙ ap (λ l. map (λ b. b.result) l) exact
+    ∙ functions_give p.functions (lowered_globals 0 p.globals) (map (λ x. None) (initializers_from 0 p.globals)) (globals_give_none p.globals 0)

@@ -5,7 +5,7 @@ use Rattle.ang_typed.specs.declared.expression.Variable.TheVariants as variable
 use Rattle.ang_typed.specs.Typed as t
 use Rattle.ang_typed.specs.View.{Repeated}
 use Rattle.ang_core.specs.declared.tree.Statement.{Statement}
-use Rattle.ang_source.specs.Meaning.{Code, of_function, of_global, passings_of}
+use Rattle.ang_source.specs.Meaning.{Code, of_function, of_global, passings_of, primitive_of}
 use Rattle.ang_source.specs.Sound.{declared, declared_by}
 use Rattle.ang_lower_expr.specs.Lowered.{stored, lowered, lowered_or, lowered_begin}
 use Rattle.ang_lower.specs.Tree as stmt
@@ -78,12 +78,13 @@ pub record IsLowered (n : ℕ) (k : Code) (s : Statement) : Type 0 where
   pub same : plain_stmt s ≡ lowered_code n k
 
 abbrev pub lowered_function : t.Function → stmt.Whole
-lowered_function f = record { params = passings_of f.parameters; statement = lowered_code (length f.parameters) (of_function f.body) }
+lowered_function f =
+    record { params = passings_of f.parameters; result = primitive_of f.result; statement = lowered_code (length f.parameters) (of_function f.body) }
 
 -- the initializers of globals, counted from this number on
 abbrev pub lowered_initializer : ℕ → Option t.Expr → List stmt.Whole
 lowered_initializer g None = []
-lowered_initializer g (Some e) = record { params = []; statement = lowered_code 0 (of_global g e) } ∷ []
+lowered_initializer g (Some e) = record { params = []; result = None; statement = lowered_code 0 (of_global g e) } ∷ []
 
 abbrev pub lowered_globals : ℕ → List t.Global → List stmt.Whole
 lowered_globals g [] = []

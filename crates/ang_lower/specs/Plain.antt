@@ -23,4 +23,4 @@ abbrev mutual
   plain_stmts (more_of-Statement s rest) = stmt.«then» (plain_stmt s) (plain_stmts rest)
 
 abbrev pub plain_body : Body → stmt.Whole
-plain_body b = record { params = b.params.items; statement = plain_stmt b.statement }
+plain_body b = record { params = b.params.items; result = b.result; statement = plain_stmt b.statement }

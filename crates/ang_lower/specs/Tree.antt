@@ -1,5 +1,6 @@
 -- The core tree of statements and bodies without where it lies in memory (docs/MEANING.md, "What a body does").
-use Rattle.std.specs.Prelude.{List, [], ◌∷◌}
+use Rattle.std.specs.Prelude.{List, [], ◌∷◌, Option}
+use Rattle.ang_kinds.specs.declared.primitive.Primitive.{Primitive}
 use Rattle.ang_meaning.specs.declared.routine.Passing.{Passing}
 use Rattle.ang_lower_expr.specs.Tree.{Expr}
 
@@ -25,7 +26,8 @@ abbrev pub stmts : List Stmt → Stmts
 stmts [] = end
 stmts (s ∷ ss) = then s (stmts ss)
 
--- a function's body or an initializer's: how each parameter takes its argument, the last one first, and what it does
+-- a function's body or an initializer's: how each parameter takes its argument, the last one first, the primitive type of its value, and what it does
 pub record Whole : Type 0 where
   pub params : List Passing
+  pub result : Option Primitive
   pub statement : Stmt

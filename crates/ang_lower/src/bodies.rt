@@ -1,14 +1,14 @@
 //! The bodies of a module.
-ghost use Rattle.std.specs.Prelude.{◌≡◌, ◌+◌, ◌++◌, ◌∷◌, [], suc, reverse, IfOk, OnOk, map as list_map};
+ghost use Rattle.std.specs.Prelude.{◌≡◌, ◌+◌, ◌++◌, ◌∷◌, [], None, suc, reverse, IfOk, OnOk, map as list_map};
 ghost use Rattle.ang_typed.specs.View.{view_block, view_expr, view_function, view_global, view_typed};
-ghost use Rattle.ang_source.specs.Meaning.{referred, passing_of, passings_of, passings_in, of_global};
+ghost use Rattle.ang_source.specs.Meaning.{referred, passing_of, passings_of, passings_in, primitive_of, results_in, of_global};
 ghost use Rattle.ang_lower.specs.Plain.{plain_body, plain_stmt};
 ghost use Rattle.ang_lower.specs.Lowered as spec;
 ghost use Rattle.ang_lower.specs.Same.{LowersProgram, KeepsSound};
 
 use crate::statements::lower_block;
 use ang_core::{Body, Statement};
-use ang_kinds::Pass;
+use ang_kinds::{Pass, Prim};
 use ang_lower_expr::{lower_expression, store};
 use ang_meaning::Passing;
 use ang_typed::{Expression, Function, Global as GlobalVariable, Parameter, Typed, Variable};
@@ -57,6 +57,19 @@ pub fn passings(alloc: Global, parameters: &[Parameter]) -> Result<Vec<Passing>,
     Ok(found)
 }
 
+/// The primitive type that it is, if it is one.
+fn primitive_of(ty: ArgType) -> Option<Prim>
+    ensures same { result ≡ primitive_of ty }
+{
+    match ty {
+        ArgType::Plain(primitive) => Some(primitive),
+        ArgType::Void => None,
+        ArgType::Null => None,
+        ArgType::Object { .. } => None,
+        ArgType::Handle { .. } => None,
+    }
+}
+
 fn function_body(alloc: Global, function: &Function) -> Result<Body, AllocError>
     ensures exact { IfOk result (λ b. plain_body b
         ≡ spec.lowered_function (view_function function.now)) }
@@ -64,12 +77,17 @@ fn function_body(alloc: Global, function: &Function) -> Result<Body, AllocError>
     let parameters = function.parameters.as_slice();
     let params = passings(alloc, parameters)?;
     let statement = lower_block(alloc, parameters.len(), &function.body)?;
-    Ok(Body { params, statement })
+    Ok(Body {
+        params,
+        result: primitive_of(function.result),
+        statement,
+    })
 }
 
 /// The body that stores the value into the global of that number.
 fn initializer_body(alloc: Global, number: usize, value: &Expression) -> Result<Body, AllocError>
     ensures params { IfOk result (λ b. b.params.items ≡ []) }
+    ensures untyped { IfOk result (λ b. b.result ≡ None) }
     ensures statement { IfOk result
         (λ b. plain_stmt b.statement
         ≡ spec.lowered_code 0 (of_global number (view_expr value.now))) }
@@ -78,6 +96,7 @@ fn initializer_body(alloc: Global, number: usize, value: &Expression) -> Result<
     let whole = store(alloc, 0, &Variable::Global(number), value)?;
     Ok(Body {
         params: Vec::new(alloc),
+        result: None,
         statement: Statement::Evaluate(Box::new(alloc, whole)?),
     })
 }
@@ -151,13 +170,14 @@ fn bodies_of(alloc: Global, program: &Typed) -> Result<Vec<Body>, AllocError>
 /// which they then mean too ([`crate::laws::everywhere_same`]), and they keep what the generator wants of them.
 ///
 /// # Errors
-/// Want of memory. It is also answered where a local is not alive, a host property is passed for `&out`, or
-/// a number has more than 32 bits, which no checked module has.
+/// Want of memory. It is also answered where a number has more than 32 bits, which no checked module has.
 pub fn lower(alloc: Global, program: &Typed) -> Result<Vec<Body>, AllocError>
     ensures exact { IfOk result (λ bodies. list_map plain_body bodies.items
         ≡ spec.lowered_module (view_typed program.now)) }
     ensures params { IfOk result (λ bodies. list_map (λ b. b.params.items) bodies.items
         ≡ passings_in (view_typed program.now)) }
+    ensures results { IfOk result (λ bodies. list_map (λ b. b.result) bodies.items
+        ≡ results_in (view_typed program.now)) }
     ensures lowered { IfOk result (λ bodies. LowersProgram (view_typed program.now) bodies.items) }
     ensures sound { IfOk result (λ bodies. KeepsSound (view_typed program.now) bodies.items) }
 {

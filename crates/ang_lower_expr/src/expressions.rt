@@ -20,7 +20,7 @@ use std::alloc::{AllocError, Global};
 /// The core tree of an expression, where so many locals are alive.
 ///
 /// # Errors
-/// Want of memory, which is also answered where a local is not alive or a number has more than 32 bits.
+/// Want of memory, which is also answered where a number has more than 32 bits.
 #[cycle(expression)]
 pub fn lower_expression(
     alloc: Global,

@@ -11,16 +11,12 @@ use ang_meaning::{Change, Operation, Spot, Target};
 use ang_typed::{Argument, Member, Variable};
 use std::alloc::{AllocError, Global};
 
-/// The place of a local among `alive` ones, counted from the innermost one. Where it is not alive, which no
-/// checked tree has, the answer is want of memory.
-fn place(alive: usize, local: usize) -> Result<usize, AllocError>
-    ensures exact { IfOk result (λ i. i ≡ alive - suc local) }
+/// The place of a local among `alive` ones, counted from the innermost one. In a checked tree it is alive; where
+/// it is not the place is 0.
+fn place(alive: usize, local: usize) -> usize
+    ensures exact { result ≡ alive - suc local }
 {
-    if local < alive {
-        Ok(alive - local - 1)
-    } else {
-        Err(AllocError)
-    }
+    if local < alive { alive - local - 1 } else { 0 }
 }
 
 /// A number of a function or a global in 32 bits. Where it has more, as no module can, the answer is want of
@@ -35,11 +31,10 @@ pub fn small(number: usize) -> Result<u32, AllocError>
 }
 
 /// `this`, which is local 0.
-fn this(alive: usize) -> Result<Expression, AllocError>
-    ensures exact { IfOk result (λ x. plain_expr x ≡ spec.this_at alive) }
+fn this(alive: usize) -> Expression
+    ensures exact { plain_expr result ≡ spec.this_at alive }
 {
-    let place = place(alive, 0)?;
-    Ok(Expression::Local(place))
+    Expression::Local(place(alive, 0))
 }
 
 /// An operation on a value and `this`.
@@ -53,7 +48,7 @@ fn with_this(
         ≡ spec.binary operation (plain_expr value) (spec.this_at alive)) }
 {
     let left = value;
-    let right = this(alive)?;
+    let right = this(alive);
     binary(alloc, operation, Pair { left, right })
 }
 
@@ -102,7 +97,7 @@ pub fn read(alloc: Global, alive: usize, variable: &Variable) -> Result<Expressi
 {
     match variable {
         Variable::Local(i) => {
-            let place = place(alive, *i)?;
+            let place = place(alive, *i);
             Ok(Expression::Local(place))
         }
         Variable::Global(g) => {
@@ -112,7 +107,7 @@ pub fn read(alloc: Global, alive: usize, variable: &Variable) -> Result<Expressi
         Variable::Property(host) => Ok(nullary(alloc, Operation::Read(host.entity))),
         Variable::Field(i) => {
             let number = small(*i)?;
-            let object = this(alive)?;
+            let object = this(alive);
             unary(alloc, Operation::FieldGet(number), object)
         }
     }
@@ -130,7 +125,7 @@ pub fn store(
 {
     match variable {
         Variable::Local(i) => {
-            let place = place(alive, *i)?;
+            let place = place(alive, *i);
             let value = Box::new(alloc, value)?;
             Ok(Expression::Assign(place, value))
         }
@@ -159,7 +154,7 @@ pub fn change(
 {
     match variable {
         Variable::Local(i) => {
-            let place = place(alive, *i)?;
+            let place = place(alive, *i);
             let value = Box::new(alloc, value)?;
             Ok(Expression::Change(place, by, value))
         }
@@ -175,23 +170,23 @@ pub fn change(
     }
 }
 
-/// Where a variable stands that an `&out` value moves into. A host property is none, which no checked tree
-/// has there.
+/// Where a variable stands that an `&out` value moves into. A host property is none, and stands for the innermost
+/// local; no checked tree has one there.
 fn spot(alive: usize, variable: &Variable) -> Result<Spot, AllocError>
     ensures exact { IfOk result (λ s. s ≡ spec.spot_of alive variable.now) }
 {
     match variable {
         Variable::Local(i) => {
-            let place = place(alive, *i)?;
+            let place = place(alive, *i);
             Ok(Spot::Local(place))
         }
         Variable::Global(g) => {
             let number = small(*g)?;
             Ok(Spot::Global(number))
         }
-        Variable::Property(_) => Err(AllocError),
+        Variable::Property(_) => Ok(Spot::Local(0)),
         Variable::Field(i) => {
-            let object = place(alive, 0)?;
+            let object = place(alive, 0);
             let field = small(*i)?;
             Ok(Spot::Field { object, field })
         }

@@ -104,6 +104,14 @@ brought_to (type.Plain p) = integer_of p
 brought_to (type.Object n c) = None
 brought_to (type.Handle n c) = None
 
+-- the primitive type that it is, if it is one
+abbrev pub primitive_of : ArgType → Option Primitive
+primitive_of type.Void = None
+primitive_of type.Null = None
+primitive_of (type.Plain p) = Some p
+primitive_of (type.Object n c) = None
+primitive_of (type.Handle n c) = None
+
 -- ---- values that nothing was stored for
 
 -- what a variable, a field or a parameter of this type holds: an object or a handle, or a number or truth value
@@ -411,6 +419,10 @@ codes_of p = map (λ f. of_function f.body) p.functions ++ initializers_from 0 p
 -- how the parameters of each body take their arguments; an initializer has none
 abbrev pub passings_in : t.Program → List (List Passing)
 passings_in p = map (λ f. passings_of f.parameters) p.functions ++ map (λ c. []) (initializers_from 0 p.globals)
+
+-- the primitive type of each body's value; an initializer's value is of none
+abbrev pub results_in : t.Program → List (Option Primitive)
+results_in p = map (λ f. primitive_of f.result) p.functions ++ map (λ c. None) (initializers_from 0 p.globals)
 
 -- the empty body stands where there is none
 abbrev pub code_or : Option Code → Code

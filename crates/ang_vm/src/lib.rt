@@ -6,6 +6,7 @@
 //! wanted as a body is entered, as an object is made and before the host is asked, and nowhere else.
 #![tactic(auto)]
 
+mod answers;
 mod bodies;
 mod calls;
 mod crossing;

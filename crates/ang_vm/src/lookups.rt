@@ -2,8 +2,9 @@
 ghost use Rattle.std.specs.Prelude.{◌≡◌, ℕ};
 ghost use Rattle.ang_meaning.specs.Setting.{params_of};
 ghost use Rattle.ang_vm_fuse.specs.Parameters.{by_value as are_by_value};
-ghost use Rattle.ang_vm_stack.specs.Tables.{setting_of, texts_of};
+ghost use Rattle.ang_vm_stack.specs.Tables.{setting_of, texts_of, result_of};
 
+use ang_kinds::Prim;
 use ang_meaning::{Passing, Routine};
 use ang_vm_stack::table::{Table, body_at};
 
@@ -19,4 +20,11 @@ pub fn params_and_height(table: &Table, body: Routine) -> (&[Passing], usize, bo
         Some(code) => (code.params(), code.height(), code.by_value()),
         None => (&[], 0, true),
     }
+}
+
+/// The primitive type of a body's value, where there is such a body and its value is of one.
+pub fn result_type(table: &Table, body: Routine) -> Option<Prim>
+    ensures exact { result ≡ result_of table.now body }
+{
+    body_at(table, body)?.result()
 }

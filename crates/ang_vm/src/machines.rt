@@ -8,18 +8,20 @@ ghost use Rattle.ang_meaning.specs.Setting.{Setting};
 ghost use Rattle.ang_meaning.specs.Counting.{IsCounted, CanGive};
 ghost use Rattle.ang_code.specs.Machine.{Texts, call_begins};
 ghost use Rattle.ang_heap.specs.Stores.{world_of, IsReady, HasMoved};
-ghost use Rattle.ang_vm_stack.specs.Tables.{setting_of, texts_of};
+ghost use Rattle.ang_vm_stack.specs.Tables.{setting_of, texts_of, result_of};
 ghost use Rattle.ang_vm_ask.specs.Entities.{DriversThere};
 ghost use Rattle.ang_vm.specs.Legs.{Ends};
 ghost use Rattle.ang_vm.specs.Running.{MayRun, RunMoves, HeldAt, IsSettled};
-ghost use Rattle.ang_vm.specs.Machines.{lent, IsLost, HasRun, HasInitialized, call_in, initializer_in};
+ghost use Rattle.ang_vm.specs.Machines.{lent, IsLost, HasCalled, HasRun, HasInitialized, call_in, initializer_in};
 ghost use Rattle.ang_vm_ask.specs.Askings.{HasMovedOver};
 
+use crate::answers::answer;
 use crate::bodies::run_from;
+use crate::lookups::result_type;
 use crate::start::{start_call, start_initializer};
 use ang_heap::{Store, give};
 use ang_host::{Driver, HostEvent};
-use ang_kinds::Fault;
+use ang_kinds::{Fault, Value};
 use ang_meaning::{Routine, Slot};
 use ang_vm_stack::place::Ending;
 use ang_vm_stack::table::Table;
@@ -154,7 +156,7 @@ fn call_told(
     budget: u64,
 ) -> Result<Slot, Fault>
     requires may_run { MayRun ⟦<dyn Driver as Driver>⟧ table.now (reverse args.now) store.old }
-    ensures told { HasRun (setting_of table.now 200) (texts_of table.now)
+    ensures told { HasCalled (setting_of table.now 200) (texts_of table.now)
         (call_in ⟦<dyn Driver as Driver>⟧ table.now budget entry (reverse args.now) store.old)
         result (world_of ⟦<dyn Driver as Driver>⟧ store.new) }
     ensures moves { RunMoves ⟦<dyn Driver as Driver>⟧ table.now store.old store.new }
@@ -210,9 +212,9 @@ fn take_back(machine: &mut Machine, events: &mut Vec<HostEvent>)
     mem::swap(&mut machine.store.events, events);
 }
 
-/// Calls a function of a table's code with a budget of ticks, and answers its value. The last argument stands
-/// last; a `void` function's value is 0. What the value holds has been given up: it is of use where it is a
-/// number.
+/// Calls a function of a table's code with a budget of ticks, and answers its value, where it is of a primitive
+/// type: a signed number, an unsigned one or a truth value. The last argument stands last. What any other value
+/// holds has been given up, and it is not handed out.
 ///
 /// The run is one of the code's own meaning, told what it met: whether there was memory, what the drivers
 /// answered, and so on. What it asked and which host objects ended is listed behind the events, and the drivers
@@ -230,12 +232,13 @@ pub fn run(
     args: &[Slot],
     budget: u64,
     events: &mut Vec<HostEvent>,
-) -> Result<Slot, Fault>
+) -> Result<Option<Value>, Fault>
     requires drivers { DriversThere table.now (length (members machine.old.store.drivers)) }
     requires ready { IsReady ⟦<dyn Driver as Driver>⟧ (lent machine.old events.old) }
     requires counted { IsCounted (reverse args.now)
         (world_of ⟦<dyn Driver as Driver>⟧ (lent machine.old events.old)) }
     ensures told { HasRun (setting_of table.now 200) (texts_of table.now)
+        (result_of table.now entry)
         (call_in ⟦<dyn Driver as Driver>⟧ table.now budget entry (reverse args.now)
         (lent machine.old events.old)) result
         (world_of ⟦<dyn Driver as Driver>⟧ (lent machine.new events.new)) }
@@ -253,7 +256,7 @@ pub fn run(
     lend(machine, events);
     let ended = call_told(alloc, table, &mut machine.store, entry, args, budget);
     take_back(machine, events);
-    ended
+    answer(result_type(table, entry), ended)
 }
 
 /// Runs the initializer of a global, and answers the ticks that are left. Its entry takes none, and it does not

@@ -1,5 +1,5 @@
 //! Registering what a profile says.
-ghost use Rattle.std.specs.Prelude.{◌≡◌, ◌<◌, ◌^◌, length};
+ghost use Rattle.std.specs.Prelude.{◌<◌, ◌^◌, length};
 ghost use Rattle.asrun_lines.specs.Lines.{lines_of};
 ghost use Rattle.asrun_session.specs.Profile.{line_entered, loaded, Loads, entered, IsJudged};
 ghost use Rattle.asrun_lines.specs.ProfileLines.{entry_of};

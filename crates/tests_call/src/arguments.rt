@@ -1,6 +1,6 @@
-//! Arguments and results of a call.
+//! Arguments of a call, and what can be called.
 
-use ang_engine_call::{arguments, is_callable, result_value};
+use ang_engine_call::{arguments, is_callable};
 use ang_kinds::{List, Pass, Place, Prim, Value};
 use ang_meaning::Slot;
 use ang_names_known::{Origin, ScriptFunction, ScriptParameter, Written};
@@ -208,89 +208,28 @@ fn objects_are_not_passed(rt: HostRuntime) {
     }
 }
 
-/// Whether a function without parameters that has this result can be called, and what value it has where a call gives
-/// this slot.
-fn gives(alloc: Global, ty: ArgType, slot: Slot, callable: bool, value: Option<Value>) -> bool {
+/// Whether a function without parameters that has this result can be called.
+fn gives(alloc: Global, ty: ArgType) -> bool {
     let function = function(alloc, ty, Vec::new(alloc));
-    is_callable(&function) == callable && result_value(&function, slot) == value
+    is_callable(&function)
 }
 
-/// A result's type, a slot, whether such a function can be called, and the slot's value.
-const RESULTS: [(ArgType, Slot, bool, Option<Value>); 14] = [
-    (
-        ArgType::Plain(Prim::I8),
-        Slot::Bits(u64::MAX),
-        true,
-        Some(Value::Int(-1)),
-    ),
-    (
-        ArgType::Plain(Prim::I16),
-        Slot::Bits(5),
-        true,
-        Some(Value::Int(5)),
-    ),
-    (
-        ArgType::Plain(Prim::I32),
-        Slot::Bits(0xffff_ffff_8000_0000),
-        true,
-        Some(Value::Int(-2_147_483_648)),
-    ),
-    (
-        ArgType::Plain(Prim::I64),
-        Slot::Bits(0x8000_0000_0000_0000),
-        true,
-        Some(Value::Int(i64::MIN)),
-    ),
-    (
-        ArgType::Plain(Prim::U8),
-        Slot::Bits(255),
-        true,
-        Some(Value::Uint(255)),
-    ),
-    (
-        ArgType::Plain(Prim::U16),
-        Slot::Bits(0),
-        true,
-        Some(Value::Uint(0)),
-    ),
-    (
-        ArgType::Plain(Prim::U32),
-        Slot::Bits(4_294_967_295),
-        true,
-        Some(Value::Uint(4_294_967_295)),
-    ),
-    (
-        ArgType::Plain(Prim::U64),
-        Slot::Bits(u64::MAX),
-        true,
-        Some(Value::Uint(u64::MAX)),
-    ),
-    (
-        ArgType::Plain(Prim::Bool),
-        Slot::Bits(1),
-        true,
-        Some(Value::Bool(true)),
-    ),
-    (
-        ArgType::Plain(Prim::Bool),
-        Slot::Bits(0),
-        true,
-        Some(Value::Bool(false)),
-    ),
-    (ArgType::Void, Slot::Bits(0), true, None),
+/// A result's type, and whether a function that has it can be called.
+const RESULTS: [(ArgType, bool); 7] = [
+    (ArgType::Plain(Prim::I8), true),
+    (ArgType::Plain(Prim::U64), true),
+    (ArgType::Plain(Prim::Bool), true),
+    (ArgType::Void, true),
     // objects are no results
-    (OBJECT, Slot::Host(2, Some(7)), false, None),
-    (HANDLE, Slot::Host(2, Some(7)), false, None),
-    (ArgType::Null, Slot::Host(2, Some(7)), false, None),
+    (OBJECT, false),
+    (HANDLE, false),
+    (ArgType::Null, false),
 ];
 
 #[test]
-fn results_are_of_their_type(rt: HostRuntime) {
+fn results_are_numbers_and_truth_values(rt: HostRuntime) {
     for row in &RESULTS {
-        let (result, slot, callable, value) = *row;
-        assert!(rt;
-            gives(rt.alloc(), result, slot, callable, value),
-            "{result:?} {slot:?}"
-        );
+        let (result, callable) = *row;
+        assert_eq!(rt; gives(rt.alloc(), result), callable, "{result:?}");
     }
 }

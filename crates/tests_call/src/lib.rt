@@ -1,5 +1,5 @@
-//! Tests of calls from outside, by public calls: which function a text names, what values its arguments stand for, and
-//! what a result's slot is.
+//! Tests of calls from outside, by public calls: which function a text names, whether it can be
+//! called, and in which slots its arguments are passed.
 #![tactic(auto)]
 
 #[cfg(test)]

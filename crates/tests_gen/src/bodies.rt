@@ -24,6 +24,7 @@ fn body(alloc: Global, params: &[Passing], statement: Row) -> Made {
     let params = Vec::from_slice(alloc, params)?;
     Ok(Body {
         params,
+        result: Some(Prim::I32),
         statement: Box::into_inner(statement),
     })
 }
@@ -190,11 +191,11 @@ const CALL: &[Instruction] = &[
 ];
 
 const CODES: [Code; 5] = [
-    (&[Passing::In, Passing::In], 1, CHOICE),
-    (&[Passing::In], 2, LOOP),
-    (&[Passing::In], 1, CHOICE_WITHOUT_ELSE),
-    (&[], 1, DO_LOOP),
-    (&[Passing::In], 3, CALL),
+    (&[Passing::In, Passing::In], Some(Prim::I32), 1, CHOICE),
+    (&[Passing::In], Some(Prim::I32), 2, LOOP),
+    (&[Passing::In], Some(Prim::I32), 1, CHOICE_WITHOUT_ELSE),
+    (&[], Some(Prim::I32), 1, DO_LOOP),
+    (&[Passing::In], Some(Prim::I32), 3, CALL),
 ];
 
 /// The bodies of these codes.

@@ -1,7 +1,8 @@
 //! A small module, with the code that docs/MEANING.md ("Code") gives for it.
 use ang_code::{Instruction, RoutineCode};
-use ang_gen::generate;
+use ang_gen_body::generate_module;
 use ang_kinds::{List, Pass, Prim};
+use ang_lower::lower;
 use ang_meaning::{Arithmetic, Change, Comparison as Test, Operation, Passing};
 use ang_typed::{
     Block, Comparison, Expression, Function, Global as GlobalVariable, Loop, Parameter, Site,
@@ -97,11 +98,17 @@ fn module(alloc: Global) -> Result<Typed, AllocError> {
 
 /// The code of a module that is not used again.
 fn codes_of(alloc: Global, module: Typed) -> Result<Vec<RoutineCode>, AllocError> {
-    generate(alloc, &module)
+    let bodies = lower(alloc, &module)?;
+    generate_module(alloc, &bodies)
 }
 
-/// How code takes its arguments, its height, and its instructions.
-pub type Code = (&'static [Passing], usize, &'static [Instruction]);
+/// How code takes its arguments, the primitive type of its value, its height, and its instructions.
+pub type Code = (
+    &'static [Passing],
+    Option<Prim>,
+    usize,
+    &'static [Instruction],
+);
 
 const LESS: Change = Change {
     work: Arithmetic::Subtract,
@@ -112,6 +119,7 @@ const LESS: Change = Change {
 
 const LOOPING: Code = (
     &[Passing::In],
+    None,
     2,
     &[
         Instruction::Tick,
@@ -130,6 +138,7 @@ const LOOPING: Code = (
 
 const INITIALIZER: Code = (
     &[],
+    None,
     1,
     &[
         Instruction::PushBits(5),
@@ -144,8 +153,9 @@ const CODES: [Code; 2] = [LOOPING, INITIALIZER];
 
 fn is_code(code: &RoutineCode, want: Option<&Code>) -> bool {
     match want {
-        Some((params, height, text)) => {
+        Some((params, ty, height, text)) => {
             code.params.as_slice() == *params
+                && code.result == *ty
                 && code.height == *height
                 && code.text.as_slice() == *text
         }

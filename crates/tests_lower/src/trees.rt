@@ -286,8 +286,8 @@ fn dead(alloc: Global) -> Result<Typed, AllocError> {
 }
 
 #[test]
-fn a_local_that_is_not_alive_has_no_place(rt: HostRuntime) -> Result<(), AllocError> {
-    let is_lowered = bodies_of(rt.alloc(), dead(rt.alloc())?).is_ok();
-    assert!(rt; !is_lowered);
+fn a_local_that_is_not_alive_has_place_0(rt: HostRuntime) -> Result<(), AllocError> {
+    let wrong = first_wrong(rt.alloc(), dead(rt.alloc())?, &["[In] { return l0; }"])?;
+    assert_eq!(rt; wrong, None);
     Ok(())
 }

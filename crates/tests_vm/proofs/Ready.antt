@@ -10,6 +10,8 @@ use Rattle.std.specs.FinMap.{len-empty, get-empty}
 use Rattle.std.specs.declared.alloc.Global.{Global}
 use Rattle.ang_kinds.specs.declared.fault.Fault.{Fault}
 use Rattle.ang_kinds.specs.declared.fault.Fault.TheVariants.{Null}
+use Rattle.ang_kinds.specs.declared.primitive.Primitive.{Primitive}
+use Rattle.ang_kinds.specs.declared.value.Value.{Value}
 use Rattle.ang_host.specs.State.{State, count_at, count_of}
 use Rattle.ang_host.specs.Members.{state_at, AreFresh}
 use Rattle.ang_meaning.specs.declared.host.HostUse.{HostUse}
@@ -22,13 +24,14 @@ use Rattle.ang_meaning.specs.Counting.{Thing, KeyOf, NumberOf, names, how_many, 
 use Rattle.ang_meaning.proofs.Counted.{give_counted}
 use Rattle.ang_code.specs.Machine.{Texts, call_begins, initializer_begins}
 use Rattle.ang_code.specs.Runs.{Gives, Stops}
+use Rattle.ang_code.specs.Values.{answer_of}
 use Rattle.ang_code_laws.proofs.Counting.{call_runs_count, initializer_runs_count}
 use Rattle.ang_heap.specs.Parts.{live_in, AreReady}
 use Rattle.ang_vm_stack.specs.declared.table.ModuleCode.{ModuleCode}
 use Rattle.ang_vm_stack.specs.declared.table.Table.{Table}
 use Rattle.ang_vm_stack.specs.Tables.{list_in}
 use Rattle.ang_vm_ask.specs.Entities.{DriversThere}
-use Rattle.ang_vm.specs.Machines.{HasRun, HasInitialized}
+use Rattle.ang_vm.specs.Machines.{HasCalled, HasRun, HasInitialized}
 use Rattle.tests_vm.specs.Ready.{is_below, names_nothing}
 
 both_left : (a b : Bool) → a && b ≡ true → a ≡ true
@@ -108,12 +111,16 @@ empty_globals x (v ∷ gs) h =
 -- ---- behind a run
 
 module _ (z : Setting) (code : Texts) (g : Routine) where
-  pub run_counted : (budget : ℕ) (vs : List Slot) (w w' : World) (result : Result Slot Fault) → IsCounted vs w → HasRun z code (λ is. call_begins z code budget g vs (with_inputs is w)) result w'
+  end_counted : (budget : ℕ) (vs : List Slot) (w w' : World) (result : Result Slot Fault) → IsCounted vs w → HasCalled z code (λ is. call_begins z code budget g vs (with_inputs is w)) result w'
       → result ≢ Err Null → IsCounted [] w'
-  run_counted budget vs w w' (Ok v) p h apart =
+  end_counted budget vs w w' (Ok v) p h apart =
       subst (IsCounted []) (sym h.1.given) (give_counted v [] h.1.end (call_runs_count z code budget g vs w h.1.end (Gives v h.0) p h.1.runs))
-  run_counted budget vs w w' (Err f) p (inl runs) apart = call_runs_count z code budget g vs w w' (Stops f) p runs
-  run_counted budget vs w w' (Err f) p (inr lost) apart = absurd (apart (ap Err lost.0))
+  end_counted budget vs w w' (Err f) p (inl runs) apart = call_runs_count z code budget g vs w w' (Stops f) p runs
+  end_counted budget vs w w' (Err f) p (inr lost) apart = absurd (apart (ap Err lost.0))
+
+  pub run_counted : (type : Option Primitive) (budget : ℕ) (vs : List Slot) (w w' : World) (answer : Result (Option Value) Fault) → IsCounted vs w
+      → HasRun z code type (λ is. call_begins z code budget g vs (with_inputs is w)) answer w' → answer ≢ Err Null → IsCounted [] w'
+  run_counted type budget vs w w' answer p h apart = end_counted budget vs w w' h.end p h.called (λ e. apart (h.answered ∙ ap (answer_of type) e))
 
   pub initialized_counted : (ticks : ℕ) (w w' : World) (result : Result ℕ Fault) → IsCounted [] w → HasInitialized z code (λ is. initializer_begins z code ticks g (with_inputs is w)) result w'
       → result ≢ Err Null → IsCounted [] w'

@@ -11,6 +11,7 @@ use ang_meaning::{Arithmetic, Callee, Change, Operation, Passing, Slot, ValueKin
 /// The module `c`, with one global.
 pub const CLASSES: Module = Module {
     name: b'c',
+    result: Some(Prim::U64),
     texts: TEXTS,
     imports: &[],
     classes: ROWS,

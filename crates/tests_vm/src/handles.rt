@@ -13,6 +13,7 @@ use ang_meaning::{Arithmetic, Callee, Change, Operation, Passing, Routine, Slot}
 /// The module `a`, with two globals.
 pub const HANDLES: Module = Module {
     name: b'a',
+    result: Some(Prim::U64),
     texts: TEXTS,
     imports: &[
         (&[Passing::In], None),
@@ -26,6 +27,7 @@ pub const HANDLES: Module = Module {
 /// The module `b`, of which the module `a` imports a function.
 pub const EXPORTER: Module = Module {
     name: b'b',
+    result: Some(Prim::U64),
     texts: &[(&[Passing::In], 1, EXPORTED)],
     imports: &[],
     classes: &[],

@@ -10,6 +10,8 @@ macro_rules! list {
 }
 
 #[cfg(test)]
+mod answers;
+#[cfg(test)]
 mod cases;
 #[cfg(test)]
 mod classes;

@@ -16,7 +16,7 @@ use crate::program::first_globals;
 use ang_drivers::{Cell, Console, Counter};
 use ang_heap::{Globals, Heap, Store};
 use ang_host::{Driver, Drivers, HostEvent};
-use ang_kinds::Fault;
+use ang_kinds::{Fault, Value};
 use ang_meaning::{HostUse, Routine, Slot};
 use ang_vm::{Machine, run, run_initializer};
 use ang_vm_stack::table::{ModuleCode, Table};
@@ -146,7 +146,7 @@ fn call_alone(
     entry: Routine,
     budget: u64,
     events: &mut Vec<HostEvent>,
-) -> Result<Slot, Fault>
+) -> Result<Option<Value>, Fault>
     requires drivers { DriversThere table.now (length (members machine.old.store.drivers)) }
     requires begins { MayBegin ⟦<dyn Driver as Driver>⟧ machine.old events.old }
     ensures ready { IsReady ⟦<dyn Driver as Driver>⟧ (lent machine.new events.new) }
@@ -154,6 +154,25 @@ fn call_alone(
         IsCounted [] (world_of ⟦<dyn Driver as Driver>⟧ (lent machine.new events.new)) }
 {
     run(table, machine, entry, &[], budget, events)
+}
+
+/// What a call of a body without arguments answers.
+///
+/// # Errors
+/// The fault of the script, and `Null` too where the driver of an entity is not there.
+pub fn answer_alone(
+    table: &Table,
+    machine: &mut Machine,
+    entry: Routine,
+    budget: u64,
+    events: &mut Vec<HostEvent>,
+) -> Result<Option<Value>, Fault>
+    requires begins { MayBegin ⟦<dyn Driver as Driver>⟧ machine.old events.old }
+{
+    if !drivers_are_there(table, machine.store.drivers.len()) {
+        return Err(Fault::Null);
+    }
+    call_alone(table, machine, entry, budget, events)
 }
 
 /// A call of a body, with a number.
@@ -167,7 +186,7 @@ fn call_with(
     number: u64,
     budget: u64,
     events: &mut Vec<HostEvent>,
-) -> Result<Slot, Fault>
+) -> Result<Option<Value>, Fault>
     requires drivers { DriversThere table.now (length (members machine.old.store.drivers)) }
     requires begins { MayBegin ⟦<dyn Driver as Driver>⟧ machine.old events.old }
     ensures ready { IsReady ⟦<dyn Driver as Driver>⟧ (lent machine.new events.new) }
@@ -180,16 +199,18 @@ fn call_with(
 /// The number that a run gives.
 ///
 /// # Errors
-/// The fault of the script, and `Null` too where the value is no number.
-fn number_of(ended: Result<Slot, Fault>) -> Result<u64, Fault>
+/// The fault of the script, and `Null` too where the value is no unsigned number.
+fn number_of(ended: Result<Option<Value>, Fault>) -> Result<u64, Fault>
     ensures same { result ≢ Err NullFault → ended ≢ Err NullFault }
 {
     match ended {
-        Ok(value) => match value {
-            Slot::Bits(number) => Ok(number),
-            Slot::Script(_) => Err(Fault::Null),
-            Slot::Host(_, _) => Err(Fault::Null),
+        Ok(Some(value)) => match value {
+            Value::Uint(number) => Ok(number),
+            Value::Int(_) => Err(Fault::Null),
+            Value::Bool(_) => Err(Fault::Null),
+            Value::Key(_) => Err(Fault::Null),
         },
+        Ok(None) => Err(Fault::Null),
         Err(fault) => Err(fault),
     }
 }

@@ -12,6 +12,7 @@ use ang_meaning::{Arithmetic, Callee, Change, Comparison, Operation, Passing, Sl
 /// The module `m`, with two globals.
 pub const NUMBERS: Module = Module {
     name: b'm',
+    result: Some(Prim::U64),
     texts: TEXTS,
     imports: &[],
     classes: &[],

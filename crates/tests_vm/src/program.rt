@@ -4,7 +4,7 @@ use crate::entities::entities;
 use crate::handles::{EXPORTER, HANDLES};
 use crate::numbers::NUMBERS;
 use ang_code::{Instruction, RoutineCode};
-use ang_kinds::List;
+use ang_kinds::{List, Prim};
 use ang_meaning::{Class, Passing, Routine, Slot, ValueKind};
 use ang_vm_fuse::body::Body;
 use ang_vm_stack::table::{ClassCode, Import, Method, ModuleCode, Table};
@@ -29,6 +29,8 @@ pub type ImportRow = (&'static [Passing], Option<Routine>);
 pub struct Module {
     /// Its name, which is one letter.
     pub name: u8,
+    /// The primitive type of each body's value, if it is of one.
+    pub result: Option<Prim>,
     /// Its bodies, by number.
     pub texts: &'static [Text],
     /// Its imports, by number.
@@ -44,19 +46,20 @@ pub struct Module {
 /// The modules, by number.
 pub const MODULES: [Module; 4] = [NUMBERS, HANDLES, EXPORTER, CLASSES];
 
-fn body(alloc: Global, text: &Text) -> Result<Body, AllocError> {
+fn body(alloc: Global, ty: Option<Prim>, text: &Text) -> Result<Body, AllocError> {
     let code = RoutineCode {
         params: text.0.to_vec(alloc)?,
+        result: ty,
         height: text.1,
         text: text.2.to_vec(alloc)?,
     };
     Body::new(alloc, code)
 }
 
-fn bodies(alloc: Global, texts: &[Text]) -> Result<Vec<Body>, AllocError> {
+fn bodies(alloc: Global, written: &Module) -> Result<Vec<Body>, AllocError> {
     let mut bodies = Vec::new(alloc);
-    for text in texts {
-        bodies.push(body(alloc, text)?)?;
+    for text in written.texts {
+        bodies.push(body(alloc, written.result, text)?)?;
     }
     Ok(bodies)
 }
@@ -114,10 +117,11 @@ fn slots(alloc: Global, rows: &[&[Passing]]) -> Result<Vec<Vec<Passing>>, AllocE
     Ok(slots)
 }
 
-fn module_code(alloc: Global, home: u32, written: &Module) -> Result<ModuleCode, AllocError> {
+/// The code of a module.
+pub fn module_code(alloc: Global, home: u32, written: &Module) -> Result<ModuleCode, AllocError> {
     Ok(ModuleCode {
         name: vec![in alloc; written.name; 1]?,
-        bodies: bodies(alloc, written.texts)?,
+        bodies: bodies(alloc, written)?,
         imports: imports(alloc, written.imports)?,
         entities: entities(alloc)?,
         classes: classes(alloc, home, written.classes)?,

@@ -1,4 +1,4 @@
-use Rattle.ang_engine.proofs.Unloading.{unloaded_same, unloaded_again}
+use Rattle.ang_engine.proofs.Unloading.{unloaded_again}
 use Rattle.ang_engine.proofs.building.load.Goals as goal
 
 pub returns-clause-unloaded : goal.returns-clause-unloaded

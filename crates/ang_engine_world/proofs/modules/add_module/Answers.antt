@@ -18,7 +18,7 @@ returns-clause-done c = λ r.
     sym not_found ∙ found_same c.find.result _ _ x.code _ _ (c.find.ensures.exact x.code) c.deref.ensures.value c.as_slice-2.ensures.same in
     put_done x c.put_module.new.list (values_in c.args.globals.now) (values_in c.put_module.new.globals) _ c.args.name c.args.mask.0 r
     (ap (λ l. record (fresh_module c.args.name c.args.mask.0) { sections = l }) c.new.ensures.items) named free c.put_module.result c.requires.zipped c.requires.empty c.put_module.ensures.taken
-    c.put_module.ensures.limit c.put_module.ensures.no_place c.put_module.ensures.no_code c.put_module.ensures.no_order c.put_module.ensures.no_globals
+    c.put_module.ensures.limit c.put_module.ensures.places_unchanged c.put_module.ensures.code_unchanged c.put_module.ensures.order_unchanged c.put_module.ensures.globals_unchanged
 
 pub returns-clause-taken : goal.returns-clause-taken
 returns-clause-taken c =

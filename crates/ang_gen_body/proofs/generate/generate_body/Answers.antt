@@ -1,4 +1,4 @@
-use Rattle.std.proofs.Common.{◌≡◌, ◌-◌, ap, ◌∙◌}
+use Rattle.std.proofs.Common.{◌≡◌, ◌-◌, refl, ap, ◌∙◌}
 use Rattle.std.specs.List.{each_same}
 use Rattle.ang_gen_body.specs.Code.{body_code}
 use Rattle.ang_gen_body.specs.Peaks.{body_peak}
@@ -14,6 +14,7 @@ returns c =
     record {
       code = record {
         params = params;
+        result = refl;
         text = c.in_ok-text.ensures.exact ∙ ap (λ n. body_code n b.statement) count;
         height = is_height b top (top - c.len-count.result) (c.in_ok-peak.ensures.exact ∙ ap (λ n. body_peak n b.statement) count) (ap (λ n. top - n) count);
       };

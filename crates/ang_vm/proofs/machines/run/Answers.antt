@@ -3,10 +3,11 @@ use Rattle.std.specs.Prelude.{length, reverse}
 use Rattle.ang_host.specs.Boxes.{members}
 use Rattle.ang_meaning.specs.World.{with_inputs}
 use Rattle.ang_code.specs.Machine.{call_begins, initializer_begins}
+use Rattle.ang_code.specs.Values.{answer_of}
 use Rattle.ang_heap.specs.Stores.{world_of, IsReady, StoreMoves}
 use Rattle.ang_vm_stack.specs.Tables.{setting_of, texts_of}
 use Rattle.ang_meaning.specs.Counting.{IsCounted}
-use Rattle.ang_vm.specs.Machines.{lent, IsLost, HasRun}
+use Rattle.ang_vm.specs.Machines.{lent, IsLost, HasCalled, HasRun}
 use Rattle.ang_vm.specs.Running.{MayRun, RunMoves}
 use Rattle.ang_vm.proofs.machines.run.Goals as goal
 
@@ -21,8 +22,12 @@ returns-clause-told g c =
     let code = texts_of c.args.table.now in
     let first = lent c.args.machine.now c.args.events.now in
     let after = c.call_told-ended.new.store in
-    let told = subst (λ s. HasRun z code (λ is. call_begins z code c.args.budget c.args.entry (reverse c.args.args.now) (with_inputs is (world_of (λ v. (g.dyn-1.0.entry v).1) s))) c.call_told-ended.result (world_of (λ v. (g.dyn-1.0.entry v).1) after)) c.lend.ensures.lent c.call_told-ended.ensures.told in
-    subst (λ u. HasRun z code (λ is. call_begins z code c.args.budget c.args.entry (reverse c.args.args.now) (with_inputs is (world_of (λ v. (g.dyn-1.0.entry v).1) first))) c.call_told-ended.result (world_of (λ v. (g.dyn-1.0.entry v).1) u)) (sym c.take_back.ensures.back) told
+    let told = subst (λ s. HasCalled z code (λ is. call_begins z code c.args.budget c.args.entry (reverse c.args.args.now) (with_inputs is (world_of (λ v. (g.dyn-1.0.entry v).1) s))) c.call_told-ended.result (world_of (λ v. (g.dyn-1.0.entry v).1) after)) c.lend.ensures.lent c.call_told-ended.ensures.told in
+    record {
+      end = c.call_told-ended.result;
+      called = subst (λ u. HasCalled z code (λ is. call_begins z code c.args.budget c.args.entry (reverse c.args.args.now) (with_inputs is (world_of (λ v. (g.dyn-1.0.entry v).1) first))) c.call_told-ended.result (world_of (λ v. (g.dyn-1.0.entry v).1) u)) (sym c.take_back.ensures.back) told;
+      answered = c.answer.ensures.exact ∙ ap (λ p. answer_of p c.call_told-ended.result) c.result_type.ensures.exact;
+    }
 
 pub returns-clause-moves : goal.returns-clause-moves
 returns-clause-moves g c = λ roles r.

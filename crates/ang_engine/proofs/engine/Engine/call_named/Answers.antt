@@ -11,7 +11,7 @@ use Rattle.ang_engine.proofs.Places.{places_built}
 use Rattle.ang_engine.proofs.Entries.{drivers_there}
 use Rattle.ang_engine_world.proofs.Finding.{found_same, on_module-none}
 use Rattle.ang_engine.proofs.Calls.{call-run}
-use Rattle.ang_engine.proofs.Named.{few_families, program_there, takes_chosen, chosen_refused, calling-unbuilt, calling-unbudgeted, calling-built}
+use Rattle.ang_engine.proofs.Named.{few_families, program_there, takes_chosen, typed_chosen, chosen_refused, calling-unbuilt, calling-unbudgeted, calling-built}
 use Rattle.ang_engine_world.specs.declared.reply.Outcome.TheVariants.{Refused}
 use Rattle.ang_engine.proofs.Refusing.{refused_anyway, called_ended}
 use Rattle.ang_engine.proofs.Asking.{asked-nothing, asked-run}
@@ -123,7 +123,10 @@ returns-in-Ok-clause-done g c =
     (program_there m.places.items m.code c.in-Some.home (Some l) there c.in-Some-loaded.ensures.exact) may
     (call-run (program_in l) (modules_of m.code) c.args.decl.now c.args.args.now c.in-Some.home c.args.budget c.in-Ok.chosen c.in-Ok.ensures.chosen.0 c.run_chosen.result (states_in m)
     (world_of (λ v. (g.dyn-1.0.entry v).1) (lent c.args.self.now.machine c.args.events.now)) (world_of (λ v. (g.dyn-1.0.entry v).1) (lent c.run_chosen.new.machine c.run_chosen.new.events))
-    (places_built (registrations c.args.self.now) m.places.items m.code m.order.items c.requires.sound.modules.each) c.requires.first c.in-Ok.ensures.chosen.1 c.run_chosen.ensures.means)
+    (places_built (registrations c.args.self.now) m.places.items m.code m.order.items c.requires.sound.modules.each) c.requires.first c.in-Ok.ensures.chosen.1
+    (c.run_chosen.ensures.means l.names
+    (typed_chosen (registrations c.args.self.now) m.places.items m.code c.in-Some.home l c.args.decl.now c.args.args.now c.in-Ok.chosen c.requires.sound.modules.each
+    c.in-Some-loaded.ensures.exact c.in-Ok.ensures.chosen)))
 
 pub returns-in-Ok-clause-asked : goal.returns-in-Ok-clause-asked
 returns-in-Ok-clause-asked g c =
@@ -134,5 +137,9 @@ returns-in-Ok-clause-asked g c =
 
 pub returns-in-Ok-clause-refused : goal.returns-in-Ok-clause-refused
 returns-in-Ok-clause-refused g c =
-    let means = c.run_chosen.ensures.means in
+    let m = c.args.self.now.modules in
+    let l = c.in-Some-loaded.loaded.now in
+    let means = c.run_chosen.ensures.means l.names
+    (typed_chosen (registrations c.args.self.now) m.places.items m.code c.in-Some.home l c.args.decl.now c.args.args.now c.in-Ok.chosen c.requires.sound.modules.each
+    c.in-Some-loaded.ensures.exact c.in-Ok.ensures.chosen) in
     called_ended means.function means.value c.run_chosen.result _ means.ended

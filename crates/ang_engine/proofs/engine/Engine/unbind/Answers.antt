@@ -18,7 +18,7 @@ returns-clause-sound g c =
     let x = c.args.self.now.modules in
     let u = c.unbind-done in
     record {
-      modules = linked_or_same (registrations c.args.self.now) x u.new.list u.result c.args.index None u.ensures.places u.ensures.order u.ensures.code u.ensures.no_code c.requires.sound.modules;
+      modules = linked_or_same (registrations c.args.self.now) x u.new.list u.result c.args.index None u.ensures.places u.ensures.order u.ensures.code u.ensures.code_unchanged c.requires.sound.modules;
       globals = same_places x u.new.list (values_in c.args.self.now.machine.store.globals) u.ensures.places c.requires.sound.globals;
       in_list = c.requires.sound.in_list;
       kept = c.requires.sound.kept;
