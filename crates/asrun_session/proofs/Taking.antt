@@ -114,7 +114,7 @@ module _ {V : Type 0} {P : V → Type 0} (m : Meanings P) (R R' : RegistrationLi
     (list : R' ≡ R) (same : xs' ≡ xs) (listed : AreListed m xs) (in_list : HaveDrivers R' (length xs'))
     (hosts : w.hosts ≡ counts_by (states_of m zs)) (ends : DriversFollow m (roles_of R) zs (engine_ended w).events ys) (back : AreBack m ys) where
   -- what was done with it, by the events that the drivers followed meanwhile
-  discarded : (S : RegistrationList → List HostEvent → World → Type 0) → ByEvents m R' xs' (λ es. S R' es w) zs → WasDiscarded m R xs ys (S R)
+  pub discarded : (S : RegistrationList → List HostEvent → World → Type 0) → ByEvents m R' xs' (λ es. S R' es w) zs → WasDiscarded m R xs ys (S R)
   discarded S h =
       let first : DriversFollow m (roles_of R) xs h.0 zs =
       subst (λ l. DriversFollow m (roles_of l) xs h.0 zs) list (subst (λ l. DriversFollow m (roles_of R') l h.0 zs) same h.2) in

@@ -15,5 +15,10 @@ mod text;
 mod whole;
 mod writing;
 
-pub use ending::{IoFault, Status};
-pub use whole::{SessionEnd, session};
+pub use action::{Act, Action, read_act};
+pub use ending::{IoFault, Status, Stop};
+pub use run::{perform, print_bad_line};
+pub use whole::{
+    SessionEnd, load_profile, outcome_of, print_drivers_error, print_no_driver, session,
+};
+pub use writing::write_text;

@@ -39,7 +39,7 @@ fn print_reply<W: Write>(alloc: Global, writer: &mut W, reply: &Reply) -> Result
 }
 
 /// Prints `line N BadLine`.
-fn print_bad_line<W: Write>(alloc: Global, writer: &mut W, number: u64) -> Result<(), Stop>
+pub fn print_bad_line<W: Write>(alloc: Global, writer: &mut W, number: u64) -> Result<(), Stop>
     ensures whole { OnOk result
         (Appends (W.contents writer.old) (W.contents writer.new) (bad_line_text (Some number))) }
     ensures front { OnErr result
@@ -84,7 +84,7 @@ fn run_command<W: Write>(
 }
 
 /// Does an action and prints its text. Says whether it ended in `ok`, and the budget behind it.
-fn perform<W: Write>(
+pub fn perform<W: Write>(
     alloc: Global,
     engine: &mut Engine,
     writer: &mut W,

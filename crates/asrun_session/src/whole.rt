@@ -85,7 +85,7 @@ fn load_text<W: Write>(
 }
 
 /// Reads the profile whole and registers what it says. False where it was not taken, which is printed then.
-fn load_profile<R: Read, W: Write>(
+pub fn load_profile<R: Read, W: Write>(
     alloc: Global,
     reader: &mut R,
     writer: &mut W,
@@ -147,7 +147,7 @@ fn run_text<R: Read, W: Write>(
 }
 
 /// Prints why the drivers were not taken as a list.
-fn print_drivers_error<W: Write>(writer: &mut W, why: DriversError) -> Result<Status, Stop>
+pub fn print_drivers_error<W: Write>(writer: &mut W, why: DriversError) -> Result<Status, Stop>
     ensures whole { OnOk result
         (Appends (W.contents writer.old) (W.contents writer.new) (engine_text (NotListed why))) }
     ensures status { IfOk result (λ status. status ≡ Status.BadInput) }
@@ -163,7 +163,7 @@ fn print_drivers_error<W: Write>(writer: &mut W, why: DriversError) -> Result<St
 }
 
 /// Prints that an entry's driver is not there.
-fn print_no_driver<W: Write>(writer: &mut W) -> Result<Status, Stop>
+pub fn print_no_driver<W: Write>(writer: &mut W) -> Result<Status, Stop>
     ensures whole { OnOk result
         (Appends (W.contents writer.old) (W.contents writer.new) (engine_text NoDriver)) }
     ensures status { IfOk result (λ status. status ≡ Status.BadInput) }
@@ -259,7 +259,7 @@ fn run_drivers<R: Read, W: Write>(
     }
 }
 
-fn outcome_of(ended: Result<Status, Stop>) -> Result<Status, IoFault>
+pub fn outcome_of(ended: Result<Status, Stop>) -> Result<Status, IoFault>
     ensures exact { result ≡ outcome_of ended }
 {
     match ended {

@@ -1,0 +1,77 @@
+//! What a host offers to scripts.
+
+use crate::values::{Asked, Function};
+
+pub(crate) struct Entry {
+    pub(crate) mask: u32,
+    line: String,
+    pub(crate) declaration: String,
+    /// What is asked to make, to call or to read.
+    pub(crate) asked: Option<Asked>,
+    pub(crate) write: Option<Asked>,
+}
+
+/// What scripts may use.
+pub struct Profile {
+    /// The mask of what is registered next.
+    pub mask: u32,
+    pub(crate) types: Vec<String>,
+    pub(crate) entries: Vec<Entry>,
+}
+
+impl Default for Profile {
+    fn default() -> Profile {
+        Profile { mask: 1, types: Vec::new(), entries: Vec::new() }
+    }
+}
+
+impl Profile {
+    /// A type of host objects, each of which is an `Rc` of the same Rust type.
+    pub fn object_type(&mut self, name: &str) {
+        self.types.push(name.to_owned());
+        let (mask, line) = (self.mask, format!("type {name} {}", self.types.len()));
+        self.entries.push(Entry { mask, line, declaration: name.to_owned(), asked: None, write: None });
+    }
+
+    /// A function. Where it has objects it is the driver's of their type, and one that it gives is one that scripts hold.
+    pub fn function<V>(&mut self, declaration: &str, call: impl Function<V>) {
+        let mut words = declaration.split(|c: char| !c.is_alphanumeric() && c != '_');
+        let driver = words.find_map(|word| self.types.iter().position(|name| name == word)).map_or(0, |at| at + 1);
+        self.add(&format!("function {driver}"), declaration, call.asked(), None);
+    }
+
+    /// A global property that scripts only read. It is declared `const`.
+    pub fn constant(&mut self, declaration: &str, get: impl Function<()>) {
+        self.add("global 0", declaration, get.asked(), None);
+    }
+
+    /// A global property.
+    pub fn global<V>(&mut self, declaration: &str, get: impl Function<()>, set: impl Function<V>) {
+        self.add("global 0", declaration, get.asked(), Some(set.asked()));
+    }
+
+    /// What makes a new object of a type, or gives none.
+    pub fn factory<V>(&mut self, of: &str, declaration: &str, make: impl Function<V>) {
+        self.add(&format!("factory {of}"), declaration, make.asked(), None);
+    }
+
+    /// A method of a type.
+    pub fn method<V>(&mut self, of: &str, declaration: &str, call: impl Function<V>) {
+        self.add(&format!("method {of}"), declaration, call.asked(), None);
+    }
+
+    /// A property of a type.
+    pub fn property<V, W>(&mut self, of: &str, declaration: &str, get: impl Function<V>, set: impl Function<W>) {
+        self.add(&format!("property {of}"), declaration, get.asked(), Some(set.asked()));
+    }
+
+    fn add(&mut self, words: &str, declaration: &str, asked: Asked, write: Option<Asked>) {
+        let (mask, line) = (self.mask, format!("{words} {} {declaration}", self.entries.len()));
+        self.entries.push(Entry { mask, line, declaration: declaration.to_owned(), asked: Some(asked), write });
+    }
+
+    /// The profile as the engine reads it: two lines for each entry.
+    pub(crate) fn text(&self) -> String {
+        self.entries.iter().map(|it| format!("mask {:08x}\n{}\n", it.mask, it.line)).collect()
+    }
+}

@@ -1,0 +1,13 @@
+use Rattle.ang_remote.proofs.Moving.{made_by}
+use Rattle.ang_remote.proofs.remote.RemoteDriver.make.Goals as goal
+
+pub returns : goal.returns
+returns g c =
+    let s = c.args.self.now in
+    let t = c.ask-said.new.self in
+    record {
+      law =
+          made_by s.number t.number s.keys c.ask.new.self t.keys c.made.new.keys (g.W.Write.contents s.writer) (g.W.Write.contents t.writer)
+          (g.R.Read.remaining s.reader) (g.R.Read.remaining t.reader) c.ask-said.ensures.number c.ask-said.ensures.keys c.if-not-ask.ensures.asked
+          c.args.f c.args.args.now c.ask-said.result c.made.result c.ask-said.ensures.exchanged c.made.ensures.made;
+    }

@@ -1,0 +1,58 @@
+//! One asking over a line: the ask is written, and the answer is read.
+ghost use Rattle.std.specs.Prelude.{◌≡◌};
+ghost use Rattle.ang_remote.specs.Asks.{line_text};
+ghost use Rattle.ang_remote.specs.Wires.{IsExchanged, IsAnswered, heard_as};
+
+use crate::answers::{BAD_FORM, INPUT_ENDED, MOST_ANSWER, NOT_READ, NOT_WRITTEN, Said, said_by};
+use crate::asks::{Kind, ask_line};
+use crate::lines::{Heard, read_line};
+use crate::writing::write_text;
+use ang_kinds::Value;
+use std::alloc::Global;
+use std::io::{Read, Write};
+
+/// What is said where this was heard, with this line where there is one.
+fn heard_as(heard: Heard, line: &[u8]) -> Said
+    ensures exact { result ≡ heard_as heard line.now }
+{
+    match heard {
+        Heard::Line | Heard::Last => said_by(line),
+        Heard::Long => Said::Fault(BAD_FORM),
+        Heard::Memory => Said::Memory,
+        Heard::End => Said::Fault(INPUT_ENDED),
+        Heard::Failed => Said::Fault(NOT_READ),
+    }
+}
+
+/// Reads the answer to an ask that was written.
+fn read_answer<R: Read>(alloc: Global, reader: &mut R) -> Said
+    ensures answered { IsAnswered (R.remaining reader.old) (R.remaining reader.new) result }
+{
+    let mut line = Vec::new(alloc);
+    let heard = read_line(reader, &mut line, MOST_ANSWER);
+    heard_as(heard, &line)
+}
+
+/// Asks the driver of this number, and gives what is said to it.
+pub fn exchange<R: Read, W: Write>(
+    alloc: Global,
+    reader: &mut R,
+    writer: &mut W,
+    driver: u32,
+    kind: Kind,
+    f: u32,
+    object: Option<u64>,
+    values: &[Value],
+) -> Said
+    ensures exchanged { IsExchanged (line_text driver kind f object values.now)
+        (W.contents writer.old) (W.contents writer.new) (R.remaining reader.old)
+        (R.remaining reader.new) result }
+{
+    let Ok(line) = ask_line(alloc, driver, kind, f, object, values) else {
+        return Said::Memory;
+    };
+    if !write_text(writer, &line) {
+        return Said::Fault(NOT_WRITTEN);
+    }
+    read_answer(alloc, reader)
+}

@@ -1,0 +1,177 @@
+//! The driver whose host is another process.
+ghost use Rattle.std.specs.Prelude.{◌≡◌, ◌<◌};
+ghost use Rattle.ang_remote.specs.Asks.{line_text};
+ghost use Rattle.ang_remote.specs.KeysLedger.{ledger};
+ghost use Rattle.ang_remote.specs.declared.answers.Said.TheVariants as saying;
+ghost use Rattle.ang_remote.specs.Wires.{IsExchanged, MakesKey, answer_of, given_of, fresh_state};
+
+use crate::answers::{KEY_LIVE, NOT_LIVE, OTHER_KIND, Said};
+use crate::asks::Kind;
+use crate::exchange::exchange;
+use crate::keys::Keys;
+use ang_host::{Answer, Driver, Made};
+use ang_kinds::Value;
+use std::alloc::Global;
+use std::io::{Read, Write};
+
+/// A driver whose host reads its asks from a writer, and writes its answers to a reader (docs/FORMATS.md, "The
+/// conversation of asremote").
+///
+/// Each asking is one line that is written and one that is read. The references to live keys are kept here, so
+/// nothing is written where one is added or released. What can't be taken for an answer is a fault of one of the
+/// numbers 4294967280 to 4294967286, which hosts don't use themselves. Its core is the driver's number, the live keys,
+/// and what is known of the bytes that the writer holds and the reader has left.
+#[derive(Drop)]
+pub struct Remote<R: Drop, W: Drop> {
+    alloc: Global,
+    number: u32,
+    reader: R,
+    writer: W,
+    keys: Keys,
+}
+
+impl<R: Read + Drop, W: Write + Drop> Remote<R, W> {
+    ghost use Rattle.ang_remote.specs.RemoteState.{state_of};
+
+    /// A driver of this number, without objects, that was never asked.
+    pub fn new(alloc: Global, number: u32, reader: R, writer: W) -> Remote<R, W>
+        ensures fresh { state_of R.remaining W.contents result
+            ≡ fresh_state number (W.contents writer) (R.remaining reader) }
+    {
+        Remote {
+            alloc,
+            number,
+            reader,
+            writer,
+            keys: Keys::new(alloc),
+        }
+    }
+
+    // Asks, and gives what is said.
+    fn ask(&mut self, kind: Kind, f: u32, object: Option<u64>, values: &[Value]) -> Said
+        ensures keys { self.new.keys ≡ self.old.keys }
+        ensures number { self.new.number ≡ self.old.number }
+        ensures exchanged { IsExchanged (line_text self.old.number kind f object values.now)
+            (W.contents self.old.writer) (W.contents self.new.writer)
+            (R.remaining self.old.reader) (R.remaining self.new.reader) result }
+    {
+        exchange(
+            self.alloc,
+            &mut self.reader,
+            &mut self.writer,
+            self.number,
+            kind,
+            f,
+            object,
+            values,
+        )
+    }
+}
+
+// The answer with this value, where these keys are live.
+fn given(keys: &Keys, value: Value) -> Answer
+    ensures exact { result ≡ given_of (ledger keys.now).live value }
+{
+    match value {
+        Value::Key(Some(key)) => {
+            if keys.is_live(key) {
+                Answer::Gave(value)
+            } else {
+                Answer::Fault(NOT_LIVE)
+            }
+        }
+        Value::Key(None) | Value::Int(_) | Value::Uint(_) | Value::Bool(_) => Answer::Gave(value),
+    }
+}
+
+// The answer to a call, a read or a write that is said, where these keys are live.
+fn answer(keys: &Keys, said: Said) -> Answer
+    ensures exact { result ≡ answer_of (ledger keys.now).live said }
+{
+    match said {
+        Said::Void => Answer::Void,
+        Said::Gave(value) => given(keys, value),
+        Said::Made(_) | Said::Nothing => Answer::Fault(OTHER_KIND),
+        Said::Fault(number) => Answer::Fault(number),
+        Said::Memory => Answer::Memory,
+    }
+}
+
+// Makes a key live, if it is not.
+fn made_key(keys: &mut Keys, key: u64) -> Made
+    requires asking_left { (ledger keys.old).tally.made < (ledger keys.old).tally.asked }
+    ensures made { MakesKey (ledger keys.old) (saying.Made key) result (ledger keys.new) }
+{
+    if keys.is_live(key) {
+        return Made::Fault(KEY_LIVE);
+    }
+    match keys.insert(key) {
+        Ok(()) => Made::Key(key),
+        Err(_) => Made::Memory,
+    }
+}
+
+// The answer to a making that is said, where these keys are live. A key that is made becomes live.
+fn made(keys: &mut Keys, said: Said) -> Made
+    requires asking_left { (ledger keys.old).tally.made < (ledger keys.old).tally.asked }
+    ensures made { MakesKey (ledger keys.old) said result (ledger keys.new) }
+{
+    match said {
+        Said::Made(key) => made_key(keys, key),
+        Said::Nothing => Made::Nothing,
+        Said::Void | Said::Gave(_) => Made::Fault(OTHER_KIND),
+        Said::Fault(number) => Made::Fault(number),
+        Said::Memory => Made::Memory,
+    }
+}
+
+impl<R: Read + Drop, W: Write + Drop> Driver for Remote<R, W> {
+    ghost use Rattle.ang_remote.specs.Wires.{RemoteFits};
+    ghost use Rattle.ang_remote.specs.RemoteState.{state_of};
+
+    ghost meaning = { record { state = state_of R.remaining W.contents; fits = RemoteFits } };
+
+    fn idle(&self) -> bool {
+        self.keys.is_empty()
+    }
+
+    fn make(&mut self, f: u32, args: &[Value]) -> Made {
+        if !self.keys.ask() {
+            return Made::Full;
+        }
+        let said = self.ask(Kind::Make, f, None, args);
+        made(&mut self.keys, said)
+    }
+
+    fn call(&mut self, f: u32, object: Option<u64>, args: &[Value]) -> Answer {
+        if !self.keys.ask() {
+            return Answer::Full;
+        }
+        let said = self.ask(Kind::Call, f, object, args);
+        answer(&self.keys, said)
+    }
+
+    fn read(&mut self, f: u32, object: Option<u64>) -> Answer {
+        if !self.keys.ask() {
+            return Answer::Full;
+        }
+        let said = self.ask(Kind::Read, f, object, &[]);
+        answer(&self.keys, said)
+    }
+
+    fn write(&mut self, f: u32, object: Option<u64>, value: Value) -> Answer {
+        if !self.keys.ask() {
+            return Answer::Full;
+        }
+        let said = self.ask(Kind::Write, f, object, &[value]);
+        answer(&self.keys, said)
+    }
+
+    fn add_ref(&mut self, key: u64) -> bool {
+        self.keys.add_ref(key)
+    }
+
+    fn release(&mut self, key: u64) -> bool {
+        self.keys.release(key)
+    }
+}

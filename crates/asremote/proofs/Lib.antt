@@ -1,0 +1,4 @@
+pub mod Lining
+pub mod Turning
+pub mod Coming
+pub mod Talking

@@ -1,0 +1,4 @@
+pub mod Exit
+pub mod Commands
+pub mod Turns
+pub mod Conversation

@@ -1,0 +1,120 @@
+//! The options of the command line.
+
+ghost use Rattle.std.specs.Prelude.{◌≤◌, IfOk, IfSome};
+
+use asrun_lines::decimal;
+use clap::{Arg, ArgAction, ArgMatches, Command};
+use std::alloc::{AllocError, Global};
+
+/// The most ticks that `--budget` may give.
+const MOST_TICKS: u64 = 2_147_483_647;
+
+/// The ticks where `--budget` is not given.
+const DEFAULT_TICKS: u64 = 1_000_000;
+
+/// The most drivers that `--drivers` may give.
+const MOST_DRIVERS: u32 = 64;
+
+/// What the program is for.
+const ABOUT: &str =
+    "Runs scripts for a host that writes commands to standard input and answers asks there.";
+
+const PROFILE_HELP: &str = "The file of what the host registers, each under a mask";
+
+const DRIVERS_HELP: &str = "How many drivers the host is, from 1 to 64 (1 if left out)";
+
+const ECHO_HELP: &str = "Writes what is read to standard output, too";
+
+const BUDGET_HELP: &str =
+    "The ticks that each command may take, from 1 to 2147483647 (1000000 if left out)";
+
+/// Where the formats are described.
+const FORMATS: &str =
+    "The profile is text, one entry a line. docs/FORMATS.md has its lines, those of the conversation{n}\
+    and the exit status.";
+
+/// What the command line says.
+#[derive(Debug, Drop)]
+pub struct Options {
+    /// The path of the profile.
+    pub profile: String,
+    /// How many drivers there are, from 1 to 64.
+    pub drivers: u32,
+    /// The ticks that each command may take, from 1 to 2,147,483,647.
+    pub budget: u64,
+    /// Whether what is read is shown.
+    pub echo: bool,
+}
+
+/// The program's command line.
+pub fn command_line<'a>(alloc: Global) -> Result<Command<'a>, AllocError> {
+    let profile = Arg::new(alloc, "profile").long("profile").required(true);
+    let drivers = Arg::new(alloc, "drivers").long("drivers");
+    let budget = Arg::new(alloc, "budget").long("budget");
+    let echo = Arg::new(alloc, "echo")
+        .long("echo")
+        .action(ArgAction::SetTrue);
+    Command::new(alloc, "asremote")
+        .about(ABOUT)
+        .after_help(FORMATS)
+        .arg(profile.help(PROFILE_HELP))?
+        .arg(drivers.help(DRIVERS_HELP))?
+        .arg(budget.help(BUDGET_HELP))?
+        .arg(echo.help(ECHO_HELP))
+}
+
+/// The budget that is given, or the one where none is. None where it is no number from 1 to the most.
+fn budget_of(text: Option<&str>) -> Option<u64>
+    ensures least { IfSome result (λ n. 1 ≤ n) }
+    ensures most { IfSome result (λ n. n ≤ 2147483647) }
+{
+    let Some(text) = text else {
+        return Some(DEFAULT_TICKS);
+    };
+    let ticks = decimal(text.as_bytes(), 10)?;
+    if 1 <= ticks && ticks <= MOST_TICKS {
+        Some(ticks)
+    } else {
+        None
+    }
+}
+
+/// The number of drivers that is given, or 1 where none is. None where it is no number from 1 to the most.
+fn drivers_of(text: Option<&str>) -> Option<u32>
+    ensures least { IfSome result (λ n. 1 ≤ n) }
+    ensures most { IfSome result (λ n. n ≤ 64) }
+{
+    let Some(text) = text else {
+        return Some(1);
+    };
+    let number = u32::try_from(decimal(text.as_bytes(), 10)?).ok()?;
+    if 1 <= number && number <= MOST_DRIVERS {
+        Some(number)
+    } else {
+        None
+    }
+}
+
+/// The options of a command line that was read. None where a number is not in its range.
+pub fn chosen(alloc: Global, matches: &ArgMatches<'_>) -> Result<Option<Options>, AllocError>
+    ensures drivers_least { IfOk result (λ r. IfSome r (λ o. 1 ≤ o.drivers)) }
+    ensures drivers_most { IfOk result (λ r. IfSome r (λ o. o.drivers ≤ 64)) }
+    ensures least { IfOk result (λ r. IfSome r (λ o. 1 ≤ o.budget)) }
+    ensures most { IfOk result (λ r. IfSome r (λ o. o.budget ≤ 2147483647)) }
+{
+    let Some(budget) = budget_of(matches.get_str("budget")) else {
+        return Ok(None);
+    };
+    let Some(drivers) = drivers_of(matches.get_str("drivers")) else {
+        return Ok(None);
+    };
+    let Some(profile) = matches.get_str("profile") else {
+        return Ok(None);
+    };
+    Ok(Some(Options {
+        profile: String::from_str(alloc, profile)?,
+        drivers,
+        budget,
+        echo: matches.get_flag("echo"),
+    }))
+}

@@ -1,0 +1,118 @@
+//! Holds a conversation with a host over standard input and output: the host writes the commands of a session, and
+//! answers what the drivers are asked (docs/FORMATS.md, "The conversation of asremote").
+#![tactic(auto)]
+
+mod command;
+mod commands;
+mod conversation;
+mod echo;
+mod ending;
+mod options;
+mod turns;
+
+use crate::command::Options;
+use crate::conversation::converse;
+use crate::echo::Echo;
+use crate::ending::{Ending, code_of};
+use ang_host::Driver;
+use ang_remote::Remote;
+use asrun_session::{IoFault, SessionEnd, Status};
+use std::alloc::AllocError;
+use std::fs::File;
+use std::process::ExitCode;
+use std::{env, io};
+
+fn print_no_memory(rt: &impl Eprint) {
+    let _ = eprintln!(rt; "asremote: no memory");
+}
+
+/// Says on standard error what the conversation's outcome is, if it is one that it can't print.
+fn print_outcome(rt: &impl Eprint, outcome: Result<Status, IoFault>) {
+    match outcome {
+        Ok(Status::Memory) => print_no_memory(rt),
+        Ok(_) => {}
+        Err(fault) => {
+            let _ = eprintln!(rt; "asremote: {fault}");
+        }
+    }
+}
+
+/// Opens the profile and holds the conversation. Nothing is read ahead, so that the commands and the drivers can share
+/// standard input.
+///
+/// # Errors
+/// A growth of memory was refused before the conversation.
+fn run_file(rt: &HostRuntime, options: &Options) -> Result<Ending, AllocError> {
+    let Ok(mut profile) = File::open(rt, options.profile.as_str()) else {
+        let _ = eprintln!(rt; "asremote: cannot open {}", options.profile);
+        return Ok(Ending::CannotOpen);
+    };
+    let alloc = rt.alloc();
+    let mut boxes: Vec<Box<dyn Driver>> = Vec::new(alloc);
+    for number in 0..options.drivers {
+        let input = Echo::new(rt.stdin(), rt.stdout(), options.echo);
+        boxes.push(Box::new(alloc, Remote::new(alloc, number, input, rt.stdout()))?)?;
+    }
+    // There are as many boxes as drivers. That they are few is what `converse` asks for.
+    if boxes.len() > 64 {
+        return Ok(Ending::BadCommandLine);
+    }
+    let mut input = Echo::new(rt.stdin(), rt.stdout(), options.echo);
+    let mut out = rt.stdout();
+    let mut turns = rt.stdout();
+    let SessionEnd { outcome, drivers } = converse(
+        alloc,
+        &mut profile,
+        &mut input,
+        &mut out,
+        &mut turns,
+        boxes,
+        options.budget,
+    );
+    drop(drivers);
+    print_outcome(rt, outcome);
+    Ok(Ending::Ran(outcome))
+}
+
+/// Reads the command line, and holds the conversation that it asks for.
+///
+/// # Errors
+/// A growth of memory was refused before the conversation.
+fn run_words(rt: &HostRuntime) -> io::Result<Ending> {
+    let alloc = rt.alloc();
+    let words: Vec<String> = match env::args(rt) {
+        Ok(words) => words.collect(alloc)?,
+        Err(error) if error.kind() == io::ErrorKind::InvalidData => {
+            let _ = eprintln!(rt; "asremote: an argument is not text in UTF-8");
+            return Ok(Ending::BadCommandLine);
+        }
+        Err(error) => return Err(error),
+    };
+    let words: Vec<&str> = words.iter().map(|word| word.as_str()).collect(alloc)?;
+    match options::options(alloc, words.as_slice()) {
+        Ok(options) => Ok(run_file(rt, &options)?),
+        Err(error) if error.kind() == clap::error::ErrorKind::OutOfMemory => {
+            print_no_memory(rt);
+            Ok(Ending::NoMemory)
+        }
+        Err(error) => {
+            let _ = error.print(rt);
+            Ok(if error.use_stderr() {
+                Ending::BadCommandLine
+            } else {
+                Ending::Helped
+            })
+        }
+    }
+}
+
+fn main(rt: HostRuntime) -> ExitCode {
+    let ending = match run_words(&rt) {
+        Ok(ending) => ending,
+        Err(_) => {
+            print_no_memory(&rt);
+            Ending::NoMemory
+        }
+    };
+    ExitCode::from(code_of(ending))
+}

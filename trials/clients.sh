@@ -1,0 +1,89 @@
+#!/bin/sh
+# Tries the clients of the engine in Python, Rust and C++ (clients/), which run it as a child process.
+#
+#     trials/clients.sh [ASREMOTE [ASRUN [PART..]]]
+#
+# ASREMOTE and ASRUN are the programs: those that `rt ci`, or `rt run` in their crates, leave at crates/asremote/out/asremote
+# and crates/asrun/out/asrun, if none are named. The parts, all of them if none is named:
+#
+#     game       the example of each client prints clients/game.expected
+#     sessions   each session of crates/examples and crates/asrun, and 1,000 generated ones, over modules, masks, imports,
+#                numbers and objects: with the drivers of asrun written in Python, asremote prints what asrun prints
+#     kills      100 engines of each client are killed at random moments: the host goes on, and the next engine works
+#
+# Prints a line or more for each, and what differs. The status is 0 where all went well. Needs python3, cargo and
+# rustc, and a compiler of C++17 (c++, or the one that CXX names); what is built stands in a folder that is removed again.
+set -eu
+here=$(pwd)
+cd "$(dirname "$0")/.."
+root=$(pwd)
+whole() {
+    case $1 in
+    /*) echo "$1" ;;
+    *) echo "$here/$1" ;;
+    esac
+}
+asremote=$root/crates/asremote/out/asremote
+asrun=$root/crates/asrun/out/asrun
+[ $# -lt 1 ] || { asremote=$(whole "$1"); shift; }
+[ $# -lt 1 ] || { asrun=$(whole "$1"); shift; }
+[ $# -gt 0 ] || set -- game sessions kills
+for program in "$asremote" "$asrun"; do
+    [ -x "$program" ] || { echo "there is no $program: run rt ci, or rt run in its crate, first" >&2; exit 2; }
+done
+folder=$(mktemp -d)
+trap 'rm -rf "$folder"' EXIT
+bad=0
+
+built() {
+    [ ! -d "$folder/release" ] || return 0
+    (cd clients/rust && CARGO_TARGET_DIR="$folder" cargo build -q --offline --release --lib --examples)
+    rustc --edition 2021 -O -L "$folder/release/deps" --extern bustlebrick="$folder/release/libbustlebrick.rlib" \
+        trials/clients/kills.rs -o "$folder/release/examples/kills"
+    for source in clients/cpp/game.cpp trials/clients/kills.cpp; do
+        "${CXX:-c++}" -std=c++17 -O1 -Wall -Wextra -Iclients/cpp "$source" -o "$folder/$(basename "$source" .cpp)"
+    done
+}
+
+# The host of a client: its name, and its command.
+host() {
+    case $1 in
+    Python) echo "python3 $2.py" ;;
+    Rust) echo "$folder/release/examples/$(basename "$2")" ;;
+    C++) echo "$folder/$(basename "$2")" ;;
+    esac
+}
+
+game() {
+    built
+    for client in Python Rust C++; do
+        status=0
+        $(host $client clients/python/game) "$asremote" > "$folder/said" || status=$?
+        if [ "$status" = 0 ] && diff clients/game.expected "$folder/said"; then
+            echo "the example in $client prints what is expected"
+        else
+            echo "the example in $client prints something else, or ends with the status $status"
+            bad=1
+        fi
+    done
+}
+
+sessions() {
+    python3 trials/clients/sessions.py "$asremote" "$asrun" || bad=1
+}
+
+kills() {
+    built
+    for client in Python Rust C++; do
+        echo "$client:"
+        python3 trials/clients/kill_at_random.py 100 $(host $client trials/clients/kills) "$asremote" 100 || bad=1
+    done
+}
+
+for part; do
+    case $part in
+    game | sessions | kills) "$part" ;;
+    *) echo "no such part: $part" >&2; exit 2 ;;
+    esac
+done
+[ "$bad" = 0 ]
