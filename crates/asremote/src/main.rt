@@ -8,12 +8,14 @@ mod conversation;
 mod echo;
 mod ending;
 mod options;
+mod shared;
 mod turns;
 
 use crate::command::Options;
 use crate::conversation::converse;
 use crate::echo::Echo;
 use crate::ending::{Ending, code_of};
+use crate::shared::Shared;
 use ang_host::Driver;
 use ang_remote::Remote;
 use asrun_session::{IoFault, SessionEnd, Status};
@@ -37,8 +39,8 @@ fn print_outcome(rt: &impl Eprint, outcome: Result<Status, IoFault>) {
     }
 }
 
-/// Opens the profile and holds the conversation. Nothing is read ahead, so that the commands and the drivers can share
-/// standard input.
+/// Opens the profile and holds the conversation. The commands and the drivers share standard input, and what was read of
+/// it ahead.
 ///
 /// # Errors
 /// A growth of memory was refused before the conversation.
@@ -48,16 +50,17 @@ fn run_file(rt: &HostRuntime, options: &Options) -> Result<Ending, AllocError> {
         return Ok(Ending::CannotOpen);
     };
     let alloc = rt.alloc();
+    let shared = Shared::new(alloc, rt.stdin())?;
     let mut boxes: Vec<Box<dyn Driver>> = Vec::new(alloc);
     for number in 0..options.drivers {
-        let input = Echo::new(rt.stdin(), rt.stdout(), options.echo);
+        let input = Echo::new(shared.share()?, rt.stdout(), options.echo);
         boxes.push(Box::new(alloc, Remote::new(alloc, number, input, rt.stdout()))?)?;
     }
     // There are as many boxes as drivers. That they are few is what `converse` asks for.
     if boxes.len() > 64 {
         return Ok(Ending::BadCommandLine);
     }
-    let mut input = Echo::new(rt.stdin(), rt.stdout(), options.echo);
+    let mut input = Echo::new(shared, rt.stdout(), options.echo);
     let mut out = rt.stdout();
     let mut turns = rt.stdout();
     let SessionEnd { outcome, drivers } = converse(
