@@ -10,7 +10,7 @@ use ang_check_operand::{Operand, Stop, Target, reading, refused, use_refused};
 use ang_check_uses::Resolution;
 use ang_kinds::ErrorKind;
 use ang_lex::Token;
-use ang_names_known::{FoundField, field_named, is_read_only};
+use ang_names_known::{FoundField, is_read_only};
 use ang_typed::{Site, Variable};
 use ang_types::{ArgType, Asks};
 use std::alloc::{AllocError, Global};
@@ -60,7 +60,7 @@ fn field_within(context: &BodyContext<'_>, name: &[u8]) -> Option<(Within, Found
 {
     match context.within() {
         None => None,
-        Some(within) => match field_named(context.families(), within.family, name) {
+        Some(within) => match context.names().field_named(within.family, name) {
             None => None,
             Some(field) => Some((within, field)),
         },

@@ -1,5 +1,5 @@
 //! Types by name, where a hidden entry is added to what a module sees.
-ghost use Rattle.std.specs.Prelude.{◌≡◌, ◌<◌, length, bytes_eq, find, is_some, map as list_map, IfSome, Some};
+ghost use Rattle.std.specs.Prelude.{◌≡◌, ◌<◌, bytes_eq, find, is_some, map as list_map, IfSome, Some};
 ghost use Rattle.std.specs.List.{position};
 ghost use Rattle.ang_view.specs.Hidden.{numbers_of, seen_with};
 ghost use Rattle.ang_view.specs.Registration as registration;
@@ -10,7 +10,7 @@ ghost use Rattle.ang_check_denials.specs.Added as spec;
 use crate::masked::Masked;
 use ang_check_uses::Scope;
 use ang_kinds::EntityNo;
-use ang_names_known::{Family, Named, family_or_host};
+use ang_names_known::{Named, family_or_host};
 use ang_view::{Entry, EntryKind, View};
 
 /// Whether the entry of this number is a type of this name.
@@ -63,22 +63,13 @@ fn type_with(masked: &Masked<'_>, view: &View, added: u32, name: &[u8]) -> Optio
     first_type(masked, view, added, name)
 }
 
-fn family_among(families: &[Family], name: &[u8]) -> Option<usize>
-    ensures exact { result ≡ position (λ f. bytes_eq name.now f.name) families.now }
-    ensures within { IfSome result (λ c. c < length families.now) }
-{
-    families
-        .iter()
-        .position(|family| name == family.name.as_slice())
-}
-
 /// The number of the script's family of this name.
 fn family_named(scope: &Scope<'_>, name: &[u8]) -> Option<usize>
     ensures exact { result
         ≡ position (bytes_eq name.now) (list_map (λ f. f.name) scope.now.names.families) }
     ensures few { IfSome result (λ c. c < 256) }
 {
-    family_among(scope.names().families.as_slice(), name)
+    scope.names().family_named(name)
 }
 
 /// What a name means as a type, where an entry is added to what a module sees. It takes no memory.

@@ -23,7 +23,7 @@ use ang_check_operand::{Operand, Stop, refused};
 use ang_check_uses::Resolution;
 use ang_kinds::{ErrorKind, List};
 use ang_lex::Token;
-use ang_names_known::{Family, FoundMethod, is_under, methods_named};
+use ang_names_known::{Family, FoundMethod, is_under};
 use ang_types::Asks;
 use std::alloc::{AllocError, Global};
 
@@ -41,7 +41,7 @@ fn named_methods<'a>(
     let Some(within) = context.within() else {
         return Ok(None);
     };
-    let methods = methods_named(alloc, context.families(), within.family, name)?;
+    let methods = context.names().methods_named(alloc, within.family, name)?;
     if methods.is_empty() {
         return Ok(None);
     }
@@ -166,7 +166,9 @@ fn method_above(
         (sources.text_of context.now.text name.now)))
         on.number on.read_only (all_types (view_operands operands.now))) }
 {
-    let methods = methods_named(alloc, context.families(), family, context.text_of(name))?;
+    let methods = context
+        .names()
+        .methods_named(alloc, family, context.text_of(name))?;
     direct_meant(alloc, context.lineage(), methods.as_slice(), on, operands)
 }
 

@@ -10,7 +10,7 @@ use ang_check_context::{BodyContext, Receiver, resolved, types_of};
 use ang_check_operand::{Operand, Stop, object_of, refused};
 use ang_kinds::{ErrorKind, List};
 use ang_lex::Token;
-use ang_names_known::{family_of_type, methods_named};
+use ang_names_known::family_of_type;
 use ang_types::Asks;
 use std::alloc::Global;
 
@@ -49,7 +49,7 @@ fn script_method(
         on.read_only name.now (view_operand object) (view_operands operands.items)) }
 {
     let text = context.text_of(name);
-    let methods = methods_named(alloc, context.families(), family, text)?;
+    let methods = context.names().methods_named(alloc, family, text)?;
     own_method(
         alloc,
         context,

@@ -5,3 +5,5 @@ pub mod NearestMethods
 pub mod SoFar
 pub mod Turns
 pub mod Among
+pub mod Headings
+pub mod NameIndex

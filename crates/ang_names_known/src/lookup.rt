@@ -2,13 +2,13 @@
 ghost use Rattle.std.specs.Prelude.{◌≡◌, false, bytes_eq, find, option_map, slice_get};
 ghost use Rattle.std.specs.List.{list_any};
 ghost use Rattle.std.specs.Option.{option_map_or};
+ghost use Rattle.ang_names_known.specs.Headings as headings;
 ghost use Rattle.ang_names_known.specs.Lookup as spec;
 
 use crate::names::{
-    Access, Constructor, Default, Family, Field, FoundField, Method, ScriptFunction, ScriptGlobal,
+    Access, Constructor, Default, Family, Field, FoundField, Method, ScriptFunction,
     ScriptParameter, Written,
 };
-use ang_kinds::List;
 use ang_types::ArgType;
 
 /// Whether a variable of this written type can't be assigned: `const int`, `const T`, `T@ const`.
@@ -21,23 +21,6 @@ pub fn is_read_only(written: Written) -> bool
             written.constant
         }
     }
-}
-
-/// The number of the global of this name. It takes no memory.
-#[tactic(auto, unfolding(crate::specs::Lookup::global_named))]
-pub fn global_named(globals: &[ScriptGlobal], name: &[u8]) -> Option<usize>
-    ensures exact { result ≡ spec.global_named globals.now name.now }
-{
-    globals
-        .iter()
-        .position(|global| global.name.as_slice() == name)
-}
-
-/// Whether some declaration has this name. It takes no memory.
-pub fn is_declared(declared: &[List<u8>], name: &[u8]) -> bool
-    ensures exact { result ≡ spec.is_declared declared.now name.now }
-{
-    declared.iter().any(|other| name == other.as_slice())
 }
 
 /// Whether two types are one, `const` included. Object types go by their numbers.
@@ -106,14 +89,30 @@ pub fn same_heading(one: &ScriptFunction, other: &ScriptFunction) -> bool
     one.name.as_slice() == other.name.as_slice() && same_call(one, other)
 }
 
-/// The number of the function with this heading. It takes no memory.
-#[tactic(auto, unfolding(crate::specs::Lookup::function_with))]
-pub fn function_with(functions: &[ScriptFunction], heading: &ScriptFunction) -> Option<usize>
-    ensures exact { result ≡ spec.function_with functions.now heading.now }
+/// Whether the function of this number has this heading.
+fn has_heading(functions: &[ScriptFunction], number: usize, heading: &ScriptFunction) -> bool
+    ensures exact { result ≡ headings.has_heading functions.now heading.now number }
 {
-    functions
-        .iter()
-        .position(|function| same_heading(heading, function))
+    match functions.get(number) {
+        None => false,
+        Some(function) => same_heading(heading, function),
+    }
+}
+
+/// The first of these numbers whose function has this heading.
+pub(crate) fn heading_among(
+    functions: &[ScriptFunction],
+    numbers: &[u32],
+    heading: &ScriptFunction,
+) -> Option<usize>
+    ensures exact { result ≡ headings.heading_among functions.now heading.now numbers.now }
+{
+    for number in numbers {
+        if has_heading(functions, *number as usize, heading) {
+            return Some(*number as usize);
+        }
+    }
+    None
 }
 
 /// The families above a family, by number.
@@ -190,9 +189,9 @@ fn fields_of(families: &[Family], family: usize) -> &[Field]
     }
 }
 
-/// The field of this name that objects of a family have. It takes no memory.
+/// The field of this name that objects of a family have.
 #[tactic(auto, unfolding(crate::specs::Lookup::field_named), using(crate::proofs::Kin::first_field_with))]
-pub fn field_named(families: &[Family], family: usize, name: &[u8]) -> Option<FoundField>
+pub(crate) fn field_in(families: &[Family], family: usize, name: &[u8]) -> Option<FoundField>
     ensures exact { result ≡ spec.field_named families.now family name.now }
 {
     let order = order_of(families, family);
@@ -224,9 +223,9 @@ fn has_own_method(families: &[Family], family: usize, name: &[u8]) -> bool
     }
 }
 
-/// Whether a family has a method of this name, own or inherited. It takes no memory.
+/// Whether a family has a method of this name, own or inherited.
 #[tactic(auto, unfolding(crate::specs::Lookup::has_method), using(crate::proofs::Kin::any_method_with))]
-pub fn has_method(families: &[Family], family: usize, name: &[u8]) -> bool
+pub(crate) fn has_method_in(families: &[Family], family: usize, name: &[u8]) -> bool
     ensures exact { result ≡ spec.has_method families.now family name.now }
 {
     let order = order_of(families, family);
@@ -238,11 +237,11 @@ pub fn has_method(families: &[Family], family: usize, name: &[u8]) -> bool
     false
 }
 
-/// Whether a family has a field or a method of this name, own or inherited. It takes no memory.
-pub fn has_member(families: &[Family], family: usize, name: &[u8]) -> bool
+/// Whether a family has a field or a method of this name, own or inherited.
+pub(crate) fn has_member_in(families: &[Family], family: usize, name: &[u8]) -> bool
     ensures exact { result ≡ spec.has_member families.now family name.now }
 {
-    field_named(families, family, name).is_some() || has_method(families, family, name)
+    field_in(families, family, name).is_some() || has_method_in(families, family, name)
 }
 
 #[tactic(auto, using(crate::proofs::Kin::empty_is))]

@@ -42,9 +42,7 @@ impl<'a> FoundMethod<'a> {
 }
 
 /// The methods of this name that objects of a family have, own and inherited.
-///
-/// The only error is want of memory.
-pub fn methods_named<'a>(
+pub(crate) fn methods_in<'a>(
     alloc: Global,
     families: &'a [Family],
     family: usize,

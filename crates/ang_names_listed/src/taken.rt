@@ -106,15 +106,21 @@ fn clashes_at(view: &View, number: EntityNo, declared: &Declared<'_>) -> bool
     }
 }
 
+/// Whether a declaration clashes with one of the entries of these numbers.
+fn clashes_among(view: &View, numbers: &[EntityNo], declared: &Declared<'_>) -> bool
+    ensures exact { result ≡ list_any
+        (λ n. spec.clashes_with_host declared.now (entry_at view.now n.0)) numbers.now }
+{
+    numbers
+        .iter()
+        .any(|number| clashes_at(view, *number, declared))
+}
+
+/// Whether a declaration clashes with what the module sees of the host: with an entry of its name.
 fn is_taken_by_host(view: &View, declared: &Declared<'_>) -> bool
     ensures exact { result ≡ list_any (spec.clashes_with_host declared.now) view.now }
 {
-    for number in 0..view.len() {
-        if clashes_at(view, EntityNo(number as u32), declared) {
-            return true;
-        }
-    }
-    false
+    clashes_among(view, view.find(declared_name(declared)), declared)
 }
 
 /// Whether a declaration clashes with the earlier one of this number.

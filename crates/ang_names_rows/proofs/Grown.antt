@@ -1,7 +1,7 @@
 -- A name more puts its number at the end of one row.
-use Rattle.std.specs.Prelude.{ℕ, zero, suc, ◌≡◌, ◌<◌, ◌≤◌, ◌+◌, ◌==◌, Bool, true, false, if◌then◌else◌, List, [], ◌∷◌, ◌++◌, length, slice_index_or, slice_set}
+use Rattle.std.specs.Prelude.{ℕ, zero, suc, ◌≡◌, ◌<◌, ◌≤◌, ◌+◌, ◌==◌, Bool, true, false, if◌then◌else◌, List, [], ◌∷◌, ◌++◌, length, slice_index_or, slice_set, take}
 use Rattle.std.proofs.Common.{arith, refl, sym, ap, ◌∙◌}
-use Rattle.std.proofs.lemmas.List.{append-nil}
+use Rattle.std.proofs.lemmas.List.{append-nil, take_more}
 use Rattle.ang_names_rows.specs.Hashes.{numbers_of, rows_of}
 use Rattle.ang_names_rows.specs.Grown.{Hashed, hash_in, with_name, with_number}
 use Rattle.ang_names_rows.proofs.Hashed.{numbers_are, numbers_from, rows_from, rows_more}
@@ -85,6 +85,22 @@ with_more xs x h (suc n) zero e =
 with_more xs x h (suc n) (suc k) e =
     ap (λ row. row ∷ with_number k (length xs) (rows_from xs (h + 1) n)) (not_in_row h x xs (differ_above x h (omega (arith, e))))
     ∙ ap (λ rows. numbers_of h (xs ++ x ∷ []) ∷ rows) (with_more xs x (h + 1) n k (omega (arith, e)))
+
+-- ---- what the rows of hashes keep
+
+length_front : (xs : List ℕ) (n : ℕ) → n < length xs → length (take n xs) ≡ n
+length_front [] n lt = absurd (omega (arith, lt))
+length_front (x ∷ xs) zero lt = refl
+length_front (x ∷ xs) (suc n) lt = ap suc (length_front xs n (omega (arith, lt)))
+
+pub grown : (rows new : List (List ℕ)) (hashes : List ℕ) (n x : ℕ) → n < length hashes → x ≡ slice_index_or hashes n 0
+    → rows ≡ rows_of (take n hashes) 256 → new ≡ with_number x n rows → new ≡ rows_of (take (n + 1) hashes) 256
+unfolding rows_of
+grown rows new hashes n x lt is same more =
+    let front = take n hashes in
+    more ∙ ap (with_number x n) same ∙ ap (λ k. with_number x k (rows_from front 0 256)) (sym (length_front hashes n lt))
+    ∙ with_more front x 0 256 x (omega arith)
+    ∙ ap (λ y. rows_from (front ++ y ∷ []) 0 256) is ∙ ap (λ xs. rows_from xs 0 256) (sym (take_more hashes n 0 lt))
 
 -- ---- what the rows of names keep
 

@@ -9,7 +9,7 @@ use std::marker::Model;
 
 /// The numbers of what has one hash. Contracts see the list of them.
 #[derive(Drop)]
-struct Row {
+pub(crate) struct Row {
     numbers: Vec<usize>,
 }
 
@@ -84,7 +84,7 @@ fn row_count(names: usize) -> usize
 
 /// So many rows with no numbers.
 #[tactic(auto, using(crate::proofs::Grown::empty_more), unfolding(crate::specs::Hashes::rows_of))]
-fn empty_rows(alloc: Global, count: usize) -> Result<Vec<Row>, AllocError>
+pub(crate) fn empty_rows(alloc: Global, count: usize) -> Result<Vec<Row>, AllocError>
     ensures exact { IfOk result (λ rows. rows.items ≡ spec.rows_of [] count) }
 {
     let mut rows = Vec::new(alloc);
@@ -122,7 +122,7 @@ fn hash_in(rows: usize, name: &[u8]) -> usize
 
 /// Puts a number at the end of a row.
 #[tactic(auto, using(crate::proofs::Grown::set_is, crate::proofs::Grown::past_is))]
-fn push_at(rows: &mut Vec<Row>, place: usize, number: usize) -> Result<(), AllocError>
+pub(crate) fn push_at(rows: &mut Vec<Row>, place: usize, number: usize) -> Result<(), AllocError>
     ensures pushed { OnOk result (rows.new.items ≡ grown.with_number place number rows.old.items) }
     ensures unchanged { OnErr result (rows.new.items ≡ rows.old.items) }
 {
@@ -132,7 +132,7 @@ fn push_at(rows: &mut Vec<Row>, place: usize, number: usize) -> Result<(), Alloc
     Ok(())
 }
 
-fn row_at(rows: &[Row], place: usize) -> &[usize]
+pub(crate) fn row_at(rows: &[Row], place: usize) -> &[usize]
     ensures exact { result.now ≡ unwrap_or (slice_get rows.now place) [] }
 {
     match rows.get(place) {
