@@ -524,6 +524,7 @@ class Engine::Module {
 };
 
 inline Engine::Module Engine::module(const std::string& name, std::uint32_t mask) {
+    if (name.empty() || name.find_first_of(" \n") != std::string::npos) throw Refused("BadName");  // no line could say it
     done("module " + name + " " + detail::mask(mask));
     return Module(this, name);
 }

@@ -159,6 +159,8 @@ impl Engine {
 
     /// Makes a module, without scripts.
     pub fn module(&mut self, name: &str, mask: u32) -> Result<Module, Error> {
+        let name = Some(name).filter(|it| !it.is_empty() && !it.contains([' ', '\n']));
+        let name = name.ok_or(Error::Refused("BadName".to_owned()))?; // no line could say another one
         self.done(&format!("module {name} {mask:08x}")).map(|_| Module(name.to_owned()))
     }
 
