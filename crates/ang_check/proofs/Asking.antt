@@ -91,3 +91,24 @@ pub no_denials : (R : RegistrationList) (m : ℕ) (ss : List Source) (names : Op
     → denials_of R m ss ≡ []
 unfolding denials_of
 no_denials R m ss names es h e = ap (flat_map (rows_for R m (scope_over (seen R m) ss))) (no_refusals (seen R m) ss names es h (no_items es e))
+
+-- ---- the rows over what a registry shows
+
+pub phase_rows : (R : RegistrationList) (m : ℕ) (ss : List Source) (o : Option Names) (es : List Error) (L V : RegistrationList) (k : ℕ)
+    → AreErrors (seen R m) ss o es → o ≡ None → L ≡ R → k ≡ m → V ≡ seen R m → flat_map (rows_for L k (scope_over V ss)) (refusals_of V ss) ≡ denials_of R m ss
+unfolding denials_of
+phase_rows R m ss None es L V k h e list mask view =
+    (λ i. flat_map (rows_for (list i) (mask i) (scope_over (view i) ss)) (refusals_of (view i) ss))
+    ∙ ap (flat_map (rows_for R m (scope_over (seen R m) ss))) (sym (phases_refuse (seen R m) ss (λ none. h.1 (h.0 ∙ none))))
+phase_rows R m ss (Some names) es L V k h e list mask view = cc
+
+pub body_rows : (R : RegistrationList) (m : ℕ) (ss : List Source) (o : Option Names) (names : Names) (es : List Error) (L V : RegistrationList) (k : ℕ)
+    → AreErrors (seen R m) ss o es → o ≡ Some names → L ≡ R → k ≡ m → V ≡ seen R m
+    → flat_map (rows_for L k (scope_over V ss)) (body_refusals V names ss) ≡ denials_of R m ss
+unfolding denials_of
+body_rows R m ss None names es L V k h e list mask view = cc
+body_rows R m ss (Some own) names es L V k h e list mask view =
+    let same : names ≡ own = cc in
+    (λ i. flat_map (rows_for (list i) (mask i) (scope_over (view i) ss)) (body_refusals (view i) (same i) ss))
+    ∙ ap (λ ns. flat_map (rows_for R m (scope_over (seen R m) ss)) (body_refusals (seen R m) ns ss)) h.1
+    ∙ ap (flat_map (rows_for R m (scope_over (seen R m) ss))) (sym (bodies_refuse (seen R m) ss h.0))

@@ -35,9 +35,9 @@ fn found_in(alloc: Global, build: &Build<'_>, scripts: &[Script]) -> Result<Foun
         build.now.names.now (list_map source_of scripts.now))) }
 {
     let mut left = Left {
-        functions: build.names.functions.as_slice(),
-        globals: build.names.globals.as_slice(),
-        families: build.names.families.as_slice(),
+        functions: build.names.functions(),
+        globals: build.names.globals(),
+        families: build.names.families(),
     };
     let mut found = Found {
         functions: Vec::new(alloc),
@@ -78,9 +78,9 @@ fn judged_of(alloc: Global, names: &Names, found: Found) -> Result<Judged, Alloc
         refused,
     } = found;
     let functions = with_members(functions, members)?;
-    let classes = typed_classes(alloc, names.families.as_slice())?;
-    let methods = method_headings(alloc, names.families.as_slice())?;
-    let imports = import_headings(alloc, names.imports.as_slice())?;
+    let classes = typed_classes(alloc, names.families())?;
+    let methods = method_headings(alloc, names.families())?;
+    let imports = import_headings(alloc, names.imports())?;
     Ok(Judged {
         typed: Typed {
             functions: List::from_vec(functions),

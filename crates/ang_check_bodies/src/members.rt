@@ -272,7 +272,7 @@ fn class_of<'a>(
     ensures name { result.base_name ≡ bodies.base_name build.now.view.now build.now.names.now
         number text.now written.now.name written.now.bases.items }
 {
-    let families = build.names.families.as_slice();
+    let families = build.names.families();
     let base = base_of(families, number);
     let family = family_at(families, base);
     OfClass {

@@ -119,7 +119,7 @@ fn class_number(build: &Build<'_>, left: &Left<'_>) -> usize
     ensures exact { result
         ≡ length build.now.names.now.families - length left.now.families.now }
 {
-    let all = build.names.families.as_slice();
+    let all = build.names.families();
     all.len().saturating_sub(left.families.len())
 }
 
@@ -150,7 +150,7 @@ fn add_next_class(
         return Ok(());
     };
     left.families = rest;
-    let Some(family) = family_of(build.names.families.as_slice(), number) else {
+    let Some(family) = family_of(build.names.families(), number) else {
         return Ok(());
     };
     add_class(alloc, build, text, number, family, written, found)

@@ -79,7 +79,7 @@ pub fn implicit_super(
     match base {
         None => Ok(without_arguments(alloc, None)),
         Some(base) => {
-            let default = default_of(names.families.as_slice(), base);
+            let default = default_of(names.families(), base);
             default_base(alloc, place, base_name, default)
         }
     }
@@ -128,7 +128,7 @@ fn super_chosen(
 fn makers_in(alloc: Global, scope: &Scope<'_>, class: usize) -> Result<Callables, AllocError>
     ensures exact { IfOk result (λ c. c ≡ all_makers scope.now (spaces.family_type class)) }
 {
-    if class < scope.names().families.as_slice().len() {
+    if class < scope.names().families().len() {
         makers_of(alloc, scope, family_type(class))
     } else {
         Ok(Callables::new(alloc))

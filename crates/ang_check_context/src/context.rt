@@ -14,7 +14,7 @@ use ang_check_operand::{Stop, refused, use_refused};
 use ang_check_uses::{Callables, Resolution, Scope, makers_of, resolution_of};
 use ang_kinds::ErrorKind;
 use ang_lex::Token;
-use ang_names_known::{Access, Family, Names, has_member, may_use};
+use ang_names_known::{Access, Family, Names, may_use};
 use ang_names_written::text_at;
 use ang_types::{ArgType, Asks, Lineage};
 use ang_view::View;
@@ -102,7 +102,7 @@ impl<'a> BodyContext<'a> {
     pub fn families(&self) -> &'a [Family]
         ensures same { result.now ≡ self.now.names.families }
     {
-        self.names.families.as_slice()
+        self.names.families()
     }
 
     /// The class whose method or constructor the body is.
@@ -202,7 +202,7 @@ fn has_within(context: &BodyContext<'_>, within: Option<Within>, name: &[u8]) ->
 {
     match within {
         None => false,
-        Some(within) => has_member(context.families(), within.family, name),
+        Some(within) => context.names().has_member(within.family, name),
     }
 }
 

@@ -13,7 +13,7 @@ use ang_check_operand::{Operand, Stop, Target, object_of, reading, refused, use_
 use ang_check_uses::{Resolution, entity_of};
 use ang_kinds::ErrorKind;
 use ang_lex::Token;
-use ang_names_known::{FoundField, family_of_type, field_named, is_read_only};
+use ang_names_known::{FoundField, family_of_type, is_read_only};
 use ang_typed::{Member, Site};
 use ang_types::{ArgType, Asks};
 use std::alloc::{AllocError, Global};
@@ -107,7 +107,7 @@ fn member_of_type(
             property_use(alloc, object, name, on, resolution)
         }
         Some(family) => {
-            let found = field_named(context.families(), family, context.text_of(name));
+            let found = context.names().field_named(family, context.text_of(name));
             field_typing(alloc, context, object, name, on.read_only, found)
         }
     }

@@ -1,8 +1,10 @@
 //! Bare names.
 ghost use Rattle.std.specs.Prelude.{◌≡◌, false, Some, IfOk, option_map};
-ghost use Rattle.ang_check_operand.specs.Refusals.{Gives};
+ghost use Rattle.ang_check_operand.specs.Refusals.{Gives, use_refused as refusal_of};
 ghost use Rattle.ang_check_operand.specs.View.{view_operand};
 ghost use Rattle.ang_check_context.specs.Names as spec;
+ghost use Rattle.ang_check_context.specs.Scope as scopes;
+ghost use Rattle.ang_names_written.specs.Sources as sources;
 
 use crate::context::{BodyContext, access_error, is_there, may_reach, resolved};
 use crate::scope::{LocalVariable, Within, last_named};
@@ -10,7 +12,7 @@ use ang_check_operand::{Operand, Stop, Target, reading, refused, use_refused};
 use ang_check_uses::Resolution;
 use ang_kinds::ErrorKind;
 use ang_lex::Token;
-use ang_names_known::{FoundField, field_named, is_read_only};
+use ang_names_known::{FoundField, is_read_only};
 use ang_typed::{Site, Variable};
 use ang_types::{ArgType, Asks};
 use std::alloc::{AllocError, Global};
@@ -33,23 +35,38 @@ fn variable_at(
     reading(alloc, name.place, Site::Named(variable), ty, target)
 }
 
+/// The refusal of a use of the name as a value. Only then are the locals gone through once more.
+fn value_refused(
+    context: &BodyContext<'_>,
+    locals: &[LocalVariable<'_>],
+    kind: ErrorKind,
+    name: &Token,
+) -> Stop
+    ensures exact { result ≡ Stop.Refused (refusal_of kind name.now Asks.Value
+        (scopes.is_there context.now locals.now (sources.text_of context.now.text name.now))) }
+{
+    let is_there = is_there(context, locals, context.text_of(name));
+    use_refused(kind, name, Asks::Value, is_there)
+}
+
 fn value_use(
     alloc: Global,
     context: &BodyContext<'_>,
+    locals: &[LocalVariable<'_>],
     name: &Token,
-    is_there: bool,
     resolution: Resolution,
 ) -> Result<Operand, Stop>
-    ensures exact { Gives view_operand result
-        (spec.value_use context.now name.now is_there resolution) }
+    ensures exact { Gives view_operand result (spec.value_use context.now name.now
+        (scopes.is_there context.now locals.now (sources.text_of context.now.text name.now))
+        resolution) }
 {
     match resolution {
         Resolution::Variable(variable, ty, read_only) => {
             Ok(variable_at(alloc, name, variable, ty, read_only)?)
         }
-        Resolution::Refused(kind) => Err(use_refused(kind, name, Asks::Value, is_there)),
+        Resolution::Refused(kind) => Err(value_refused(context, locals, kind, name)),
         Resolution::Property(_) | Resolution::Call(_) | Resolution::Type(_) => {
-            Err(use_refused(ErrorKind::UnknownName, name, Asks::Value, is_there))
+            Err(value_refused(context, locals, ErrorKind::UnknownName, name))
         }
     }
 }
@@ -60,7 +77,7 @@ fn field_within(context: &BodyContext<'_>, name: &[u8]) -> Option<(Within, Found
 {
     match context.within() {
         None => None,
-        Some(within) => match field_named(context.families(), within.family, name) {
+        Some(within) => match context.names().field_named(within.family, name) {
             None => None,
             Some(field) => Some((within, field)),
         },
@@ -88,17 +105,18 @@ fn own_field(
 fn field_or_global(
     alloc: Global,
     context: &BodyContext<'_>,
+    locals: &[LocalVariable<'_>],
     name: &Token,
-    is_there: bool,
     found: Option<(Within, FoundField)>,
 ) -> Result<Operand, Stop>
-    ensures exact { Gives view_operand result
-        (spec.field_or_global context.now name.now is_there found) }
+    ensures exact { Gives view_operand result (spec.field_or_global context.now name.now
+        (scopes.is_there context.now locals.now (sources.text_of context.now.text name.now))
+        found) }
 {
     match found {
         None => {
             let resolution = resolved(alloc, context, name, &Asks::Value)?;
-            value_use(alloc, context, name, is_there, resolution)
+            value_use(alloc, context, locals, name, resolution)
         }
         Some((within, field)) => own_field(alloc, context, name, within, field),
     }
@@ -145,8 +163,8 @@ pub fn named(
     match local_named(alloc, locals, token, name)? {
         Some(operand) => Ok(operand),
         None => {
-            let is_there = is_there(context, locals, name);
-            field_or_global(alloc, context, token, is_there, field_within(context, name))
+            let found = field_within(context, name);
+            field_or_global(alloc, context, locals, token, found)
         }
     }
 }

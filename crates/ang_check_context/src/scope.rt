@@ -25,15 +25,16 @@ pub struct Within {
     pub read_only: bool,
 }
 
-/// The number of the innermost local or parameter of the name. The innermost one is the last.
+/// The number of the innermost local or parameter of the name. The innermost one is the last, and is found first.
+#[tactic(auto, using(crate::proofs::Locals::none_in_all, crate::proofs::Locals::none_in_more, crate::proofs::Locals::last_in_all))]
 pub fn last_named(locals: &[LocalVariable<'_>], name: &[u8]) -> Option<usize>
     ensures exact { result ≡ spec.last_named name.now 0 locals.now }
 {
-    let mut found = None;
-    for number in 0..locals.len() {
+    for back in 0..locals.len() {
+        let number = locals.len() - 1 - back;
         if locals[number].name.bytes() == name {
-            found = Some(number);
+            return Some(number);
         }
     }
-    found
+    None
 }

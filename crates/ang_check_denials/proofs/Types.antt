@@ -1,12 +1,15 @@
 -- Types by name, where an entry is added.
-use Rattle.std.specs.Prelude.{ℕ, suc, ◌≡◌, ◌+◌, ◌<◌, ◌≤◌, Bool, true, false, cond, ◌&&◌, ◌||◌, is_some, if◌then◌else◌, find, List, [], ◌∷◌, drop, length, position, bytes_eq, map, Option, Some, None}
+use Rattle.std.specs.Prelude.{ℕ, suc, ◌≡◌, ◌+◌, ◌<◌, Bool, true, false, cond, ◌&&◌, ◌||◌, is_some, filter, find, List, [], ◌∷◌, length, position, bytes_eq, map, Option, Some, None}
 use Rattle.std.specs.List.{position_from, range_with_len}
 use Rattle.std.proofs.Common.{arith, refl, sym, ap, ◌∙◌}
-use Rattle.std.proofs.lemmas.List.{drop_all, drop_more}
 use Rattle.std.proofs.lemmas.Iterator.Adapters.{position_from-zero}
+use Rattle.ang_kinds.specs.declared.mask.EntityNo.{EntityNo}
 use Rattle.ang_view.specs.declared.entry.Entry.{Entry}
+use Rattle.ang_view.specs.declared.entry.EntryKind.{EntryKind}
+use Rattle.ang_view.specs.declared.entry.EntryKind.TheVariants as entry
 use Rattle.ang_view.specs.Hidden.{is_with, numbers_of, seen_with}
-use Rattle.ang_view.specs.Registration.{RegistrationList, entry_at, is_seen, seen, seen_entry}
+use Rattle.ang_view.specs.Named.{first_of, has_name, is_bare, find as found}
+use Rattle.ang_view.specs.Registration.{RegistrationList, entry_at, is_seen, is_type, seen, seen_entry}
 use Rattle.ang_view.specs.Types.{is_type_named, type_named}
 use Rattle.ang_view.proofs.Seen.{entry_at-seen, position-passes}
 use Rattle.ang_names_known.specs.declared.names.Family.{Family}
@@ -46,27 +49,47 @@ type_by_place R V m x name k e =
     ∙ shown_type R m name (is_with R x k) (entry_at R k)
     ∙ sym (ap (is_type_named name) (entry_at-seen_with R m x k))
 
--- the first number that passes, of the entries from number n on
-abbrev pub first_number : (ℕ → Bool) → ℕ → RegistrationList → Option ℕ
-first_number p n [] = None
-first_number p n (o ∷ os) = if p n then Some n else first_number p (n + 1) os
+-- ---- the types of a name are among the entries that the list finds by it
 
-first_from : (p : ℕ → Bool) (n : ℕ) (R : RegistrationList) → first_number p n R ≡ find p (range_with_len n (length R))
-first_from p n [] = refl
-first_from p n (o ∷ os) = ap (λ r. cond (p n) (Some n) r) (first_from p (n + 1) os)
+first_numbers : (p : ℕ → Bool) (es : List EntityNo) → first_of p es ≡ find p (map (λ (e : EntityNo). e.0) es)
+first_numbers p [] = refl
+first_numbers p (e ∷ es) = ap (λ r. cond (p e.0) (Some e.0) r) (first_numbers p es)
 
-pub first_found : (p : ℕ → Bool) (R : RegistrationList) → first_number p 0 R ≡ find p (numbers_of R)
-first_found p R = first_from p 0 R
+first_kept : (p : ℕ → Bool) (n : ℕ) (ns ms : List ℕ) (b c : Bool) → p n ≡ c → (c ≡ true → b ≡ true) → find p ns ≡ find p ms
+    → cond c (Some n) (find p ns) ≡ find p (cond b (n ∷ ms) ms)
+first_kept p n ns ms true c e h same = λ i. cond (sym e i) (Some n) (same i)
+first_kept p n ns ms false true e h same = let no' : false ≡ true = h refl in cc
+first_kept p n ns ms false false e h same = same
 
--- where all are passed
-pub none_first : (p : ℕ → Bool) (n : ℕ) (R : RegistrationList) → length R ≤ n → first_number p 0 R ≡ first_number p n (drop n R) → None ≡ find p (numbers_of R)
-none_first p n R over e = sym (e ∙ ap (first_number p n) (drop_all n R over)) ∙ first_found p R
+first_filtered : (p q : ℕ → Bool) → ((n : ℕ) → p n ≡ true → q n ≡ true) → (ns : List ℕ) → find p ns ≡ find p (filter q ns)
+first_filtered p q h [] = refl
+first_filtered p q h (n ∷ ns) = first_kept p n ns (filter q ns) (q n) (p n) refl (h n) (first_filtered p q h ns)
 
--- where one passes
-pub one_first : (p : ℕ → Bool) (n : ℕ) (R : RegistrationList) → n < length R → p n ≡ true → first_number p 0 R ≡ first_number p n (drop n R)
-    → Some n ≡ find p (numbers_of R)
-one_first p n R lt here e =
-    sym (e ∙ ap (first_number p n) (drop_more R n None lt) ∙ ap (λ b. cond b (Some n) (first_number p (n + 1) (drop (n + 1) R))) here) ∙ first_found p R
+bare_type : (b c d e : Bool) → (b ≡ true → d ≡ true) → ((b && c) && e) ≡ true → (d && c) ≡ true
+bare_type true true d e h is = rw (h refl) refl
+bare_type true false d e h is = cc
+bare_type false c d e h is = cc
+
+type_is_bare : (k : EntryKind) → is_type k ≡ true → is_bare k ≡ true
+type_is_bare entry.HostType e = refl
+type_is_bare entry.Factory e = cc
+type_is_bare entry.Method e = cc
+type_is_bare entry.Property e = cc
+type_is_bare entry.Function e = cc
+type_is_bare entry.Global e = cc
+
+type_is_found : (name : List ℕ) (o : Option Entry) (b : Bool) → (is_type_named name o && b) ≡ true → has_name name o ≡ true
+type_is_found name None b e = cc
+type_is_found name (Some x) b e = bare_type (is_type x.kind) (bytes_eq x.signature.name name) (is_bare x.kind) b (type_is_bare x.kind) e
+
+among_found : (R V : RegistrationList) (x : ℕ) (name : List ℕ) (es : List EntityNo) → map (λ (e : EntityNo). e.0) es ≡ found R name
+    → first_of (is_type_with R V x name) es ≡ find (is_type_with R V x name) (numbers_of R)
+unfolding found
+among_found R V x name es are =
+    let p : ℕ → Bool = is_type_with R V x name in
+    let q : ℕ → Bool = λ n. has_name name (entry_at R n) in
+    first_numbers p es ∙ ap (find p) are
+    ∙ sym (first_filtered p q (λ n e. type_is_found name (entry_at R n) (is_some (entry_at V n) || is_with R x n) e) (numbers_of R))
 
 first_at : (t : ℕ → Bool) (p : Option Entry → Bool) (n : ℕ) (os ws : RegistrationList) → length os ≡ length ws
     → ((j : ℕ) → t (n + j) ≡ p (entry_at ws j)) → find t (range_with_len n (length os)) ≡ position_from p n ws
@@ -79,12 +102,16 @@ first_at t p n (o ∷ os) (w ∷ ws) e h =
     let rest = first_at t p (n + 1) os ws (omega (arith, e)) (λ j. let k : n + 1 + j ≡ n + suc j = omega arith in ap t k ∙ h (suc j)) in
     λ i. cond (here i) (Some n) (rest i)
 
-pub first_type_is : (R V : RegistrationList) (m x : ℕ) (name : List ℕ) → V ≡ seen R m
+first_type_in : (R V : RegistrationList) (m x : ℕ) (name : List ℕ) → V ≡ seen R m
     → find (is_type_with R V x name) (numbers_of R) ≡ type_named (seen_with R m x) name
-first_type_is R V m x name e =
+first_type_in R V m x name e =
     first_at (is_type_with R V x name) (is_type_named name) 0 R (seen_with R m x) (sym (length-seen_with R m x))
     (λ j. let z : 0 + j ≡ j = omega arith in ap (is_type_with R V x name) z ∙ type_by_place R V m x name j e)
     ∙ sym (type_is (seen_with R m x) name)
+
+pub first_type_is : (R V : RegistrationList) (m x : ℕ) (name : List ℕ) (es : List EntityNo) → V ≡ seen R m
+    → map (λ (e : EntityNo). e.0) es ≡ found R name → first_of (is_type_with R V x name) es ≡ type_named (seen_with R m x) name
+first_type_is R V m x name es e are = among_found R V x name es are ∙ first_type_in R V m x name e
 
 -- ---- a type that a name means is one of that name
 

@@ -14,7 +14,7 @@ use crate::meanings::adds;
 use crate::sought::help_row;
 use ang_check_uses::Scope;
 use ang_kinds::EntityNo;
-use ang_names_known::{Names, is_declared};
+use ang_names_known::Names;
 use ang_names_rows::Rows;
 use ang_types::{Asks, Refused};
 use ang_view::{EntryKind, View};
@@ -35,7 +35,7 @@ fn is_own(names: &Names, refused: &Refused) -> bool
     ensures exact { result ≡ (lookup.is_declared names.now.declared refused.now.error.name
         || refused.now.is_there) }
 {
-    is_declared(names.declared.as_slice(), refused.error.name.as_slice()) || refused.is_there
+    names.is_declared(refused.error.name.as_slice()) || refused.is_there
 }
 
 fn is_function_entry(whole: &View, number: u32) -> bool

@@ -17,19 +17,18 @@ use crate::named::{is_called_by, is_type_named, named_with};
 use ang_check_uses::{Scope, params_with_receiver};
 use ang_kinds::EntityNo;
 use ang_names_known::{
-    HostProperty, Named, ScriptGlobal, Text, Wanted, WantedProperty, family_of_type, found_at,
-    global_named, property_at,
+    HostProperty, Named, Names, Text, Wanted, WantedProperty, family_of_type, found_at, property_at,
 };
 use ang_types::{ArgType, Asks, Lineage, Rivals};
 use std::alloc::{AllocError, Global};
 
 /// Whether the script has a global of this name.
-fn has_global(globals: &[ScriptGlobal], name: &[u8]) -> bool
-    ensures exact { result ≡ spec.has_global globals.now name.now }
+fn has_global(names: &Names, name: &[u8]) -> bool
+    ensures exact { result ≡ spec.has_global names.now.globals name.now }
 {
-    match global_named(globals, name) {
+    match names.global_named(name) {
         None => false,
-        Some(number) => globals.get(number).is_some(),
+        Some(number) => names.globals().get(number).is_some(),
     }
 }
 
@@ -85,8 +84,7 @@ fn value_wins(
         && spec.property_wins masked.now.list added (sought_property.Global name.now) seen) }
 {
     let wanted = WantedProperty::Global(Text::new(name));
-    !has_global(scope.names().globals.as_slice(), name)
-        && property_wins(masked, added, &wanted, seen)
+    !has_global(scope.names(), name) && property_wins(masked, added, &wanted, seen)
 }
 
 /// Whether a type's name would mean the type that is added.

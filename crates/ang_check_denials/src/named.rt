@@ -1,7 +1,8 @@
 //! Types by name, where a hidden entry is added to what a module sees.
-ghost use Rattle.std.specs.Prelude.{◌≡◌, ◌<◌, length, bytes_eq, find, is_some, map as list_map, IfSome, Some};
+ghost use Rattle.std.specs.Prelude.{◌≡◌, ◌<◌, bytes_eq, is_some, map as list_map, IfSome, Some};
 ghost use Rattle.std.specs.List.{position};
-ghost use Rattle.ang_view.specs.Hidden.{numbers_of, seen_with};
+ghost use Rattle.ang_view.specs.Hidden.{seen_with};
+ghost use Rattle.ang_view.specs.Named.{first_of};
 ghost use Rattle.ang_view.specs.Registration as registration;
 ghost use Rattle.ang_view.specs.Registration.{entry_at, seen};
 ghost use Rattle.ang_view.specs.Types as types;
@@ -10,7 +11,7 @@ ghost use Rattle.ang_check_denials.specs.Added as spec;
 use crate::masked::Masked;
 use ang_check_uses::Scope;
 use ang_kinds::EntityNo;
-use ang_names_known::{Family, Named, family_or_host};
+use ang_names_known::{Named, family_or_host};
 use ang_view::{Entry, EntryKind, View};
 
 /// Whether the entry of this number is a type of this name.
@@ -40,14 +41,20 @@ fn is_type_with(masked: &Masked<'_>, view: &View, added: u32, name: &[u8], numbe
         && (sees(view, number) || masked.comes_with(added, number))
 }
 
-/// The number of the first type of this name that is seen, or that comes with the entry that is added.
-fn first_type(masked: &Masked<'_>, view: &View, added: u32, name: &[u8]) -> Option<u32>
-    ensures exact { result ≡ find
-        (spec.is_type_with masked.now.list view.now added name.now) (numbers_of masked.now.list) }
+/// The first of these numbers whose entry is a type of this name that is seen, or that comes with the entry that is added.
+fn first_type(
+    masked: &Masked<'_>,
+    view: &View,
+    added: u32,
+    name: &[u8],
+    numbers: &[EntityNo],
+) -> Option<u32>
+    ensures exact { result ≡ first_of
+        (spec.is_type_with masked.now.list view.now added name.now) numbers.now }
 {
-    for number in 0..masked.len() {
-        if is_type_with(masked, view, added, name, number) {
-            return Some(number);
+    for number in numbers {
+        if is_type_with(masked, view, added, name, number.0) {
+            return Some(number.0);
         }
     }
     None
@@ -60,16 +67,8 @@ fn type_with(masked: &Masked<'_>, view: &View, added: u32, name: &[u8]) -> Optio
     ensures exact { result
         ≡ types.type_named (seen_with masked.now.list masked.now.mask added) name.now }
 {
-    first_type(masked, view, added, name)
-}
-
-fn family_among(families: &[Family], name: &[u8]) -> Option<usize>
-    ensures exact { result ≡ position (λ f. bytes_eq name.now f.name) families.now }
-    ensures within { IfSome result (λ c. c < length families.now) }
-{
-    families
-        .iter()
-        .position(|family| name == family.name.as_slice())
+    let numbers = masked.whole().find(name);
+    first_type(masked, view, added, name, numbers)
 }
 
 /// The number of the script's family of this name.
@@ -78,7 +77,7 @@ fn family_named(scope: &Scope<'_>, name: &[u8]) -> Option<usize>
         ≡ position (bytes_eq name.now) (list_map (λ f. f.name) scope.now.names.families) }
     ensures few { IfSome result (λ c. c < 256) }
 {
-    family_among(scope.names().families.as_slice(), name)
+    scope.names().family_named(name)
 }
 
 /// What a name means as a type, where an entry is added to what a module sees. It takes no memory.

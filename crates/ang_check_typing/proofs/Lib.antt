@@ -1,3 +1,4 @@
+pub mod Families
 pub mod Operands
 pub mod Passing
 pub mod SoFar

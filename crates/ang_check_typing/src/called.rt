@@ -1,12 +1,14 @@
 //! Calls of what was resolved.
-ghost use Rattle.std.specs.Prelude.{◌≡◌, ◌∷◌, map as list_map, IfOk};
-ghost use Rattle.ang_check_operand.specs.Refusals.{Gives};
+ghost use Rattle.std.specs.Prelude.{◌≡◌, ◌∷◌, false, map as list_map, IfOk};
+ghost use Rattle.ang_check_operand.specs.Refusals.{Gives, use_refused as refusal_of};
 ghost use Rattle.ang_check_operand.specs.View.{view_operand, view_operands};
+ghost use Rattle.ang_check_context.specs.Scope as scopes;
 ghost use Rattle.ang_check_typing.specs.Calls as spec;
+ghost use Rattle.ang_names_written.specs.Sources as sources;
 ghost use Rattle.ang_typed.specs.View.{view_arg, view_tree};
 
 use crate::arguments::arguments_for;
-use ang_check_context::{BodyContext, access_error, may_reach};
+use ang_check_context::{BodyContext, LocalVariable, access_error, is_there, may_reach};
 use ang_check_operand::{Operand, Stop, boxed, plain_operand, refused, use_refused};
 use ang_check_uses::{Callable, Called, Resolution};
 use ang_kinds::{ErrorKind, List, Place};
@@ -102,24 +104,62 @@ pub fn called(
     }
 }
 
-/// A call that was resolved, or the refusal of the use, which an entry of the host could help.
-pub fn called_use(
+/// The refusal of a use of a bare name. Only then are the locals gone through.
+fn bare_refused(
+    context: &BodyContext<'_>,
+    locals: &[LocalVariable<'_>],
+    kind: ErrorKind,
+    name: &Token,
+    asks: Asks,
+) -> Stop
+    ensures exact { result ≡ Stop.Refused (refusal_of kind name.now asks
+        (scopes.is_there context.now locals.now (sources.text_of context.now.text name.now))) }
+{
+    let is_there = is_there(context, locals, context.text_of(name));
+    use_refused(kind, name, asks, is_there)
+}
+
+/// A call by a bare name that was resolved, or the refusal of the use, which an entry of the host could help.
+pub fn called_bare(
     alloc: Global,
     context: &BodyContext<'_>,
+    locals: &[LocalVariable<'_>],
     site: CallSite,
     asks: Asks,
-    is_there: bool,
     operands: Vec<Operand>,
     resolution: Resolution,
 ) -> Result<Operand, Stop>
     ensures exact { Gives view_operand result (spec.called_use context.now site.place site.name
-        asks is_there (view_operands operands.items) resolution) }
+        asks (scopes.is_there context.now locals.now (sources.text_of context.now.text site.name))
+        (view_operands operands.items) resolution) }
 {
     match resolution {
         Resolution::Call(callable) => called(alloc, context, site, callable, operands),
-        Resolution::Refused(kind) => Err(use_refused(kind, &site.name, asks, is_there)),
+        Resolution::Refused(kind) => Err(bare_refused(context, locals, kind, &site.name, asks)),
         Resolution::Variable(..) | Resolution::Property(_) | Resolution::Type(_) => {
-            Err(use_refused(ErrorKind::UnknownName, &site.name, asks, is_there))
+            let kind = ErrorKind::UnknownName;
+            Err(bare_refused(context, locals, kind, &site.name, asks))
+        }
+    }
+}
+
+/// A call of a method of a host type that was resolved, or the refusal of the use, which an entry of the host could help.
+pub fn called_member(
+    alloc: Global,
+    context: &BodyContext<'_>,
+    site: CallSite,
+    asks: Asks,
+    operands: Vec<Operand>,
+    resolution: Resolution,
+) -> Result<Operand, Stop>
+    ensures exact { Gives view_operand result (spec.called_use context.now site.place site.name
+        asks false (view_operands operands.items) resolution) }
+{
+    match resolution {
+        Resolution::Call(callable) => called(alloc, context, site, callable, operands),
+        Resolution::Refused(kind) => Err(use_refused(kind, &site.name, asks, false)),
+        Resolution::Variable(..) | Resolution::Property(_) | Resolution::Type(_) => {
+            Err(use_refused(ErrorKind::UnknownName, &site.name, asks, false))
         }
     }
 }

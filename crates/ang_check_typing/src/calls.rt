@@ -13,17 +13,16 @@ ghost use Rattle.ang_check_context.specs.Scope as scopes;
 ghost use Rattle.ang_check_uses.specs.Uses as uses;
 ghost use Rattle.ang_names_written.specs.Sources as sources;
 
-use crate::called::{CallSite, called_use};
+use crate::called::{CallSite, called_bare};
 use crate::methods::{called_on, direct_meant, own_method};
 use ang_check_context::{
-    BodyContext, LocalVariable, Receiver, Within, is_there, receiver_within, resolved,
-    this_operand, types_of,
+    BodyContext, LocalVariable, Receiver, Within, receiver_within, resolved, this_operand, types_of,
 };
 use ang_check_operand::{Operand, Stop, refused};
 use ang_check_uses::Resolution;
 use ang_kinds::{ErrorKind, List};
 use ang_lex::Token;
-use ang_names_known::{Family, FoundMethod, is_under, methods_named};
+use ang_names_known::{Family, FoundMethod, Names, is_under};
 use ang_types::Asks;
 use std::alloc::{AllocError, Global};
 
@@ -41,7 +40,7 @@ fn named_methods<'a>(
     let Some(within) = context.within() else {
         return Ok(None);
     };
-    let methods = methods_named(alloc, context.families(), within.family, name)?;
+    let methods = context.names().methods_named(alloc, within.family, name)?;
     if methods.is_empty() {
         return Ok(None);
     }
@@ -52,12 +51,13 @@ fn named_methods<'a>(
 fn function_call(
     alloc: Global,
     context: &BodyContext<'_>,
+    locals: &[LocalVariable<'_>],
     name: &Token,
-    is_there: bool,
     operands: Vec<Operand>,
 ) -> Result<Operand, Stop>
     ensures exact { Gives view_operand result (spec.called_use context.now name.now.place name.now
-        (Asks.Call (all_types (view_operands operands.items))) is_there
+        (Asks.Call (all_types (view_operands operands.items)))
+        (scopes.is_there context.now locals.now (sources.text_of context.now.text name.now))
         (view_operands operands.items)
         (uses.resolution_of (scopes.scope_of context.now)
         (sources.text_of context.now.text name.now)
@@ -70,7 +70,7 @@ fn function_call(
         place: name.place,
         name: *name,
     };
-    called_use(alloc, context, site, asks, is_there, operands, resolution)
+    called_bare(alloc, context, locals, site, asks, operands, resolution)
 }
 
 /// A call of one of these methods on `this`.
@@ -110,22 +110,18 @@ pub fn call(
 {
     let name = context.text_of(token);
     match named_methods(alloc, context, name)? {
-        None => {
-            let is_there = is_there(context, locals, name);
-            function_call(alloc, context, token, is_there, operands)
-        }
+        None => function_call(alloc, context, locals, token, operands),
         Some((within, methods)) => {
             method_of_this(alloc, context, within, methods.as_slice(), token, operands)
         }
     }
 }
 
-fn family_named(families: &[Family], name: &[u8]) -> Option<usize>
-    ensures exact { result ≡ position (λ f. bytes_eq f.name name.now) families.now }
+#[tactic(auto, using(crate::proofs::Families::named_is))]
+fn family_named(names: &Names, name: &[u8]) -> Option<usize>
+    ensures exact { result ≡ position (λ f. bytes_eq f.name name.now) names.now.families }
 {
-    families
-        .iter()
-        .position(|family| family.name.as_slice() == name)
+    names.family_named(name)
 }
 
 /// Whether a family is a class above another one.
@@ -141,8 +137,8 @@ fn ancestor(context: &BodyContext<'_>, within: Within, class: &Token) -> Option<
     ensures exact { option_map (λ d. (within, d)) result
         ≡ spec.ancestor_in context.now class.now (Some within) }
 {
+    let number = family_named(context.names(), context.text_of(class))?;
     let families = context.families();
-    let number = family_named(families, context.text_of(class))?;
     let above = families.get(number)?;
     if is_class_above(families, within.family, number, above) {
         Some(number)
@@ -166,7 +162,9 @@ fn method_above(
         (sources.text_of context.now.text name.now)))
         on.number on.read_only (all_types (view_operands operands.now))) }
 {
-    let methods = methods_named(alloc, context.families(), family, context.text_of(name))?;
+    let methods = context
+        .names()
+        .methods_named(alloc, family, context.text_of(name))?;
     direct_meant(alloc, context.lineage(), methods.as_slice(), on, operands)
 }
 

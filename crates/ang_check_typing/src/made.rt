@@ -8,8 +8,8 @@ ghost use Rattle.ang_check_context.specs.Scope as scopes;
 ghost use Rattle.ang_check_uses.specs.Uses as uses;
 ghost use Rattle.ang_names_known.specs.Spaces as spaces;
 
-use crate::called::{CallSite, called_own, called_use};
-use ang_check_context::{BodyContext, LocalVariable, is_there, makers, resolved, types_of};
+use crate::called::{CallSite, called_bare, called_own};
+use ang_check_context::{BodyContext, LocalVariable, makers, resolved, types_of};
 use ang_check_operand::{Operand, Stop};
 use ang_check_uses::{Resolution, best_of_those};
 use ang_kinds::{ErrorKind, List};
@@ -54,9 +54,8 @@ fn made_by(
     };
     match family_of_type(number) {
         None => {
-            let is_there = is_there(context, locals, context.text_of(name));
             let resolution = resolved(alloc, context, name, &asks)?;
-            called_use(alloc, context, site, asks, is_there, operands, resolution)
+            called_bare(alloc, context, locals, site, asks, operands, resolution)
         }
         Some(_) => {
             let made = maker_meant(alloc, context, unviable, number, operands.as_slice())?;

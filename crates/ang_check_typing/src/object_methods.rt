@@ -4,13 +4,13 @@ ghost use Rattle.ang_check_operand.specs.Refusals.{Gives};
 ghost use Rattle.ang_check_operand.specs.View.{view_operand, view_operands};
 ghost use Rattle.ang_check_typing.specs.Calls as spec;
 
-use crate::called::{CallSite, called_use, with_receiver};
+use crate::called::{CallSite, called_member, with_receiver};
 use crate::methods::own_method;
 use ang_check_context::{BodyContext, Receiver, resolved, types_of};
 use ang_check_operand::{Operand, Stop, object_of, refused};
 use ang_kinds::{ErrorKind, List};
 use ang_lex::Token;
-use ang_names_known::{family_of_type, methods_named};
+use ang_names_known::family_of_type;
 use ang_types::Asks;
 use std::alloc::Global;
 
@@ -32,7 +32,7 @@ fn host_method(
     let place = object.place;
     let operands = with_receiver(object, operands)?;
     let site = CallSite { place, name: *name };
-    called_use(alloc, context, site, asks, false, operands, resolution)
+    called_member(alloc, context, site, asks, operands, resolution)
 }
 
 /// A call of a method of a family of the scripts.
@@ -49,7 +49,7 @@ fn script_method(
         on.read_only name.now (view_operand object) (view_operands operands.items)) }
 {
     let text = context.text_of(name);
-    let methods = methods_named(alloc, context.families(), family, text)?;
+    let methods = context.names().methods_named(alloc, family, text)?;
     own_method(
         alloc,
         context,

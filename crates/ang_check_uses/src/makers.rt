@@ -126,6 +126,6 @@ pub fn makers_of(alloc: Global, scope: &Scope<'_>, number: u32) -> Result<Callab
 {
     match family_of_type(number) {
         None => factories_of(alloc, scope.view(), number),
-        Some(family) => makers_in(alloc, scope.names().families.as_slice(), family, number),
+        Some(family) => makers_in(alloc, scope.names().families(), family, number),
     }
 }

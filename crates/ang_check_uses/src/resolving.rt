@@ -13,8 +13,7 @@ use crate::scripts::functions_of;
 use crate::uses::Resolution;
 use ang_kinds::ErrorKind;
 use ang_names_known::{
-    HostProperty, Named, ScriptGlobal, Space, Text, WantedProperty, global_named, is_read_only,
-    property_where,
+    HostProperty, Named, ScriptGlobal, Space, Text, WantedProperty, is_read_only, property_where,
 };
 use ang_typed::Variable;
 use ang_types::{ArgType, Asks};
@@ -68,9 +67,9 @@ fn global_or_host(
 fn global_meant(scope: &Scope<'_>, name: &[u8]) -> Resolution
     ensures exact { result ≡ spec.global_meant scope.now name.now }
 {
-    let globals = scope.names().globals.as_slice();
+    let names = scope.names();
     let hosts = property_where(scope.view(), &WantedProperty::Global(Text::new(name)));
-    global_or_host(globals, global_named(globals, name), hosts)
+    global_or_host(names.globals(), names.global_named(name), hosts)
 }
 
 /// What the name means as a type.

@@ -9,7 +9,7 @@ use crate::callables::{Callables, push_callable};
 use crate::hosts::{HostUse, push_wanted};
 use crate::scope::Scope;
 use crate::uses::{Callable, Called};
-use ang_names_known::{Names, ScriptFunction, Text, Wanted, functions_named, parameters_of};
+use ang_names_known::{Names, ScriptFunction, Text, Wanted, parameters_of};
 use ang_typed::Callee;
 use ang_types::Candidate;
 use std::alloc::{AllocError, Global};
@@ -60,31 +60,16 @@ fn push_numbered(
     found: &mut Callables,
     declared: Declared,
     functions: &[ScriptFunction],
-    numbers: &[usize],
+    numbers: &[u32],
 ) -> Result<(), AllocError>
     ensures pushed { OnOk result (found.new ≡ found.old ++
         flat_map (spec.callable_at (kinds.function_in declared) functions.now) numbers.now) }
 {
     for number in numbers {
-        let callable = script_callable(alloc, declared, functions, *number)?;
+        let callable = script_callable(alloc, declared, functions, *number as usize)?;
         push_callable(found, callable)?;
     }
     Ok(())
-}
-
-fn push_named(
-    alloc: Global,
-    found: &mut Callables,
-    declared: Declared,
-    functions: &[ScriptFunction],
-    name: &[u8],
-) -> Result<(), AllocError>
-    ensures pushed { OnOk result (found.new ≡ found.old ++
-        flat_map (spec.callable_at (kinds.function_in declared) functions.now)
-        (lookup.functions_named functions.now name.now)) }
-{
-    let numbers = functions_named(alloc, functions, name)?;
-    push_numbered(alloc, found, declared, functions, numbers.as_slice())
 }
 
 /// The functions and the imports of the scripts of this name.
@@ -93,10 +78,22 @@ fn script_callables(alloc: Global, names: &Names, name: &[u8]) -> Result<Callabl
     ensures exact { IfOk result (λ c. c ≡ spec.script_callables names.now name.now) }
 {
     let mut found = Callables::new(alloc);
-    let functions = names.functions.as_slice();
-    push_named(alloc, &mut found, Declared::Functions, functions, name)?;
-    let imports = names.imports.as_slice();
-    push_named(alloc, &mut found, Declared::Imports, imports, name)?;
+    let functions = names.functions_named(name);
+    push_numbered(
+        alloc,
+        &mut found,
+        Declared::Functions,
+        names.functions(),
+        functions,
+    )?;
+    let imports = names.imports_named(name);
+    push_numbered(
+        alloc,
+        &mut found,
+        Declared::Imports,
+        names.imports(),
+        imports,
+    )?;
     Ok(found)
 }
 

@@ -34,7 +34,7 @@ fn choose_function(
         Ok(None) => return Err(Refusal::NoFunction),
         Err(_) => return Err(Refusal::Memory),
     };
-    if !same_call(import, &exporter.names.functions.as_slice()[number]) {
+    if !same_call(import, &exporter.names.functions()[number]) {
         return Err(Refusal::SignatureDiffers);
     }
     Ok(number)

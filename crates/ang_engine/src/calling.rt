@@ -70,12 +70,7 @@ pub fn choose(
         Ok(None) => return Err(Refusal::NoFunction),
         Err(_) => return Err(Refusal::Memory),
     };
-    choose_arguments(
-        alloc,
-        number,
-        &loaded.names.functions.as_slice()[number],
-        args,
-    )
+    choose_arguments(alloc, number, &loaded.names.functions()[number], args)
 }
 
 /// How a call ended that was answered so.

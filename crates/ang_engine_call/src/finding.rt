@@ -3,7 +3,7 @@ ghost use Rattle.std.specs.Prelude.{◌≡◌, ◌<◌, ◌≤◌, length, IfOk,
 ghost use Rattle.ang_engine_call.specs.Named.{function_named_by};
 
 use crate::declaration::declared_function;
-use ang_names_known::{Names, Space, function_with};
+use ang_names_known::{Names, Space};
 use ang_view::View;
 use std::alloc::{AllocError, Global};
 
@@ -34,7 +34,7 @@ pub fn find_function(
 {
     let space = Space::of_names(view, names);
     match declared_function(alloc, &space, decl)? {
-        Some(declared) => Ok(function_with(names.functions.as_slice(), &declared)),
+        Some(declared) => Ok(names.function_with(&declared)),
         None => Ok(None),
     }
 }

@@ -85,8 +85,8 @@ fn push_place(
 ) -> Result<(), AllocError>
     ensures codes { OnOk result (codes.new.items ≡ codes.old.items ++ code ∷ []) }
     ensures loaded { OnOk result (loaded.new.items ≡ loaded.old.items ++ None ∷ []) }
-    ensures no_code { OnErr result (codes.new.items ≡ codes.old.items) }
-    ensures not_loaded { OnErr result (loaded.new.items ≡ loaded.old.items) }
+    ensures codes_unchanged { OnErr result (codes.new.items ≡ codes.old.items) }
+    ensures loaded_unchanged { OnErr result (loaded.new.items ≡ loaded.old.items) }
 {
     loaded.reserve(1)?;
     codes.push(code)?;

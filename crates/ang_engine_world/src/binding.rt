@@ -17,7 +17,7 @@ use std::alloc::Global;
 pub fn import_of(loaded: &LoadedModule, index: u32) -> Option<&ScriptFunction>
     ensures exact { option_map (λ f. f.now) result ≡ slice_get loaded.now.names.imports index }
 {
-    loaded.names.imports.as_slice().get(index as usize)
+    loaded.names.imports().get(index as usize)
 }
 
 /// Unbinds an import of the module of that name, whether it was bound or not: `Command::Unbind`. It

@@ -1,5 +1,5 @@
 -- The families of names are few, and what stands above each is among them.
-use Rattle.std.specs.Prelude.{ℕ, zero, suc, ◌≡◌, ◌≢◌, ◌≤◌, ◌<◌, ◌⊎◌, Bool, true, false, if◌then◌else◌, All, Contains, List, [], ◌∷◌, ◌++◌, length, map, slice_index_or, Some, None, IsSome, is_some, option_to_list}
+use Rattle.std.specs.Prelude.{ℕ, zero, suc, ◌≡◌, ◌≢◌, ◌≤◌, ◌<◌, ◌⊎◌, Bool, true, false, if◌then◌else◌, All, Contains, List, [], ◌∷◌, ◌++◌, length, slice_index_or, Some, None, IsSome, is_some, option_to_list}
 use Rattle.std.proofs.Common.{arith, refl, sym, subst, ap, inl, inr, ◌∙◌, length-append}
 use Rattle.ang_kinds.specs.declared.error.Error.{Error}
 use Rattle.std.proofs.lemmas.List.Elements.{All-append}

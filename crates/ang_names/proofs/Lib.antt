@@ -2,3 +2,4 @@ pub mod Few
 pub mod Named
 pub mod Numbered
 pub mod Ranks
+pub mod Among

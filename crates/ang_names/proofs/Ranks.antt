@@ -1,5 +1,5 @@
 -- Where nothing is refused, nothing stands above itself or reaches itself, and ranks fall along what fields can hold.
-use Rattle.std.specs.Prelude.{ℕ, zero, suc, ◌≡◌, ◌<◌, ◌+◌, Bool, true, false, ◌&&◌, nat_lt, List, [], ◌∷◌, ◌++◌, length, map, Option, Some, None, option_to_list, slice_get, bytes_eq}
+use Rattle.std.specs.Prelude.{ℕ, zero, suc, ◌≡◌, ◌<◌, ◌+◌, Bool, true, false, ◌&&◌, nat_lt, List, [], ◌∷◌, ◌++◌, length, Option, Some, None, option_to_list, slice_get, bytes_eq}
 use Rattle.std.specs.List.{list_any, position}
 use Rattle.std.proofs.Common.{arith, refl, sym, subst, ap, inl, inr, ◌∙◌, length-append}
 use Rattle.std.proofs.lemmas.Bool.{cases_Bool, eqb-true, or_cases}
@@ -20,7 +20,6 @@ use Rattle.ang_names_known.specs.Items.{each_after, list_or}
 use Rattle.ang_names_known.specs.Spaces.{Space}
 use Rattle.ang_names_listed.specs.declared.listed.Declared.{Declared}
 use Rattle.ang_names_listed.specs.Declarations.{Declaring, declarations_of, families_of, family_name}
-use Rattle.ang_types.specs.Refusals.{plain_refusal}
 use Rattle.ang_names_listed.specs.Taken.{each_refused}
 use Rattle.ang_names_resolved.specs.Resolved.{families_after, families_in, field_types_at, functions_in, held_by, holds, is_base, is_parent, is_place, is_under_or, names_of, names_place, place_of, signatures_of, space_of_declared}
 use Rattle.ang_names_written.specs.Sources.{Source, text_of}

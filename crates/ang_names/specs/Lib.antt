@@ -1,3 +1,4 @@
 pub mod Refusals
 pub mod Phases
 pub mod Ranks
+pub mod Before

@@ -1,57 +1,44 @@
 //! Classes and interfaces by name.
-ghost use Rattle.std.specs.Prelude.{◌≡◌, option_copied, option_to_list};
-ghost use Rattle.ang_names_listed.specs.Declarations.{declaring_of, families_of};
+ghost use Rattle.std.specs.Prelude.{◌≡◌, option_copied, option_map, slice_get};
 ghost use Rattle.ang_names.specs.Refusals as spec;
 
-use ang_names_listed::{Declared, Part, Shape};
-use ang_names_written::text_at;
+use ang_names_listed::{Declaring, Shape};
+use ang_names_resolved::Placed;
 
-/// What a declaration declares, if it is a class or an interface of this name.
-fn shape_if_named<'l, 'a>(declared: &'l Declared<'a>, name: &[u8]) -> Option<&'l Shape<'a>>
-    ensures exact { option_copied result
-        ≡ spec.shape_named (option_to_list (declaring_of declared.now)) name.now }
+/// What the class or interface of this number declares.
+fn shape_at<'l, 'a>(families: &[Declaring<'l, 'a>], number: usize) -> Option<&'l Shape<'a>>
+    ensures exact { option_copied result ≡ option_map (λ d. d.shape) (slice_get families.now number) }
 {
-    match &declared.part {
-        Part::Family(shape) => {
-            if text_at(declared.text.bytes(), &declared.name) == name {
-                Some(shape)
-            } else {
-                None
-            }
-        }
-        Part::Function(_, _) => None,
-        Part::Import(_, _) => None,
-        Part::Global(_) => None,
+    match families.get(number) {
+        None => None,
+        Some(family) => Some(family.shape()),
     }
 }
 
-/// What the class or interface of this name declares, if one is among the declarations.
-#[tactic(auto, unfolding(ang_names_listed::specs::Declarations::families_of), using(crate::proofs::Named::shape_in_front))]
-fn shape_named<'l, 'a>(all: &'l [Declared<'a>], name: &[u8]) -> Option<&'l Shape<'a>>
-    ensures exact { option_copied result ≡ spec.shape_named (families_of all.now) name.now }
+/// What the class or interface of this name declares, if there is one.
+#[tactic(auto, using(crate::proofs::Named::no_shape, crate::proofs::Named::shape_there))]
+fn shape_named<'l, 'a>(families: &Placed<'_, 'l, 'a>, name: &[u8]) -> Option<&'l Shape<'a>>
+    ensures exact { option_copied result ≡ spec.shape_named families.now name.now }
 {
-    for declared in all {
-        let shape = shape_if_named(declared, name);
-        if shape.is_some() {
-            return shape;
-        }
+    match families.place_of(name) {
+        None => None,
+        Some(number) => shape_at(families.families(), number),
     }
-    None
 }
 
 /// Whether a name can't be that of a base of a class or an interface, one of whose bases so far may be a class; and whether it
 /// is a class's.
 pub fn base_named(
-    all: &[Declared<'_>],
+    families: &Placed<'_, '_, '_>,
     is_class: bool,
     has_class: bool,
     name: &[u8],
 ) -> (bool, bool)
     ensures bad { result.0
-        ≡ spec.is_bad_base is_class has_class (spec.shape_named (families_of all.now) name.now) }
-    ensures class { result.1 ≡ spec.names_class (spec.shape_named (families_of all.now) name.now) }
+        ≡ spec.is_bad_base is_class has_class (spec.shape_named families.now name.now) }
+    ensures class { result.1 ≡ spec.names_class (spec.shape_named families.now name.now) }
 {
-    match shape_named(all, name) {
+    match shape_named(families, name) {
         None => (true, false),
         Some(shape) => {
             let is_bad = shape.is_class && (!is_class || has_class || shape.is_final);

@@ -1,6 +1,5 @@
 //! Types that are unknown or can't stand where they stand, and too many parameters.
-ghost use Rattle.std.specs.Prelude.{◌≡◌, Some, None, IfOk, nat_lt, length, if◌then◌else◌};
-ghost use Rattle.std.specs.Option.{option_or};
+ghost use Rattle.std.specs.Prelude.{◌≡◌, Some, None, IfOk, if◌then◌else◌};
 ghost use Rattle.ang_types.specs.declared.asks.Asks.TheVariants as asking;
 ghost use Rattle.ang_names_written.specs.Types.{is_unknown_type as names_no_type};
 ghost use Rattle.ang_names.specs.Refusals as spec;

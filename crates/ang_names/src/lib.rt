@@ -5,6 +5,7 @@
 //! types mean.
 #![tactic(auto)]
 
+mod before;
 mod declaring;
 mod families;
 mod headings;

@@ -2,16 +2,18 @@
 ghost use Rattle.std.specs.Prelude.{◌≡◌, [], true, false, not, bytes_eq, IfOk};
 ghost use Rattle.std.specs.List.{list_any};
 ghost use Rattle.std.specs.Option.{option_or};
-ghost use Rattle.ang_names_listed.specs.Declarations.{families_of};
 ghost use Rattle.ang_names_written.specs.Sources.{text_of};
+ghost use Rattle.ang_names.specs.Before as earlier;
 ghost use Rattle.ang_names.specs.Refusals as spec;
 
+use crate::before::Before;
 use crate::families::base_named;
 use crate::headings::{parameter_list_refusal, refusal_if, type_refusal_of};
 use ang_kinds::ErrorKind;
 use ang_lex::Token;
 use ang_names_known::Space;
 use ang_names_listed::{Attributes, Declared, Member, MemberKind, Shape};
+use ang_names_resolved::Placed;
 use ang_names_written::{Role, have_same_types, text_at};
 use ang_tree::Parameter;
 use ang_types::Refused;
@@ -52,40 +54,65 @@ fn clashes(text: &[u8], member: &Member<'_>, earlier: &Member<'_>) -> bool
         && excludes_member(text, &member.kind, &earlier.kind)
 }
 
-fn is_duplicate(text: &[u8], before: &[Member<'_>], member: &Member<'_>) -> bool
-    ensures exact { result ≡ list_any (spec.clashes_with_member text.now member.now) before.now }
+/// Whether a member clashes with the earlier one of this number.
+fn clashes_with_earlier(before: &Before<'_, '_, '_>, number: usize, member: &Member<'_>) -> bool
+    ensures exact { result ≡ earlier.clashes_at before.now member.now number }
 {
-    before.iter().any(|earlier| clashes(text, member, earlier))
+    match before.items().get(number) {
+        None => false,
+        Some(earlier) => clashes(before.text(), member, earlier),
+    }
+}
+
+/// Whether a member clashes with one of the earlier ones of these numbers.
+fn clashes_with_one(before: &Before<'_, '_, '_>, row: &[usize], member: &Member<'_>) -> bool
+    ensures exact { result ≡ list_any (earlier.clashes_at before.now member.now) row.now }
+{
+    row.iter()
+        .any(|number| clashes_with_earlier(before, *number, member))
+}
+
+fn is_duplicate(before: &Before<'_, '_, '_>, member: &Member<'_>) -> bool
+    ensures exact { result
+        ≡ list_any (spec.clashes_with_member before.now.text member.now) before.now.items }
+{
+    clashes_with_one(before, before.row(member), member)
 }
 
 fn duplicate(
     alloc: Global,
-    text: &[u8],
-    before: &[Member<'_>],
+    before: &Before<'_, '_, '_>,
     member: &Member<'_>,
 ) -> Result<Option<Refused>, AllocError>
-    ensures exact { IfOk result (λ r. r ≡ spec.duplicate text.now before.now member.now) }
+    ensures exact { IfOk result
+        (λ r. r ≡ spec.duplicate before.now.text before.now.items member.now) }
 {
-    let is_refused = is_duplicate(text, before, member);
-    refusal_if(alloc, is_refused, ErrorKind::Duplicate, text, &member.name)
+    let is_refused = is_duplicate(before, member);
+    refusal_if(
+        alloc,
+        is_refused,
+        ErrorKind::Duplicate,
+        before.text(),
+        &member.name,
+    )
 }
 
 /// What is refused of the name and the parameters of a method or a constructor.
 fn name_refusal(
     alloc: Global,
     space: &Space<'_>,
-    text: &[u8],
-    before: &[Member<'_>],
+    before: &Before<'_, '_, '_>,
     member: &Member<'_>,
     params: &[Parameter],
 ) -> Result<Option<Refused>, AllocError>
-    ensures exact { IfOk result (λ r. r ≡ option_or (spec.duplicate text.now before.now member.now)
-        (spec.parameter_list_refusal space.now text.now false member.now.name params.now)) }
+    ensures exact { IfOk result (λ r. r
+        ≡ option_or (spec.duplicate before.now.text before.now.items member.now)
+        (spec.parameter_list_refusal space.now before.now.text false member.now.name params.now)) }
 {
-    if let Some(refused) = duplicate(alloc, text, before, member)? {
+    if let Some(refused) = duplicate(alloc, before, member)? {
         return Ok(Some(refused));
     }
-    parameter_list_refusal(alloc, space, text, false, &member.name, params)
+    parameter_list_refusal(alloc, space, before.text(), false, &member.name, params)
 }
 
 /// The error of a constructor that has not its class's name.
@@ -107,30 +134,30 @@ fn misnamed(
 fn member_refusal(
     alloc: Global,
     space: &Space<'_>,
-    text: &[u8],
     family: &[u8],
-    before: &[Member<'_>],
+    before: &Before<'_, '_, '_>,
     member: &Member<'_>,
 ) -> Result<Option<Refused>, AllocError>
-    ensures exact { IfOk result (λ r. r ≡ spec.member_refusal space.now text.now
-        family.now before.now member.now member.now.kind) }
+    ensures exact { IfOk result (λ r. r ≡ spec.member_refusal space.now before.now.text
+        family.now before.now.items member.now member.now.kind) }
 {
+    let text = before.text();
     match &member.kind {
         MemberKind::Field(declared) => {
             match type_refusal_of(alloc, space, text, Role::Field, declared)? {
                 Some(refused) => Ok(Some(refused)),
-                None => duplicate(alloc, text, before, member),
+                None => duplicate(alloc, before, member),
             }
         }
         MemberKind::Method(declared, params, _) => {
             match type_refusal_of(alloc, space, text, Role::Result, declared)? {
                 Some(refused) => Ok(Some(refused)),
-                None => name_refusal(alloc, space, text, before, member, params.items()),
+                None => name_refusal(alloc, space, before, member, params.items()),
             }
         }
         MemberKind::Constructor(params) => match misnamed(alloc, text, family, &member.name)? {
             Some(refused) => Ok(Some(refused)),
-            None => name_refusal(alloc, space, text, before, member, params.items()),
+            None => name_refusal(alloc, space, before, member, params.items()),
         },
     }
 }
@@ -146,11 +173,13 @@ fn members_refusal(
     ensures exact { IfOk result (λ r. r
         ≡ spec.members_refusal space.now text.now family.now [] members.now) }
 {
+    let mut before = Before::new(alloc, text);
     for (i, member) in members.iter().enumerate() {
-        let refused = member_refusal(alloc, space, text, family, &members[..i], member)?;
+        let refused = member_refusal(alloc, space, family, &before, member)?;
         if refused.is_some() {
             return Ok(refused);
         }
+        before.grow(alloc, &members[..i + 1], member)?;
     }
     Ok(None)
 }
@@ -158,17 +187,17 @@ fn members_refusal(
 /// What is refused of the names behind `:`: the first that can't stand there.
 fn bases_refusal(
     alloc: Global,
-    all: &[Declared<'_>],
+    families: &Placed<'_, '_, '_>,
     text: &[u8],
     is_class: bool,
     bases: &[Token],
 ) -> Result<Option<Refused>, AllocError>
     ensures exact { IfOk result (λ r. r
-        ≡ spec.bases_refusal (families_of all.now) text.now is_class false bases.now) }
+        ≡ spec.bases_refusal families.now text.now is_class false bases.now) }
 {
     let mut has_class = false;
     for base in bases {
-        let (is_bad, names_class) = base_named(all, is_class, has_class, text_at(text, base));
+        let (is_bad, names_class) = base_named(families, is_class, has_class, text_at(text, base));
         let refused = refusal_if(alloc, is_bad, ErrorKind::BadBase, text, base)?;
         if refused.is_some() {
             return Ok(refused);
@@ -201,12 +230,12 @@ fn member_limit(
 pub fn family_refusal(
     alloc: Global,
     space: &Space<'_>,
-    all: &[Declared<'_>],
+    families: &Placed<'_, '_, '_>,
     declared: &Declared<'_>,
     shape: &Shape<'_>,
 ) -> Result<Option<Refused>, AllocError>
     ensures exact { IfOk result (λ r. r
-        ≡ spec.family_refusal space.now (families_of all.now) declared.now shape.now) }
+        ≡ spec.family_refusal space.now families.now declared.now shape.now) }
 {
     let text = declared.text.bytes();
     if let Some(refused) = member_limit(alloc, declared, shape)? {
@@ -214,7 +243,7 @@ pub fn family_refusal(
     }
     if let Some(refused) = bases_refusal(
         alloc,
-        all,
+        families,
         text,
         shape.is_class,
         shape.bases.as_slice(),

@@ -1,7 +1,7 @@
 //! The phases of a build over the declarations.
 ghost use Rattle.std.specs.Prelude.{◌≡◌, ◌≤◌, ◌*◌, [], ◌∷◌, length, map as list_map, IfOk};
-ghost use Rattle.ang_types.specs.Refusals.{plain_refusal};
-ghost use Rattle.ang_names_listed.specs.Declarations.{declarations_of, families_of};
+ghost use Rattle.ang_names_listed.specs.Declarations as listed;
+ghost use Rattle.ang_names_listed.specs.Declarations.{declarations_of};
 ghost use Rattle.ang_names_listed.specs.Taken as taken;
 ghost use Rattle.ang_names_written.specs.Sources.{source_of};
 ghost use Rattle.ang_names.specs.Refusals as refusing;
@@ -13,8 +13,8 @@ use crate::members::family_refusal;
 use ang_kinds::{Error, ErrorKind, List};
 use ang_names_heirs::{heir_refusals, ring_refusals};
 use ang_names_known::{Family, Space};
-use ang_names_listed::{Declared, Part, name_refusals, push_refused};
-use ang_names_resolved::{Tables, families_among, space_of};
+use ang_names_listed::{Declared, Part, families_of, name_refusals, push_refused};
+use ang_names_resolved::{Placed, Tables, families_among, space_of};
 use ang_names_written::Role;
 use ang_tree::Script;
 use ang_types::Refused;
@@ -22,20 +22,19 @@ use ang_view::View;
 use std::alloc::{AllocError, Global};
 
 /// What is refused of the types, bases and members of one of the declarations.
-#[tactic(auto, unfolding(crate::specs::Refusals::type_refusal))]
 fn type_refusal(
     alloc: Global,
     space: &Space<'_>,
-    all: &[Declared<'_>],
+    families: &Placed<'_, '_, '_>,
     declared: &Declared<'_>,
 ) -> Result<Option<Refused>, AllocError>
-    ensures exact { IfOk result
-        (λ r. r ≡ refusing.type_refusal space.now all.now declared.now) }
+    ensures exact { IfOk result (λ r. r
+        ≡ refusing.part_refusal space.now families.now declared.now declared.now.part) }
 {
     let text = declared.text.bytes();
     let name = &declared.name;
     match &declared.part {
-        Part::Family(shape) => family_refusal(alloc, space, all, declared, shape),
+        Part::Family(shape) => family_refusal(alloc, space, families, declared, shape),
         Part::Function(ty, params) => {
             heading_refusal(alloc, space, text, false, name, ty, params.items())
         }
@@ -49,14 +48,15 @@ fn type_refusal(
 fn type_refusals_in(
     alloc: Global,
     space: &Space<'_>,
+    families: &Placed<'_, '_, '_>,
     all: &[Declared<'_>],
 ) -> Result<Vec<Refused>, AllocError>
-    ensures exact { IfOk result (λ found. found.items
-        ≡ taken.each_refused (λ before d. refusing.type_refusal space.now all.now d) all.now) }
+    ensures exact { IfOk result (λ found. found.items ≡ taken.each_refused
+        (λ before d. refusing.part_refusal space.now families.now d d.part) all.now) }
 {
     let mut found = Vec::new(alloc);
     for declared in all {
-        let refused = type_refusal(alloc, space, all, declared)?;
+        let refused = type_refusal(alloc, space, families, declared)?;
         push_refused(&mut found, refused)?;
     }
     Ok(found)
@@ -68,12 +68,14 @@ fn type_refusals<'a>(
     view: &'a View,
     all: &[Declared<'a>],
 ) -> Result<Vec<Refused>, AllocError>
-    requires few { length (families_of all.now) ≤ 256 }
+    requires few { length (listed.families_of all.now) ≤ 256 }
     ensures exact { IfOk result
         (λ found. found.items ≡ spec.refusals view.now all.now spec.Types) }
 {
     let space = space_of(alloc, view, all)?;
-    type_refusals_in(alloc, &space, all)
+    let declaring = families_of(alloc, all)?;
+    let families = Placed::new(alloc, declaring.as_slice())?;
+    type_refusals_in(alloc, &space, &families, all)
 }
 
 /// The members that don't fit with what is inherited; where all fit, the classes that reach themselves.
@@ -134,7 +136,7 @@ fn heritage_refusals<'a>(
     view: &'a View,
     all: &[Declared<'a>],
 ) -> Result<Vec<Refused>, AllocError>
-    requires few { length (families_of all.now) ≤ 256 }
+    requires few { length (listed.families_of all.now) ≤ 256 }
     ensures exact { IfOk result (λ found. found.items ≡ spec.first_refusals view.now all.now
         (spec.Ancestors ∷ spec.Heirs ∷ spec.Cycles ∷ [])) }
 {
@@ -149,7 +151,7 @@ fn later_refusals<'a>(
     view: &'a View,
     all: &[Declared<'a>],
 ) -> Result<Vec<Refused>, AllocError>
-    requires few { length (families_of all.now) ≤ 256 }
+    requires few { length (listed.families_of all.now) ≤ 256 }
     ensures exact { IfOk result (λ found. found.items ≡ spec.first_refusals view.now all.now
         (spec.Types ∷ spec.Ancestors ∷ spec.Heirs ∷ spec.Cycles ∷ [])) }
 {

@@ -15,7 +15,7 @@ use Rattle.ang_names_rows.proofs.Hashed.{numbers_from, numbers_are}
 use Rattle.ang_names_heirs.specs.Heirs.{cannot_override}
 use Rattle.ang_names_heirs.specs.ByNumber.{methods_in}
 use Rattle.ang_names_heirs.specs.declared.indexed.MemberRows.{MemberRows}
-use Rattle.ang_names_heirs.specs.Rows.{declares, field_hashes, field_row, field_row_in, first_at, is_at, member_rows, method_hashes, method_row, method_row_in, passing, slot_hashes, slot_row, slot_row_in}
+use Rattle.ang_names_heirs.specs.Rows.{declares, field_row, field_row_in, first_at, is_at, member_rows, method_row, method_row_in, passing, slot_row, slot_row_in}
 
 -- ---- the rows of a family
 

@@ -1,7 +1,7 @@
 -- Families that stand above themselves, members that don't fit with what is inherited, and classes that reach themselves
 -- (docs/LANGUAGE.md, "Names of a build"; the AngelScript manual, "Inheritance", "Interfaces" and "Memory management"; what is refused
 -- is this profile's own).
-use Rattle.std.specs.Prelude.{ℕ, Bool, true, false, not, ◌&&◌, ◌||◌, ◌==◌, nat_lt, if◌then◌else◌, List, [], ◌∷◌, length, drop, filter, find, Option, Some, None}
+use Rattle.std.specs.Prelude.{ℕ, Bool, true, false, not, ◌&&◌, ◌||◌, ◌==◌, nat_lt, if◌then◌else◌, List, [], ◌∷◌, drop, filter, find, Option, Some, None}
 use Rattle.std.specs.List.{list_any, flat_map}
 use Rattle.std.specs.Option.{option_or}
 use Rattle.ang_kinds.specs.declared.error.ErrorKind.{ErrorKind}

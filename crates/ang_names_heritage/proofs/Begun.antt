@@ -1,15 +1,16 @@
 -- Tables that are made row by row.
-use Rattle.std.specs.Prelude.{ℕ, zero, suc, Bool, true, false, List, [], ◌∷◌, ◌++◌, length, map, find, Option, Some, None, ◌≡◌, ◌<◌, ◌≤◌, ◌+◌, ◌*◌, ◌⊎◌, ◌&&◌, ◌||◌, if◌then◌else◌, slice_index_or}
-use Rattle.std.specs.List.{range_with_len}
+use Rattle.std.specs.Prelude.{ℕ, zero, suc, Bool, true, false, List, [], ◌∷◌, replicate, take, ◌++◌, length, find, Option, Some, None, ◌≡◌, ◌==◌, ◌<◌, ◌≤◌, ◌+◌, ◌*◌, ◌⊎◌, ◌&&◌, ◌||◌, if◌then◌else◌, slice_index_or}
+use Rattle.std.specs.List.{list_any, range_with_len}
 use Rattle.std.specs.Option.{option_or}
 use Rattle.std.proofs.Common.{arith, refl, ap, sym, subst, inl, inr, ◌∙◌, length-append}
 use Rattle.std.proofs.Math.Nat.{mul-le-mul_right}
 use Rattle.std.proofs.Math.ListN.{get_or-append}
-use Rattle.std.proofs.lemmas.List.{append_assoc, get_or-append-add}
+use Rattle.std.proofs.lemmas.List.{append_assoc, ext_get_or, get_or-append-add, get_or-replicate, length-replicate, take_all, take_more}
+use Rattle.std.proofs.lemmas.List.Folds.{list_any-append}
 use Rattle.std.proofs.lemmas.List.FromFn.{get_or-map-range_with_len, length-map-range_with_len, map-range_with_len_more}
-use Rattle.ang_names_heritage.specs.Graphs.{leads, some_below}
-use Rattle.ang_names_heritage.specs.Tables.{Shows, IsBegun, at, edges_of, row_below}
-use Rattle.ang_names_heritage.proofs.Rings.{edge_shown}
+use Rattle.ang_names_heritage.specs.Graphs.{leads, numbers_below}
+use Rattle.ang_names_heritage.specs.Tables.{Shows, IsBegun, at, edges_of, is_reached, is_spread, row_below}
+use Rattle.ang_names_heritage.proofs.Rings.{any_numbers, edge_shown, or_false}
 
 -- one entry more of a row
 pub row_more : (p : ℕ → Bool) (j : ℕ) → row_below p (j + 1) ≡ row_below p j ++ p j ∷ []
@@ -101,16 +102,44 @@ find_agree p q (suc n) h =
 pub first_shown : (t : List Bool) (n i : ℕ) (e : ℕ → ℕ → Bool) → Shows t n e → i < n → find (edges_of t n i) (range_with_len 0 n) ≡ find (e i) (range_with_len 0 n)
 first_shown t n i e s lt = find_agree (edges_of t n i) (e i) n (λ j jn. edge_shown t n e s i j lt jn)
 
--- ---- some place that passes
+-- ---- marks that are spread
 
-pub none_more : (p : ℕ → Bool) (j : ℕ) → p j ≡ false → some_below p j ≡ false → some_below p (j + 1) ≡ false
-none_more p j e h =
-    let up : suc j ≡ j + 1 = omega arith in
-    subst (λ m. some_below p m ≡ false) up (ap (λ b. b || some_below p j) e ∙ h)
+-- place j leads to some of the places that are marked
+pub spread_by : (marks closed : List Bool) (n i j : ℕ) (marked : List ℕ) → marked ≡ numbers_below (edges_of marks n i) n
+    → list_any (λ d. j == d || edges_of closed n j d) marked ≡ is_spread marks closed n i j
+spread_by marks closed n i j marked is =
+    ap (list_any (λ d. j == d || edges_of closed n j d)) is ∙ any_numbers (λ d. j == d || edges_of closed n j d) (edges_of marks n i) n
 
-pub both_true : (a b : Bool) → a ≡ true → b ≡ true → (a && b) ≡ true
-both_true true b e f = f
-both_true false b e f = cc
+-- ---- marks that are joined
+
+-- a row has the marks that these places have in their rows
+pub record IsJoined (t : List Bool) (n : ℕ) (places : List ℕ) (row : List Bool) : Type 0 where
+  pub size : length row ≡ n
+  pub entries : (j : ℕ) → j < n → slice_index_or row j false ≡ is_reached t n places j
+
+pub joined_start : (t : List Bool) (n : ℕ) → IsJoined t n [] (replicate n false)
+joined_start t n = record { size = length-replicate n false; entries = λ j jn. get_or-replicate n j false false jn }
+
+pub joined_more : (t : List Bool) (n k : ℕ) (places : List ℕ) (row more : List Bool) → IsJoined t n (take k places) row → k < length places → length more ≡ n
+    → ((j : ℕ) → j < n → slice_index_or more j false ≡ (slice_index_or row j false || edges_of t n (slice_index_or places k 0) j))
+    → IsJoined t n (take (k + 1) places) more
+joined_more t n k places row more s lt size put =
+    let all : (j : ℕ) → is_reached t n (take (k + 1) places) j ≡ (is_reached t n (take k places) j || edges_of t n (slice_index_or places k 0) j) = λ j.
+    ap (λ xs. is_reached t n xs j) (take_more places k 0 lt)
+    ∙ list_any-append (λ i. edges_of t n i j) (take k places) (slice_index_or places k 0 ∷ [])
+    ∙ ap (λ b. is_reached t n (take k places) j || b) (or_false (edges_of t n (slice_index_or places k 0) j)) in
+    record {
+      size = size;
+      entries = λ j jn. put j jn ∙ ap (λ b. b || edges_of t n (slice_index_or places k 0) j) (s.entries j jn) ∙ sym (all j);
+    }
+
+pub joined_end : (t : List Bool) (n k : ℕ) (places : List ℕ) (row : List Bool) → length places ≤ k → IsJoined t n (take k places) row
+    → row ≡ row_below (is_reached t n places) n
+joined_end t n k places row le s =
+    let all : take k places ≡ places = take_all k places le in
+    ext_get_or false row (row_below (is_reached t n places) n) (s.size ∙ sym (length-map-range_with_len (is_reached t n places) 0 n)) (λ j lt.
+    let jn : j < n = omega (arith, lt, s.size) in
+    s.entries j jn ∙ ap (λ xs. is_reached t n xs j) all ∙ sym (get_or-map-range_with_len (is_reached t n places) 0 n j j false jn (omega arith)))
 
 -- ---- closed tables
 

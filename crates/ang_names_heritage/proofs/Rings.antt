@@ -2,6 +2,7 @@
 use Rattle.std.specs.Prelude.{ℕ, zero, suc, Bool, true, false, not, List, [], ◌∷◌, ◌++◌, length, ◌≡◌, ◌<◌, ◌≤◌, ◌==◌, ◌+◌, ◌&&◌, ◌||◌, ◌⊎◌, ◌≢◌, if◌then◌else◌, nat_lt, replicate, take, drop, slice_index_or, slice_set}
 use Rattle.std.specs.List.{list_any}
 use Rattle.std.proofs.Common.{arith, refl, ap, sym, subst, inl, inr, ◌∙◌}
+use Rattle.std.proofs.lemmas.Bool.{eqb-true}
 use Rattle.std.proofs.lemmas.List.{append-nil, drop_all, take_all, get_or-set_same, get_or-set_other, get_or-replicate, length-set, length-replicate}
 use Rattle.std.proofs.lemmas.Grind.{get_or-set_at}
 use Rattle.std.proofs.lemmas.List.Folds.{list_any-append}
@@ -49,7 +50,7 @@ or_swap true false = refl
 or_swap false true = refl
 or_swap false false = refl
 
-or_false : (a : Bool) → (a || false) ≡ a
+pub or_false : (a : Bool) → (a || false) ≡ a
 or_false true = refl
 or_false false = refl
 
@@ -190,6 +191,86 @@ round_next t e n i d near more last next places s lt r next_is more_is =
 pub round_end : (e : ℕ → ℕ → Bool) (n i d : ℕ) (near : List Bool) (last places : List ℕ) → d ≡ n → IsRound e n i d near last places → places ≡ order_of e n i
 unfolding order_of
 round_end e n i d near last places is r = r.all ∙ ap (λ m. rings e n m i) is
+
+-- ---- where a ring is empty, all later ones are
+
+front_empty : (xs ys : List ℕ) → xs ++ ys ≡ [] → xs ≡ []
+front_empty [] ys e = refl
+front_empty (x ∷ xs) ys e = cc
+
+back_empty : (xs ys : List ℕ) → xs ++ ys ≡ [] → ys ≡ []
+back_empty [] ys e = e
+back_empty (x ∷ xs) ys e = cc
+
+unpicked : (b : Bool) (n : ℕ) → (if b then n ∷ [] else []) ≡ [] → b ≡ false
+unpicked true n e = cc
+unpicked false n e = refl
+
+none_pass : (p : ℕ → Bool) (n : ℕ) → numbers_below p n ≡ [] → (j : ℕ) → j < n → p j ≡ false
+none_pass p zero e j lt = absurd (omega arith)
+none_pass p (suc n) e j lt =
+    elim (below_last j n lt) [
+      | inl less ↦ none_pass p n (front_empty (numbers_below p n) (if p n then n ∷ [] else []) e) j less
+      | inr same ↦ subst (λ x. p x ≡ false) (sym same) (unpicked (p n) n (back_empty (numbers_below p n) (if p n then n ∷ [] else []) e))
+    ]
+
+all_fail : (p : ℕ → Bool) (n : ℕ) → ((j : ℕ) → j < n → p j ≡ false) → numbers_below p n ≡ []
+all_fail p zero h = refl
+all_fail p (suc n) h =
+    let before : numbers_below p n ≡ [] = all_fail p n (λ j lt. h j (omega arith)) in
+    let here : p n ≡ false = h n (omega arith) in
+    ap (λ xs. xs ++ (if p n then n ∷ [] else [])) before ∙ ap (λ b. if b then n ∷ [] else []) here
+
+no_more : (a b : Bool) → ((a || b) && not a) ≡ false → (a || b) ≡ a
+no_more true b h = refl
+no_more false true h = cc
+no_more false false h = refl
+
+nothing_new : (a b c : Bool) → c ≡ b → (((a || b) || c) && not (a || b)) ≡ false
+nothing_new true b c e = refl
+nothing_new false true c e = refl
+nothing_new false false c e = and_true c ∙ e
+
+-- what one edge more leads to was near already
+stays_near : (e : ℕ → ℕ → Bool) (n d i : ℕ) → ring e n (suc d) i ≡ [] → (j : ℕ) → j < n → is_near e n (suc d) i j ≡ is_near e n d i j
+unfolding is_near
+stays_near e n d i none j jn =
+    no_more (is_near e n d i j) (reach e n d i j) (none_pass (λ k. is_near e n (suc d) i k && not (is_near e n d i k)) n none j jn)
+
+ring_after : (e : ℕ → ℕ → Bool) (n d i : ℕ) → ring e n d i ≡ [] → ring e n (suc d) i ≡ []
+unfolding is_near
+ring_after e n zero i none = cc
+ring_after e n (suc d) i none =
+    all_fail (λ j. is_near e n (suc (suc d)) i j && not (is_near e n (suc d) i j)) n (λ j jn.
+    nothing_new (is_near e n d i j) (reach e n d i j) (reach e n (suc d) i j)
+    (some_agree (λ k. is_near e n (suc d) i k && e k j) (λ k. is_near e n d i k && e k j) n (λ k kn.
+    ap (λ b. b && e k j) (stays_near e n d i none k kn))))
+
+up_to : (d k : ℕ) → d ≤ suc k → (d ≤ k) ⊎ (d ≡ suc k)
+up_to d k le = grind arith
+
+rings_end : (e : ℕ → ℕ → Bool) (n i d k : ℕ) → d ≤ k → ring e n d i ≡ [] → (ring e n k i ≡ []) × (rings e n k i ≡ rings e n d i)
+rings_end e n i d zero le none =
+    let same : d ≡ 0 = omega arith in
+    (subst (λ m. ring e n m i ≡ []) same none, ap (λ m. rings e n m i) (sym same))
+rings_end e n i d (suc k) le none =
+    elim (up_to d k le) [
+      | inl less ↦
+          let before = rings_end e n i d k less none in
+          let after : ring e n (suc k) i ≡ [] = ring_after e n k i before.0 in
+          (after, ap (λ xs. rings e n k i ++ xs) after ∙ append-nil (rings e n k i) ∙ before.1)
+      | inr same ↦ (subst (λ m. ring e n m i ≡ []) same none, ap (λ m. rings e n m i) (sym same))
+    ]
+
+-- no places, as a `Vec` counts them
+pub none_left : (xs : List ℕ) (n : ℕ) → n ≡ length xs → (n == 0) ≡ true → xs ≡ []
+none_left [] n counted none = refl
+none_left (x ∷ xs) n counted none = let zero_is : n ≡ 0 = eqb-true n 0 none in absurd (omega (arith, zero_is, counted))
+
+pub round_stop : (e : ℕ → ℕ → Bool) (n i d : ℕ) (near : List Bool) (last places : List ℕ) → last ≡ [] → d ≤ n → IsRound e n i d near last places
+    → places ≡ order_of e n i
+unfolding order_of
+round_stop e n i d near last places none le r = r.all ∙ sym (rings_end e n i d n le (sym r.last_is ∙ none)).1
 
 -- one place alone is marked
 pub mark_alone : (n i j : ℕ) → i < n → j < n → slice_index_or (slice_set (replicate n false) i true) j false ≡ (i == j)

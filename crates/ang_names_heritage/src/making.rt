@@ -1,5 +1,5 @@
 //! Tables that are made row by row, each behind those before it.
-ghost use Rattle.std.specs.Prelude.{ℕ, Bool, ◌≡◌, ◌==◌, ◌||◌, ◌++◌, ◌*◌, ◌<◌, ◌≤◌, Some, None, find, if◌then◌else◌, length, IfOk, OnOk};
+ghost use Rattle.std.specs.Prelude.{ℕ, Bool, ◌≡◌, ◌==◌, ◌||◌, ◌++◌, ◌*◌, ◌<◌, ◌≤◌, Some, None, find, if◌then◌else◌, false, length, slice_index_or, IfOk, OnOk};
 ghost use Rattle.std.specs.List.{list_any, range_with_len};
 ghost use Rattle.std.specs.Option.{option_or};
 ghost use Rattle.ang_names_heritage.specs.Graphs.{leads};
@@ -7,7 +7,7 @@ ghost use Rattle.ang_names_heritage.specs.Tables.{Shows, edges_of};
 ghost use Rattle.ang_names_heritage.specs.Tables as tables;
 
 use crate::close;
-use crate::orders::{has_edge, is_reached};
+use crate::orders::{has_edge, targets_of, unmarked};
 use std::alloc::{AllocError, Global};
 
 /// Puts a row of `n` entries behind those of a table, in which these places are marked.
@@ -37,10 +37,26 @@ pub fn push_joined_row(
     ensures pushed { OnOk result (table.new.items
         ≡ table.old.items ++ tables.row_below (tables.is_reached marks.now n places.now) n) }
 {
-    for j in 0..n {
-        table.push(is_reached(marks, n, places, j))?;
+    let mut row = unmarked(*table.allocator(), n)?;
+    for place in places {
+        join_row(&mut row, marks, n, *place);
     }
+    table.extend_from_slice(&row)?;
     Ok(())
+}
+
+/// Puts the marks that a place has in its row of a table into a row.
+fn join_row(row: &mut [bool], marks: &[bool], n: usize, place: usize)
+    requires small { n ≤ 256 }
+    requires marks { length marks.now ≡ n * n }
+    requires row { length row.old ≡ n }
+    ensures size { length row.new ≡ n }
+    ensures joined { (j : ℕ) → j < n → slice_index_or row.new j false
+        ≡ (slice_index_or row.old j false || edges_of marks.now n place j) }
+{
+    for j in 0..n {
+        row[j] = row[j] | has_edge(marks, n, place, j);
+    }
 }
 
 /// Puts a row behind those of a table, with the marks of row `i` of another one, and with what leads to one of those by a
@@ -60,25 +76,20 @@ pub fn push_spread_row(
     ensures pushed { OnOk result (table.new.items
         ≡ table.old.items ++ tables.row_below (tables.is_spread marks.now closed.now n i) n) }
 {
+    let marked = targets_of(*table.allocator(), marks, n, i)?;
     for j in 0..n {
-        table.push(is_spread(marks, closed, n, i, j))?;
+        table.push(leads_to_some(closed, n, j, &marked))?;
     }
     Ok(())
 }
 
-/// Whether place `j` is marked in row `i`, or leads to a place that is.
-fn is_spread(marks: &[bool], closed: &[bool], n: usize, i: usize, j: usize) -> bool
+/// Whether place `j` is one of these places, or leads to one of them.
+fn leads_to_some(closed: &[bool], n: usize, j: usize, places: &[usize]) -> bool
     requires small { n ≤ 256 }
-    requires marks { length marks.now ≡ n * n }
     requires closed { length closed.now ≡ n * n }
-    ensures exact { result ≡ tables.is_spread marks.now closed.now n i j }
+    ensures exact { result ≡ list_any (λ d. j == d || edges_of closed.now n j d) places.now }
 {
-    for d in 0..n {
-        if has_edge(marks, n, i, d) && is_or_leads(closed, n, j, d) {
-            return true;
-        }
-    }
-    false
+    places.iter().any(|d| is_or_leads(closed, n, j, *d))
 }
 
 /// Whether place `j` is place `d`, or leads to it.

@@ -22,9 +22,24 @@ pub fn above_of(
     ensures exact { (e : ℕ → ℕ → Bool) → Shows closed.now n (leads e n) →
         IfOk result (λ places. places.items ≡ spec.above e n i) }
 {
+    targets_of(alloc, closed, n, i)
+}
+
+/// The places that an edge leads to from place `i`, rising.
+pub(crate) fn targets_of(
+    alloc: Global,
+    edges: &[bool],
+    n: usize,
+    i: usize,
+) -> Result<Vec<usize>, AllocError>
+    requires small { n ≤ 256 }
+    requires size { length edges.now ≡ n * n }
+    ensures exact { IfOk result (λ places. places.items
+        ≡ numbers_below (edges_of edges.now n i) n) }
+{
     let mut places = Vec::new(alloc);
     for j in 0..n {
-        if has_edge(closed, n, i, j) {
+        if has_edge(edges, n, i, j) {
             places.push(j)?;
         }
     }
@@ -50,7 +65,7 @@ pub fn reach_of(closed: &[bool], n: usize, i: usize) -> usize
 }
 
 /// Place `i` and all that stands above it, the nearest first, of equally near ones the lowest number first, by the
-/// table of edges. It goes up ring by ring, and so looks at each edge once.
+/// table of edges. It goes up ring by ring, as far as there are any, and so looks at each edge once.
 ///
 /// The only error is want of memory.
 pub fn order_of(alloc: Global, edges: &[bool], n: usize, i: usize) -> Result<Vec<usize>, AllocError>
@@ -67,6 +82,9 @@ pub fn order_of(alloc: Global, edges: &[bool], n: usize, i: usize) -> Result<Vec
     let mut places = Vec::new(alloc);
     places.push(i)?;
     for _distance in 0..n {
+        if ring.is_empty() {
+            return Ok(places);
+        }
         let next = next_ring(alloc, edges, n, &mut near, &ring)?;
         places.extend_from_slice(&next)?;
         ring = next;
@@ -74,7 +92,7 @@ pub fn order_of(alloc: Global, edges: &[bool], n: usize, i: usize) -> Result<Vec
     Ok(places)
 }
 
-fn unmarked(alloc: Global, n: usize) -> Result<Vec<bool>, AllocError>
+pub(crate) fn unmarked(alloc: Global, n: usize) -> Result<Vec<bool>, AllocError>
     ensures exact { IfOk result (λ marks. marks.items ≡ replicate n false) }
 {
     vec![in alloc; false; n]
@@ -108,7 +126,7 @@ fn next_ring(
 }
 
 /// Whether an edge leads from one of these places to place `j`.
-pub(crate) fn is_reached(edges: &[bool], n: usize, ring: &[usize], j: usize) -> bool
+fn is_reached(edges: &[bool], n: usize, ring: &[usize], j: usize) -> bool
     requires small { n ≤ 256 }
     requires size { length edges.now ≡ n * n }
     ensures exact { result ≡ tables.is_reached edges.now n ring.now j }

@@ -4,7 +4,7 @@ use Rattle.std.specs.List.{list_any}
 use Rattle.std.specs.Option.{option_or, option_map_or}
 use Rattle.std.proofs.Common.{refl, sym}
 use Rattle.std.proofs.Math.Dec.{eqb-suc-zero}
-use Rattle.ang_view.proofs.Lists.{length-map, position-map}
+use Rattle.ang_view.proofs.Lists.{length-map}
 use Rattle.ang_names_known.specs.declared.names.Family.{Family}
 use Rattle.ang_names_known.specs.declared.names.Field.{Field}
 use Rattle.ang_names_known.specs.Items.{is_empty}
@@ -36,9 +36,6 @@ pub default_with : (n : ℕ) (o : Option Family) (rest : List Numbered)
     → nearest_default (with_family n o rest) ≡ (if is_empty (constructors_in o) then nearest_default rest else default_among (constructors_in o))
 default_with n None rest = refl
 default_with n (Some f) rest = test_turned (is_empty f.constructors) (n, f) rest
-
-pub position_of_name : (name : List ℕ) (fs : List Family) → position (λ (f : Family). bytes_eq name f.name) fs ≡ position (bytes_eq name) (map (λ (f : Family). f.name) fs)
-position_of_name name fs = sym (position-map (bytes_eq name) (λ (f : Family). f.name) fs)
 
 pub number_of_names : (fs : List Family) → length (map (λ (f : Family). f.name) fs) ≡ length fs
 number_of_names fs = length-map (λ (f : Family). f.name) fs

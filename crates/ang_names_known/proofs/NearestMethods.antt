@@ -1,15 +1,15 @@
 -- Of the methods of a name those in front of which none of their slot stands, one after the other.
-use Rattle.std.specs.Prelude.{ℕ, ◌+◌, ◌<◌, ◌≡◌, ◌==◌, Bool, true, false, ◌||◌, List, [], ◌∷◌, ◌++◌, map, filter, length, take, Option, Some, None, slice_get, cond}
+use Rattle.std.specs.Prelude.{ℕ, ◌+◌, ◌<◌, ◌≤◌, ◌≡◌, ◌==◌, Bool, true, false, ◌||◌, List, [], ◌∷◌, ◌++◌, map, filter, length, take, drop, Option, Some, None, option_map, option_to_list, slice_get, cond}
 use Rattle.std.specs.List.{list_any, flat_map}
 use Rattle.std.proofs.Common.{refl, ap, sym, arith, get_or, append_assoc, ◌∙◌}
-use Rattle.std.proofs.lemmas.List.{append-nil, map-append, take_more}
+use Rattle.std.proofs.lemmas.List.{append-nil, drop_all, drop-append-le, length-append, map-append, take_more, take-append-drop}
 use Rattle.std.proofs.lemmas.List.Elements.{filter-append}
 use Rattle.std.proofs.lemmas.List.Folds.{list_any-append}
 use Rattle.ang_names_known.specs.declared.names.Family.{Family}
 use Rattle.ang_names_known.specs.declared.names.Method.{Method}
 use Rattle.ang_names_known.specs.Items.{each_after}
 use Rattle.ang_names_known.specs.Lookup.{FoundMethod, with_family, families_at, methods_in, stands_in, is_named, if_nearest}
-use Rattle.ang_names_known.specs.Nearest.{methods_declared, of_owner, named_among, nearest_named}
+use Rattle.ang_names_known.specs.Nearest.{at_places, methods_declared, of_owner, named_among, nearest_at}
 
 -- ---- the nearest of some
 
@@ -77,32 +77,67 @@ any_in_nearest : (s : ℕ) (xs : List FoundMethod) → list_any (stands_in s) (n
 any_in_nearest s xs = any_nearest s [] xs
 
 -- one method more
-one_more : (name : List ℕ) (before : List FoundMethod) (x : FoundMethod)
-    → nearest before ++ nearest_named name (nearest before) x ≡ nearest (before ++ filter (is_named name) (x ∷ []))
-one_more name before x = by_name (is_named name x)
-  where
-    by_name : (t : Bool) → nearest before ++ cond t (if_nearest (nearest before) x) [] ≡ nearest (before ++ cond t (x ∷ []) [])
-    by_name false = append-nil (nearest before) ∙ ap nearest (sym (append-nil before))
-    by_name true =
-        ap (λ t. nearest before ++ cond t [] (x ∷ [])) (any_in_nearest x.method.slot before)
-        ∙ sym (after_more [] before x)
+pub one_more : (before old new : List FoundMethod) (o : Option FoundMethod) → old ≡ nearest before → new ≡ old ++ nearest_at old o → new ≡ nearest (before ++ option_to_list o)
+one_more before old new None so_far pushed = pushed ∙ append-nil old ∙ so_far ∙ ap nearest (sym (append-nil before))
+one_more before old new (Some x) so_far pushed =
+    pushed ∙ ap (λ o. o ++ if_nearest o x) so_far
+    ∙ ap (λ t. nearest before ++ cond t [] (x ∷ [])) (any_in_nearest x.method.slot before)
+    ∙ sym (after_more [] before x)
 
--- ---- a loop over the methods of a family
+-- ---- a loop over the places of methods of a family
 
-pub method_more : (name : List ℕ) (before : List FoundMethod) (n : ℕ) (ms : List Method) (i : ℕ) (m : Method) (old new : List FoundMethod)
-    → i < length ms → m ≡ get_or ms i m → old ≡ nearest (before ++ named_among name n (take i ms)) → new ≡ old ++ nearest_named name old (of_owner n m)
-    → new ≡ nearest (before ++ named_among name n (take (i + 1) ms))
-method_more name before n ms i m old new lt is so_far pushed =
-    let taken : take (i + 1) ms ≡ take i ms ++ m ∷ [] = take_more ms i m lt ∙ ap (λ y. take i ms ++ y ∷ []) (sym is) in
-    let front : List FoundMethod = before ++ named_among name n (take i ms) in
-    let split : named_among name n (take (i + 1) ms) ≡ named_among name n (take i ms) ++ filter (is_named name) (of_owner n m ∷ []) =
-    ap (named_among name n) taken ∙ ap (filter (is_named name)) (map-append (of_owner n) (take i ms) (m ∷ []))
-    ∙ filter-append (is_named name) (map (of_owner n) (take i ms)) (of_owner n m ∷ []) in
-    pushed
-    ∙ ap (λ o. o ++ nearest_named name o (of_owner n m)) so_far
-    ∙ one_more name front (of_owner n m)
-    ∙ ap nearest (append_assoc (before) (named_among name n (take i ms)) (filter (is_named name) (of_owner n m ∷ [])))
-    ∙ ap (λ r. nearest (before ++ r)) (sym split)
+at_places-append : (n : ℕ) (ms : List Method) (ps qs : List ℕ) → at_places n ms (ps ++ qs) ≡ at_places n ms ps ++ at_places n ms qs
+at_places-append n ms [] qs = refl
+at_places-append n ms (p ∷ ps) qs =
+    let own : List FoundMethod = option_to_list (option_map (of_owner n) (slice_get ms p)) in
+    ap (λ r. own ++ r) (at_places-append n ms ps qs) ∙ sym (append_assoc own (at_places n ms ps) (at_places n ms qs))
+
+pub place_more : (before : List FoundMethod) (n : ℕ) (ms : List Method) (ps : List ℕ) (i : ℕ) (o : Option FoundMethod) (old new : List FoundMethod)
+    → i < length ps → o ≡ option_map (of_owner n) (slice_get ms (get_or ps i 0)) → old ≡ nearest (before ++ at_places n ms (take i ps)) → new ≡ old ++ nearest_at old o
+    → new ≡ nearest (before ++ at_places n ms (take (i + 1) ps))
+place_more before n ms ps i o old new lt is so_far pushed =
+    let front : List FoundMethod = before ++ at_places n ms (take i ps) in
+    let own : List FoundMethod = option_to_list (option_map (of_owner n) (slice_get ms (get_or ps i 0))) in
+    one_more front old new o so_far pushed
+    ∙ ap (λ r. nearest (front ++ option_to_list r)) is
+    ∙ ap nearest (append_assoc before (at_places n ms (take i ps)) own)
+    ∙ ap (λ r. nearest (before ++ (at_places n ms (take i ps) ++ r))) (sym (append-nil own))
+    ∙ ap (λ r. nearest (before ++ r)) (sym (at_places-append n ms (take i ps) (get_or ps i 0 ∷ [])))
+    ∙ ap (λ r. nearest (before ++ at_places n ms r)) (sym (take_more ps i 0 lt))
+
+-- ---- slots of those behind the first eight
+
+pub any_of_both : (slot : ℕ) (found : List FoundMethod) (few behind : Bool) → few ≡ list_any (stands_in slot) (take 8 found) → behind ≡ list_any (stands_in slot) (drop 8 found)
+    → (few || behind) ≡ list_any (stands_in slot) found
+any_of_both slot found few behind is others =
+    (λ i. is i || others i)
+    ∙ sym (list_any-append (stands_in slot) (take 8 found) (drop 8 found))
+    ∙ ap (list_any (stands_in slot)) (take-append-drop 8 found)
+
+-- a method is one of the first eight
+pub slots_stay : (found new : List FoundMethod) (x : FoundMethod) (slot : ℕ) (b : Bool) → length found < 8 → new ≡ found ++ x ∷ []
+    → b ≡ list_any (stands_in slot) (drop 8 found) → b ≡ list_any (stands_in slot) (drop 8 new)
+slots_stay found new x slot b few is has =
+    let many : length (found ++ x ∷ []) ≡ length found + 1 = length-append found (x ∷ []) in
+    let inside : length found ≤ 8 = omega arith in
+    let all : length (found ++ x ∷ []) ≤ 8 = omega (arith, many) in
+    has ∙ ap (list_any (stands_in slot)) (drop_all 8 found inside ∙ sym (drop_all 8 (found ++ x ∷ []) all) ∙ ap (drop 8) (sym is))
+
+or_turned : (a b : Bool) → cond b true a ≡ (a || (b || false))
+or_turned true true = refl
+or_turned true false = refl
+or_turned false true = refl
+or_turned false false = refl
+
+-- a method behind them, with its slot
+pub slot_more : (found new : List FoundMethod) (x : FoundMethod) (slot : ℕ) (old b : Bool) → 8 ≤ length found → new ≡ found ++ x ∷ []
+    → b ≡ cond (x.method.slot == slot) true old → old ≡ list_any (stands_in slot) (drop 8 found)
+    → b ≡ list_any (stands_in slot) (drop 8 new)
+slot_more found new x slot old b many is put has =
+    put ∙ ap (λ t. cond (x.method.slot == slot) true t) has
+    ∙ or_turned (list_any (stands_in slot) (drop 8 found)) (x.method.slot == slot)
+    ∙ sym (list_any-append (stands_in slot) (drop 8 found) (x ∷ []))
+    ∙ ap (list_any (stands_in slot)) (sym (drop-append-le 8 found (x ∷ []) many) ∙ ap (drop 8) (sym is))
 
 -- ---- a loop over families
 

@@ -5,3 +5,5 @@ pub mod Lookup
 pub mod Spaces
 pub mod Nearest
 pub mod Among
+pub mod NameIndex
+pub mod Headings

@@ -1,8 +1,10 @@
--- The methods of a name, family by family and method by method.
-use Rattle.std.specs.Prelude.{ℕ, if◌then◌else◌, List, [], map, filter, Option, Some, None}
+-- The methods of a name, family by family and place by place.
+use Rattle.std.specs.Prelude.{ℕ, ◌≡◌, nat_eq, List, [], ◌∷◌, ◌++◌, map, filter, drop, Option, Some, None, option_map, option_to_list, slice_get}
+use Rattle.std.specs.HashSet.{HashSet, contains}
+use Rattle.std.specs.List.{list_any}
 use Rattle.ang_names_known.specs.declared.names.Family.{Family}
 use Rattle.ang_names_known.specs.declared.names.Method.{Method}
-use Rattle.ang_names_known.specs.Lookup.{FoundMethod, is_named, if_nearest}
+use Rattle.ang_names_known.specs.Lookup.{FoundMethod, is_named, if_nearest, stands_in}
 
 -- the methods that a family declares itself
 abbrev pub methods_declared : Option Family → List Method
@@ -16,6 +18,16 @@ of_owner n m = record { owner = n; method = m }
 abbrev pub named_among : List ℕ → ℕ → List Method → List FoundMethod
 named_among name n ms = filter (is_named name) (map (of_owner n) ms)
 
+-- the methods of family n at some places of those that it declares
+abbrev pub at_places : ℕ → List Method → List ℕ → List FoundMethod
+at_places n ms [] = []
+at_places n ms (p ∷ ps) = option_to_list (option_map (of_owner n) (slice_get ms p)) ++ at_places n ms ps
+
 -- what a method adds to the nearest ones of a name
-abbrev pub nearest_named : List ℕ → List FoundMethod → FoundMethod → List FoundMethod
-nearest_named name before x = if is_named name x then if_nearest before x else []
+abbrev pub nearest_at : List FoundMethod → Option FoundMethod → List FoundMethod
+nearest_at before None = []
+nearest_at before (Some x) = if_nearest before x
+
+-- a set has the slots of all methods behind the first eight
+abbrev pub HasSlots : {S : Type 0} → HashSet ℕ S → List FoundMethod → Type 0
+HasSlots slots found = (slot : ℕ) → contains nat_eq slots slot ≡ list_any (stands_in slot) (drop 8 found)

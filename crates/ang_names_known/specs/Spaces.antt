@@ -19,7 +19,7 @@ pub record Space : Type 0 where
 
 abbrev pub family_names : FamilyNames → List (List ℕ)
 family_names (listing.Listed names) = names.items
-family_names (listing.Known families) = map (λ (f : Family). f.name) families.now
+family_names (listing.Known names) = map (λ (f : Family). f.name) names.now.families
 
 -- the number of the first family as a type, which is above those of all entries
 abbrev pub first_family : ℕ

@@ -213,37 +213,19 @@ fn push_found(
     push_function(functions, function)
 }
 
-/// Puts what is found in the entry of this number at the end, if there is such an entry.
-#[tactic(auto, using(crate::proofs::Adding::past_end))]
-fn push_numbered(
-    alloc: Global,
-    functions: &mut Vec<HostFunction>,
-    view: &View,
-    wanted: &Wanted<'_>,
-    number: usize,
-) -> Result<(), AllocError>
-    ensures pushed { OnOk result (functions.new.items ≡ functions.old.items ++ option_to_list
-        (spec.found wanted.now view.now number (entry_at view.now number))) }
-{
-    if number >= view.len() {
-        return Ok(());
-    }
-    push_found(alloc, functions, view, wanted, EntityNo(number as u32))
-}
-
 /// What is wanted among the entries of these numbers.
 fn functions_among(
     alloc: Global,
     view: &View,
     wanted: &Wanted<'_>,
-    numbers: &[usize],
+    numbers: &[EntityNo],
 ) -> Result<Vec<HostFunction>, AllocError>
     ensures among { IfOk result (λ found. found.items
         ≡ found_among wanted.now view.now numbers.now) }
 {
     let mut functions = Vec::new(alloc);
     for number in numbers {
-        push_numbered(alloc, &mut functions, view, wanted, *number)?;
+        push_found(alloc, &mut functions, view, wanted, *number)?;
     }
     Ok(functions)
 }
@@ -260,11 +242,14 @@ pub fn host_where(
     ensures exact { IfOk result (λ found. found.items ≡ spec.host_where wanted.now view.now) }
 {
     match wanted {
-        Wanted::Function(name) => functions_among(alloc, view, wanted, view.named(name.bytes())),
+        Wanted::Function(name) => functions_among(alloc, view, wanted, view.find(name.bytes())),
         Wanted::Factory(number) => {
-            functions_among(alloc, view, wanted, view.factories(EntityNo(*number)))
+            functions_among(alloc, view, wanted, view.makers(EntityNo(*number)))
         }
-        Wanted::Method(_, name) => functions_among(alloc, view, wanted, view.named(name.bytes())),
+        Wanted::Method(number, name) => {
+            let methods = view.owned(EntityNo(*number), name.bytes());
+            functions_among(alloc, view, wanted, methods)
+        }
     }
 }
 
@@ -314,32 +299,16 @@ pub fn property_at(
     }
 }
 
-/// The property of the entry of this number, if there is such an entry.
-#[tactic(auto, using(crate::proofs::Adding::past_end))]
-fn property_numbered(
-    view: &View,
-    wanted: &WantedProperty<'_>,
-    number: usize,
-) -> Option<HostProperty>
-    ensures exact { result
-        ≡ spec.property_found wanted.now view.now number (entry_at view.now number) }
-{
-    if number >= view.len() {
-        return None;
-    }
-    property_at(view, wanted, EntityNo(number as u32))
-}
-
 /// The first property that is wanted among the entries of these numbers.
 fn property_among_these(
     view: &View,
     wanted: &WantedProperty<'_>,
-    numbers: &[usize],
+    numbers: &[EntityNo],
 ) -> Option<HostProperty>
     ensures among { result ≡ property_among wanted.now view.now numbers.now }
 {
     for number in numbers {
-        let found = property_numbered(view, wanted, *number);
+        let found = property_at(view, wanted, *number);
         if found.is_some() {
             return found;
         }
@@ -354,10 +323,11 @@ pub fn property_where(view: &View, wanted: &WantedProperty<'_>) -> Option<HostPr
 {
     match wanted {
         WantedProperty::Global(name) => {
-            property_among_these(view, wanted, view.named(name.bytes()))
+            property_among_these(view, wanted, view.find(name.bytes()))
         }
-        WantedProperty::Member(_, name) => {
-            property_among_these(view, wanted, view.named(name.bytes()))
+        WantedProperty::Member(number, name) => {
+            let members = view.owned(EntityNo(*number), name.bytes());
+            property_among_these(view, wanted, members)
         }
     }
 }

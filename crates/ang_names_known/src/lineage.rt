@@ -3,7 +3,7 @@ ghost use Rattle.std.specs.Prelude.{◌≡◌, ◌<◌, All, map, replicate, [],
 ghost use Rattle.ang_names_known.specs.Spaces as spaces;
 
 use crate::family_types::{FIRST_FAMILY, family_type};
-use crate::names::Names;
+use crate::indexed::IndexedNames;
 use ang_types::Lineage;
 use std::alloc::{AllocError, Global};
 
@@ -11,13 +11,13 @@ use std::alloc::{AllocError, Global};
 ///
 /// The only error is want of memory.
 #[tactic(auto, unfolding(crate::specs::Spaces::ancestors_of))]
-pub fn lineage_of(alloc: Global, names: &Names) -> Result<Lineage, AllocError>
+pub fn lineage_of(alloc: Global, names: &IndexedNames) -> Result<Lineage, AllocError>
     requires families { spaces.AreFamilies names.now.families }
     ensures exact { IfOk result (λ l. l ≡ spaces.ancestors_of names.now) }
 {
     let mut above = above_host_types(alloc)?;
-    let families = names.families.as_slice();
-    for family in families {
+    let all = names.families();
+    for family in all {
         let types = types_of(alloc, family.above.as_slice())?;
         above.push(types)?;
     }

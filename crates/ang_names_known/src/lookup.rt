@@ -1,14 +1,11 @@
 //! What the scripts declare, by name, as far as it takes no memory.
-ghost use Rattle.std.specs.Prelude.{◌≡◌, false, bytes_eq, find, option_map, slice_get};
-ghost use Rattle.std.specs.List.{list_any};
-ghost use Rattle.std.specs.Option.{option_map_or};
+ghost use Rattle.std.specs.Prelude.{◌≡◌, slice_get};
+ghost use Rattle.ang_names_known.specs.Headings as headings;
 ghost use Rattle.ang_names_known.specs.Lookup as spec;
 
 use crate::names::{
-    Access, Constructor, Default, Family, Field, FoundField, Method, ScriptFunction, ScriptGlobal,
-    ScriptParameter, Written,
+    Access, Constructor, Default, Family, ScriptFunction, ScriptParameter, Written,
 };
-use ang_kinds::List;
 use ang_types::ArgType;
 
 /// Whether a variable of this written type can't be assigned: `const int`, `const T`, `T@ const`.
@@ -21,23 +18,6 @@ pub fn is_read_only(written: Written) -> bool
             written.constant
         }
     }
-}
-
-/// The number of the global of this name. It takes no memory.
-#[tactic(auto, unfolding(crate::specs::Lookup::global_named))]
-pub fn global_named(globals: &[ScriptGlobal], name: &[u8]) -> Option<usize>
-    ensures exact { result ≡ spec.global_named globals.now name.now }
-{
-    globals
-        .iter()
-        .position(|global| global.name.as_slice() == name)
-}
-
-/// Whether some declaration has this name. It takes no memory.
-pub fn is_declared(declared: &[List<u8>], name: &[u8]) -> bool
-    ensures exact { result ≡ spec.is_declared declared.now name.now }
-{
-    declared.iter().any(|other| name == other.as_slice())
 }
 
 /// Whether two types are one, `const` included. Object types go by their numbers.
@@ -106,14 +86,30 @@ pub fn same_heading(one: &ScriptFunction, other: &ScriptFunction) -> bool
     one.name.as_slice() == other.name.as_slice() && same_call(one, other)
 }
 
-/// The number of the function with this heading. It takes no memory.
-#[tactic(auto, unfolding(crate::specs::Lookup::function_with))]
-pub fn function_with(functions: &[ScriptFunction], heading: &ScriptFunction) -> Option<usize>
-    ensures exact { result ≡ spec.function_with functions.now heading.now }
+/// Whether the function of this number has this heading.
+fn has_heading(functions: &[ScriptFunction], number: usize, heading: &ScriptFunction) -> bool
+    ensures exact { result ≡ headings.has_heading functions.now heading.now number }
 {
-    functions
-        .iter()
-        .position(|function| same_heading(heading, function))
+    match functions.get(number) {
+        None => false,
+        Some(function) => same_heading(heading, function),
+    }
+}
+
+/// The first of these numbers whose function has this heading.
+pub(crate) fn heading_among(
+    functions: &[ScriptFunction],
+    numbers: &[u32],
+    heading: &ScriptFunction,
+) -> Option<usize>
+    ensures exact { result ≡ headings.heading_among functions.now heading.now numbers.now }
+{
+    for number in numbers {
+        if has_heading(functions, *number as usize, heading) {
+            return Some(*number as usize);
+        }
+    }
+    None
 }
 
 /// The families above a family, by number.
@@ -160,89 +156,6 @@ pub(crate) fn order_of(families: &[Family], family: usize) -> &[usize]
         None => &[],
         Some(family) => family.order.as_slice(),
     }
-}
-
-/// The field of this name among some, of the family of this number.
-fn field_among(fields: &[Field], owner: usize, name: &[u8]) -> Option<FoundField>
-    ensures exact { result
-        ≡ option_map (spec.field_of owner) (find (λ x. bytes_eq x.name name.now) fields.now) }
-{
-    for field in fields {
-        if field.name.as_slice() == name {
-            return Some(FoundField {
-                owner,
-                number: field.number,
-                written: field.written,
-                access: field.access,
-            });
-        }
-    }
-    None
-}
-
-/// The fields that a family declares itself.
-fn fields_of(families: &[Family], family: usize) -> &[Field]
-    ensures exact { result.now ≡ spec.fields_in (slice_get families.now family) }
-{
-    match families.get(family) {
-        None => &[],
-        Some(family) => family.fields.as_slice(),
-    }
-}
-
-/// The field of this name that objects of a family have. It takes no memory.
-#[tactic(auto, unfolding(crate::specs::Lookup::field_named), using(crate::proofs::Kin::first_field_with))]
-pub fn field_named(families: &[Family], family: usize, name: &[u8]) -> Option<FoundField>
-    ensures exact { result ≡ spec.field_named families.now family name.now }
-{
-    let order = order_of(families, family);
-    for number in order {
-        if let Some(found) = field_among(fields_of(families, *number), *number, name) {
-            return Some(found);
-        }
-    }
-    None
-}
-
-/// Whether some method has this name.
-fn is_among(methods: &[Method], name: &[u8]) -> bool
-    ensures exact { result ≡ list_any (λ x. bytes_eq x.function.name name.now) methods.now }
-{
-    methods
-        .iter()
-        .any(|method| method.function.name.as_slice() == name)
-}
-
-/// Whether a family declares a method of this name itself.
-fn has_own_method(families: &[Family], family: usize, name: &[u8]) -> bool
-    ensures exact { result ≡ option_map_or (λ f. spec.declares_method name.now (family, f))
-        (slice_get families.now family) false }
-{
-    match families.get(family) {
-        None => false,
-        Some(declaring) => is_among(declaring.methods.as_slice(), name),
-    }
-}
-
-/// Whether a family has a method of this name, own or inherited. It takes no memory.
-#[tactic(auto, unfolding(crate::specs::Lookup::has_method), using(crate::proofs::Kin::any_method_with))]
-pub fn has_method(families: &[Family], family: usize, name: &[u8]) -> bool
-    ensures exact { result ≡ spec.has_method families.now family name.now }
-{
-    let order = order_of(families, family);
-    for number in order {
-        if has_own_method(families, *number, name) {
-            return true;
-        }
-    }
-    false
-}
-
-/// Whether a family has a field or a method of this name, own or inherited. It takes no memory.
-pub fn has_member(families: &[Family], family: usize, name: &[u8]) -> bool
-    ensures exact { result ≡ spec.has_member families.now family name.now }
-{
-    field_named(families, family, name).is_some() || has_method(families, family, name)
 }
 
 #[tactic(auto, using(crate::proofs::Kin::empty_is))]

@@ -1,13 +1,16 @@
 //! The methods that a family has, own and inherited.
-ghost use Rattle.std.specs.Prelude.{◌≡◌, ◌++◌, List, [], slice_get, IfOk, OnOk};
+ghost use Rattle.std.specs.Prelude.{◌≡◌, ◌++◌, ◌∷◌, List, [], option_map, slice_get, take, IfOk, OnOk};
 ghost use Rattle.std.specs.List.{list_any};
 ghost use Rattle.ang_names_known.specs.Items.{each_after};
 ghost use Rattle.ang_names_known.specs.Lookup as spec;
-ghost use Rattle.ang_names_known.specs.Nearest.{methods_declared, named_among, nearest_named};
+ghost use Rattle.ang_names_known.specs.NameIndex.{IndexesMethods};
+ghost use Rattle.ang_names_known.specs.Nearest.{HasSlots, at_places, methods_declared, nearest_at, of_owner};
 
 use crate::lookup::order_of;
 use crate::names::{Family, Method};
+use ang_index::Index;
 use std::alloc::{AllocError, Global};
+use std::collections::HashSet;
 use std::marker::Model;
 
 /// A method, with the family that declares it.
@@ -41,23 +44,28 @@ impl<'a> FoundMethod<'a> {
     }
 }
 
+/// How many of the methods that were found are gone through for a slot. A set has the slots of all others.
+const FEW: usize = 8;
+
 /// The methods of this name that objects of a family have, own and inherited.
-///
-/// The only error is want of memory.
-pub fn methods_named<'a>(
+pub(crate) fn methods_in<'a>(
     alloc: Global,
     families: &'a [Family],
+    index: &Index<u32>,
     family: usize,
     name: &[u8],
 ) -> Result<Vec<FoundMethod<'a>>, AllocError>
+    requires indexed { IndexesMethods families.now index.now }
     ensures exact { IfOk result
         (λ found. found.items ≡ spec.methods_named families.now family name.now) }
 {
     let mut found = Vec::new(alloc);
+    let mut slots = HashSet::new(alloc);
     let order = order_of(families, family);
     for number in order {
         let methods = own_methods(families, *number);
-        push_methods(&mut found, *number, methods, name)?;
+        let places = index.find(*number as u64, name);
+        push_methods(&mut found, &mut slots, *number, methods, places)?;
     }
     Ok(found)
 }
@@ -72,43 +80,87 @@ fn own_methods(families: &[Family], number: usize) -> &[Method]
     }
 }
 
-/// Puts the methods of this name that a family declares behind those of the families below it.
+/// Puts the methods at these places, of those that a family declares, behind those of the families below it.
 fn push_methods<'a>(
     found: &mut Vec<FoundMethod<'a>>,
+    slots: &mut HashSet<usize>,
     owner: usize,
     methods: &'a [Method],
-    name: &[u8],
+    places: &[u32],
 ) -> Result<(), AllocError>
+    requires slots { HasSlots slots.old found.old.items }
     ensures pushed { OnOk result ((before : List spec.FoundMethod) →
         found.old.items ≡ each_after spec.if_nearest [] before →
         found.new.items
-        ≡ each_after spec.if_nearest [] (before ++ named_among name.now owner methods.now)) }
+        ≡ each_after spec.if_nearest [] (before ++ at_places owner methods.now places.now)) }
+    ensures slots { OnOk result (HasSlots slots.new found.new.items) }
 {
-    for method in methods {
-        push_method(found, owner, method, name)?;
+    for place in places {
+        let method = method_at(methods, owner, *place as usize);
+        push_method(found, slots, method)?;
     }
     Ok(())
 }
 
-/// Puts a method of this name in, where none of its slot is in front.
+/// The method at a place among those of the family of this number.
+fn method_at(methods: &[Method], owner: usize, place: usize) -> Option<FoundMethod<'_>>
+    ensures exact { result ≡ option_map (of_owner owner) (slice_get methods.now place) }
+{
+    let method = methods.get(place)?;
+    Some(FoundMethod { owner, method })
+}
+
+/// Puts a method in, where none of its slot is in front.
 fn push_method<'a>(
     found: &mut Vec<FoundMethod<'a>>,
-    owner: usize,
-    method: &'a Method,
-    name: &[u8],
+    slots: &mut HashSet<usize>,
+    method: Option<FoundMethod<'a>>,
 ) -> Result<(), AllocError>
-    ensures pushed { OnOk result (found.new.items ≡ found.old.items
-        ++ nearest_named name.now found.old.items (record { owner = owner; method = method.now })) }
+    requires slots { HasSlots slots.old found.old.items }
+    ensures pushed { OnOk result
+        (found.new.items ≡ found.old.items ++ nearest_at found.old.items method.entry) }
+    ensures slots { OnOk result (HasSlots slots.new found.new.items) }
 {
-    if method.function.name.as_slice() != name || has_slot(found, method.slot) {
+    let Some(method) = method else {
+        return Ok(());
+    };
+    if has_slot(found, slots, method.method.slot) {
         return Ok(());
     }
-    found.push(FoundMethod { owner, method })?;
+    push_nearest(found, slots, method)
+}
+
+/// Puts a method in behind all others.
+fn push_nearest<'a>(
+    found: &mut Vec<FoundMethod<'a>>,
+    slots: &mut HashSet<usize>,
+    method: FoundMethod<'a>,
+) -> Result<(), AllocError>
+    requires slots { HasSlots slots.old found.old.items }
+    ensures pushed { OnOk result (found.new.items ≡ found.old.items ++ method.entry ∷ []) }
+    ensures slots { OnOk result (HasSlots slots.new found.new.items) }
+{
+    if found.len() >= FEW {
+        slots.insert(method.method.slot)?;
+    }
+    found.push(method)?;
     Ok(())
 }
 
-fn has_slot(found: &[FoundMethod<'_>], slot: usize) -> bool
+/// Whether some method that was found has this slot.
+#[tactic(auto, using(crate::proofs::NearestMethods::any_of_both))]
+fn has_slot(found: &[FoundMethod<'_>], slots: &HashSet<usize>, slot: usize) -> bool
+    requires slots { HasSlots slots.now found.now }
     ensures exact { result ≡ list_any (spec.stands_in slot) found.now }
 {
-    found.iter().any(|other| other.method().slot == slot)
+    is_among_few(found, slot) || slots.contains(&slot)
+}
+
+fn is_among_few(found: &[FoundMethod<'_>], slot: usize) -> bool
+    ensures exact { result ≡ list_any (spec.stands_in slot) (take 8 found.now) }
+{
+    found
+        .iter()
+        .take(FEW)
+        .any(|other| other.method().slot == slot)
 }

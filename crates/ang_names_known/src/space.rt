@@ -1,12 +1,12 @@
 //! The object types that a name can mean.
-ghost use Rattle.std.specs.Prelude.{◌≡◌, ◌≤◌, ◌<◌, length, bytes_eq, IfSome};
+ghost use Rattle.std.specs.Prelude.{◌≡◌, ◌≤◌, ◌<◌, length, bytes_eq, map, IfSome};
 ghost use Rattle.std.specs.List.{position};
 ghost use Rattle.ang_view.specs.Types.{type_named};
 ghost use Rattle.ang_names_known.specs.Spaces as spaces;
 
 use crate::borrowed::Text;
 use crate::family_types::family_type;
-use crate::names::{Family, Names};
+use crate::indexed::IndexedNames;
 use ang_kinds::EntityNo;
 use ang_view::View;
 use std::marker::Model;
@@ -34,7 +34,7 @@ enum FamilyNames<'a> {
     /// Of families that are only listed so far.
     Listed(Vec<Text<'a>>),
     /// Of known ones.
-    Known(&'a [Family]),
+    Known(&'a IndexedNames),
 }
 
 /// The object types that names mean: what a module sees of the host, and the names of the scripts' families.
@@ -70,13 +70,13 @@ impl<'a> Space<'a> {
 
     /// The types of a view and of names. It takes no memory.
     #[tactic(auto, using(crate::proofs::Kin::number_of_names))]
-    pub fn of_names(view: &'a View, names: &'a Names) -> Space<'a>
+    pub fn of_names(view: &'a View, names: &'a IndexedNames) -> Space<'a>
         requires few { length names.now.families ≤ 256 }
         ensures exact { result ≡ spaces.space_of_names view.now names.now }
     {
         Space {
             view,
-            families: FamilyNames::Known(names.families.as_slice()),
+            families: FamilyNames::Known(names),
         }
     }
 
@@ -88,14 +88,14 @@ impl<'a> Space<'a> {
     }
 
     /// The number of the script's family of this name.
-    #[tactic(auto, using(crate::proofs::Kin::number_of_names, crate::proofs::Kin::position_of_name))]
+    #[tactic(auto, using(crate::proofs::Kin::number_of_names))]
     fn family_named(&self, name: &[u8]) -> Option<usize>
         ensures exact { result ≡ position (bytes_eq name.now) self.now.families }
         ensures few { IfSome result (λ c. c < 256) }
     {
         match &self.families {
             FamilyNames::Listed(names) => listed_as(names, name),
-            FamilyNames::Known(families) => known_as(families, name),
+            FamilyNames::Known(names) => known_as(names, name),
         }
     }
 
@@ -116,13 +116,12 @@ fn listed_as(names: &[Text<'_>], name: &[u8]) -> Option<usize>
     names.iter().position(|family| name == family.bytes())
 }
 
-fn known_as(families: &[Family], name: &[u8]) -> Option<usize>
-    ensures exact { result ≡ position (λ f. bytes_eq name.now f.name) families.now }
-    ensures within { IfSome result (λ c. c < length families.now) }
+fn known_as(names: &IndexedNames, name: &[u8]) -> Option<usize>
+    ensures exact { result
+        ≡ position (bytes_eq name.now) (map (λ f. f.name) names.now.families) }
+    ensures within { IfSome result (λ c. c < length names.now.families) }
 {
-    families
-        .iter()
-        .position(|family| name == family.name.as_slice())
+    names.family_named(name)
 }
 
 /// What a name means as a type that is the name of this family, or else of this host type. It takes

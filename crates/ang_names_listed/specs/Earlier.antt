@@ -1,6 +1,7 @@
--- The declarations before one, by the hashes of their names and counted by kind.
-use Rattle.std.specs.Prelude.{ℕ, ◌+◌, Bool, List, map, count_by, length, slice_get}
-use Rattle.ang_names_rows.specs.Grown.{hash_in, is_at}
+-- The declarations before one, found by name and counted by kind.
+use Rattle.std.specs.Prelude.{ℕ, ◌≡◌, ◌+◌, Bool, false, List, Option, Some, None, map, count_by, length, slice_get}
+use Rattle.ang_index.specs.Rows.{Rows, items_at}
+use Rattle.ang_names_known.specs.NameIndex.{places_of}
 use Rattle.ang_names_listed.specs.declared.earlier.Counts.{Counts}
 use Rattle.ang_names_listed.specs.declared.listed.Declared.{Declared}
 use Rattle.ang_names_listed.specs.declared.listed.Part.{Part}
@@ -8,13 +9,18 @@ use Rattle.ang_names_listed.specs.declared.listed.Part.TheVariants as part
 use Rattle.ang_names_listed.specs.Declarations.{declared_name, families_of}
 use Rattle.ang_names_listed.specs.Taken.{clashes, declares_function, declares_global, declares_import}
 
--- of so many rows, those of the names
-abbrev pub name_hashes : ℕ → List Declared → List ℕ
-name_hashes rows ds = map (λ (d : Declared). hash_in rows (declared_name d)) ds
+-- the rows have the places of each name, in scope 0
+pub record HasPlaces (ds : List Declared) (rows : Rows ℕ) : Type 0 where
+  pub places : (name : List ℕ) → items_at 0 name rows ≡ places_of (map declared_name ds) name
+
+-- the declaration can't stand beside the one that may stand there
+abbrev pub clashes_with : Declared → Option Declared → Bool
+clashes_with d None = false
+clashes_with d (Some earlier) = clashes d earlier
 
 -- the declaration can't stand beside the earlier one of this number
 abbrev pub clashes_at : List Declared → Declared → ℕ → Bool
-clashes_at before d n = is_at (clashes d) (slice_get before n)
+clashes_at before d n = clashes_with d (slice_get before n)
 
 abbrev pub counts_of : List Declared → Counts
 counts_of ds = record {

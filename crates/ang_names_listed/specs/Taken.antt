@@ -3,7 +3,6 @@
 -- included, share one space of names. Imports are functions there.
 use Rattle.std.specs.Prelude.{ℕ, ◌==◌, Bool, true, false, ◌&&◌, ◌||◌, if◌then◌else◌, List, [], Option, Some, None, option_to_list, bytes_eq, length, count_by}
 use Rattle.std.specs.List.{list_any}
-use Rattle.ang_kinds.specs.declared.error.Error.{Error}
 use Rattle.ang_kinds.specs.declared.error.ErrorKind.TheVariants as kind
 use Rattle.ang_kinds.specs.declared.types.Param.{Param}
 use Rattle.ang_tree.specs.declared.declaration.Parameter.{Parameter}

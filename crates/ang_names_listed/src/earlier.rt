@@ -1,14 +1,17 @@
-//! The declarations before one, by the hashes of their names, so that few are looked at.
+//! The declarations before one, found by name, so that no look-up goes through all of them.
 ghost use Rattle.std.specs.Prelude.{◌≡◌, ◌<◌, ◌-◌, ◌^◌};
 ghost use Rattle.ang_names_listed.specs.Declarations as declarations;
 ghost use Rattle.ang_names_listed.specs.Earlier as spec;
 ghost use Rattle.ang_names_listed.specs.Taken as taken;
 
 use crate::listed::{Declared, Part};
-use ang_names_rows::NameRows;
+use ang_index::Index;
 use ang_names_written::text_at;
 use std::alloc::{AllocError, Global};
 use std::marker::Model;
+
+/// The scope of all names.
+const DECLARATIONS: u64 = 0;
 
 /// How many declarations there are of each kind.
 #[derive(Clone, Copy, PartialEq, Eq, Debug)]
@@ -24,25 +27,24 @@ pub struct Counts {
 }
 
 /// The declarations before one, which contracts see as the list of them. Beside them stand their
-/// numbers, by the hashes of their names, and how many there are of each kind.
+/// numbers by name, and how many there are of each kind.
 #[derive(Drop)]
 pub struct Earlier<'l, 'a> {
     items: &'l [Declared<'a>],
-    rows: NameRows,
+    places: Index<usize>,
     counts: Counts,
 }
 
 impl<'l, 'a> Model for Earlier<'l, 'a> {
     ghost use Rattle.std.specs.Prelude.{◌≡◌, List};
     ghost use Rattle.ang_names_listed.specs.declared.listed.Declared.{Declared};
-    ghost use Rattle.ang_names_listed.specs.Earlier.{counts_of, name_hashes};
+    ghost use Rattle.ang_names_listed.specs.Earlier.{HasPlaces, counts_of};
 
     ghost Value = { List Declared };
 
     ghost view = { λ e. e.items.now };
 
-    ghost invariant = { λ e. (e.rows.hashes ≡ name_hashes e.rows.rows e.items.now)
-        × (e.counts ≡ counts_of e.items.now) };
+    ghost invariant = { λ e. HasPlaces e.items.now e.places × (e.counts ≡ counts_of e.items.now) };
 }
 
 /// The name that is declared.
@@ -81,28 +83,25 @@ fn counted(counts: Counts, part: &Part<'_>) -> Counts
 }
 
 impl<'l, 'a> Earlier<'l, 'a> {
-    ghost use Rattle.std.specs.Prelude.{◌≡◌, ◌++◌, ◌∷◌, [], IfOk, OnOk};
+    ghost use Rattle.std.specs.Prelude.{◌≡◌, ◌++◌, ◌∷◌, [], OnOk};
     ghost use Rattle.std.specs.List.{list_any};
     ghost use Rattle.ang_names_listed.specs.Earlier.{counts_of};
 
-    /// No declarations yet, of about so many that there will be.
-    ///
-    /// The only error is want of memory.
+    /// No declarations yet. It takes no memory.
     #[tactic(auto, unfolding(crate::specs::Declarations::families_of))]
-    pub fn new(alloc: Global, declarations: usize) -> Result<Earlier<'l, 'a>, AllocError>
-        ensures none { IfOk result (λ earlier. earlier ≡ []) }
+    pub fn new(alloc: Global) -> Earlier<'l, 'a>
+        ensures none { result ≡ [] }
     {
-        let rows = NameRows::new(alloc, declarations)?;
-        Ok(Earlier {
+        Earlier {
             items: &[],
-            rows,
+            places: Index::new(alloc),
             counts: Counts {
                 families: 0,
                 functions: 0,
                 imports: 0,
                 globals: 0,
             },
-        })
+        }
     }
 
     /// The declarations.
@@ -119,13 +118,12 @@ impl<'l, 'a> Earlier<'l, 'a> {
         self.counts
     }
 
-    /// The numbers of those whose names have the hash of this one's.
-    #[tactic(auto, using(crate::proofs::Among::all_among))]
+    /// The numbers of those that have this one's name. It takes no memory.
     pub fn row(&self, declared: &Declared<'_>) -> &[usize]
         ensures all { list_any (spec.clashes_at self.now declared.now) result.now
             ≡ list_any (taken.clashes declared.now) self.now }
     {
-        self.rows.row(declared_name(declared))
+        self.places.find(DECLARATIONS, declared_name(declared))
     }
 
     /// Goes on to these, which are one declaration more.
@@ -133,13 +131,16 @@ impl<'l, 'a> Earlier<'l, 'a> {
     /// The only error is want of memory.
     pub fn grow(
         &mut self,
+        alloc: Global,
         items: &'l [Declared<'a>],
         declared: &Declared<'a>,
     ) -> Result<(), AllocError>
         requires one_more { items.now ≡ self.old ++ declared.now ∷ [] }
         ensures grown { OnOk result (self.new ≡ items.now) }
     {
-        self.rows.push(declared_name(declared))?;
+        let number = self.items.len();
+        self.places
+            .push(alloc, DECLARATIONS, declared_name(declared), number)?;
         self.counts = counted(self.counts, &declared.part);
         self.items = items;
         Ok(())

@@ -106,15 +106,21 @@ fn clashes_at(view: &View, number: EntityNo, declared: &Declared<'_>) -> bool
     }
 }
 
+/// Whether a declaration clashes with one of the entries of these numbers.
+fn clashes_among(view: &View, numbers: &[EntityNo], declared: &Declared<'_>) -> bool
+    ensures exact { result ≡ list_any
+        (λ n. spec.clashes_with_host declared.now (entry_at view.now n.0)) numbers.now }
+{
+    numbers
+        .iter()
+        .any(|number| clashes_at(view, *number, declared))
+}
+
+/// Whether a declaration clashes with what the module sees of the host: with an entry of its name.
 fn is_taken_by_host(view: &View, declared: &Declared<'_>) -> bool
     ensures exact { result ≡ list_any (spec.clashes_with_host declared.now) view.now }
 {
-    for number in 0..view.len() {
-        if clashes_at(view, EntityNo(number as u32), declared) {
-            return true;
-        }
-    }
-    false
+    clashes_among(view, view.find(declared_name(declared)), declared)
 }
 
 /// Whether a declaration clashes with the earlier one of this number.
@@ -226,11 +232,11 @@ pub fn name_refusals(
     ensures exact { IfOk result (λ found. found.items ≡ spec.name_refusals view.now all.now) }
 {
     let mut found = Vec::new(alloc);
-    let mut before = Earlier::new(alloc, all.len())?;
+    let mut before = Earlier::new(alloc);
     for (i, declared) in all.iter().enumerate() {
         let refused = name_refusal(alloc, view, &before, declared)?;
         push_refused(&mut found, refused)?;
-        before.grow(&all[..i + 1], declared)?;
+        before.grow(alloc, &all[..i + 1], declared)?;
     }
     Ok(found)
 }

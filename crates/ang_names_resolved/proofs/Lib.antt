@@ -1,6 +1,7 @@
 pub mod Counts
-pub mod Hashed
+pub mod Named
 pub mod Holding
 pub mod Marked
 pub mod Numbered
 pub mod Spaced
+pub mod Places

@@ -1,3 +1,4 @@
-pub mod Hashes
+pub mod Slots
 pub mod Resolved
 pub mod Tables
+pub mod Placed

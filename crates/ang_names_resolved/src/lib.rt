@@ -6,6 +6,7 @@ mod families;
 mod headings;
 mod held;
 mod members;
+mod placed;
 mod resolved;
 mod signatures;
 mod slots;
@@ -13,6 +14,7 @@ mod space;
 mod tables;
 
 pub use headings::{heading_of, parameter_role};
+pub use placed::Placed;
 pub use resolved::{families_among, names_of};
 pub use slots::Signatures;
 pub use space::space_of;

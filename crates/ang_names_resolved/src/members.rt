@@ -1,5 +1,5 @@
 //! Fields, methods and constructors, each with its number.
-ghost use Rattle.std.specs.Prelude.{◌≡◌, ◌+◌, ◌++◌, [], ◌∷◌, length, option_to_list, if◌then◌else◌, IfOk, OnOk};
+ghost use Rattle.std.specs.Prelude.{◌≡◌, ◌+◌, ◌++◌, [], length, option_to_list, if◌then◌else◌, IfOk, OnOk};
 ghost use Rattle.ang_names_known.specs.Items.{each_after};
 ghost use Rattle.ang_names_resolved.specs.Resolved as spec;
 

@@ -12,7 +12,7 @@ use crate::headings::{function_with, heading_of, parameters_of};
 use crate::space::space_of;
 use crate::tables::{Tables, tables_of};
 use ang_kinds::List;
-use ang_names_known::{Family, Names, ScriptFunction, ScriptGlobal, Space};
+use ang_names_known::{Family, NameLists, Names, ScriptFunction, ScriptGlobal, Space};
 use ang_names_listed::{Declared, Part, declares_function, families_of};
 use ang_names_written::{Role, copy_at, written_in};
 use ang_tree::{Parameter, TypeName};
@@ -233,11 +233,14 @@ pub fn names_of<'a>(
     let functions = functions_in(alloc, &space, all)?;
     let imports = imports_in(alloc, &space, all)?;
     let globals = globals_in(alloc, &space, all)?;
-    Ok(Names {
-        declared,
-        families,
-        functions,
-        imports,
-        globals,
-    })
+    Names::new(
+        alloc,
+        NameLists {
+            declared,
+            families,
+            functions,
+            imports,
+            globals,
+        },
+    )
 }

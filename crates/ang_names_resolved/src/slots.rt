@@ -1,44 +1,47 @@
-//! The number of the first method of a signature, which is found by the hash of its name.
-ghost use Rattle.std.specs.Prelude.{◌≡◌, ◌<◌, find, IfOk};
-ghost use Rattle.ang_names_rows.specs.Hashes.{numbers_of};
-ghost use Rattle.ang_names_resolved.specs.Hashes as hashed;
+//! The number of the first method of a signature, which is found by its name.
+ghost use Rattle.std.specs.Prelude.{◌≡◌, find, IfOk};
 ghost use Rattle.ang_names_resolved.specs.Resolved as spec;
+ghost use Rattle.ang_names_resolved.specs.Slots as slots;
 
 use crate::signatures::{Signature, all_signatures, is_same};
+use ang_index::Index;
 use ang_names_known::{ScriptFunction, Space};
 use ang_names_listed::Declaring;
-use ang_names_rows::{Rows, name_hash, rows_of};
 use std::alloc::{AllocError, Global};
 use std::marker::Model;
 
+/// The scope of all names.
+const METHODS: u64 = 0;
+
 /// All methods of all classes and interfaces, in order, which contracts see as the list of them.
-/// Beside them stand their numbers, by the hashes of their names.
+/// Beside them stand their numbers by name, so that a method is compared with those of its name alone.
 #[derive(Drop)]
 pub struct Signatures {
     items: Vec<Signature>,
-    rows: Rows,
+    numbers: Index<usize>,
 }
 
 impl Model for Signatures {
-    ghost use Rattle.std.specs.Prelude.{◌≡◌, Bool, List};
+    ghost use Rattle.std.specs.Prelude.{Bool, List};
     ghost use Rattle.ang_names_known.specs.declared.names.ScriptFunction.{ScriptFunction};
-    ghost use Rattle.ang_names_resolved.specs.Hashes.{name_hashes};
+    ghost use Rattle.ang_names_resolved.specs.Slots.{HasNumbers};
 
     ghost Value = { List (ScriptFunction × Bool) };
 
     ghost view = { λ s. s.items.items };
 
-    ghost invariant = { λ s. s.rows ≡ name_hashes s.items.items };
+    ghost invariant = { λ s. HasNumbers s.items.items s.numbers };
 }
 
-fn name_hashes(alloc: Global, signatures: &[Signature]) -> Result<Vec<usize>, AllocError>
-    ensures exact { IfOk result (λ found. found.items ≡ hashed.name_hashes signatures.now) }
+/// The numbers of all methods by name.
+fn numbers_by_name(alloc: Global, signatures: &[Signature]) -> Result<Index<usize>, AllocError>
+    ensures exact { IfOk result (λ numbers. slots.HasNumbers signatures.now numbers) }
 {
-    let mut found = Vec::new(alloc);
-    for signature in signatures {
-        found.push(name_hash(signature.0.name.as_slice()))?;
+    let mut numbers = Index::new(alloc);
+    for (number, signature) in signatures.iter().enumerate() {
+        numbers.push(alloc, METHODS, signature.0.name.as_slice(), number)?;
     }
-    Ok(found)
+    Ok(numbers)
 }
 
 /// All methods of all classes and interfaces, in order: their places are their numbers.
@@ -52,9 +55,8 @@ pub fn signatures_of(
     ensures exact { IfOk result (λ found. found ≡ spec.signatures_of space.now families.now) }
 {
     let items = all_signatures(alloc, space, families)?;
-    let hashes = name_hashes(alloc, items.as_slice())?;
-    let rows = rows_of(alloc, hashes)?;
-    Ok(Signatures { items, rows })
+    let numbers = numbers_by_name(alloc, items.as_slice())?;
+    Ok(Signatures { items, numbers })
 }
 
 /// Whether the method of this number is of this signature.
@@ -64,7 +66,7 @@ fn is_same_at(
     read_only: bool,
     number: usize,
 ) -> bool
-    ensures exact { result ≡ hashed.is_same_at signatures.now (function.now, read_only) number }
+    ensures exact { result ≡ slots.is_same_at signatures.now (function.now, read_only) number }
 {
     match signatures.get(number) {
         None => false,
@@ -77,12 +79,12 @@ fn first_same(
     signatures: &[Signature],
     function: &ScriptFunction,
     read_only: bool,
-    row: &[usize],
+    numbers: &[usize],
 ) -> Option<usize>
     ensures exact { result
-        ≡ find (hashed.is_same_at signatures.now (function.now, read_only)) row.now }
+        ≡ find (slots.is_same_at signatures.now (function.now, read_only)) numbers.now }
 {
-    for number in row {
+    for number in numbers {
         if is_same_at(signatures, function, read_only, *number) {
             return Some(*number);
         }
@@ -91,14 +93,13 @@ fn first_same(
 }
 
 impl Signatures {
-    ghost use Rattle.std.specs.Prelude.{◌≡◌, ◌<◌};
+    ghost use Rattle.std.specs.Prelude.{◌≡◌};
 
-    /// The numbers of the methods whose names have this hash, in order.
-    fn row(&self, hash: usize) -> &[usize]
-        requires small { hash < 256 }
-        ensures exact { result.now ≡ numbers_of hash (hashed.name_hashes self.now) }
+    /// The numbers of the methods of this name, rising.
+    fn named(&self, name: &[u8]) -> &[usize]
+        ensures exact { result.now ≡ slots.methods_named self.now name.now }
     {
-        self.rows.row(hash)
+        self.numbers.find(METHODS, name)
     }
 
     fn items(&self) -> &[Signature]
@@ -112,7 +113,7 @@ impl Signatures {
 pub fn slot_of(signatures: &Signatures, function: &ScriptFunction, read_only: bool) -> usize
     ensures exact { result ≡ spec.slot_of signatures.now (function.now, read_only) }
 {
-    let row = signatures.row(name_hash(function.name.as_slice()));
+    let named = signatures.named(function.name.as_slice());
     let items = signatures.items();
-    first_same(items, function, read_only, row).unwrap_or(items.len())
+    first_same(items, function, read_only, named).unwrap_or(items.len())
 }

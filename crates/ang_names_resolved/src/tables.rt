@@ -7,6 +7,7 @@ ghost use Rattle.ang_names_resolved.specs.Resolved as spec;
 ghost use Rattle.ang_names_resolved.specs.Tables as tables;
 
 use crate::held::held_places;
+use crate::placed::Placed;
 use crate::slots::{Signatures, signatures_of};
 use ang_names_heritage::{closed, order_of, push_joined_row, push_row, push_spread_row};
 use ang_names_known::Space;
@@ -30,19 +31,10 @@ pub struct Tables {
     pub signatures: Signatures,
 }
 
-/// The number of the class or interface of this name.
-fn place_of(families: &[Declaring<'_, '_>], name: &[u8]) -> Option<usize>
-    ensures exact { result ≡ spec.place_of families.now name.now }
-{
-    families
-        .iter()
-        .position(|family| family.family_name() == name)
-}
-
 /// The numbers of the classes and interfaces that one names as its bases.
 fn base_places(
     alloc: Global,
-    families: &[Declaring<'_, '_>],
+    families: &Placed<'_, '_, '_>,
     family: &Declaring<'_, '_>,
 ) -> Result<Vec<usize>, AllocError>
     ensures exact { IfOk result
@@ -51,7 +43,7 @@ fn base_places(
     let mut places = Vec::new(alloc);
     let bases = family.shape().bases.as_slice();
     for base in bases {
-        if let Some(place) = place_of(families, text_at(family.text(), base)) {
+        if let Some(place) = families.place_of(text_at(family.text(), base)) {
             places.push(place)?;
         }
     }
@@ -88,37 +80,39 @@ fn classes_among(
 /// The numbers of the classes that a class or an interface names as its bases.
 fn class_places(
     alloc: Global,
-    families: &[Declaring<'_, '_>],
+    families: &Placed<'_, '_, '_>,
     family: &Declaring<'_, '_>,
 ) -> Result<Vec<usize>, AllocError>
     ensures exact { IfOk result
         (λ places. places.items ≡ tables.class_places families.now family.now) }
 {
     let places = base_places(alloc, families, family)?;
-    classes_among(alloc, families, &places)
+    classes_among(alloc, families.families(), &places)
 }
 
 /// The table of all bases.
-fn parents_of(alloc: Global, families: &[Declaring<'_, '_>]) -> Result<Vec<bool>, AllocError>
+fn parents_of(alloc: Global, placed: &Placed<'_, '_, '_>) -> Result<Vec<bool>, AllocError>
     ensures exact { IfOk result (λ table.
-        Shows table.items (length families.now) (spec.is_parent families.now)) }
+        Shows table.items (length placed.now) (spec.is_parent placed.now)) }
 {
+    let families = placed.families();
     let mut table = Vec::new(alloc);
     for family in families {
-        let places = base_places(alloc, families, family)?;
+        let places = base_places(alloc, placed, family)?;
         push_row(&mut table, families.len(), &places)?;
     }
     Ok(table)
 }
 
 /// The table of base classes.
-fn bases_of(alloc: Global, families: &[Declaring<'_, '_>]) -> Result<Vec<bool>, AllocError>
+fn bases_of(alloc: Global, placed: &Placed<'_, '_, '_>) -> Result<Vec<bool>, AllocError>
     ensures exact { IfOk result (λ table.
-        Shows table.items (length families.now) (spec.is_base families.now)) }
+        Shows table.items (length placed.now) (spec.is_base placed.now)) }
 {
+    let families = placed.families();
     let mut table = Vec::new(alloc);
     for family in families {
-        let places = class_places(alloc, families, family)?;
+        let places = class_places(alloc, placed, family)?;
         push_row(&mut table, families.len(), &places)?;
     }
     Ok(table)
@@ -253,8 +247,9 @@ pub fn tables_of(
     requires few { length families.now ≤ 256 }
     ensures exact { IfOk result (λ t. tables.AreTables space.now families.now t) }
 {
-    let parents = parents_of(alloc, families)?;
-    let bases = bases_of(alloc, families)?;
+    let placed = Placed::new(alloc, families)?;
+    let parents = parents_of(alloc, &placed)?;
+    let bases = bases_of(alloc, &placed)?;
     let above = above_of(alloc, families, &parents)?;
     let reach = reach_of(alloc, space, families, &bases, &above)?;
     let signatures = signatures_of(alloc, space, families)?;

@@ -1,9 +1,9 @@
--- A name more puts its number at the end of one row.
-use Rattle.std.specs.Prelude.{ℕ, zero, suc, ◌≡◌, ◌<◌, ◌≤◌, ◌+◌, ◌==◌, Bool, true, false, if◌then◌else◌, List, [], ◌∷◌, ◌++◌, length, slice_index_or, slice_set}
+-- A hash more puts its number at the end of one row.
+use Rattle.std.specs.Prelude.{ℕ, zero, suc, ◌≡◌, ◌<◌, ◌≤◌, ◌+◌, ◌==◌, Bool, true, false, if◌then◌else◌, List, [], ◌∷◌, ◌++◌, length, slice_index_or, slice_set, take}
 use Rattle.std.proofs.Common.{arith, refl, sym, ap, ◌∙◌}
-use Rattle.std.proofs.lemmas.List.{append-nil}
+use Rattle.std.proofs.lemmas.List.{append-nil, take_more}
 use Rattle.ang_names_rows.specs.Hashes.{numbers_of, rows_of}
-use Rattle.ang_names_rows.specs.Grown.{Hashed, hash_in, with_name, with_number}
+use Rattle.ang_names_rows.specs.Grown.{with_number}
 use Rattle.ang_names_rows.proofs.Hashed.{numbers_are, numbers_from, rows_from, rows_more}
 
 pub empty_more : (n : ℕ) → rows_of [] n ++ [] ∷ [] ≡ rows_of [] (n + 1)
@@ -22,15 +22,6 @@ pub past_is : (rows : List (List ℕ)) (h n : ℕ) → length rows ≤ h → row
 past_is [] h n le = refl
 past_is (x ∷ xs) zero n le = absurd (omega (arith, le))
 past_is (x ∷ xs) (suc h) n le = ap (λ r. x ∷ r) (past_is xs h n (omega (arith, le)))
-
-length_with : (h n : ℕ) (rows : List (List ℕ)) → length (with_number h n rows) ≡ length rows
-length_with h n [] = refl
-length_with zero n (row ∷ rows) = refl
-length_with (suc h) n (row ∷ rows) = ap suc (length_with h n rows)
-
-length_rows : (xs : List ℕ) (h n : ℕ) → length (rows_from xs h n) ≡ n
-length_rows xs h zero = refl
-length_rows xs h (suc n) = ap suc (length_rows xs (h + 1) n)
 
 -- ---- one hash more
 
@@ -86,25 +77,18 @@ with_more xs x h (suc n) (suc k) e =
     ap (λ row. row ∷ with_number k (length xs) (rows_from xs (h + 1) n)) (not_in_row h x xs (differ_above x h (omega (arith, e))))
     ∙ ap (λ rows. numbers_of h (xs ++ x ∷ []) ∷ rows) (with_more xs x (h + 1) n k (omega (arith, e)))
 
--- ---- what the rows of names keep
+-- ---- what the rows of hashes keep
 
-pub made : (rows : List (List ℕ)) (n : ℕ) → rows ≡ rows_of [] n → (length rows ≡ n) × (rows ≡ rows_of [] (length rows))
+length_front : (xs : List ℕ) (n : ℕ) → n < length xs → length (take n xs) ≡ n
+length_front [] n lt = absurd (omega (arith, lt))
+length_front (x ∷ xs) zero lt = refl
+length_front (x ∷ xs) (suc n) lt = ap suc (length_front xs n (omega (arith, lt)))
+
+pub grown : (rows new : List (List ℕ)) (hashes : List ℕ) (n x : ℕ) → n < length hashes → x ≡ slice_index_or hashes n 0
+    → rows ≡ rows_of (take n hashes) 256 → new ≡ with_number x n rows → new ≡ rows_of (take (n + 1) hashes) 256
 unfolding rows_of
-made rows n e =
-    let many : length rows ≡ n = ap length e ∙ length_rows [] 0 n in
-    (many, e ∙ ap (rows_from [] 0) (sym many))
-
-pub kept : (rows new : List (List ℕ)) (xs : List ℕ) (x : ℕ) → rows ≡ rows_of xs (length rows) → new ≡ with_number x (length xs) rows
-    → (length new ≡ length rows) × (new ≡ rows_of (xs ++ x ∷ []) (length new))
-unfolding rows_of
-kept rows new xs x e more =
-    let many : length new ≡ length rows = ap length more ∙ length_with x (length xs) rows in
-    (many, more ∙ ap (with_number x (length xs)) e ∙ with_more xs x 0 (length rows) x (omega arith) ∙ ap (rows_from (xs ++ x ∷ []) 0) (sym many))
-
-abbrev view_of : ℕ → List ℕ → Hashed
-view_of n hs = record { rows = n; hashes = hs }
-
-pub viewed : (r : Hashed) (n : ℕ) (hs xs : List ℕ) (x m : ℕ) (name : List ℕ) → view_of m xs ≡ r → n ≡ m → hs ≡ xs ++ x ∷ [] → x ≡ hash_in m name
-    → view_of n hs ≡ with_name name r
-viewed r n hs xs x m name is many items exact =
-    ap (λ k. view_of k hs) many ∙ ap (view_of m) items ∙ ap (λ y. view_of m (xs ++ y ∷ [])) exact ∙ ap (with_name name) is
+grown rows new hashes n x lt is same more =
+    let front = take n hashes in
+    more ∙ ap (with_number x n) same ∙ ap (λ k. with_number x k (rows_from front 0 256)) (sym (length_front hashes n lt))
+    ∙ with_more front x 0 256 x (omega arith)
+    ∙ ap (λ y. rows_from (front ++ y ∷ []) 0 256) is ∙ ap (λ xs. rows_from xs 0 256) (sym (take_more hashes n 0 lt))

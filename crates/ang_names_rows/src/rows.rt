@@ -1,8 +1,8 @@
 //! The numbers of what has each hash, so that few are looked at.
-ghost use Rattle.std.specs.Prelude.{◌≡◌, ◌<◌, ◌+◌, ◌*◌, ◌%◌, [], slice_get, unwrap_or, IfOk};
+ghost use Rattle.std.specs.Prelude.{◌≡◌, ◌<◌, ◌+◌, ◌*◌, ◌%◌, IfOk};
 ghost use Rattle.ang_names_rows.specs.Hashes as spec;
 
-use ang_kinds::List;
+use crate::row::{Row, empty_rows, push_at, row_at};
 use std::alloc::{AllocError, Global};
 use std::marker::Model;
 
@@ -13,7 +13,7 @@ const HASHES: usize = 256;
 #[derive(Drop)]
 pub struct Rows {
     hashes: Vec<usize>,
-    rows: Vec<List<usize>>,
+    rows: Vec<Row>,
 }
 
 impl Model for Rows {
@@ -59,27 +59,13 @@ pub fn name_hash(name: &[u8]) -> usize
     hash
 }
 
-/// The numbers of what has a hash.
-fn numbers_of(alloc: Global, hashes: &[usize], hash: usize) -> Result<List<usize>, AllocError>
-    ensures exact { IfOk result (λ row. row ≡ spec.numbers_of hash hashes.now) }
+/// A row for each hash, of what has these hashes.
+fn rows_from(alloc: Global, hashes: &[usize]) -> Result<Vec<Row>, AllocError>
+    ensures exact { IfOk result (λ rows. rows.items ≡ spec.rows_of hashes.now 256) }
 {
-    let mut row = Vec::new(alloc);
-    for (number, other) in hashes.iter().enumerate() {
-        if *other == hash {
-            row.push(number)?;
-        }
-    }
-    Ok(List::from_vec(row))
-}
-
-/// A row for each of the first `count` hashes.
-#[tactic(auto, unfolding(crate::specs::Hashes::rows_of))]
-fn rows_from(alloc: Global, hashes: &[usize], count: usize) -> Result<Vec<List<usize>>, AllocError>
-    ensures exact { IfOk result (λ rows. rows.items ≡ spec.rows_of hashes.now count) }
-{
-    let mut rows = Vec::new(alloc);
-    for hash in 0..count {
-        rows.push(numbers_of(alloc, hashes, hash)?)?;
+    let mut rows = empty_rows(alloc, HASHES)?;
+    for (number, hash) in hashes.iter().enumerate() {
+        push_at(&mut rows, *hash, number)?;
     }
     Ok(rows)
 }
@@ -90,17 +76,8 @@ fn rows_from(alloc: Global, hashes: &[usize], count: usize) -> Result<Vec<List<u
 pub fn rows_of(alloc: Global, hashes: Vec<usize>) -> Result<Rows, AllocError>
     ensures exact { IfOk result (λ rows. rows ≡ hashes.items) }
 {
-    let rows = rows_from(alloc, hashes.as_slice(), HASHES)?;
+    let rows = rows_from(alloc, hashes.as_slice())?;
     Ok(Rows { hashes, rows })
-}
-
-fn row_at(rows: &[List<usize>], hash: usize) -> &[usize]
-    ensures exact { result.now ≡ unwrap_or (slice_get rows.now hash) [] }
-{
-    match rows.get(hash) {
-        None => &[],
-        Some(row) => row.as_slice(),
-    }
 }
 
 impl Rows {

@@ -3,4 +3,5 @@ pub mod Roles
 pub mod Declarations
 pub mod Overloads
 pub mod Types
+pub mod Among
 pub mod Refusals

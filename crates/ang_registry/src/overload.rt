@@ -1,29 +1,59 @@
 //! What can stand beside what.
-ghost use Rattle.std.specs.Prelude.{◌≡◌};
+ghost use Rattle.std.specs.Prelude.{◌≡◌, map};
 ghost use Rattle.std.specs.List.{list_any};
+ghost use Rattle.ang_view.specs.Registration.{entry_at};
+ghost use Rattle.ang_registry.specs.Among as among;
 ghost use Rattle.ang_registry.specs.Overloads as spec;
 ghost use Rattle.ang_registry.specs.Overloads.{is_handle, same_type, same_parameter, same_parameters};
 
 use crate::{Entry, EntryKind};
 use ang_kinds::{EntityNo, Param, Shape, Signature, TypeRef};
+use ang_view::View;
 
-/// Whether the entry can't stand beside what is registered.
-#[tactic(auto, unfolding(crate::specs::Overloads::is_taken))]
-pub fn is_duplicate(entries: &[Option<Entry>], entry: &Entry) -> bool
-    ensures exact { result
-        ≡ spec.is_taken entries.now entry.now.kind entry.now.owner entry.now.signature }
+/// The entries of the same name, or of a factory those of the same type: no others can take its name.
+fn rivals_of<'a>(list: &'a View, entry: &Entry) -> &'a [EntityNo]
+    ensures exact { map (λ number. number.0) result.now ≡ among.rivals list.now entry.now.kind
+        entry.now.owner entry.now.signature.name }
 {
-    entries.iter().any(|other| clash(entry, other))
+    let name = entry.signature.name.as_slice();
+    match entry.kind {
+        EntryKind::HostType | EntryKind::Function | EntryKind::Global => list.find(name),
+        EntryKind::Method | EntryKind::Property => match entry.owner {
+            None => &[],
+            Some(owner) => list.owned(owner, name),
+        },
+        EntryKind::Factory => match entry.owner {
+            None => &[],
+            Some(owner) => list.makers(owner),
+        },
+    }
 }
 
-fn clash(entry: &Entry, other: &Option<Entry>) -> bool
+fn clashes_at(list: &View, entry: &Entry, number: EntityNo) -> bool
     ensures exact { result ≡ spec.clashes entry.now.kind entry.now.owner entry.now.signature
-        other.now }
+        (entry_at list.now number.0) }
 {
-    match other {
+    match list.get(number) {
         None => false,
         Some(other) => clash_with(entry, other),
     }
+}
+
+fn clashes_among(list: &View, entry: &Entry, numbers: &[EntityNo]) -> bool
+    ensures exact { result ≡ list_any (λ n. spec.clashes entry.now.kind entry.now.owner
+        entry.now.signature (entry_at list.now n.0)) numbers.now }
+{
+    numbers
+        .iter()
+        .any(|number| clashes_at(list, entry, *number))
+}
+
+/// Whether the entry can't stand beside what is registered.
+pub fn is_duplicate(list: &View, entry: &Entry) -> bool
+    ensures exact { result
+        ≡ spec.is_taken list.now entry.now.kind entry.now.owner entry.now.signature }
+{
+    clashes_among(list, entry, rivals_of(list, entry))
 }
 
 fn clash_with(entry: &Entry, other: &Entry) -> bool

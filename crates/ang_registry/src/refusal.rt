@@ -2,9 +2,9 @@
 ghost use Rattle.std.specs.Prelude.{◌≡◌, ◌<◌, ◌==◌, false, [], ◌∷◌, length, OnOk, IfErr, Some};
 ghost use Rattle.ang_registry.specs.Refusals as spec;
 
-use crate::{Entry, EntryKind, RegError};
+use crate::{EntryKind, RegError};
 use ang_kinds::{Mask, Signature};
-use ang_view::spells;
+use ang_view::{View, spells};
 
 /// The most entries of a registration list.
 pub const MOST_ENTRIES: usize = 1024;
@@ -22,27 +22,23 @@ fn has_many_parameters(declared: &Option<Signature>) -> bool
 }
 
 #[tactic(auto, unfolding(crate::specs::Refusals::is_over_limit))]
-fn is_over_limit(entries: &[Option<Entry>], declared: &Option<Signature>) -> bool
-    ensures exact { result ≡ spec.is_over_limit entries.now declared.now }
-    ensures room { result ≡ false → length entries.now < 1024 }
+fn is_over_limit(list: &View, declared: &Option<Signature>) -> bool
+    ensures exact { result ≡ spec.is_over_limit list.now declared.now }
+    ensures room { result ≡ false → length list.now < 1024 }
 {
-    entries.len() >= MOST_ENTRIES || has_many_parameters(declared)
+    list.len() >= MOST_ENTRIES || has_many_parameters(declared)
 }
 
 /// Refuses where the list is full, the declaration too long or the mask empty, in that order.
-pub fn check_room(
-    entries: &[Option<Entry>],
-    mask: Mask,
-    declared: &Option<Signature>,
-) -> Result<(), RegError>
-    ensures room { OnOk result (length entries.now < 1024) }
-    ensures limit { OnOk result (spec.is_over_limit entries.now declared.now ≡ false) }
+pub fn check_room(list: &View, mask: Mask, declared: &Option<Signature>) -> Result<(), RegError>
+    ensures room { OnOk result (length list.now < 1024) }
+    ensures limit { OnOk result (spec.is_over_limit list.now declared.now ≡ false) }
     ensures mask { OnOk result ((mask.0 == 0) ≡ false) }
     ensures refused { IfErr result (λ why. spec.first_row (
-        (spec.is_over_limit entries.now declared.now, RegError.Limit) ∷
+        (spec.is_over_limit list.now declared.now, RegError.Limit) ∷
         (mask.0 == 0, RegError.EmptyMask) ∷ []) ≡ Some why) }
 {
-    if is_over_limit(entries, declared) {
+    if is_over_limit(list, declared) {
         return Err(RegError::Limit);
     }
     if mask.0 == 0 {

@@ -16,19 +16,18 @@ use crate::lookup::{is_wrong_driver, names_unknown};
 use crate::overload::is_duplicate;
 use crate::refusal::{MOST_ENTRIES, check_room, gives_own};
 use ang_kinds::{EntityNo, Mask, Signature};
-use ang_view::{
-    Entry, EntryKind, View, find_type, function_index, hidden_of, number_of_type, view_of, whole_of,
-};
+use ang_view::{Entry, EntryKind, View, find_type, hidden_of, view_of, whole_of};
 use std::alloc::{AllocError, Global};
 use std::marker::Model;
 
 /// What a host offers to scripts: a list of entries, numbered from 0 in the order of registration, and
-/// the mask that the next entry gets (docs/EMBEDDING.md, "Registration").
+/// the mask that the next entry gets (docs/EMBEDDING.md, "Registration"). A registration looks at those entries alone that have
+/// its name or its types' names, and at those of its type; that of a type also at all types' drivers.
 #[derive(Drop)]
 pub struct Registry {
     alloc: Global,
     default_mask: Mask,
-    entries: Vec<Option<Entry>>,
+    list: View,
 }
 
 impl Model for Registry {
@@ -38,9 +37,9 @@ impl Model for Registry {
 
     ghost Value = { Registrations };
 
-    ghost view = { λ r. record { default_mask = r.default_mask; entries = r.entries.items } };
+    ghost view = { λ r. record { default_mask = r.default_mask; entries = r.list } };
 
-    ghost invariant = { λ r. (length r.entries.items ≤ 1024) × TakesValues r.entries.items };
+    ghost invariant = { λ r. (length r.list ≤ 1024) × TakesValues r.list };
 }
 
 impl Registry {
@@ -52,7 +51,7 @@ impl Registry {
         Registry {
             alloc,
             default_mask: Mask(1),
-            entries: Vec::new(alloc),
+            list: View::new(alloc),
         }
     }
 
@@ -272,7 +271,7 @@ impl Registry {
             → refusal_of_own kind self.old driver declared ≡ Some why) }
         ensures unchanged { OnErr result (self.new ≡ self.old) }
     {
-        check_room(&self.entries, self.default_mask, &declared)?;
+        check_room(&self.list, self.default_mask, &declared)?;
         let Some(signature) = declared else {
             return Err(RegError::BadDeclaration);
         };
@@ -297,14 +296,14 @@ impl Registry {
             → refusal_of_member kind self.old type_name.now declared ≡ Some why) }
         ensures unchanged { OnErr result (self.new ≡ self.old) }
     {
-        check_room(&self.entries, self.default_mask, &declared)?;
+        check_room(&self.list, self.default_mask, &declared)?;
         let Some(signature) = declared else {
             return Err(RegError::BadDeclaration);
         };
         if !gives_own(kind, type_name, &signature) {
             return Err(RegError::BadDeclaration);
         }
-        let Some(found) = find_type(&self.entries, type_name) else {
+        let Some(found) = find_type(&self.list, type_name) else {
             return Err(RegError::UnknownType);
         };
         self.add(kind, Some(found.number), found.driver, f, signature)
@@ -338,13 +337,13 @@ impl Registry {
             signature,
             mask: self.default_mask,
         };
-        if names_unknown(&self.entries, &entry.signature) {
+        if names_unknown(&self.list, &entry.signature) {
             return Err(RegError::UnknownType);
         }
-        if is_wrong_driver(&self.entries, &entry) {
+        if is_wrong_driver(&self.list, &entry) {
             return Err(RegError::WrongDriver);
         }
-        if is_duplicate(&self.entries, &entry) {
+        if is_duplicate(&self.list, &entry) {
             return Err(RegError::Duplicate);
         }
         self.push(Some(entry))
@@ -360,7 +359,7 @@ impl Registry {
         ensures unchanged { OnErr result (self.new ≡ self.old) }
     {
         let number = EntityNo(self.len() as u32);
-        self.entries.push(entry)?;
+        self.list.push(self.alloc, entry)?;
         Ok(number)
     }
 
@@ -375,7 +374,7 @@ impl Registry {
         ensures values { IfOk result (λ view. TakesValues view) }
         ensures few { IfOk result (λ view. length view ≤ 1024) }
     {
-        view_of(alloc, &self.entries, mask)
+        view_of(alloc, &self.list, mask)
     }
 
     /// What a module of the mask does not see of the list: each entry that it sees is a blank there.
@@ -386,7 +385,7 @@ impl Registry {
     pub fn hidden(&self, alloc: Global, mask: Mask) -> Result<View, AllocError>
         ensures exact { IfOk result (λ view. view ≡ hidden self.now.entries mask.0) }
     {
-        hidden_of(alloc, &self.entries, mask)
+        hidden_of(alloc, &self.list, mask)
     }
 
     /// The whole list, whatever the masks.
@@ -397,7 +396,7 @@ impl Registry {
     pub fn whole(&self, alloc: Global) -> Result<View, AllocError>
         ensures exact { IfOk result (λ view. view ≡ self.now.entries) }
     {
-        whole_of(alloc, &self.entries)
+        whole_of(alloc, self.list.entries())
     }
 
     /// The number of entries, blanks included: at most 1,024.
@@ -405,14 +404,14 @@ impl Registry {
         ensures exact { result ≡ length self.now.entries }
         ensures most { result ≤ 1024 }
     {
-        self.entries.len()
+        self.list.len()
     }
 
     /// The entry of a number, or none at a blank and past the end.
     pub fn get(&self, number: EntityNo) -> Option<&Entry>
         ensures exact { option_copied result ≡ entry_at self.now.entries number.0 }
     {
-        self.entries.get(number.0 as usize)?.as_ref()
+        self.list.get(number)
     }
 
     /// The number of the type of this name, whatever its mask. It takes no memory.
@@ -420,7 +419,7 @@ impl Registry {
         ensures exact { option_map (λ number. number.0) result
             ≡ type_named self.now.entries name.now }
     {
-        number_of_type(&self.entries, name)
+        self.list.find_type(name)
     }
 
     /// The number of the first function of the name that a module of the mask sees, or none where it sees none.
@@ -431,7 +430,7 @@ impl Registry {
         ensures found { IfSome result
             (λ number. SeesFunction self.now.entries mask.0 name.now number.0) }
     {
-        let index = function_index(&self.entries, mask, name)?;
-        Some(EntityNo(index as u32))
+        let number = self.list.find_function(mask, name)?;
+        Some(number)
     }
 }

@@ -3,3 +3,5 @@ pub mod Entries
 pub mod Seen
 pub mod ViewTypes
 pub mod Named
+pub mod Among
+pub mod SeenTypes

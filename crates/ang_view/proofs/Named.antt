@@ -1,77 +1,231 @@
--- All entries of a name are in the row of its hash, and all factories of a type in that of its number.
-use Rattle.std.proofs.Common.{◌≡◌, ℕ, zero, suc, ◌+◌, ◌%◌, ◌<◌, ◌≤◌, ◌==◌, Bool, true, false, cond, List, [], ◌∷◌, map, filter, length, get_or, Option, Some, None, refl, sym, ap, ◌∙◌, arith, bytes_eq}
+-- What an index has of a list, number by number, and what is found in it.
+use Rattle.std.proofs.Common.{inl, inr, ◌≡◌, ℕ, zero, suc, ◌+◌, ◌*◌, ◌<◌, ◌≤◌, ◌==◌, Bool, true, false, cond, ◌&&◌, List, [], ◌∷◌, ◌++◌, map, filter, length, Option, Some, None, refl, sym, ap, ◌∙◌, arith, bytes_eq}
 use Rattle.std.specs.List.{position_from, range_with_len}
+use Rattle.std.proofs.lemmas.Bool.Decides.{eqb_tells}
 use Rattle.std.proofs.lemmas.Iterator.Adapters.{position_from-zero}
-use Rattle.std.proofs.lemmas.Slice.Eq.{bytes_eq-Decides}
-use Rattle.ang_names_rows.specs.Grown.{Hashed, hash_in}
-use Rattle.ang_names_rows.specs.Hashes as hashes
+use Rattle.ang_index.specs.Rows.{Rows, is_under, items_at, Puts}
 use Rattle.ang_kinds.specs.declared.mask.EntityNo.{EntityNo}
 use Rattle.ang_view.specs.declared.entry.Entry.{Entry}
-use Rattle.ang_view.specs.Registration.{RegistrationList, entry_at, is_number, is_type}
+use Rattle.ang_view.specs.declared.entry.EntryKind.{EntryKind}
+use Rattle.ang_view.specs.declared.entry.EntryKind.TheVariants as entry
+use Rattle.ang_view.specs.Registration.{RegistrationList, entry_at, function_named, is_function, is_function_named, is_number, is_seen, is_type, seen, seen_entry}
 use Rattle.ang_view.specs.Hidden.{numbers_of}
 use Rattle.ang_view.specs.Types.{is_type_named, type_named}
-use Rattle.ang_view.specs.Named.{WantsFactory, WantsName, first_of, has_name, is_maker, maker_hash, makes, name_hashes, name_in, owner_hash}
-use Rattle.ang_view.proofs.Lists.{and_gives, length-map}
+use Rattle.ang_view.proofs.Lists.{position-map}
+use Rattle.ang_view.specs.Named.{find, first_of, has_name, Indexes, is_bare, is_maker, is_member, is_member_kind, is_scope, makers, makes, name_by, name_in, numbers_at, numbers_under, owned, PutsEntry, scope_by, scope_in, shifted, stands_under}
 
--- ---- a filter behind a wider one
+-- ---- one entry more
 
-filter_step : (p : ℕ → Bool) (a : ℕ) (b c : Bool) (xs ys : List ℕ) → p a ≡ c → (c ≡ true → b ≡ true) → filter p xs ≡ filter p ys
-    → filter p (cond b (a ∷ xs) xs) ≡ cond c (a ∷ filter p ys) (filter p ys)
-filter_step p a true c xs ys e h same = λ i. cond (e i) (a ∷ same i) (same i)
-filter_step p a false true xs ys e h same = let no' : false ≡ true = h refl in cc
-filter_step p a false false xs ys e h same = same
+range_last : (a n : ℕ) → range_with_len a (suc n) ≡ range_with_len a n ++ (a + n) ∷ []
+range_last a zero = let z : a ≡ a + 0 = omega arith in ap (λ k. k ∷ []) z
+range_last a (suc n) =
+    let up : (a + 1) + n ≡ a + suc n = omega arith in
+    ap (λ ks. a ∷ ks) (range_last (a + 1) n ∙ ap (λ k. range_with_len (a + 1) n ++ k ∷ []) up)
 
-filter_twice : (p q : ℕ → Bool) (a n : ℕ) → ((i : ℕ) → a ≤ i → i < a + n → p i ≡ true → q i ≡ true)
-    → filter p (filter q (range_with_len a n)) ≡ filter p (range_with_len a n)
-filter_twice p q a zero h = refl
-filter_twice p q a (suc n) h =
-    filter_step p a (q a) (p a) (filter q (range_with_len (a + 1) n)) (range_with_len (a + 1) n) refl (h a (omega arith) (omega arith))
-    (filter_twice p q (a + 1) n (λ i low high. h i (omega (arith, low)) (omega (arith, high))))
+range_more : (n : ℕ) → range_with_len 0 (n + 1) ≡ range_with_len 0 n ++ n ∷ []
+range_more n =
+    let next : n + 1 ≡ suc n = omega arith in
+    let first : 0 + n ≡ n = omega arith in
+    ap (range_with_len 0) next ∙ range_last 0 n ∙ ap (λ k. range_with_len 0 n ++ k ∷ []) first
 
--- ---- the row of a hash
+filter_more : (p : ℕ → Bool) (ks : List ℕ) (k : ℕ) → filter p (ks ++ k ∷ []) ≡ filter p ks ++ cond (p k) (k ∷ []) []
+filter_more p [] k = refl
+filter_more p (i ∷ is) k = by (p i) (filter_more p is k)
+  where
+    by : (b : Bool) → filter p (is ++ k ∷ []) ≡ filter p is ++ cond (p k) (k ∷ []) []
+        → cond b (i ∷ filter p (is ++ k ∷ [])) (filter p (is ++ k ∷ [])) ≡ cond b (i ∷ filter p is) (filter p is) ++ cond (p k) (k ∷ []) []
+    by true e = ap (λ r. i ∷ r) e
+    by false e = e
 
-hash_at : (f : Option Entry → ℕ) (V : RegistrationList) (n : ℕ) → n < length V → get_or (map f V) n 0 ≡ f (entry_at V n)
-hash_at f [] n lt = absurd (omega (arith, lt))
-hash_at f (x ∷ xs) zero lt = refl
-hash_at f (x ∷ xs) (suc n) lt = hash_at f xs n (omega (arith, lt))
+pub under_more : (V : RegistrationList) (s : ℕ) (name : List ℕ) (n : ℕ)
+    → numbers_under V s name (n + 1) ≡ numbers_under V s name n ++ cond (stands_under s name (entry_at V n)) (n ∷ []) []
+unfolding numbers_under
+under_more V s name n =
+    ap (filter (λ k. stands_under s name (entry_at V k))) (range_more n)
+    ∙ filter_more (λ k. stands_under s name (entry_at V k)) (range_with_len 0 n) n
 
-equal : (n : ℕ) → (n == n) ≡ true
-equal n = search arith
+append_none : (xs : List ℕ) → xs ≡ xs ++ []
+append_none [] = refl
+append_none (x ∷ xs) = ap (λ r. x ∷ r) (append_none xs)
 
--- where all that pass the test have the hash
-all_of : (f : Option Entry → ℕ) (h : ℕ) (V : RegistrationList) (p : ℕ → Bool) → ((n : ℕ) → p n ≡ true → f (entry_at V n) ≡ h)
-    → filter p (hashes.numbers_of h (map f V)) ≡ filter p (numbers_of V)
-unfolding hashes.numbers_of
-all_of f h V p has =
-    let many : length (map f V) ≡ length V = length-map f V in
-    ap (λ n. filter p (filter (λ k. get_or (map f V) k 0 == h) (range_with_len 0 n))) many
-    ∙ filter_twice p (λ k. get_or (map f V) k 0 == h) 0 (length V)
-    (λ i low high t. ap (λ k. k == h) (hash_at f V i (omega (arith, high)) ∙ has i t) ∙ equal h)
+numbers_put : (b : Bool) (xs : List EntityNo) (e : EntityNo) → map (λ (e : EntityNo). e.0) (cond b (xs ++ e ∷ []) xs) ≡ map (λ (e : EntityNo). e.0) xs ++ cond b (e.0 ∷ []) []
+numbers_put true [] e = refl
+numbers_put true (x ∷ xs) e = ap (λ r. x.0 ∷ r) (numbers_put true xs e)
+numbers_put false xs e = append_none (map (λ (e : EntityNo). e.0) xs)
 
--- ---- by name
+-- an entry that stands in a scope is put in there
+pub entry_put : (o : Option Entry) (scope : ℕ) (name : List ℕ) (e : EntityNo) (old new : Rows EntityNo)
+    → Some scope ≡ scope_in o → name ≡ name_in o → Puts old new scope name e → PutsEntry old new o e.0
+entry_put o scope name e old new at called puts s other =
+    ap (map (λ (e : EntityNo). e.0)) (puts s other)
+    ∙ numbers_put (is_under s other (scope, name)) (items_at s other old) e
+    ∙ ap (λ b. numbers_at s other old ++ cond b (e.0 ∷ []) []) (λ i. is_scope s (at i) && bytes_eq (called i) other)
 
-same_name : (name : List ℕ) (o : Option Entry) → has_name name o ≡ true → name_in o ≡ name
-same_name name None e = cc
-same_name name (Some x) e = (bytes_eq-Decides x.signature.name name).0 e
+-- one that stands in none is not
+pub entry_not_put : (o : Option Entry) (e : EntityNo) (rows : Rows EntityNo) → None ≡ scope_in o → PutsEntry rows rows o e.0
+entry_not_put o e rows at s other =
+    append_none (numbers_at s other rows) ∙ ap (λ b. numbers_at s other rows ++ cond b (e.0 ∷ []) []) (λ i. is_scope s (at i) && bytes_eq (name_in o) other)
 
-pub all_in_row : (r : Hashed) (V : RegistrationList) (name row : List ℕ) → r.hashes ≡ name_hashes r.rows V
-    → row ≡ hashes.numbers_of (hash_in r.rows name) r.hashes → (p : ℕ → Bool) → WantsName V name p → filter p row ≡ filter p (numbers_of V)
-all_in_row r V name row same is p wants =
-    ap (filter p) (is ∙ ap (hashes.numbers_of (hash_in r.rows name)) same)
-    ∙ all_of (λ o. hash_in r.rows (name_in o)) (hash_in r.rows name) V p (λ n t. ap (hash_in r.rows) (same_name name (entry_at V n) (wants n t)))
+-- ---- a list with one entry more
+
+entry_at-front : (V : RegistrationList) (o : Option Entry) (k : ℕ) → k < length V → entry_at (V ++ o ∷ []) k ≡ entry_at V k
+entry_at-front [] o k lt = absurd (omega (arith, lt))
+entry_at-front (x ∷ xs) o zero lt = refl
+entry_at-front (x ∷ xs) o (suc k) lt = entry_at-front xs o k (omega (arith, lt))
+
+entry_at-last : (V : RegistrationList) (o : Option Entry) → entry_at (V ++ o ∷ []) (length V) ≡ o
+entry_at-last [] o = refl
+entry_at-last (x ∷ xs) o = entry_at-last xs o
+
+length-pushed : (V : RegistrationList) (o : Option Entry) → length (V ++ o ∷ []) ≡ length V + 1
+length-pushed [] o = refl
+length-pushed (x ∷ xs) o = let rest = length-pushed xs o in omega (arith, rest)
+
+filter_same : (p q : ℕ → Bool) (a n : ℕ) → ((k : ℕ) → a ≤ k → k < a + n → p k ≡ q k) → filter p (range_with_len a n) ≡ filter q (range_with_len a n)
+filter_same p q a zero h = refl
+filter_same p q a (suc n) h =
+    let here : p a ≡ q a = h a (omega arith) (omega arith) in
+    let rest = filter_same p q (a + 1) n (λ k low high. h k (omega (arith, low)) (omega (arith, high))) in
+    λ i. cond (here i) (a ∷ rest i) (rest i)
+
+under_front : (V : RegistrationList) (o : Option Entry) (s : ℕ) (name : List ℕ) → numbers_under (V ++ o ∷ []) s name (length V) ≡ numbers_under V s name (length V)
+unfolding numbers_under
+under_front V o s name =
+    filter_same (λ k. stands_under s name (entry_at (V ++ o ∷ []) k)) (λ k. stands_under s name (entry_at V k)) 0 (length V)
+    (λ k low high. ap (stands_under s name) (entry_at-front V o k (omega (arith, high))))
+
+pub one_more_indexed : (V : RegistrationList) (o : Option Entry) (n : ℕ) (old new : Rows EntityNo) → Indexes V old → n ≡ length V → PutsEntry old new o n → Indexes (V ++ o ∷ []) new
+one_more_indexed V o n old new ix is puts =
+    record {
+      same = λ s name.
+          puts s name
+          ∙ ap (λ ns. ns ++ cond (stands_under s name o) (n ∷ []) []) (ix.same s name ∙ sym (under_front V o s name))
+          ∙ (λ i. numbers_under (V ++ o ∷ []) s name (length V) ++ cond (stands_under s name (sym (entry_at-last V o) i)) (is i ∷ []) [])
+          ∙ sym (under_more (V ++ o ∷ []) s name (length V))
+          ∙ ap (numbers_under (V ++ o ∷ []) s name) (sym (length-pushed V o));
+    }
+
+pub none_indexed : (rows : Rows EntityNo) → rows ≡ [] → Indexes [] rows
+unfolding numbers_under
+none_indexed rows e = record { same = λ s name. ap (numbers_at s name) e }
+
+-- ---- what is found
+
+itself : (n : ℕ) → (n == n) ≡ true
+itself n = search arith
+
+even_or_odd : (u t : ℕ) → ((2 * u + 2) == (2 * t + 1)) ≡ false
+even_or_odd u t = elim (eqb_tells (2 * u + 2) (2 * t + 1)) [ inl e ↦ absurd (omega (arith, e.1)) | inr e ↦ e.0 ]
+
+odd_or_even : (u t : ℕ) → ((2 * u + 1) == (2 * t + 2)) ≡ false
+odd_or_even u t = elim (eqb_tells (2 * u + 1) (2 * t + 2)) [ inl e ↦ absurd (omega (arith, e.1)) | inr e ↦ e.0 ]
+
+above_none : (u k : ℕ) → 0 < k → ((2 * u + k) == 0) ≡ false
+above_none u k lt = elim (eqb_tells (2 * u + k) 0) [ inl e ↦ absurd (omega (arith, lt, e.1)) | inr e ↦ e.0 ]
+
+none_above : (t k : ℕ) → 0 < k → (0 == (2 * t + k)) ≡ false
+none_above t k lt = elim (eqb_tells 0 (2 * t + k)) [ inl e ↦ absurd (omega (arith, lt, e.1)) | inr e ↦ e.0 ]
+
+twice_differ : (u t k : ℕ) → (u == t) ≡ false → (u ≡ t → ⊥) → ((2 * u + k) == (2 * t + k)) ≡ (u == t)
+twice_differ u t k unlike differ =
+    elim (eqb_tells (2 * u + k) (2 * t + k)) [ inl e ↦ absurd (differ (omega (arith, e.1))) | inr e ↦ e.0 ∙ sym unlike ]
+
+twice_same : (u t k : ℕ) → ((2 * u + k) == (2 * t + k)) ≡ (u == t)
+twice_same u t k =
+    elim (eqb_tells u t) [ inl e ↦ ap (λ n. (2 * n + k) == (2 * t + k)) e.1 ∙ itself (2 * t + k) ∙ sym e.0 | inr e ↦ twice_differ u t k e.0 e.1 ]
+
+-- the scope of a type's members or factories, against each other scope
+in_own : (t k : ℕ) (owner : Option EntityNo) → is_scope (2 * t + k) (shifted k owner) ≡ is_number t owner
+in_own t k None = refl
+in_own t k (Some e) = twice_same e.0 t k
+
+not_bare : (k : ℕ) (owner : Option EntityNo) → 0 < k → is_scope 0 (shifted k owner) ≡ false
+not_bare k None lt = refl
+not_bare k (Some e) lt = above_none e.0 k lt
+
+no_maker : (t : ℕ) (owner : Option EntityNo) → is_scope (2 * t + 1) (shifted 2 owner) ≡ false
+no_maker t None = refl
+no_maker t (Some e) = even_or_odd e.0 t
+
+no_member : (t : ℕ) (owner : Option EntityNo) → is_scope (2 * t + 2) (shifted 1 owner) ≡ false
+no_member t None = refl
+no_member t (Some e) = odd_or_even e.0 t
+
+and_true : (b : Bool) → (b && true) ≡ b
+and_true true = refl
+and_true false = refl
+
+named_by : (name own : List ℕ) (owner : Option EntityNo) (k : EntryKind) → (is_scope 0 (scope_by k owner) && bytes_eq (name_by k own) name) ≡ (is_bare k && bytes_eq own name)
+named_by name own owner entry.HostType = refl
+named_by name own owner entry.Factory = ap (λ b. b && bytes_eq [] name) (not_bare 2 owner (omega arith))
+named_by name own owner entry.Method = ap (λ b. b && bytes_eq own name) (not_bare 1 owner (omega arith))
+named_by name own owner entry.Property = ap (λ b. b && bytes_eq own name) (not_bare 1 owner (omega arith))
+named_by name own owner entry.Function = refl
+named_by name own owner entry.Global = refl
+
+is_named : (name : List ℕ) (o : Option Entry) → stands_under 0 name o ≡ has_name name o
+is_named name None = refl
+is_named name (Some x) = named_by name x.signature.name x.owner x.kind
+
+owned_by : (t : ℕ) (name own : List ℕ) (owner : Option EntityNo) (k : EntryKind)
+    → (is_scope (2 * t + 1) (scope_by k owner) && bytes_eq (name_by k own) name) ≡ (is_member_kind k && (is_number t owner && bytes_eq own name))
+owned_by t name own owner entry.HostType = ap (λ b. b && bytes_eq own name) (none_above t 1 (omega arith))
+owned_by t name own owner entry.Factory = ap (λ b. b && bytes_eq [] name) (no_maker t owner)
+owned_by t name own owner entry.Method = ap (λ b. b && bytes_eq own name) (in_own t 1 owner)
+owned_by t name own owner entry.Property = ap (λ b. b && bytes_eq own name) (in_own t 1 owner)
+owned_by t name own owner entry.Function = ap (λ b. b && bytes_eq own name) (none_above t 1 (omega arith))
+owned_by t name own owner entry.Global = ap (λ b. b && bytes_eq own name) (none_above t 1 (omega arith))
+
+is_owned : (t : ℕ) (name : List ℕ) (o : Option Entry) → stands_under (2 * t + 1) name o ≡ is_member t name o
+is_owned t name None = refl
+is_owned t name (Some x) = owned_by t name x.signature.name x.owner x.kind
+
+made_by : (t : ℕ) (own : List ℕ) (owner : Option EntityNo) (k : EntryKind) → (is_scope (2 * t + 2) (scope_by k owner) && bytes_eq (name_by k own) []) ≡ (is_maker k && is_number t owner)
+made_by t own owner entry.HostType = ap (λ b. b && bytes_eq own []) (none_above t 2 (omega arith))
+made_by t own owner entry.Factory = and_true (is_scope (2 * t + 2) (shifted 2 owner)) ∙ in_own t 2 owner
+made_by t own owner entry.Method = ap (λ b. b && bytes_eq own []) (no_member t owner)
+made_by t own owner entry.Property = ap (λ b. b && bytes_eq own []) (no_member t owner)
+made_by t own owner entry.Function = ap (λ b. b && bytes_eq own []) (none_above t 2 (omega arith))
+made_by t own owner entry.Global = ap (λ b. b && bytes_eq own []) (none_above t 2 (omega arith))
+
+is_made : (t : ℕ) (o : Option Entry) → stands_under (2 * t + 2) [] o ≡ makes t o
+is_made t None = refl
+is_made t (Some x) = made_by t x.signature.name x.owner x.kind
+
+pub names_are : (V : RegistrationList) (rows : Rows EntityNo) (name : List ℕ) → Indexes V rows → numbers_at 0 name rows ≡ find V name
+unfolding numbers_under find
+names_are V rows name ix = ix.same 0 name ∙ (λ i. filter (λ n. is_named name (entry_at V n) i) (numbers_of V))
+
+pub owned_are : (V : RegistrationList) (rows : Rows EntityNo) (t : ℕ) (name : List ℕ) → Indexes V rows → numbers_at (2 * t + 1) name rows ≡ owned V t name
+unfolding numbers_under owned
+owned_are V rows t name ix = ix.same (2 * t + 1) name ∙ (λ i. filter (λ n. is_owned t name (entry_at V n) i) (numbers_of V))
+
+pub makers_are : (V : RegistrationList) (rows : Rows EntityNo) (t : ℕ) → Indexes V rows → numbers_at (2 * t + 2) [] rows ≡ makers V t
+unfolding numbers_under makers
+makers_are V rows t ix = ix.same (2 * t + 2) [] ∙ (λ i. filter (λ n. is_made t (entry_at V n) i) (numbers_of V))
 
 -- ---- types by name
 
-first_kept : (p : ℕ → Bool) (n : ℕ) (ns ms : List ℕ) (b : Bool) → p n ≡ b → first_of p ns ≡ first_of p ms → cond b (Some n) (first_of p ns) ≡ first_of p (cond b (n ∷ ms) ms)
-first_kept p n ns ms true e same = ap (λ c. cond c (Some n) (first_of p ms)) (sym e)
-first_kept p n ns ms false e same = same
+abbrev first_in : (ℕ → Bool) → List ℕ → Option ℕ
+first_in test [] = None
+first_in test (n ∷ ns) = cond (test n) (Some n) (first_in test ns)
 
-first_filtered : (p : ℕ → Bool) (ns : List ℕ) → first_of p ns ≡ first_of p (filter p ns)
-first_filtered p [] = refl
-first_filtered p (n ∷ ns) = first_kept p n ns (filter p ns) (p n) refl (first_filtered p ns)
+first_numbers : (test : ℕ → Bool) (es : List EntityNo) → first_of test es ≡ first_in test (map (λ (e : EntityNo). e.0) es)
+first_numbers test [] = refl
+first_numbers test (e ∷ es) = ap (λ r. cond (test e.0) (Some e.0) r) (first_numbers test es)
+
+first_kept : (p : ℕ → Bool) (n : ℕ) (ns ms : List ℕ) (b c : Bool) → p n ≡ c → (c ≡ true → b ≡ true) → first_in p ns ≡ first_in p ms
+    → cond c (Some n) (first_in p ns) ≡ first_in p (cond b (n ∷ ms) ms)
+first_kept p n ns ms true c e h same = λ i. cond (sym e i) (Some n) (same i)
+first_kept p n ns ms false true e h same = let no' : false ≡ true = h refl in cc
+first_kept p n ns ms false false e h same = same
+
+first_filtered : (p q : ℕ → Bool) → ((n : ℕ) → p n ≡ true → q n ≡ true) → (ns : List ℕ) → first_in p ns ≡ first_in p (filter q ns)
+first_filtered p q h [] = refl
+first_filtered p q h (n ∷ ns) = first_kept p n ns (filter q ns) (q n) (p n) refl (h n) (first_filtered p q h ns)
 
 first_in_range : (test : Option Entry → Bool) (all xs : RegistrationList) (i : ℕ) → ((j : ℕ) → entry_at all (i + j) ≡ entry_at xs j)
-    → first_of (λ n. test (entry_at all n)) (range_with_len i (length xs)) ≡ position_from test i xs
+    → first_in (λ n. test (entry_at all n)) (range_with_len i (length xs)) ≡ position_from test i xs
 first_in_range test all [] i stands = refl
 first_in_range test all (x ∷ xs) i stands =
     let z : i + 0 ≡ i = omega arith in
@@ -79,32 +233,58 @@ first_in_range test all (x ∷ xs) i stands =
     let rest = first_in_range test all xs (i + 1) (λ j. let up : (i + 1) + j ≡ i + suc j = omega arith in ap (entry_at all) up ∙ stands (suc j)) in
     λ k. cond (test (here k)) (Some i) (rest k)
 
+bare_type : (b c d : Bool) → (b ≡ true → d ≡ true) → (b && c) ≡ true → (d && c) ≡ true
+bare_type true c d h e = rw (h refl) e
+bare_type false c d h e = cc
+
+type_is_bare : (k : EntryKind) → is_type k ≡ true → is_bare k ≡ true
+type_is_bare entry.HostType e = refl
+type_is_bare entry.Factory e = cc
+type_is_bare entry.Method e = cc
+type_is_bare entry.Property e = cc
+type_is_bare entry.Function e = cc
+type_is_bare entry.Global e = cc
+
 type_has_name : (name : List ℕ) (o : Option Entry) → is_type_named name o ≡ true → has_name name o ≡ true
 type_has_name name None e = cc
-type_has_name name (Some t) e = (and_gives (is_type t.kind) (bytes_eq t.signature.name name) e).1
+type_has_name name (Some x) e = bare_type (is_type x.kind) (bytes_eq x.signature.name name) (is_bare x.kind) (type_is_bare x.kind) e
 
-pub type_in_row : (V : RegistrationList) (name row : List ℕ) → ((p : ℕ → Bool) → WantsName V name p → filter p row ≡ filter p (numbers_of V))
-    → first_of (λ n. is_type_named name (entry_at V n)) row ≡ type_named V name
-unfolding type_named
-type_in_row V name row all =
+pub type_found : (V : RegistrationList) (name : List ℕ) (es : List EntityNo) → map (λ (e : EntityNo). e.0) es ≡ find V name
+    → first_of (λ n. is_type_named name (entry_at V n)) es ≡ type_named V name
+unfolding type_named find
+type_found V name es found =
     let p : ℕ → Bool = λ n. is_type_named name (entry_at V n) in
-    first_filtered p row ∙ ap (first_of p) (all p (λ n e. type_has_name name (entry_at V n) e)) ∙ sym (first_filtered p (numbers_of V))
+    let q : ℕ → Bool = λ n. has_name name (entry_at V n) in
+    first_numbers p es ∙ ap (first_in p) found ∙ sym (first_filtered p q (λ n e. type_has_name name (entry_at V n) e) (numbers_of V))
     ∙ first_in_range (is_type_named name) V V 0 (λ j. let z : 0 + j ≡ j = omega arith in ap (entry_at V) z)
     ∙ sym (position_from-zero (is_type_named name) V)
 
--- ---- factories by type
+-- ---- functions by name, as a mask sees them
 
-hash_of_owner : (t : ℕ) (owner : Option EntityNo) → is_number t owner ≡ true → owner_hash owner ≡ t % 256
-hash_of_owner t None e = cc
-hash_of_owner t (Some o) e = let is : o.0 ≡ t = search (arith, e) in ap (λ n. n % 256) is
+function_is_bare : (k : EntryKind) → is_function k ≡ true → is_bare k ≡ true
+function_is_bare entry.HostType e = cc
+function_is_bare entry.Factory e = cc
+function_is_bare entry.Method e = cc
+function_is_bare entry.Property e = cc
+function_is_bare entry.Function e = refl
+function_is_bare entry.Global e = cc
 
-hash_of_maker : (t : ℕ) (o : Option Entry) → makes t o ≡ true → maker_hash o ≡ t % 256
-hash_of_maker t None e = cc
-hash_of_maker t (Some x) e =
-    let is = and_gives (is_maker x.kind) (is_number t x.owner) e in
-    ap (λ b. cond b (owner_hash x.owner) 256) is.0 ∙ hash_of_owner t x.owner is.1
+seen_function_has_name : (name : List ℕ) (x : Entry) (b : Bool) → is_function_named name (cond b (Some x) None) ≡ true → has_name name (Some x) ≡ true
+seen_function_has_name name x true e = bare_type (is_function x.kind) (bytes_eq x.signature.name name) (is_bare x.kind) (function_is_bare x.kind) e
+seen_function_has_name name x false e = cc
 
-pub all_makers : (hs row : List ℕ) (V : RegistrationList) (t : ℕ) → hs ≡ map maker_hash V → row ≡ hashes.numbers_of (t % 256) hs
-    → (p : ℕ → Bool) → WantsFactory V t p → filter p row ≡ filter p (numbers_of V)
-all_makers hs row V t same is p wants =
-    ap (filter p) (is ∙ ap (hashes.numbers_of (t % 256)) same) ∙ all_of maker_hash (t % 256) V p (λ n e. hash_of_maker t (entry_at V n) (wants n e))
+function_has_name : (V : RegistrationList) (m : ℕ) (name : List ℕ) (o : Option Entry) → is_function_named name (seen_entry V m o) ≡ true → has_name name o ≡ true
+function_has_name V m name None e = cc
+function_has_name V m name (Some x) e = seen_function_has_name name x (is_seen V m x) e
+
+pub function_found : (V : RegistrationList) (m : ℕ) (name : List ℕ) (es : List EntityNo) → map (λ (e : EntityNo). e.0) es ≡ find V name
+    → first_of (λ n. is_function_named name (seen_entry V m (entry_at V n))) es ≡ function_named (seen V m) name
+unfolding find seen
+function_found V m name es found =
+    let test : Option Entry → Bool = λ o. is_function_named name (seen_entry V m o) in
+    let p : ℕ → Bool = λ n. test (entry_at V n) in
+    let q : ℕ → Bool = λ n. has_name name (entry_at V n) in
+    first_numbers p es ∙ ap (first_in p) found ∙ sym (first_filtered p q (λ n e. function_has_name V m name (entry_at V n) e) (numbers_of V))
+    ∙ first_in_range test V V 0 (λ j. let z : 0 + j ≡ j = omega arith in ap (entry_at V) z)
+    ∙ sym (position_from-zero test V)
+    ∙ sym (position-map (is_function_named name) (seen_entry V m) V)

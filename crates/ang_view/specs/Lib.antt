@@ -4,3 +4,4 @@ pub mod Numbers
 pub mod Values
 pub mod Hidden
 pub mod Named
+pub mod SeenTypes

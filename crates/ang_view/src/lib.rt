@@ -5,6 +5,7 @@
 //! add entries are `ang_registry`'s.
 #![tactic(auto)]
 
+mod by_name;
 mod copy;
 mod entry;
 pub mod laws;
@@ -12,8 +13,7 @@ mod lookup;
 mod view;
 
 pub use entry::{Entry, EntryKind};
-pub use lookup::{FoundType, find_type, number_of_type, type_index};
+pub use lookup::{FoundType, find_type};
 pub use view::{
-    View, belongs_to, function_index, hidden_of, mentions_type, names_entry, spells, view_of,
-    whole_of,
+    View, belongs_to, hidden_of, mentions_type, names_entry, spells, view_of, whole_of,
 };

@@ -1,54 +1,75 @@
 //! What a module of a mask sees of a registration list.
 ghost use Rattle.std.specs.Prelude.{◌≡◌, ◌<◌, ◌≤◌, length, map, Some, IfOk, IfSome, IsTrue, option_map};
 ghost use Rattle.std.specs.Option.{option_copied};
-ghost use Rattle.std.specs.List.{list_all, position};
+ghost use Rattle.std.specs.List.{list_all};
 ghost use Rattle.ang_view.specs.Hidden.{hidden, hidden_entry};
 ghost use Rattle.ang_view.specs.Named as spec;
-ghost use Rattle.ang_view.specs.Named.{name_in, name_hashes};
+ghost use Rattle.ang_view.specs.SeenTypes as types;
 ghost use Rattle.ang_view.specs.Types.{is_type_named, type_named};
 ghost use Rattle.ang_view.specs.Registration.{entry_at, is_type, is_function, is_spelled_with, mentions, is_number, is_named_by, named, has_mask_for, is_seen, seen_entry, seen, is_function_named, function_named};
 
+use crate::by_name::{BARE, index_of, maker_scope, member_scope, push_entry};
 use crate::copy::{copy_entries, copy_entry};
 use crate::lookup::is_type_named;
 use crate::{Entry, EntryKind};
+use ang_index::Index;
 use ang_kinds::{EntityNo, Mask, Signature, TypeRef};
-use ang_names_rows::{NameRows, Rows, number_hash, rows_of};
 use std::alloc::{AllocError, Global};
 use std::marker::Model;
-
-/// The hash of what stands in no row.
-const NO_ROW: usize = 256;
 
 /// What a module of a mask sees of a registration list: the list, in which each entry that it does not
 /// see is a blank. Numbers are those of the list (docs/EMBEDDING.md, "Masks").
 ///
-/// Contracts see the list. Beside it stand the numbers of its entries by the hashes of their names, and those of
-/// its factories by the hashes of their types' numbers.
+/// Contracts see the list. Beside it stand the numbers of its entries by name, and of members and factories by type, so
+/// that none of the calls that look for them goes through the list, and none takes memory.
 #[derive(Drop)]
 pub struct View {
     entries: Vec<Option<Entry>>,
-    names: NameRows,
-    factories: Rows,
+    index: Index<EntityNo>,
 }
 
 impl Model for View {
-    ghost use Rattle.std.specs.Prelude.{◌≡◌, ◌≤◌, length, map};
-    ghost use Rattle.ang_view.specs.Named.{maker_hash, name_hashes};
+    ghost use Rattle.std.specs.Prelude.{◌≤◌, length};
+    ghost use Rattle.ang_view.specs.Named.{Indexes};
     ghost use Rattle.ang_view.specs.Registration.{RegistrationList};
 
     ghost Value = { RegistrationList };
 
     ghost view = { λ v. v.entries.items };
 
-    ghost invariant = { λ v. (length v.entries.items ≤ 1024)
-        × (v.names.hashes ≡ name_hashes v.names.rows v.entries.items)
-        × (v.factories ≡ map maker_hash v.entries.items) };
+    ghost invariant = { λ v. (length v.entries.items ≤ 1024) × Indexes v.entries.items v.index };
 }
 
 impl View {
-    ghost use Rattle.std.specs.Prelude.{◌≡◌, ℕ, Bool, filter, length};
-    ghost use Rattle.ang_view.specs.Hidden.{numbers_of};
-    ghost use Rattle.ang_view.specs.Named.{WantsFactory, WantsName};
+    ghost use Rattle.std.specs.Prelude.{◌≡◌, ◌<◌, ◌++◌, ◌∷◌, [], length, map, OnErr, OnOk};
+
+    /// A list without entries. It takes no memory.
+    #[tactic(auto, using(crate::proofs::Named::none_indexed))]
+    pub fn new(alloc: Global) -> View
+        ensures empty { result ≡ [] }
+    {
+        View {
+            entries: Vec::new(alloc),
+            index: Index::new(alloc),
+        }
+    }
+
+    /// Puts an entry or a blank last, which then has the number that was the list's length. After want of memory the list is
+    /// as before.
+    ///
+    /// The only error is want of memory.
+    #[tactic(auto, using(crate::proofs::Named::one_more_indexed))]
+    pub fn push(&mut self, alloc: Global, entry: Option<Entry>) -> Result<(), AllocError>
+        requires room { length self.old < 1024 }
+        ensures pushed { OnOk result (self.new ≡ self.old ++ entry ∷ []) }
+        ensures unchanged { OnErr result (self.new ≡ self.old) }
+    {
+        let number = EntityNo(self.entries.len() as u32);
+        self.entries.reserve(1)?;
+        push_entry(alloc, &mut self.index, &entry, number)?;
+        self.entries.push_reserved(entry);
+        Ok(())
+    }
 
     /// The number of entries, blanks included: at most 1,024.
     pub fn len(&self) -> usize
@@ -65,40 +86,95 @@ impl View {
         self.entries.get(number.0 as usize)?.as_ref()
     }
 
+    /// The numbers of the seen types, functions and global properties of this name, rising. It takes no memory.
+    #[tactic(auto, using(crate::proofs::Named::names_are))]
+    pub fn find(&self, name: &[u8]) -> &[EntityNo]
+        ensures exact { map (λ number. number.0) result.now ≡ spec.find self.now name.now }
+    {
+        self.index.find(BARE, name)
+    }
+
+    /// Whether the entry of this number is a type that is seen.
+    fn has_type(&self, ty: EntityNo) -> bool
+        ensures exact { result ≡ spec.is_type_entry (entry_at self.now ty.0) }
+    {
+        match self.get(ty) {
+            None => false,
+            Some(entry) => matches!(entry.kind, EntryKind::HostType),
+        }
+    }
+
+    /// The numbers of the seen methods and properties of this name of the type of this number, rising; none where that is
+    /// no type that is seen. It takes no memory.
+    pub fn members(&self, ty: EntityNo, name: &[u8]) -> &[EntityNo]
+        ensures exact { map (λ number. number.0) result.now
+            ≡ spec.members self.now ty.0 name.now }
+    {
+        if self.has_type(ty) {
+            self.owned(ty, name)
+        } else {
+            &[]
+        }
+    }
+
+    /// The numbers of the seen factories of the type of this number, rising; none where that is no type that is seen. It
+    /// takes no memory.
+    pub fn factories(&self, ty: EntityNo) -> &[EntityNo]
+        ensures exact { map (λ number. number.0) result.now ≡ spec.factories self.now ty.0 }
+    {
+        if self.has_type(ty) {
+            self.makers(ty)
+        } else {
+            &[]
+        }
+    }
+
+    /// What `members` answers, whether or not the type itself is seen: hidden members of a type that is seen stand in a list
+    /// without it. It takes no memory.
+    #[tactic(auto, using(crate::proofs::Named::owned_are))]
+    pub fn owned(&self, owner: EntityNo, name: &[u8]) -> &[EntityNo]
+        ensures exact { map (λ number. number.0) result.now
+            ≡ spec.owned self.now owner.0 name.now }
+    {
+        self.index.find(member_scope(owner), name)
+    }
+
+    /// What `factories` answers, whether or not the type itself is seen. It takes no memory.
+    #[tactic(auto, using(crate::proofs::Named::makers_are))]
+    pub fn makers(&self, owner: EntityNo) -> &[EntityNo]
+        ensures exact { map (λ number. number.0) result.now ≡ spec.makers self.now owner.0 }
+    {
+        self.index.find(maker_scope(owner), &[])
+    }
+
     /// The number of the type of this name, or none where it is not seen. What a seen entry names is seen,
     /// and has the number here that it has in the whole list (`laws::types_are_seen`). It takes no memory.
     pub fn find_type(&self, name: &[u8]) -> Option<EntityNo>
         ensures exact { option_map (λ number. number.0) result ≡ type_named self.now name.now }
     {
-        let place = first_type(&self.entries, self.named(name), name)?;
-        Some(EntityNo(place as u32))
+        first_type(&self.entries, self.find(name), name)
     }
 
-    /// Rising numbers among which are those of all entries of this name: who looks for such entries alone finds
-    /// here what it finds among all. It takes no memory.
-    #[tactic(auto, using(crate::proofs::Named::all_in_row))]
-    pub fn named(&self, name: &[u8]) -> &[usize]
-        ensures all { (test : ℕ → Bool) → WantsName self.now name.now test
-            → filter test result.now ≡ filter test (numbers_of self.now) }
+    /// The number of the first function of this name that a module of the mask sees. It takes no memory.
+    pub fn find_function(&self, mask: Mask, name: &[u8]) -> Option<EntityNo>
+        ensures exact { option_map (λ number. number.0) result
+            ≡ function_named (seen self.now mask.0) name.now }
     {
-        self.names.row(name)
+        first_function(self, mask, name, self.find(name))
     }
 
-    /// Rising numbers among which are those of all factories of the type of this number: who looks for these alone
-    /// finds here what it finds among all entries. It takes no memory.
-    #[tactic(auto, using(crate::proofs::Named::all_makers))]
-    pub fn factories(&self, ty: EntityNo) -> &[usize]
-        ensures all { (test : ℕ → Bool) → WantsFactory self.now ty.0 test
-            → filter test result.now ≡ filter test (numbers_of self.now) }
+    /// All entries and blanks, in order: at most 1,024.
+    pub fn entries(&self) -> &[Option<Entry>]
+        ensures same { result.now ≡ self.now }
+        ensures most { length result.now ≤ 1024 }
     {
-        self.factories.row(number_hash(ty.0 as usize))
+        self.entries.as_slice()
     }
 }
 
 /// Whether the entry of this number is the type of this name.
 fn is_type_at(entries: &[Option<Entry>], number: usize, name: &[u8]) -> bool
     ensures exact { result ≡ is_type_named name.now (entry_at entries.now number) }
-    ensures within { IsTrue result → number < length entries.now }
 {
     match entries.get(number) {
         None => false,
@@ -107,72 +183,16 @@ fn is_type_at(entries: &[Option<Entry>], number: usize, name: &[u8]) -> bool
 }
 
 /// The first of these numbers whose entry is the type of this name.
-fn first_type(entries: &[Option<Entry>], numbers: &[usize], name: &[u8]) -> Option<usize>
-    ensures exact { result
+fn first_type(entries: &[Option<Entry>], numbers: &[EntityNo], name: &[u8]) -> Option<EntityNo>
+    ensures exact { option_map (λ number. number.0) result
         ≡ spec.first_of (λ n. is_type_named name.now (entry_at entries.now n)) numbers.now }
-    ensures within { IfSome result (λ place. place < length entries.now) }
 {
     for number in numbers {
-        if is_type_at(entries, *number, name) {
+        if is_type_at(entries, number.0 as usize, name) {
             return Some(*number);
         }
     }
     None
-}
-
-fn owner_hash(owner: Option<EntityNo>) -> usize
-    ensures exact { result ≡ spec.owner_hash owner }
-{
-    match owner {
-        None => NO_ROW,
-        Some(EntityNo(number)) => number_hash(number as usize),
-    }
-}
-
-fn maker_hash(entry: &Option<Entry>) -> usize
-    ensures exact { result ≡ spec.maker_hash entry.now }
-{
-    match entry {
-        None => NO_ROW,
-        Some(entry) => {
-            if matches!(entry.kind, EntryKind::Factory) {
-                owner_hash(entry.owner)
-            } else {
-                NO_ROW
-            }
-        }
-    }
-}
-
-/// The numbers of the factories by the hashes of their types' numbers.
-fn factories_of(alloc: Global, entries: &[Option<Entry>]) -> Result<Rows, AllocError>
-    ensures exact { IfOk result (λ rows. rows ≡ map spec.maker_hash entries.now) }
-{
-    let mut hashes = Vec::new(alloc);
-    for entry in entries {
-        hashes.push(maker_hash(entry))?;
-    }
-    rows_of(alloc, hashes)
-}
-
-fn name_of(entry: &Option<Entry>) -> &[u8]
-    ensures exact { result.now ≡ name_in entry.now }
-{
-    match entry {
-        None => &[],
-        Some(entry) => entry.signature.name.as_slice(),
-    }
-}
-
-/// The numbers of the entries by the hashes of their names.
-fn names_of(alloc: Global, entries: &[Option<Entry>]) -> Result<NameRows, AllocError>
-    ensures exact { IfOk result (λ names. names.hashes ≡ name_hashes names.rows entries.now) }
-{
-    let mut names = NameRows::new(alloc, entries.len())?;
-    for entry in entries {
-        names.push(name_of(entry))?;
-    }
-    Ok(names)
 }
 
 /// These entries as a view.
@@ -180,35 +200,34 @@ fn view_with(alloc: Global, entries: Vec<Option<Entry>>) -> Result<View, AllocEr
     requires few { length entries.items ≤ 1024 }
     ensures same { IfOk result (λ view. view ≡ entries.items) }
 {
-    let names = names_of(alloc, entries.as_slice())?;
-    let factories = factories_of(alloc, entries.as_slice())?;
-    Ok(View {
-        entries,
-        names,
-        factories,
-    })
+    let index = index_of(alloc, entries.as_slice())?;
+    Ok(View { entries, index })
 }
 
-/// The view of the mask.
-pub fn view_of(alloc: Global, entries: &[Option<Entry>], mask: Mask) -> Result<View, AllocError>
-    requires few { length entries.now ≤ 1024 }
-    ensures exact { IfOk result (λ view. view ≡ seen entries.now mask.0) }
+/// The view of the mask of a whole list.
+///
+/// The only error is want of memory.
+#[tactic(auto, unfolding(crate::specs::Registration::seen))]
+pub fn view_of(alloc: Global, list: &View, mask: Mask) -> Result<View, AllocError>
+    ensures exact { IfOk result (λ view. view ≡ seen list.now mask.0) }
 {
-    let view = seen_entries(alloc, entries, mask)?;
+    let view = seen_entries(alloc, list, list.entries(), mask)?;
     view_with(alloc, view)
 }
 
-#[tactic(auto, unfolding(crate::specs::Registration::seen))]
+/// What a module of the mask sees of some entries of a list.
 fn seen_entries(
     alloc: Global,
+    list: &View,
     entries: &[Option<Entry>],
     mask: Mask,
 ) -> Result<Vec<Option<Entry>>, AllocError>
-    ensures exact { IfOk result (λ view. view.items ≡ seen entries.now mask.0) }
+    ensures exact { IfOk result
+        (λ view. view.items ≡ map (seen_entry list.now mask.0) entries.now) }
 {
     let mut view = Vec::new(alloc);
     for entry in entries {
-        let sight = sight_of(alloc, entries, mask, entry)?;
+        let sight = sight_of(alloc, list, mask, entry)?;
         view.push(sight)?;
     }
     Ok(view)
@@ -217,16 +236,16 @@ fn seen_entries(
 /// A copy of the entry where the mask sees it, else a blank.
 fn sight_of(
     alloc: Global,
-    entries: &[Option<Entry>],
+    list: &View,
     mask: Mask,
     entry: &Option<Entry>,
 ) -> Result<Option<Entry>, AllocError>
-    ensures exact { IfOk result (λ sight. sight ≡ seen_entry entries.now mask.0 entry.now) }
+    ensures exact { IfOk result (λ sight. sight ≡ seen_entry list.now mask.0 entry.now) }
 {
     let Some(entry) = entry else {
         return Ok(None);
     };
-    if !sees(entries, mask, entry) {
+    if !sees(list, mask, entry) {
         return Ok(None);
     }
     Ok(Some(copy_entry(alloc, entry)?))
@@ -236,25 +255,27 @@ fn sight_of(
 /// Denials look there for what a refused use lacks.
 ///
 /// The only error is want of memory.
-pub fn hidden_of(alloc: Global, entries: &[Option<Entry>], mask: Mask) -> Result<View, AllocError>
-    requires few { length entries.now ≤ 1024 }
-    ensures exact { IfOk result (λ view. view ≡ hidden entries.now mask.0) }
+#[tactic(auto, unfolding(crate::specs::Hidden::hidden))]
+pub fn hidden_of(alloc: Global, list: &View, mask: Mask) -> Result<View, AllocError>
+    ensures exact { IfOk result (λ view. view ≡ hidden list.now mask.0) }
 {
-    let view = hidden_entries(alloc, entries, mask)?;
+    let view = hidden_entries(alloc, list, list.entries(), mask)?;
     view_with(alloc, view)
 }
 
-#[tactic(auto, unfolding(crate::specs::Hidden::hidden))]
+/// What a module of the mask does not see of some entries of a list.
 fn hidden_entries(
     alloc: Global,
+    list: &View,
     entries: &[Option<Entry>],
     mask: Mask,
 ) -> Result<Vec<Option<Entry>>, AllocError>
-    ensures exact { IfOk result (λ view. view.items ≡ hidden entries.now mask.0) }
+    ensures exact { IfOk result
+        (λ view. view.items ≡ map (hidden_entry list.now mask.0) entries.now) }
 {
     let mut view = Vec::new(alloc);
     for entry in entries {
-        let rest = rest_of(alloc, entries, mask, entry)?;
+        let rest = rest_of(alloc, list, mask, entry)?;
         view.push(rest)?;
     }
     Ok(view)
@@ -263,16 +284,16 @@ fn hidden_entries(
 /// A copy of the entry where the mask does not see it, else a blank.
 fn rest_of(
     alloc: Global,
-    entries: &[Option<Entry>],
+    list: &View,
     mask: Mask,
     entry: &Option<Entry>,
 ) -> Result<Option<Entry>, AllocError>
-    ensures exact { IfOk result (λ rest. rest ≡ hidden_entry entries.now mask.0 entry.now) }
+    ensures exact { IfOk result (λ rest. rest ≡ hidden_entry list.now mask.0 entry.now) }
 {
     let Some(entry) = entry else {
         return Ok(None);
     };
-    if sees(entries, mask, entry) {
+    if sees(list, mask, entry) {
         return Ok(None);
     }
     Ok(Some(copy_entry(alloc, entry)?))
@@ -289,64 +310,110 @@ pub fn whole_of(alloc: Global, entries: &[Option<Entry>]) -> Result<View, AllocE
     view_with(alloc, view)
 }
 
-/// The index of the first function of the name that the mask sees.
-pub fn function_index(entries: &[Option<Entry>], mask: Mask, name: &[u8]) -> Option<usize>
-    ensures exact { result ≡ function_named (seen entries.now mask.0) name.now }
-    ensures within { IfSome result (λ index. index < length entries.now) }
+/// The first of these numbers whose entry is a function of this name that a module of the mask sees.
+fn first_function(list: &View, mask: Mask, name: &[u8], numbers: &[EntityNo]) -> Option<EntityNo>
+    ensures exact { option_map (λ number. number.0) result
+        ≡ spec.first_of (λ n. is_function_named name.now
+        (seen_entry list.now mask.0 (entry_at list.now n))) numbers.now }
 {
-    entries
-        .iter()
-        .position(|entry| sees_function(entries, mask, name, entry))
+    for number in numbers {
+        if sees_function(list, mask, name, list.get(*number)) {
+            return Some(*number);
+        }
+    }
+    None
 }
 
-fn sees_function(entries: &[Option<Entry>], mask: Mask, name: &[u8], entry: &Option<Entry>) -> bool
-    ensures exact { result ≡ is_function_named name.now (seen_entry entries.now mask.0 entry.now) }
+fn sees_function(list: &View, mask: Mask, name: &[u8], found: Option<&Entry>) -> bool
+    ensures exact { result
+        ≡ is_function_named name.now (seen_entry list.now mask.0 (option_copied found.entry)) }
 {
-    match entry {
+    match found {
         None => false,
         Some(entry) => {
             matches!(entry.kind, EntryKind::Function)
                 && entry.signature.name.as_slice() == name
-                && sees(entries, mask, entry)
+                && sees(list, mask, entry)
         }
     }
 }
 
 /// Whether a module of the mask sees the entry.
-fn sees(entries: &[Option<Entry>], mask: Mask, entry: &Entry) -> bool
-    ensures exact { result ≡ is_seen entries.now mask.0 entry.now }
+fn sees(list: &View, mask: Mask, entry: &Entry) -> bool
+    ensures exact { result ≡ is_seen list.now mask.0 entry.now }
 {
-    entry.mask.meets(mask) && sees_types(entries, mask, entry)
+    entry.mask.meets(mask) && sees_types(list, mask, entry)
 }
 
-fn sees_types(entries: &[Option<Entry>], mask: Mask, entry: &Entry) -> bool
+/// Whether the masks of all types that the entry's declaration names meet the mask.
+fn sees_types(list: &View, mask: Mask, entry: &Entry) -> bool
     ensures exact { result
-        ≡ list_all (λ n. has_mask_for mask.0 (entry_at entries.now n))
-        (named entries.now entry.now) }
+        ≡ list_all (λ n. has_mask_for mask.0 (entry_at list.now n))
+        (named list.now entry.now) }
 {
-    for (number, other) in entries.iter().enumerate() {
-        if names(entry, number, other) && !meets(other, mask) {
-            return false;
+    is_host_type(entry)
+        || sees_owner(list, mask, entry.owner) && sees_signature(list, mask, &entry.signature)
+}
+
+fn is_host_type(entry: &Entry) -> bool
+    ensures exact { result ≡ is_type entry.now.kind }
+{
+    matches!(entry.kind, EntryKind::HostType)
+}
+
+fn sees_owner(list: &View, mask: Mask, owner: Option<EntityNo>) -> bool
+    ensures exact { result ≡ types.meets_owner list.now mask.0 owner }
+{
+    match owner {
+        None => true,
+        Some(number) => !list.has_type(number) || meets(list.get(number), mask),
+    }
+}
+
+fn sees_signature(list: &View, mask: Mask, signature: &Signature) -> bool
+    ensures exact { result ≡ types.meets_signature list.now mask.0 signature.now }
+{
+    sees_type(list, mask, &signature.result)
+        && signature
+            .params
+            .as_slice()
+            .iter()
+            .all(|param| sees_type(list, mask, &param.ty))
+}
+
+/// Whether each type that is spelled so has a mask that meets the mask.
+fn sees_type(list: &View, mask: Mask, ty: &TypeRef) -> bool
+    ensures exact { result ≡ types.meets_spelled list.now mask.0 ty.now }
+{
+    match ty {
+        TypeRef::Void | TypeRef::Plain(_) => true,
+        TypeRef::Object { name, .. } => list
+            .find(name.as_slice())
+            .iter()
+            .all(|number| sees_spelled(list.get(*number), mask, ty)),
+    }
+}
+
+/// Whether an entry is no type that is spelled so, or has a mask that meets the mask.
+fn sees_spelled(found: Option<&Entry>, mask: Mask, ty: &TypeRef) -> bool
+    ensures exact { result
+        ≡ types.meets_if_spelled mask.0 ty.now (option_copied found.entry) }
+{
+    match found {
+        None => true,
+        Some(entry) => {
+            !(is_host_type(entry) && spells(ty, entry.signature.name.as_slice()))
+                || entry.mask.meets(mask)
         }
     }
-    true
 }
 
-fn meets(entry: &Option<Entry>, mask: Mask) -> bool
-    ensures exact { result ≡ has_mask_for mask.0 entry.now }
+fn meets(found: Option<&Entry>, mask: Mask) -> bool
+    ensures exact { result ≡ has_mask_for mask.0 (option_copied found.entry) }
 {
-    match entry {
+    match found {
         None => false,
         Some(entry) => entry.mask.meets(mask),
-    }
-}
-
-fn names(entry: &Entry, number: usize, other: &Option<Entry>) -> bool
-    ensures exact { result ≡ is_named_by entry.now number other.now }
-{
-    match other {
-        None => false,
-        Some(other) => names_entry(entry, number, other),
     }
 }
 

@@ -6,3 +6,4 @@ pub mod Weighing
 pub mod Calling
 pub mod Leaving
 pub mod Running
+pub mod Loading

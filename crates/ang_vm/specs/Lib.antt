@@ -2,3 +2,4 @@ pub mod Crossings
 pub mod Legs
 pub mod Running
 pub mod Machines
+pub mod Loads

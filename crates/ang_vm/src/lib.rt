@@ -10,6 +10,7 @@ mod answers;
 mod bodies;
 mod calls;
 mod crossing;
+mod loads;
 mod lookups;
 mod machines;
 mod returns;

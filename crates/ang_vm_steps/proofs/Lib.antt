@@ -8,3 +8,5 @@ pub mod Trading
 pub mod Receivers
 pub mod Asked
 pub mod Operands
+pub mod Borrowing
+pub mod Moving

@@ -8,6 +8,7 @@
 
 pub mod arms;
 mod asks;
+pub mod borrowed;
 pub mod calls;
 pub mod dispatch;
 mod doing;

@@ -1,3 +1,4 @@
+pub mod CommandLine
 pub mod Lining
 pub mod Turning
 pub mod Coming

@@ -33,7 +33,7 @@ turns_of lines [] = 0
 turns_of (suc lines) (l ∷ ls) = turns_of lines ls
 turns_of zero (l ∷ ls) = 1 + turns_of (lines_behind (shown_of l)) ls
 
--- so many lines `done`
+-- n lines `done`
 abbrev pub done_text : ℕ → List ℕ
 done_text zero = []
 done_text (suc n) = codes "done\n" ++ done_text n
@@ -46,7 +46,7 @@ AreLines bytes ls = (rest : List ℕ) → lines_of (bytes ++ rest) ≡ ls ++ lin
 abbrev pub most_command : ℕ
 most_command = 16777216
 
--- so many lines were read behind a text, or, where the input ends, fewer
+-- n lines were read and appended to a text, or, where the input ends, fewer
 abbrev pub ReadsLines : ℕ → List ℕ → List ℕ → Option (List ℕ) → Option (List ℕ) → Next → Type 0
 ReadsLines n before after old new next.Command =
     (bytes : List ℕ) × (ls : List (List ℕ)) × (after ≡ before ++ bytes) × Consumes old new bytes × AreLines bytes ls

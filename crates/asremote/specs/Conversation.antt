@@ -21,7 +21,7 @@ abbrev pub untold : Option ℕ → ℕ
 untold None = 0
 untold (Some n) = 1
 
--- Where a session began over the list R and the world w, with a budget, and `done` was to be told so often at the start; the bytes that the reader had left, those of the
+-- Where a session began over the list R and the world w, with a budget, and `done` was to be told `first` times at the start; the bytes that the reader had left, those of the
 -- writer of replies, and those of the writer of `done`, before and after.
 module _ (R : RegistrationList) (w : World) (budget first : ℕ) (unread unread_after written written_after done done_after : Option (List ℕ)) where
   -- The lines that were read were done as a session, and `done` was told for each command.

@@ -1,4 +1,5 @@
 pub mod Exit
+pub mod Options
 pub mod Commands
 pub mod Turns
 pub mod Conversation

@@ -1,6 +1,8 @@
 //! The options of the command line.
 
-ghost use Rattle.std.specs.Prelude.{◌≤◌, IfOk, IfSome};
+ghost use Rattle.std.specs.Prelude.{◌≡◌, ◌≤◌, true, false, Some, IfOk, IfSome, codes, is_some, option_map, string_bytes};
+ghost use Rattle.clap.specs.Words.{app_of, first_value, one_text, found_of};
+ghost use Rattle.asremote.specs.Options.{program, budget_given, drivers_given, is_complete};
 
 use asrun_lines::decimal;
 use clap::{Arg, ArgAction, ArgMatches, Command};
@@ -13,7 +15,7 @@ const MOST_TICKS: u64 = 2_147_483_647;
 const DEFAULT_TICKS: u64 = 1_000_000;
 
 /// The most drivers that `--drivers` may give.
-const MOST_DRIVERS: u32 = 64;
+const MOST_DRIVERS: u64 = 64;
 
 /// What the program is for.
 const ABOUT: &str =
@@ -47,7 +49,9 @@ pub struct Options {
 }
 
 /// The program's command line.
-pub fn command_line<'a>(alloc: Global) -> Result<Command<'a>, AllocError> {
+pub fn command_line<'a>(alloc: Global) -> Result<Command<'a>, AllocError>
+    ensures exact { IfOk result (λ c. app_of c ≡ program) }
+{
     let profile = Arg::new(alloc, "profile").long("profile").required(true);
     let drivers = Arg::new(alloc, "drivers").long("drivers");
     let budget = Arg::new(alloc, "budget").long("budget");
@@ -64,7 +68,9 @@ pub fn command_line<'a>(alloc: Global) -> Result<Command<'a>, AllocError> {
 }
 
 /// The budget that is given, or the one where none is. None where it is no number from 1 to the most.
+#[tactic(auto, unfolding(crate::specs::Options::budget_given))]
 fn budget_of(text: Option<&str>) -> Option<u64>
+    ensures exact { result ≡ budget_given (option_map (λ s. s.now) text.entry) }
     ensures least { IfSome result (λ n. 1 ≤ n) }
     ensures most { IfSome result (λ n. n ≤ 2147483647) }
 {
@@ -80,16 +86,18 @@ fn budget_of(text: Option<&str>) -> Option<u64>
 }
 
 /// The number of drivers that is given, or 1 where none is. None where it is no number from 1 to the most.
+#[tactic(auto, unfolding(crate::specs::Options::drivers_given))]
 fn drivers_of(text: Option<&str>) -> Option<u32>
+    ensures exact { result ≡ drivers_given (option_map (λ s. s.now) text.entry) }
     ensures least { IfSome result (λ n. 1 ≤ n) }
     ensures most { IfSome result (λ n. n ≤ 64) }
 {
     let Some(text) = text else {
         return Some(1);
     };
-    let number = u32::try_from(decimal(text.as_bytes(), 10)?).ok()?;
+    let number = decimal(text.as_bytes(), 10)?;
     if 1 <= number && number <= MOST_DRIVERS {
-        Some(number)
+        Some(number as u32)
     } else {
         None
     }
@@ -97,6 +105,24 @@ fn drivers_of(text: Option<&str>) -> Option<u32>
 
 /// The options of a command line that was read. None where a number is not in its range.
 pub fn chosen(alloc: Global, matches: &ArgMatches<'_>) -> Result<Option<Options>, AllocError>
+    ensures profile { IfOk result (λ r. IfSome r
+        (λ o. first_value (found_of matches.now) (codes "profile")
+        ≡ Some (string_bytes o.profile))) }
+    ensures drivers { IfOk result (λ r. IfSome r
+        (λ o. drivers_given (first_value (found_of matches.now) (codes "drivers"))
+        ≡ Some o.drivers)) }
+    ensures budget { IfOk result (λ r. IfSome r
+        (λ o. budget_given (first_value (found_of matches.now) (codes "budget")) ≡ Some o.budget)) }
+    ensures echo { IfOk result (λ r. IfSome r
+        (λ o. one_text (found_of matches.now) (codes "echo") ≡ Some (codes "true")
+        → o.echo ≡ true)) }
+    ensures no_echo { IfOk result (λ r. IfSome r
+        (λ o. one_text (found_of matches.now) (codes "echo") ≡ Some (codes "false")
+        → o.echo ≡ false)) }
+    ensures complete { IfOk result (λ r. is_some r
+        ≡ is_complete (first_value (found_of matches.now) (codes "profile"))
+        (drivers_given (first_value (found_of matches.now) (codes "drivers")))
+        (budget_given (first_value (found_of matches.now) (codes "budget")))) }
     ensures drivers_least { IfOk result (λ r. IfSome r (λ o. 1 ≤ o.drivers)) }
     ensures drivers_most { IfOk result (λ r. IfSome r (λ o. o.drivers ≤ 64)) }
     ensures least { IfOk result (λ r. IfSome r (λ o. 1 ≤ o.budget)) }

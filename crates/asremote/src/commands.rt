@@ -14,7 +14,7 @@ const MOST_COMMAND: usize = 16_777_216;
 /// What was read in the place of a command.
 #[derive(Clone, Copy, PartialEq, Eq, Debug)]
 pub enum Next {
-    /// A line, with those of its section, behind which another may follow.
+    /// A line, with those of its section; another may follow.
     Command,
     /// A line, with those of its section that are there: the input ends.
     Last,
@@ -65,7 +65,7 @@ fn lines_behind(alloc: Global, line: &[u8]) -> Result<u64, Stop>
     }
 }
 
-/// Reads so many lines, or those that are there, and puts them behind the text.
+/// Reads this many lines, or fewer where the input ends, and appends them to the text.
 fn read_section<S: Read>(input: &mut S, text: &mut Vec<u8>, lines: u64) -> Result<Next, Stop>
     requires few { length text.old.items ≤ most_command }
     ensures read { IfOk result (ReadsLines lines text.old.items text.new.items

@@ -47,7 +47,7 @@ fn print_too_long<W: Write>(writer: &mut W) -> Result<Status, Stop>
 /// `turns` a line `done` for each command.
 ///
 /// # Errors
-/// A read fault, also behind 4,294,967,295 commands; a write fault; and want of memory.
+/// A read fault, also after 4,294,967,295 commands; a write fault; and want of memory.
 fn turns_on<S: Read, W: Write, D: Write>(
     alloc: Global,
     input: &mut S,
@@ -183,7 +183,7 @@ fn run_drivers<S: Read, W: Write, D: Write>(
 }
 
 /// Holds a conversation over a profile with these drivers: reads a command, does it, writes its reply to `out`, and so
-/// on. What is written to `turns`, `done` for each, stands behind what was written to `out` until then.
+/// on. What is written to `turns`, `done` for each, comes after what was written to `out` until then.
 ///
 /// What `out` is given is what a session of the lines that were read writes. A command has at most 16,777,216 bytes with
 /// its section. On every exit the engine, where there was one, has been discarded.

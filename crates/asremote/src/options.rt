@@ -1,6 +1,9 @@
 //! Reading the command line.
 
-ghost use Rattle.std.specs.Prelude.{◌≤◌, IfOk};
+ghost use Rattle.std.specs.Prelude.{◌≡◌, ◌≤◌, true, false, Some, IfOk, IfErr, codes, map, string_bytes};
+ghost use Rattle.clap.specs.Words.{kind_of};
+ghost use Rattle.clap.specs.declared.error.kind.ErrorKind.TheVariants.{OutOfMemory};
+ghost use Rattle.asremote.specs.Options.{given, flag, budget_given, drivers_given, is_right};
 
 use crate::command;
 use crate::command::{chosen, command_line};
@@ -12,12 +15,25 @@ use std::alloc::Global;
 ///
 /// # Errors
 /// The error of `clap`: an option that is missing, unknown, given twice or without a value, a budget
-/// that is no number from 1 to 2,147,483,647, a wish for help, or want of memory.
+/// that is no number from 1 to 2,147,483,647, a number of drivers that is none from 1 to 64, a wish
+/// for help, or want of memory.
 pub fn options<'a>(alloc: Global, words: &'a [&'a str]) -> Result<command::Options, Error>
+    ensures profile { IfOk result (λ o. given (codes "profile") (map (λ w. w.now) words.now)
+        ≡ Some (string_bytes o.profile)) }
+    ensures drivers { IfOk result (λ o. drivers_given
+        (given (codes "drivers") (map (λ w. w.now) words.now)) ≡ Some o.drivers) }
+    ensures budget { IfOk result (λ o. budget_given
+        (given (codes "budget") (map (λ w. w.now) words.now)) ≡ Some o.budget) }
+    ensures echo { IfOk result (λ o. flag (codes "echo") (map (λ w. w.now) words.now)
+        ≡ Some (codes "true") → o.echo ≡ true) }
+    ensures no_echo { IfOk result (λ o. flag (codes "echo") (map (λ w. w.now) words.now)
+        ≡ Some (codes "false") → o.echo ≡ false) }
     ensures drivers_least { IfOk result (λ o. 1 ≤ o.drivers) }
     ensures drivers_most { IfOk result (λ o. o.drivers ≤ 64) }
     ensures least { IfOk result (λ o. 1 ≤ o.budget) }
     ensures most { IfOk result (λ o. o.budget ≤ 2147483647) }
+    ensures refused { IfErr result (λ e. is_right (map (λ w. w.now) words.now) ≡ true →
+        kind_of e ≡ OutOfMemory) }
 {
     let mut command = command_line(alloc)?;
     let matches = command.try_get_matches_from_mut(words)?;

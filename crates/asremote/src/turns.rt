@@ -24,7 +24,7 @@ pub enum Turn {
     Bad,
 }
 
-/// Where a conversation stands behind a turn.
+/// Where a conversation stands after a turn.
 #[derive(Clone, Copy)]
 pub struct At {
     /// Whether the turn's command ended in `ok`.
@@ -75,7 +75,7 @@ pub fn take_turn<W: Write>(
     }
 }
 
-/// The number of the line behind a command, whose section has so many lines.
+/// The number of the line after a command whose section has this many lines.
 fn advanced(number: u64, lines: u64) -> Result<u64, Stop>
     ensures exact { IfOk result (λ n. n ≡ number + (1 + lines)) }
 {
@@ -83,7 +83,7 @@ fn advanced(number: u64, lines: u64) -> Result<u64, Stop>
     next.ok_or(Stop::Fault(IoFault::Read))
 }
 
-/// Tells that a turn is over, behind all that the writer was given.
+/// Tells that a turn is over, after all that the writer was given.
 pub fn print_done<W: Write, D: Write>(writer: &mut W, turns: &mut D) -> Result<(), Stop>
     ensures told { OnOk result (Appends (D.contents turns.old) (D.contents turns.new)
         (done_text 1)) }

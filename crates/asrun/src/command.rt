@@ -23,9 +23,23 @@ const SESSION_HELP: &str = "The file of commands: modules, their scripts, builds
 const BUDGET_HELP: &str =
     "The ticks that each command may take, from 1 to 2147483647 (1000000 if left out)";
 
-/// Where the formats are described.
-const FORMATS: &str = "Both files are text, one entry or command a line. docs/FORMATS.md has their \
-    lines, what is{n}printed and the exit status; crates/examples/data has files of both.";
+/// Files of both forms to begin with, and where the forms are described.
+const FORMATS: &str = "\
+Both files are text, one entry or command a line. A mask is eight hexadecimal digits: a module sees
+the entries whose masks have a bit in common with its own. A profile:
+
+  mask 00000001
+  function 0 0 void print(int)
+
+A session of four commands, one of which has a line of script:
+
+  module a 00000001
+  section a 1
+  void main(){ print(1+2); }
+  build a
+  call a () void main()
+
+docs/FORMATS.md has all lines, what is printed and the exit status; crates/examples/data has more.";
 
 /// What the command line says.
 #[derive(Debug, Drop)]

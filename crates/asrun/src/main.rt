@@ -31,17 +31,38 @@ fn print_outcome(rt: &impl Eprint, outcome: Result<Status, IoFault>) {
     }
 }
 
+/// Opens a file to read it. A directory is refused: it could be opened, and not read.
+///
+/// # Errors
+/// That of the operating system, which says why in its words.
+fn open_file(rt: &HostRuntime, path: &str) -> io::Result<File> {
+    let file = File::open(rt, path)?;
+    if file.metadata()?.is_dir() {
+        return Err(io::Error::from(io::ErrorKind::IsADirectory));
+    }
+    Ok(file)
+}
+
+/// Opens a file to read it, or says on standard error why it can't.
+fn open_or_say(rt: &HostRuntime, path: &str) -> Option<File> {
+    match open_file(rt, path) {
+        Ok(file) => Some(file),
+        Err(why) => {
+            let _ = eprintln!(rt; "asrun: cannot open {path}: {why}");
+            None
+        }
+    }
+}
+
 /// Opens the files and runs the session.
 ///
 /// # Errors
 /// A growth of memory was refused before the session.
 fn run_files(rt: &HostRuntime, options: &Options) -> Result<Ending, AllocError> {
-    let Ok(mut profile) = File::open(rt, options.profile.as_str()) else {
-        let _ = eprintln!(rt; "asrun: cannot open {}", options.profile);
+    let Some(mut profile) = open_or_say(rt, options.profile.as_str()) else {
         return Ok(Ending::CannotOpen);
     };
-    let Ok(mut session) = File::open(rt, options.session.as_str()) else {
-        let _ = eprintln!(rt; "asrun: cannot open {}", options.session);
+    let Some(mut session) = open_or_say(rt, options.session.as_str()) else {
         return Ok(Ending::CannotOpen);
     };
     let alloc = rt.alloc();

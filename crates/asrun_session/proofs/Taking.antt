@@ -15,7 +15,7 @@ use Rattle.ang_registry.specs.Roles.{roles_of}
 use Rattle.ang_engine.specs.Sound.{HaveDrivers}
 use Rattle.ang_engine_world.specs.World.{World, no_modules, engine_ended}
 use Rattle.asrun_session.specs.Deeds.{IsDone, IsCut}
-use Rattle.asrun_session.specs.Drivers.{AreListed, AreBack, ByEvents, WasDiscarded, DidNothing, EngineRefusal, IsRefused, AreRefused, engine_text}
+use Rattle.asrun_session.specs.Drivers.{AreListed, AreBack, ByEvents, WasDiscarded, DidNothing, EngineRefusal, IsRefused, AreRefused, NoDriver, engine_text}
 use Rattle.asrun_session.specs.Reading.{unread}
 use Rattle.asrun_session.specs.Whole.{Ends, Stops, Unread, RunsSession, StopsSession, most_session, long_session_text}
 use Rattle.asrun_session.specs.Writing.{HasFront, unwritten}
@@ -107,6 +107,39 @@ memory_written e = cc
 
 pub read_memory : (A : Type 0) (ended : Result Status Stop) → ended ≡ Err Memory → IfErr ended (λ e. e ≡ unwritten → A)
 read_memory A ended is = rw is (λ e. absurd (memory_written e))
+
+-- ---- no engine was made: an entry's driver is not there, or there was no memory
+
+module _ {V : Type 0} {P : V → Type 0} (m : Meanings P) (R : RegistrationList) (xs ys : List (DynBox V Global P)) (old new : Option (List ℕ)) (text : Option (List ℕ)) (budget : ℕ)
+    (same : ys ≡ xs) where
+  pub refused_done : (ended : Result Status Stop) → IsRefused m R xs NoDriver → OnOk ended (Appends old new (engine_text NoDriver)) → IfOk ended (λ status. status ≡ BadInput)
+      → IfOk ended (λ status. IfSome text (λ t. Ends m xs ys old new (Ok R) t budget status))
+  refused_done (Err stop) refused printed is = tt
+  refused_done (Ok status) refused printed is = some text
+    where
+      some : (o : Option (List ℕ)) → IfSome o (λ t. Ends m xs ys old new (Ok R) t budget status)
+      some None = tt
+      some (Some t) = inl (NoDriver, refused, printed, is, same)
+
+  pub refused_cut : (ended : Result Status Stop) → IsRefused m R xs NoDriver → OnErr ended (HasFront old new (engine_text NoDriver))
+      → OnErr ended (IfSome text (λ t. Stops m xs ys old new (Ok R) t budget))
+  refused_cut (Ok status) refused printed = tt
+  refused_cut (Err stop) refused printed = some text
+    where
+      some : (o : Option (List ℕ)) → IfSome o (λ t. Stops m xs ys old new (Ok R) t budget)
+      some None = tt
+      some (Some t) = inr (inl (NoDriver, refused, printed, same))
+
+  pub memory_done : (ended : Result Status Stop) → ended ≡ Err Memory → IfOk ended (λ status. IfSome text (λ t. Ends m xs ys old new (Ok R) t budget status))
+  memory_done ended is = rw is tt
+
+  pub memory_cut : (ended : Result Status Stop) → new ≡ old → OnErr ended (IfSome text (λ t. Stops m xs ys old new (Ok R) t budget))
+  memory_cut (Ok status) kept = tt
+  memory_cut (Err stop) kept = some text
+    where
+      some : (o : Option (List ℕ)) → IfSome o (λ t. Stops m xs ys old new (Ok R) t budget)
+      some None = tt
+      some (Some t) = inl (kept, same)
 
 -- ---- an engine over the list R' took the drivers, which it has as xs'; it was left with this world and the drivers zs, and discarded
 

@@ -158,7 +158,7 @@ fn print_built(rt: &HostRuntime, registry: &Registry, name: &str, text: &[u8]) -
     let Some(program) = built(rt.alloc(), registry, text) else {
         return refuse(rt, name);
     };
-    let functions = program.names.functions.as_slice().len();
+    let functions = program.names.functions().len();
     println!(rt; "{name}: {} bytes, {functions} functions", text.len())?;
     Ok(0)
 }

@@ -127,7 +127,7 @@ fn spaced(alloc: Global, length: usize) -> Result<Vec<u8>, AllocError> {
 }
 
 fn is_found(alloc: Global, view: &View, names: &Names, decl: &[u8], wanted: Option<usize>) -> bool {
-    if names.families.as_slice().len() > 256 {
+    if names.families().len() > 256 {
         return false;
     }
     match find_function(alloc, view, names, decl) {
@@ -207,7 +207,7 @@ fn wrong_in(alloc: Global, view: &View, names: &Names, asked: Asked) -> Option<&
         Asked::Named => wrong_name(alloc, view, names),
         Asked::NotNamed => wrongly_named(alloc, view, names),
         Asked::Lengths => wrong_length(alloc, view, names),
-        Asked::Callable => wrongly_callable(names.functions.as_slice()),
+        Asked::Callable => wrongly_callable(names.functions()),
     }
 }
 

@@ -10,6 +10,8 @@ mod harness;
 #[cfg(test)]
 mod modules;
 #[cfg(test)]
+mod profiles;
+#[cfg(test)]
 mod sessions;
 #[cfg(test)]
 mod statements;

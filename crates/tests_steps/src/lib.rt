@@ -2,6 +2,8 @@
 #![tactic(auto)]
 
 #[cfg(test)]
+mod known;
+#[cfg(test)]
 mod taken;
 #[cfg(test)]
 mod values;

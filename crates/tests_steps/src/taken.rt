@@ -1,4 +1,5 @@
 //! Steps: where they stand in a text, and what each does at once.
+use crate::known::KNOWN;
 use ang_code::Instruction;
 use ang_code::Instruction::{
     Back, Change as Changed, Do, Drop, Load, PushBits, Return, SkipIfFalse, Tick,
@@ -28,10 +29,10 @@ const LATER: Change = Change {
 
 /// A step on a stack of four where 5 and 3 are in use, with nine ticks, which it leaves: the place behind it from place 7
 /// on, how many values are in use then, and the first three of them.
-type Row = (Step, Left);
+pub type Row = (Step, Left);
 
 /// The place, how many values are in use, and the first three of them.
-type Left = (usize, usize, u64, u64, u64);
+pub type Left = (usize, usize, u64, u64, u64);
 
 /// An odd number is 1 as a truth value. Where a comparison does not hold, four instructions more are passed.
 const TAKEN: [Row; 23] = [
@@ -61,10 +62,11 @@ const TAKEN: [Row; 23] = [
 ];
 
 /// At a loop's end a tick is taken.
-const BACK: [Row; 3] = [
+const BACK: [Row; 4] = [
     (Step::ChangeBack(LATER, 1, 2, 3), (7, 2, 7, 3, 0)),
     (Step::AddBack32(true, 0, 1, 3), (7, 2, 5, 4, 0)),
     (Step::AddBack64(true, 0, 1, 3), (7, 2, 5, 4, 0)),
+    (Step::AddBackU32(true, 0, 1, 3), (7, 2, 5, 4, 0)),
 ];
 
 /// Calls and returns are left to the run, and so is what faults, finds no value or names no instructions.
@@ -123,6 +125,9 @@ fn steps_are_taken(rt: HostRuntime) {
     for (step, want) in TAKEN {
         assert!(rt; taken(2, [5, 3, 0], 9, step) == left(9, want), "{step:?}");
     }
+    for (step, want) in KNOWN {
+        assert!(rt; taken(2, [5, 3, 0], 9, step) == left(9, want), "{step:?}");
+    }
     for (step, want) in BACK {
         assert!(rt; taken(2, [5, 3, 0], 9, step) == left(8, want), "{step:?}");
         assert!(rt; taken(2, [5, 3, 0], 0, step).is_none(), "{step:?}");
@@ -155,12 +160,12 @@ const COUNTING: &[Instruction] = &[
 const STEPS: [(usize, Option<Step>); 10] = [
     (0, Some(Step::Push(0))),
     (1, Some(Step::Other)),
-    (2, Some(Step::TestConstant(LESS, true, 0, 10, 4))),
-    (3, Some(Step::TestTopConstant(LESS, true, 10, 4))),
+    (2, Some(Step::LessConstant(0, 10, 4))),
+    (3, Some(Step::LessTopConstant(10, 4))),
     (4, Some(Step::TestTops(LESS, true, 4))),
     (5, Some(Step::Other)),
     (6, Some(Step::AddBack64(true, 0, 1, 7))),
-    (7, Some(Step::ChangeTop(LATER, 0))),
+    (7, Some(Step::AddTopToLocal64(true, 0))),
     (10, Some(Step::Load(0))),
     (12, None),
 ];

@@ -1,6 +1,7 @@
-use Rattle.std.proofs.Common.{◌≡◌, length, option_copied, map as list_map, rules, sym, ◌∙◌}
+use Rattle.std.proofs.Common.{◌≡◌, length, Some, None, option_copied, map as list_map, rules, sym, ap, ◌∙◌}
 use Rattle.ang_names_written.specs.Sources.{source_of}
-use Rattle.ang_check.proofs.Asking.{no_denials}
+use Rattle.ang_names.proofs.Named.{found_as}
+use Rattle.ang_check.proofs.Asking.{body_rows, no_denials, phase_rows}
 use Rattle.ang_check.proofs.denying.denials.Goals as goal
 
 pub returns-then-is_empty : goal.returns-then-is_empty
@@ -11,4 +12,28 @@ returns-then-is_empty c =
           c.new.ensures.items
           ∙ sym (no_denials c.args.registry.now.entries c.args.mask.0 (list_map source_of c.args.scripts.now) (option_copied c.args.names) c.args.errors.now
           c.requires.errors none);
+    }
+
+pub returns-in-None : goal.returns-in-None
+returns-in-None c =
+    let R = c.args.registry.now.entries in
+    let ss = list_map source_of c.args.scripts.now in
+    let none : option_copied c.args.names ≡ None = ap option_copied c.in-None.is in
+    record {
+      exact =
+          found_as (λ rows. rows.items) _ _ c.rows_of_phases.result c.rows_of_phases.ensures.exact
+          (phase_rows R c.args.mask.0 ss (option_copied c.args.names) c.args.errors.now _ _ _ c.requires.errors none
+          (c.new-masked.ensures.list ∙ c.in_ok-whole.ensures.exact) c.new-masked.ensures.mask c.in_ok-view.ensures.exact);
+    }
+
+pub returns : goal.returns
+returns c =
+    let R = c.args.registry.now.entries in
+    let ss = list_map source_of c.args.scripts.now in
+    let some : option_copied c.args.names ≡ Some c.in-Some.names.now = ap option_copied c.in-Some.is in
+    record {
+      exact =
+          found_as (λ rows. rows.items) _ _ c.rows_of_bodies.result c.rows_of_bodies.ensures.exact
+          (body_rows R c.args.mask.0 ss (option_copied c.args.names) c.in-Some.names.now c.args.errors.now _ _ _ c.requires.errors some
+          (c.new-masked.ensures.list ∙ c.in_ok-whole.ensures.exact) c.new-masked.ensures.mask c.in_ok-view.ensures.exact);
     }

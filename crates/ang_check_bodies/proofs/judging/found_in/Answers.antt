@@ -14,6 +14,6 @@ unfolding judgements parts_of
 returns c = record {
   all = all_judged c.args.build.now.view.now c.args.build.now.names.now section_of source_of c.args.scripts.now c.loop-script.script-index
       _ _ _ _ c.loop-script.invariant c.loop-script-test.false
-      c.as_slice.ensures.same c.as_slice-2.ensures.same c.as_slice-3.ensures.same
+      c.functions.ensures.same c.globals.ensures.same c.families.ensures.same
       c.new.ensures.items c.new-2.ensures.items c.new-3.ensures.items c.new-4.ensures.items;
 }

@@ -15,7 +15,7 @@ returns-in_default c =
 
 pub add_class-requires-clause-there : goal.add_class-requires-clause-there
 add_class-requires-clause-there c =
-    sym (ap (λ fs. slice_get fs c.class_number-number.result) c.as_slice.ensures.same)
+    sym (ap (λ fs. slice_get fs c.class_number-number.result) c.families.ensures.same)
     ∙ sym c.family_of.ensures.exact ∙ ap option_copied c.in-Some-family_of.is
 
 pub returns : goal.returns

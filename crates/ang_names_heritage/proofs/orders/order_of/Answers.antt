@@ -1,7 +1,7 @@
-use Rattle.std.specs.Prelude.{true, false, ◌≡◌, length, replicate, slice_set}
-use Rattle.std.proofs.Common.{rules, ◌∙◌}
+use Rattle.std.specs.Prelude.{true, false, [], ◌≡◌, ◌≤◌, length, replicate, slice_set}
+use Rattle.std.proofs.Common.{rules, arith, sym, ◌∙◌}
 use Rattle.std.proofs.lemmas.List.{length-set, length-replicate}
-use Rattle.ang_names_heritage.proofs.Rings.{mark_alone, round_start, round_next, round_end, written_back}
+use Rattle.ang_names_heritage.proofs.Rings.{mark_alone, round_start, round_next, round_end, round_stop, none_left, written_back}
 use Rattle.ang_names_heritage.proofs.orders.order_of.Goals as goal
 
 pub loop-distance-init : goal.loop-distance-init
@@ -26,3 +26,13 @@ pub returns : goal.returns
 returns c =
     let e : c.loop-distance._distance ≡ c.args.n = search rules in
     record { exact = λ f s. round_end f c.args.n c.args.i c.loop-distance._distance c.loop-distance.near.items c.loop-distance.ring.items c.loop-distance.places.items e (c.loop-distance.invariant.1 f s) }
+
+pub returns-then-is_empty : goal.returns-then-is_empty
+returns-then-is_empty c =
+    let last = c.loop-distance.ring in
+    let empty : last.items ≡ [] = none_left last.items last.len last.ok.0 (sym c.is_empty.ensures ∙ c.if-is_empty.true) in
+    let within : c.loop-distance._distance ≤ c.args.n = omega (arith, c.loop-distance-test.true) in
+    record {
+      exact = λ e s. round_stop e c.args.n c.args.i c.loop-distance._distance c.loop-distance.near.items last.items c.loop-distance.places.items
+          empty within (c.loop-distance.invariant.1 e s);
+    }

@@ -8,7 +8,7 @@ use Rattle.ang_names_known.proofs.lineage.lineage_of.Goals as goal
 pub returns : goal.returns
 unfolding ancestors_of
 returns c =
-    let fs : List Family = c.as_slice-families.result.now in
+    let fs : List Family = c.families-all.result.now in
     let over : length fs ≤ c.loop-family.family-index = omega arith in
     let done : List (List ℕ) = list_map (λ (v : Vec ℕ Global). v.items) c.loop-family.above.items in
     record {
@@ -17,5 +17,5 @@ returns c =
           ∙ sym (append-nil done)
           ∙ ap (λ ds. done ++ list_map (λ (f : Family). list_map family_type f.above) ds) (sym (drop_all c.loop-family.family-index fs over))
           ∙ sym c.loop-family.invariant
-          ∙ ap (λ gs. replicate first_family [] ++ list_map (λ (f : Family). list_map family_type f.above) gs) c.as_slice-families.ensures.same;
+          ∙ ap (λ gs. replicate first_family [] ++ list_map (λ (f : Family). list_map family_type f.above) gs) c.families-all.ensures.same;
     }

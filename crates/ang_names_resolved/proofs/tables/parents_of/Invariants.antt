@@ -4,4 +4,4 @@ use Rattle.ang_names_resolved.specs.Resolved.{is_parent}
 use Rattle.ang_names_resolved.proofs.tables.parents_of.Given as goal
 
 abbrev pub invariant-loop-family : goal.invariant-loop-family
-invariant-loop-family l = IsBegun l.table.items (length l.families) l.family-index (is_parent l.families)
+invariant-loop-family l = IsBegun l.table.items (length l.placed) l.family-index (is_parent l.placed)

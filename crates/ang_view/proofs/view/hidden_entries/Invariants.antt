@@ -4,4 +4,4 @@ use Rattle.ang_view.proofs.view.hidden_entries.Given as goal
 
 abbrev pub invariant-loop-entry : goal.invariant-loop-entry
 invariant-loop-entry l =
-    l.view.items ≡ map (hidden_entry l.entries l.mask.0) (take l.entry-index l.entries)
+    l.view.items ≡ map (hidden_entry l.list l.mask.0) (take l.entry-index l.entries)

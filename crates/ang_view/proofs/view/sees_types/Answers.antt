@@ -1,27 +1,41 @@
-use Rattle.std.proofs.Common.{◌≡◌, ℕ, ◌<◌, true, false, length, None, arith, sym, ap, ◌∙◌}
-use Rattle.std.proofs.lemmas.List.{get_or_read}
-use Rattle.ang_view.specs.Registration.{named, is_named_by, has_mask_for}
-use Rattle.ang_view.specs.Registration.{entry_at}
-use Rattle.ang_view.proofs.Lists.{Decides-list_all-filter, false_from}
+use Rattle.std.proofs.Common.{◌≡◌, true, false, ◌&&◌, sym, ◌∙◌}
+use Rattle.ang_view.specs.Registration.{is_type}
+use Rattle.ang_view.specs.SeenTypes.{meets_owner, meets_signature}
+use Rattle.ang_view.proofs.SeenTypes.{named_none, own_type_met, own_type_unmet, types_met}
 use Rattle.ang_view.proofs.view.sees_types.Goals as goal
 
-pub returns-then-not-meets : goal.returns-then-not-meets
-unfolding named
-returns-then-not-meets c =
-    let list = c.args.entries.now in
-    let n = c.loop-number.number in
-    let inside : n < length list = omega arith in
-    let is : c.index-entries-number.result ≡ entry_at list n = get_or_read list _ _ inside c.index-entries-number.is None in
-    let p = λ (k : ℕ). is_named_by c.args.entry.now k (entry_at list k) in
-    let q = λ (k : ℕ). has_mask_for c.args.mask.0 (entry_at list k) in
-    let named_here : p n ≡ true = ap (is_named_by c.args.entry.now n) (sym is) ∙ (sym c.names.ensures.exact ∙ c.if-names.true) in
-    let hidden : q n ≡ false = ap (has_mask_for c.args.mask.0) (sym is) ∙ (sym c.meets.ensures.exact ∙ c.if-not-meets.true) in
-    record { exact = false_from _ (λ e. let seen_here = (Decides-list_all-filter p q 0 (length list)).0 e n (omega arith) (omega arith) named_here in cc) }
+pub returns-then-is_host_type : goal.returns-then-is_host_type
+returns-then-is_host_type c =
+    let list = c.args.list.now in
+    let mask = c.args.mask.0 in
+    let x = c.args.entry.now in
+    let names_none : is_type x.kind ≡ true = sym c.is_host_type.ensures.exact ∙ c.if-is_host_type.true in
+    record {
+      exact = c.is_host_type.ensures.exact ∙ named_none (is_type x.kind) (meets_owner list mask x.owner && meets_signature list mask x.signature) names_none ∙ types_met list mask x;
+    }
 
-pub returns : goal.returns
-unfolding named
-returns c =
-    let list = c.args.entries.now in
-    let p = λ (k : ℕ). is_named_by c.args.entry.now k (entry_at list k) in
-    let q = λ (k : ℕ). has_mask_for c.args.mask.0 (entry_at list k) in
-    record { exact = sym ((Decides-list_all-filter p q 0 (length list)).1 (λ k low high h. c.loop-number.invariant k (omega arith) h)) }
+pub returns-then-sees_owner : goal.returns-then-sees_owner
+returns-then-sees_owner c =
+    let list = c.args.list.now in
+    let mask = c.args.mask.0 in
+    let x = c.args.entry.now in
+    let names : is_type x.kind ≡ false = sym c.is_host_type.ensures.exact ∙ c.if-is_host_type.false in
+    let met : meets_owner list mask x.owner ≡ true = sym c.sees_owner.ensures.exact ∙ c.if-sees_owner.true in
+    record {
+      exact =
+          c.sees_signature.ensures.exact ∙ own_type_met (is_type x.kind) (meets_owner list mask x.owner) (meets_signature list mask x.signature) names met
+          ∙ types_met list mask x;
+    }
+
+pub returns-else-sees_owner : goal.returns-else-sees_owner
+returns-else-sees_owner c =
+    let list = c.args.list.now in
+    let mask = c.args.mask.0 in
+    let x = c.args.entry.now in
+    let names : is_type x.kind ≡ false = sym c.is_host_type.ensures.exact ∙ c.if-is_host_type.false in
+    let unmet : meets_owner list mask x.owner ≡ false = sym c.sees_owner.ensures.exact ∙ c.if-sees_owner.false in
+    record {
+      exact =
+          c.sees_owner.ensures.exact ∙ own_type_unmet (is_type x.kind) (meets_owner list mask x.owner) (meets_signature list mask x.signature) names unmet
+          ∙ types_met list mask x;
+    }

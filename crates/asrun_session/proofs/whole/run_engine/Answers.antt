@@ -1,10 +1,10 @@
-use Rattle.std.proofs.Common.{rules, length, map, ap, [], refl, ◌∙◌}
+use Rattle.std.proofs.Common.{◌≡◌, rules, length, map, ap, [], refl, ◌∙◌}
 use Rattle.ang_host.specs.Boxes.{members}
 use Rattle.ang_registry.specs.Roles.{roles_of}
 use Rattle.ang_engine.specs.Engines.{world_in, drivers_in}
 use Rattle.ang_engine.specs.Sound.{HaveDrivers}
 use Rattle.asrun_session.specs.Drivers.{NoDriver}
-use Rattle.asrun_session.proofs.Taking.{ends_taken, stops_taken, unread_taken, unused, read_refused, read_memory}
+use Rattle.asrun_session.proofs.Taking.{ends_taken, stops_taken, unread_taken, unused, read_refused, read_memory, refused_done, refused_cut, memory_done, memory_cut}
 use Rattle.asrun_session.proofs.whole.run_engine.Goals as goal
 use Rattle.asrun_session.proofs.whole.run_engine.Goals.{in-NoDriver, in-Memory}
 
@@ -39,4 +39,28 @@ returns-after-why-clause-read g c = elim c.match-why.branch [
       rw w.ended-is (read_refused (λ v. (g.dyn-1.0.entry v).1) c.args.registry.entries (members c.args.drivers) _ NoDriver
       w.print_no_driver-ended.result (c.requires.listed, no))
   | in-Memory w ↦ read_memory _ _ w.ended-is
+]
+
+pub returns-after-why-clause-done : goal.returns-after-why-clause-done
+returns-after-why-clause-done g c = elim c.match-why.branch [
+  | in-NoDriver w ↦
+      let no : HaveDrivers c.args.registry.entries (length (members c.args.drivers)) → ⊥ = search rules in
+      let back : c.into_boxes.result.items ≡ members c.args.drivers = search rules in
+      rw (w.ended-is, w.writer-is) (refused_done (λ v. (g.dyn-1.0.entry v).1) c.args.registry.entries _ _ _ _ _ c.args.budget back
+      w.print_no_driver-ended.result (c.requires.listed, no) w.print_no_driver-ended.ensures.whole w.print_no_driver-ended.ensures.status)
+  | in-Memory w ↦
+      let back : c.into_boxes.result.items ≡ members c.args.drivers = search rules in
+      memory_done (λ v. (g.dyn-1.0.entry v).1) c.args.registry.entries _ _ _ _ _ c.args.budget back _ w.ended-is
+]
+
+pub returns-after-why-clause-cut : goal.returns-after-why-clause-cut
+returns-after-why-clause-cut g c = elim c.match-why.branch [
+  | in-NoDriver w ↦
+      let no : HaveDrivers c.args.registry.entries (length (members c.args.drivers)) → ⊥ = search rules in
+      let back : c.into_boxes.result.items ≡ members c.args.drivers = search rules in
+      rw (w.ended-is, w.writer-is) (refused_cut (λ v. (g.dyn-1.0.entry v).1) c.args.registry.entries _ _ _ _ _ c.args.budget back
+      w.print_no_driver-ended.result (c.requires.listed, no) w.print_no_driver-ended.ensures.front)
+  | in-Memory w ↦
+      let back : c.into_boxes.result.items ≡ members c.args.drivers = search rules in
+      memory_cut (λ v. (g.dyn-1.0.entry v).1) c.args.registry.entries _ _ _ _ _ c.args.budget back _ (search rules)
 ]

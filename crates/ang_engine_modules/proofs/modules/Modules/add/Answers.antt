@@ -7,5 +7,5 @@ invariant_of-self c =
     let x = c.self.inside in
     let e = c.no_code.ensures in
     let p = c.push_place.ensures in
-    loaded_added x.table _ x.loaded.items _ c.self.invariant c.push_place.result c.no_code.result p.codes p.no_code p.loaded p.not_loaded
+    loaded_added x.table _ x.loaded.items _ c.self.invariant c.push_place.result c.no_code.result p.codes p.codes_unchanged p.loaded p.loaded_unchanged
     (λ m. blank m c.no_code.result e.name e.bodies e.imports e.entities e.classes e.slots)

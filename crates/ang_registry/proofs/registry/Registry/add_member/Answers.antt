@@ -1,4 +1,4 @@
-use Rattle.std.proofs.Common.{◌≡◌, true, false, Some, None, rules, ap, sym, ◌∙◌}
+use Rattle.std.proofs.Common.{◌≡◌, true, false, Some, None, rules, ap}
 use Rattle.std.proofs.lemmas.Result.{err_from_is_err_and}
 use Rattle.ang_registry.specs.Registrations.{Registrations}
 use Rattle.ang_registry.specs.Refusals.{gives_own, refusal_of_member, refusal_of_entry}
@@ -10,8 +10,8 @@ pub returns-in_err-check_room-clause-first_refusal :
     goal.returns-in_err-check_room-clause-first_refusal
 returns-in_err-check_room-clause-first_refusal c =
     let a = c.args in
-    let held : AreHeld c.deref.result.now c.self.inside.default_mask a.self.now = record {
-      same_entries = c.deref.ensures.value ∙ ap (λ (r : Registrations). r.entries) c.self.view_is;
+    let held : AreHeld c.self.inside.list c.self.inside.default_mask a.self.now = record {
+      same_entries = ap (λ (r : Registrations). r.entries) c.self.view_is;
       same_mask = ap (λ (r : Registrations). r.default_mask) c.self.view_is;
     } in
     let p = err_from_is_err_and c.from_residual.result c.from_residual.ensures.1 in
@@ -20,11 +20,11 @@ returns-in_err-check_room-clause-first_refusal c =
 pub returns-in_default-clause-first_refusal : goal.returns-in_default-clause-first_refusal
 returns-in_default-clause-first_refusal c =
     let a = c.args in
-    let held : AreHeld c.deref.result.now c.self.inside.default_mask a.self.now = record {
-      same_entries = c.deref.ensures.value ∙ ap (λ (r : Registrations). r.entries) c.self.view_is;
+    let held : AreHeld c.self.inside.list c.self.inside.default_mask a.self.now = record {
+      same_entries = ap (λ (r : Registrations). r.entries) c.self.view_is;
       same_mask = ap (λ (r : Registrations). r.default_mask) c.self.view_is;
     } in
-    let room : HasRoom c.deref.result.now c.self.inside.default_mask a.declared = record { within_limit = c.in_ok-check_room.ensures.limit; has_mask = c.in_ok-check_room.ensures.mask } in
+    let room : HasRoom c.self.inside.list c.self.inside.default_mask a.declared = record { within_limit = c.in_ok-check_room.ensures.limit; has_mask = c.in_ok-check_room.ensures.mask } in
     let none : a.declared ≡ None = first_of (cc, search rules) in
     λ _. refusal_of_member-undeclared a.kind a.self.now a.type_name.now a.declared _ _ held room none
 
@@ -32,11 +32,11 @@ pub returns-then-not-gives_own-clause-first_refusal :
     goal.returns-then-not-gives_own-clause-first_refusal
 returns-then-not-gives_own-clause-first_refusal c =
     let a = c.args in
-    let held : AreHeld c.deref.result.now c.self.inside.default_mask a.self.now = record {
-      same_entries = c.deref.ensures.value ∙ ap (λ (r : Registrations). r.entries) c.self.view_is;
+    let held : AreHeld c.self.inside.list c.self.inside.default_mask a.self.now = record {
+      same_entries = ap (λ (r : Registrations). r.entries) c.self.view_is;
       same_mask = ap (λ (r : Registrations). r.default_mask) c.self.view_is;
     } in
-    let room : HasRoom c.deref.result.now c.self.inside.default_mask a.declared = record { within_limit = c.in_ok-check_room.ensures.limit; has_mask = c.in_ok-check_room.ensures.mask } in
+    let room : HasRoom c.self.inside.list c.self.inside.default_mask a.declared = record { within_limit = c.in_ok-check_room.ensures.limit; has_mask = c.in_ok-check_room.ensures.mask } in
     let other : gives_own a.kind a.type_name.now c.in-Some.signature ≡ false = first_of (cc, search rules) in
     λ _. refusal_of_member-other a.kind a.self.now a.type_name.now a.declared c.in-Some.signature _ _ held room c.in-Some.is other
 
@@ -44,44 +44,41 @@ pub returns-in_default-find_type-clause-first_refusal :
     goal.returns-in_default-find_type-clause-first_refusal
 returns-in_default-find_type-clause-first_refusal c =
     let a = c.args in
-    let held : AreHeld c.deref.result.now c.self.inside.default_mask a.self.now = record {
-      same_entries = c.deref.ensures.value ∙ ap (λ (r : Registrations). r.entries) c.self.view_is;
+    let held : AreHeld c.self.inside.list c.self.inside.default_mask a.self.now = record {
+      same_entries = ap (λ (r : Registrations). r.entries) c.self.view_is;
       same_mask = ap (λ (r : Registrations). r.default_mask) c.self.view_is;
     } in
-    let room : HasRoom c.deref.result.now c.self.inside.default_mask a.declared = record { within_limit = c.in_ok-check_room.ensures.limit; has_mask = c.in_ok-check_room.ensures.mask } in
-    let again : c.deref-2.result.now ≡ c.deref.result.now = c.deref-2.ensures.value ∙ sym c.deref.ensures.value in
+    let room : HasRoom c.self.inside.list c.self.inside.default_mask a.declared = record { within_limit = c.in_ok-check_room.ensures.limit; has_mask = c.in_ok-check_room.ensures.mask } in
     let own : gives_own a.kind a.type_name.now c.in-Some.signature ≡ true = first_of (cc, search rules) in
-    let absent : type_named c.deref.result.now a.type_name.now ≡ None = rw again at c.in_default-find_type.ensures.absent in
+    let absent : type_named c.self.inside.list a.type_name.now ≡ None = c.in_default-find_type.ensures.absent in
     λ _. refusal_of_member-unknown a.kind a.self.now a.type_name.now a.declared c.in-Some.signature _ _ held room c.in-Some.is own absent
 
 pub returns-clause-accepted : goal.returns-clause-accepted
 returns-clause-accepted c =
     let a = c.args in
-    let held : AreHeld c.deref.result.now c.self.inside.default_mask a.self.now = record {
-      same_entries = c.deref.ensures.value ∙ ap (λ (r : Registrations). r.entries) c.self.view_is;
+    let held : AreHeld c.self.inside.list c.self.inside.default_mask a.self.now = record {
+      same_entries = ap (λ (r : Registrations). r.entries) c.self.view_is;
       same_mask = ap (λ (r : Registrations). r.default_mask) c.self.view_is;
     } in
-    let room : HasRoom c.deref.result.now c.self.inside.default_mask a.declared = record { within_limit = c.in_ok-check_room.ensures.limit; has_mask = c.in_ok-check_room.ensures.mask } in
-    let again : c.deref-2.result.now ≡ c.deref.result.now = c.deref-2.ensures.value ∙ sym c.deref.ensures.value in
+    let room : HasRoom c.self.inside.list c.self.inside.default_mask a.declared = record { within_limit = c.in_ok-check_room.ensures.limit; has_mask = c.in_ok-check_room.ensures.mask } in
     let own : gives_own a.kind a.type_name.now c.in-Some.signature ≡ true = first_of (cc, search rules) in
     let found = c.in-Some-find_type.found in
-    let place : type_named c.deref.result.now a.type_name.now ≡ Some found.number.0 = rw again at c.in-Some-find_type.ensures.number in
-    let by : found.driver ≡ driver_at c.deref.result.now (Some found.number.0) = rw again at c.in-Some-find_type.ensures.driver in
+    let place : type_named c.self.inside.list a.type_name.now ≡ Some found.number.0 = c.in-Some-find_type.ensures.number in
+    let by : found.driver ≡ driver_at c.self.inside.list (Some found.number.0) = c.in-Some-find_type.ensures.driver in
     let same : refusal_of_member a.kind a.self.now a.type_name.now a.declared ≡ refusal_of_entry a.self.now.entries a.kind (Some found.number) found.driver c.in-Some.signature = refusal_of_member-entry a.kind a.self.now a.type_name.now a.declared c.in-Some.signature found.number found.driver _ _ held room c.in-Some.is own place by in
     rw same c.add.ensures.accepted
 
 pub returns-clause-first_refusal : goal.returns-clause-first_refusal
 returns-clause-first_refusal c =
     let a = c.args in
-    let held : AreHeld c.deref.result.now c.self.inside.default_mask a.self.now = record {
-      same_entries = c.deref.ensures.value ∙ ap (λ (r : Registrations). r.entries) c.self.view_is;
+    let held : AreHeld c.self.inside.list c.self.inside.default_mask a.self.now = record {
+      same_entries = ap (λ (r : Registrations). r.entries) c.self.view_is;
       same_mask = ap (λ (r : Registrations). r.default_mask) c.self.view_is;
     } in
-    let room : HasRoom c.deref.result.now c.self.inside.default_mask a.declared = record { within_limit = c.in_ok-check_room.ensures.limit; has_mask = c.in_ok-check_room.ensures.mask } in
-    let again : c.deref-2.result.now ≡ c.deref.result.now = c.deref-2.ensures.value ∙ sym c.deref.ensures.value in
+    let room : HasRoom c.self.inside.list c.self.inside.default_mask a.declared = record { within_limit = c.in_ok-check_room.ensures.limit; has_mask = c.in_ok-check_room.ensures.mask } in
     let own : gives_own a.kind a.type_name.now c.in-Some.signature ≡ true = first_of (cc, search rules) in
     let found = c.in-Some-find_type.found in
-    let place : type_named c.deref.result.now a.type_name.now ≡ Some found.number.0 = rw again at c.in-Some-find_type.ensures.number in
-    let by : found.driver ≡ driver_at c.deref.result.now (Some found.number.0) = rw again at c.in-Some-find_type.ensures.driver in
+    let place : type_named c.self.inside.list a.type_name.now ≡ Some found.number.0 = c.in-Some-find_type.ensures.number in
+    let by : found.driver ≡ driver_at c.self.inside.list (Some found.number.0) = c.in-Some-find_type.ensures.driver in
     let same : refusal_of_member a.kind a.self.now a.type_name.now a.declared ≡ refusal_of_entry a.self.now.entries a.kind (Some found.number) found.driver c.in-Some.signature = refusal_of_member-entry a.kind a.self.now a.type_name.now a.declared c.in-Some.signature found.number found.driver _ _ held room c.in-Some.is own place by in
     rw same c.add.ensures.first_refusal

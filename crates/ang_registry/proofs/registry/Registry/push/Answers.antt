@@ -6,6 +6,6 @@ use Rattle.ang_registry.proofs.registry.Registry.push.Goals as goal
 pub invariant_of-self-2 : goal.invariant_of-self-2
 invariant_of-self-2 c =
     let same = ap (λ (r : Registrations). length r.entries) c.self.view_is in (
-      rw c.in_ok-push.ensures.items (omega (arith, same, c.requires.room, length-append c.self.inside.entries.items (c.args.entry ∷ []))),
-      rw c.in_ok-push.ensures.items (last_takes _ _ c.self.invariant.1 c.requires.values),
+      rw c.in_ok-push.ensures.pushed (omega (arith, same, c.requires.room, length-append c.self.inside.list (c.args.entry ∷ []))),
+      rw c.in_ok-push.ensures.pushed (last_takes _ _ c.self.invariant.1 c.requires.values),
     )

@@ -3,8 +3,8 @@ use Rattle.ang_registry.proofs.registry.Registry.seen.Goals as goal
 
 pub returns-clause-values : goal.returns-clause-values
 returns-clause-values c =
-    view_values c.deref.result.now c.args.mask.0 c.view_of.result (rw c.deref.ensures.value c.self.invariant.1) c.view_of.ensures.exact
+    view_values _ c.args.mask.0 c.view_of.result c.self.invariant.1 c.view_of.ensures.exact
 
 pub returns-clause-few : goal.returns-clause-few
 returns-clause-few c =
-    view_few c.deref.result.now c.args.mask.0 c.view_of.result (rw c.deref.ensures.value c.self.invariant.0) c.view_of.ensures.exact
+    view_few _ c.args.mask.0 c.view_of.result c.self.invariant.0 c.view_of.ensures.exact

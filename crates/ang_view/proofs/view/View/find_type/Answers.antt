@@ -1,13 +1,19 @@
-use Rattle.std.proofs.Common.{rules}
-use Rattle.ang_view.proofs.Named.{type_in_row}
+use Rattle.std.proofs.Common.{◌≡◌, ℕ, ap, ◌∙◌}
+use Rattle.ang_view.specs.Named.{first_of}
+use Rattle.ang_view.specs.Registration.{RegistrationList, entry_at}
+use Rattle.ang_view.specs.Types.{is_type_named}
+use Rattle.ang_view.proofs.Named.{type_found}
 use Rattle.ang_view.proofs.view.View.find_type.Goals as goal
-
-pub returns-in_err-place : goal.returns-in_err-place
-returns-in_err-place c =
-    let found = type_in_row c.args.self.now c.args.name.now c.named.result.now c.named.ensures.all in
-    record { exact = search (rules, found) }
 
 pub returns : goal.returns
 returns c =
-    let found = type_in_row c.args.self.now c.args.name.now c.named.result.now c.named.ensures.all in
-    record { exact = search (rules, found) }
+    let list = c.args.self.now in
+    let name = c.args.name.now in
+    let found = c.find.result.now in
+    let same : c.deref.result.now ≡ list = c.deref.ensures.value ∙ c.self.view_is in
+    record {
+      exact =
+          c.first_type.ensures.exact
+          ∙ ap (λ (l : RegistrationList). first_of (λ (n : ℕ). is_type_named name (entry_at l n)) found) same
+          ∙ type_found list name found c.find.ensures.exact;
+    }

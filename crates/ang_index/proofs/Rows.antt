@@ -1,0 +1,166 @@
+-- What the table's calls do, as rows of items.
+use Rattle.std.proofs.Common.{◌≡◌, ℕ, ◌==◌, Bool, true, false, cond, ◌&&◌, List, [], ◌∷◌, ◌++◌, Option, Some, None, refl, sym, ap, ◌∙◌, arith, true≢false, bytes_eq}
+use Rattle.std.specs.Prelude.{unwrap_or, Result, Ok, Err, OnErr, OnOk}
+use Rattle.std.specs.Map.{lookup, set_value}
+use Rattle.std.proofs.lemmas.Slice.Eq.{bytes_eq-Decides}
+use Rattle.indexmap.specs.IndexMap.{insert_entry}
+use Rattle.ang_index.specs.declared.key.Key.{Key}
+use Rattle.ang_index.specs.Rows.{is_under, items_at, Puts, rows_of, is_asked, lookup_asked}
+
+-- ---- an answer that may be an error
+
+pub on_ok : {A E P Q : Type 0} (r : Result A E) → (P → Q) → OnOk r P → OnOk r Q
+on_ok (Ok a) f h = f h
+on_ok (Err e) f h = h
+
+pub on_err : {A E P Q : Type 0} (r : Result A E) → (P → Q) → OnErr r P → OnErr r Q
+on_err (Ok a) f h = h
+on_err (Err e) f h = f h
+
+-- ---- a scope's number and a name
+
+and_gives : (b c : Bool) → (b && c) ≡ true → (b ≡ true) × (c ≡ true)
+and_gives true c e = (refl, e)
+and_gives false c e = cc
+
+and_from : (b c : Bool) → b ≡ true → c ≡ true → (b && c) ≡ true
+and_from b c e f = cc
+
+alike : (b c : Bool) → (b ≡ true → c ≡ true) → (c ≡ true → b ≡ true) → b ≡ c
+alike true true f g = refl
+alike true false f g = absurd (true≢false (sym (f refl)))
+alike false true f g = absurd (true≢false (sym (g refl)))
+alike false false f g = refl
+
+itself : (n : ℕ) → (n == n) ≡ true
+itself n = search arith
+
+two_from : (a b : ℕ) (m n : List ℕ) → a ≡ b → m ≡ n → (a == b && bytes_eq m n) ≡ true
+two_from a b m n e f = and_from _ _ (ap (λ k. a == k) (sym e) ∙ itself a) ((bytes_eq-Decides m n).1 f)
+
+two_are : (a b : ℕ) (m n : List ℕ) → (a == b && bytes_eq m n) ≡ true → (a ≡ b) × (m ≡ n)
+two_are a b m n e =
+    let r = and_gives (a == b) (bytes_eq m n) e in
+    let tells : (a == b) ≡ true = r.0 in
+    let is : a ≡ b = search (arith, tells) in
+    (is, (bytes_eq-Decides m n).0 r.1)
+
+two_flipped : (a b : ℕ) (m n : List ℕ) → (a == b && bytes_eq m n) ≡ (b == a && bytes_eq n m)
+two_flipped a b m n =
+    alike _ _
+    (λ e. let r = two_are a b m n e in two_from b a n m (sym r.0) (sym r.1))
+    (λ e. let r = two_are b a n m e in two_from a b m n (sym r.0) (sym r.1))
+
+flipped : (s : ℕ) (name : List ℕ) (k : Key) → is_asked s name k ≡ is_under s name (k.scope, k.name.items)
+flipped s name k = two_flipped s k.scope name k.name.items
+
+-- a key that is not the one that is looked for stands under other two
+apart : (s t : ℕ) (name other : List ℕ) (k : Key) → is_asked s name k ≡ false → is_under t other (k.scope, k.name.items) ≡ true → is_under t other (s, name) ≡ true → ⊥
+apart s t name other k is dt ct =
+    let p = two_are k.scope t k.name.items other dt in
+    let q = two_are s t name other ct in
+    true≢false (sym (two_from s k.scope name k.name.items (q.0 ∙ sym p.0) (q.1 ∙ sym p.1)) ∙ is)
+
+-- ---- what is found
+
+module _ {T : Type 0} where
+  found_by : (b : Bool) (v r : List T) (l : Option (List T)) → r ≡ unwrap_or l [] → cond b v r ≡ unwrap_or (cond b (Some v) l) []
+  found_by true v r l e = refl
+  found_by false v r l e = e
+
+  found : (s : ℕ) (name : List ℕ) (es : List (Key × List T)) → items_at s name (rows_of es) ≡ unwrap_or (lookup_asked s name es) []
+  found s name [] = refl
+  found s name (e ∷ es) =
+      ap (λ b. cond b e.1 (items_at s name (rows_of es))) (sym (flipped s name e.0))
+      ∙ found_by (is_asked s name e.0) e.1 (items_at s name (rows_of es)) (lookup_asked s name es) (found s name es)
+
+  pub none_there : (s : ℕ) (name : List ℕ) (es : List (Key × List T)) → lookup_asked s name es ≡ None → [] ≡ items_at s name (rows_of es)
+  none_there s name es h = sym (found s name es ∙ ap (λ l. unwrap_or l []) h)
+
+  pub row_there : (s : ℕ) (name : List ℕ) (es : List (Key × List T)) (row : List T) → lookup_asked s name es ≡ Some row → row ≡ items_at s name (rows_of es)
+  row_there s name es row h = sym (found s name es ∙ ap (λ l. unwrap_or l []) h)
+
+  -- ---- an item more in a row that is there
+
+  step : (d c : Bool) (v r more : List T) (x : T) → (d ≡ true → c ≡ true → ⊥) → more ≡ cond c (r ++ x ∷ []) r → cond d v more ≡ cond c (cond d v r ++ x ∷ []) (cond d v r)
+  step true true v r more x never e = absurd (never refl refl)
+  step true false v r more x never e = refl
+  step false c v r more x never e = e
+
+  in_row : (d c : Bool) (row v r : List T) (x : T) → d ≡ c → v ≡ row → cond d (row ++ x ∷ []) r ≡ cond c (cond d v r ++ x ∷ []) (cond d v r)
+  in_row true true row v r x e at = ap (λ r. r ++ x ∷ []) (sym at)
+  in_row true false row v r x e at = absurd (true≢false e)
+  in_row false true row v r x e at = absurd (true≢false (sym e))
+  in_row false false row v r x e at = refl
+
+  some_same : (v row : List T) → Some v ≡ Some row → v ≡ row
+  some_same v row e = cc
+
+  present : (s : ℕ) (name : List ℕ) (x : T) (es : List (Key × List T)) (row : List T) → lookup_asked s name es ≡ Some row
+      → Puts (rows_of es) (rows_of (set_value (is_asked s name) es (row ++ x ∷ []))) s name x
+  present s name x [] row h t other = cc
+  present s name x (e ∷ es) row h t other = by (is_asked s name e.0) refl (λ g. present s name x es row g t other) h
+    where
+      by : (b : Bool) → is_asked s name e.0 ≡ b
+          → (lookup_asked s name es ≡ Some row → items_at t other (rows_of (set_value (is_asked s name) es (row ++ x ∷ [])))
+          ≡ cond (is_under t other (s, name)) (items_at t other (rows_of es) ++ x ∷ []) (items_at t other (rows_of es)))
+          → cond b (Some e.1) (lookup_asked s name es) ≡ Some row
+          → items_at t other (rows_of (cond b ((e.0, row ++ x ∷ []) ∷ es) (e ∷ set_value (is_asked s name) es (row ++ x ∷ []))))
+          ≡ cond (is_under t other (s, name)) (items_at t other (rows_of (e ∷ es)) ++ x ∷ []) (items_at t other (rows_of (e ∷ es)))
+      by true is later h =
+          let r = two_are s e.0.scope name e.0.name.items is in
+          in_row _ _ row e.1 (items_at t other (rows_of es)) x (λ i. is_under t other (sym r.0 i, sym r.1 i)) (some_same e.1 row h)
+      by false is later h = step _ _ e.1 (items_at t other (rows_of es)) _ x (apart s t name other e.0 is) (later h)
+
+  pub present_puts : (s : ℕ) (name : List ℕ) (es new : List (Key × List T)) (row more : List T) (x : T)
+      → lookup_asked s name es ≡ Some row → more ≡ row ++ x ∷ [] → new ≡ set_value (is_asked s name) es more
+      → Puts (rows_of es) (rows_of new) s name x
+  present_puts s name es new row more x h e is t other =
+      ap (λ l. items_at t other (rows_of l)) (is ∙ ap (set_value (is_asked s name) es) e) ∙ present s name x es row h t other
+
+  stays : (s : ℕ) (name : List ℕ) (es : List (Key × List T)) (row : List T) → lookup_asked s name es ≡ Some row → set_value (is_asked s name) es row ≡ es
+  stays s name [] row h = refl
+  stays s name (e ∷ es) row h = by (is_asked s name e.0) (stays s name es row) h
+    where
+      by : (b : Bool) → (lookup_asked s name es ≡ Some row → set_value (is_asked s name) es row ≡ es)
+          → cond b (Some e.1) (lookup_asked s name es) ≡ Some row → cond b ((e.0, row) ∷ es) (e ∷ set_value (is_asked s name) es row) ≡ e ∷ es
+      by true later h = ap (λ v. (e.0, v) ∷ es) (sym (some_same e.1 row h))
+      by false later h = ap (λ r. e ∷ r) (later h)
+
+  pub present_stays : (s : ℕ) (name : List ℕ) (es new : List (Key × List T)) (row same : List T)
+      → lookup_asked s name es ≡ Some row → same ≡ row → new ≡ set_value (is_asked s name) es same → new ≡ es
+  present_stays s name es new row same h e is = is ∙ ap (set_value (is_asked s name) es) e ∙ stays s name es row h
+
+  -- ---- the first item of a name
+
+  absent : (s : ℕ) (name : List ℕ) (x : T) (es : List (Key × List T)) (key : Key) → lookup_asked s name es ≡ None → key.scope ≡ s → key.name.items ≡ name
+      → Puts (rows_of es) (rows_of (es ++ (key, x ∷ []) ∷ [])) s name x
+  absent s name x [] key h p q t other = ap (λ b. cond b (x ∷ []) []) (λ i. is_under t other (p i, q i))
+  absent s name x (e ∷ es) key h p q t other = by (is_asked s name e.0) refl (λ g. absent s name x es key g p q t other) h
+    where
+      by : (b : Bool) → is_asked s name e.0 ≡ b
+          → (lookup_asked s name es ≡ None → items_at t other (rows_of (es ++ (key, x ∷ []) ∷ []))
+          ≡ cond (is_under t other (s, name)) (items_at t other (rows_of es) ++ x ∷ []) (items_at t other (rows_of es)))
+          → cond b (Some e.1) (lookup_asked s name es) ≡ None
+          → items_at t other (rows_of (e ∷ es ++ (key, x ∷ []) ∷ []))
+          ≡ cond (is_under t other (s, name)) (items_at t other (rows_of (e ∷ es)) ++ x ∷ []) (items_at t other (rows_of (e ∷ es)))
+      by true is later h = cc
+      by false is later h = step _ _ e.1 (items_at t other (rows_of es)) _ x (apart s t name other e.0 is) (later h)
+
+  appended : (eq : Key → Key → Bool) (key : Key) (row : List T) (es : List (Key × List T)) → lookup (eq key) es ≡ None → insert_entry eq es key row ≡ es ++ (key, row) ∷ []
+  appended eq key row [] h = refl
+  appended eq key row (e ∷ es) h = by (eq key e.0) (appended eq key row es) h
+    where
+      by : (b : Bool) → (lookup (eq key) es ≡ None → insert_entry eq es key row ≡ es ++ (key, row) ∷ [])
+          → cond b (Some e.1) (lookup (eq key) es) ≡ None → cond b ((e.0, row) ∷ es) (e ∷ insert_entry eq es key row) ≡ e ∷ es ++ (key, row) ∷ []
+      by true later h = cc
+      by false later h = ap (λ r. e ∷ r) (later h)
+
+  pub absent_puts : (eq : Key → Key → Bool) (s : ℕ) (name : List ℕ) (es new : List (Key × List T)) (key : Key) (row : List T) (x : T)
+      → lookup_asked s name es ≡ None → key.scope ≡ s → key.name.items ≡ name → row ≡ x ∷ []
+      → ((k : Key) → eq key k ≡ is_asked key.scope key.name.items k) → new ≡ insert_entry eq es key row
+      → Puts (rows_of es) (rows_of new) s name x
+  absent_puts eq s name es new key row x h p q one same is t other =
+      let missing : lookup (eq key) es ≡ None = (λ i. lookup (λ k. same k i) es) ∙ (λ i. lookup_asked (p i) (q i) es) ∙ h in
+      ap (λ l. items_at t other (rows_of l)) (is ∙ appended eq key row es missing ∙ ap (λ r. es ++ (key, r) ∷ []) one)
+      ∙ absent s name x es key h p q t other

@@ -1,0 +1,183 @@
+//! What scripts declare, found by name.
+ghost use Rattle.std.specs.Prelude.{◌≡◌, IfOk};
+ghost use Rattle.ang_names_known.specs.Lookup as spec;
+
+use crate::lookup::heading_among;
+use crate::members::{field_in, has_method_in};
+use crate::methods::{FoundMethod, methods_in};
+use crate::names::{Family, FoundField, Names, ScriptFunction, ScriptGlobal};
+use crate::places::{
+    DECLARED, FAMILIES, FUNCTIONS, GLOBALS, IMPORTS, first_of, places_by_kind, places_of_fields,
+    places_of_methods,
+};
+use ang_index::Index;
+use std::alloc::{AllocError, Global};
+use std::marker::Model;
+
+/// The names of a module's scripts, each kind in the order of sections and text, found by name.
+///
+/// Contracts see the lists. Beside them stand the places of all names by kind, and those of members by family, so that no
+/// call that looks for one goes through a list of them.
+#[derive(Drop)]
+pub struct IndexedNames {
+    lists: Names,
+    kinds: Index<u32>,
+    fields: Index<u32>,
+    methods: Index<u32>,
+}
+
+impl Model for IndexedNames {
+    ghost use Rattle.ang_names_known.specs.declared.names.Names.{Names as NameLists};
+    ghost use Rattle.ang_names_known.specs.NameIndex.{Indexes};
+
+    ghost Value = { NameLists };
+
+    ghost view = { λ n. n.lists };
+
+    ghost invariant = { λ n. Indexes n.lists n.kinds n.fields n.methods };
+}
+
+impl IndexedNames {
+    ghost use Rattle.std.specs.Prelude.{◌≡◌, ◌<◌, IfOk, IfSome, bytes_eq, length, map};
+    ghost use Rattle.std.specs.List.{position};
+    ghost use Rattle.ang_names_known.specs.NameIndex.{places_of};
+
+    /// These names, with the places of each.
+    ///
+    /// The only error is want of memory.
+    pub fn new(alloc: Global, lists: Names) -> Result<IndexedNames, AllocError>
+        ensures same { IfOk result (λ names. names ≡ lists) }
+    {
+        let kinds = places_by_kind(alloc, &lists)?;
+        let fields = places_of_fields(alloc, lists.families.as_slice())?;
+        let methods = places_of_methods(alloc, lists.families.as_slice())?;
+        Ok(IndexedNames {
+            lists,
+            kinds,
+            fields,
+            methods,
+        })
+    }
+
+    /// The classes and interfaces.
+    pub fn families(&self) -> &[Family]
+        ensures same { result.now ≡ self.now.families }
+    {
+        self.lists.families.as_slice()
+    }
+
+    /// The functions.
+    pub fn functions(&self) -> &[ScriptFunction]
+        ensures same { result.now ≡ self.now.functions }
+    {
+        self.lists.functions.as_slice()
+    }
+
+    /// The imports.
+    pub fn imports(&self) -> &[ScriptFunction]
+        ensures same { result.now ≡ self.now.imports }
+    {
+        self.lists.imports.as_slice()
+    }
+
+    /// The global variables.
+    pub fn globals(&self) -> &[ScriptGlobal]
+        ensures same { result.now ≡ self.now.globals }
+    {
+        self.lists.globals.as_slice()
+    }
+
+    /// The places of the declarations of this name among all declarations, in the order of sections and text, where each name
+    /// of a declaration of globals is one; rising. It takes no memory.
+    pub fn find(&self, name: &[u8]) -> &[u32]
+        ensures exact { result.now ≡ places_of self.now.declared name.now }
+    {
+        self.kinds.find(DECLARED, name)
+    }
+
+    /// Whether some declaration has this name. It takes no memory.
+    #[tactic(auto, using(crate::proofs::NameIndex::any_place))]
+    pub fn is_declared(&self, name: &[u8]) -> bool
+        ensures exact { result ≡ spec.is_declared self.now.declared name.now }
+    {
+        !self.find(name).is_empty()
+    }
+
+    /// The numbers of the functions of this name, rising. It takes no memory.
+    #[tactic(auto, using(crate::proofs::NameIndex::functions_are))]
+    pub fn functions_named(&self, name: &[u8]) -> &[u32]
+        ensures exact { result.now ≡ spec.functions_named self.now.functions name.now }
+    {
+        self.kinds.find(FUNCTIONS, name)
+    }
+
+    /// The numbers of the imports of this name, rising. It takes no memory.
+    #[tactic(auto, using(crate::proofs::NameIndex::functions_are))]
+    pub fn imports_named(&self, name: &[u8]) -> &[u32]
+        ensures exact { result.now ≡ spec.functions_named self.now.imports name.now }
+    {
+        self.kinds.find(IMPORTS, name)
+    }
+
+    /// The number of the global of this name. It takes no memory.
+    pub fn global_named(&self, name: &[u8]) -> Option<usize>
+        ensures exact { result ≡ spec.global_named self.now.globals name.now }
+    {
+        first_of(self.kinds.find(GLOBALS, name))
+    }
+
+    /// The number of the class or interface of this name. It takes no memory.
+    #[tactic(auto, using(crate::proofs::NameIndex::family_is))]
+    pub fn family_named(&self, name: &[u8]) -> Option<usize>
+        ensures exact { result
+            ≡ position (bytes_eq name.now) (map (λ f. f.name) self.now.families) }
+        ensures within { IfSome result (λ number. number < length self.now.families) }
+    {
+        first_of(self.kinds.find(FAMILIES, name))
+    }
+
+    /// The number of the function with this heading. It takes no memory.
+    #[tactic(auto, using(crate::proofs::Headings::heading_is))]
+    pub fn function_with(&self, heading: &ScriptFunction) -> Option<usize>
+        ensures exact { result ≡ spec.function_with self.now.functions heading.now }
+    {
+        let places = self.functions_named(heading.name.as_slice());
+        heading_among(self.functions(), places, heading)
+    }
+
+    /// The field of this name that objects of a family have. It takes no memory.
+    pub fn field_named(&self, family: usize, name: &[u8]) -> Option<FoundField>
+        ensures exact { result ≡ spec.field_named self.now.families family name.now }
+    {
+        field_in(self.families(), &self.fields, family, name)
+    }
+
+    /// Whether a family has a method of this name, own or inherited. It takes no memory.
+    pub fn has_method(&self, family: usize, name: &[u8]) -> bool
+        ensures exact { result ≡ spec.has_method self.now.families family name.now }
+    {
+        has_method_in(self.families(), &self.methods, family, name)
+    }
+
+    /// Whether a family has a field or a method of this name, own or inherited. It takes no memory.
+    pub fn has_member(&self, family: usize, name: &[u8]) -> bool
+        ensures exact { result ≡ spec.has_member self.now.families family name.now }
+    {
+        self.field_named(family, name).is_some() || self.has_method(family, name)
+    }
+
+    /// The methods of this name that objects of a family have, own and inherited.
+    ///
+    /// The only error is want of memory.
+    pub fn methods_named(
+        &self,
+        alloc: Global,
+        family: usize,
+        name: &[u8],
+    ) -> Result<Vec<FoundMethod<'_>>, AllocError>
+        ensures exact { IfOk result
+            (λ found. found.items ≡ spec.methods_named self.now.families family name.now) }
+    {
+        methods_in(alloc, self.families(), &self.methods, family, name)
+    }
+}

@@ -1,0 +1,53 @@
+-- The values that a command line gives.
+use Rattle.std.proofs.Common.{◌≡◌, ◌∙◌, ap, sym, refl, true, List, ℕ, Option, None, Result, Ok, Err, IsErrAnd, IfErr, is_some, codes}
+use Rattle.std.proofs.lemmas.Bool.{and_parts, false≢true}
+use Rattle.clap.specs.Words.{HasMatchesOf, first_value, one_text, found_of, is_simple, matches_of, rows_of, first_of, one_of}
+use Rattle.clap.specs.Words.{App, takes, kind_of}
+use Rattle.clap.specs.declared.error.Error.{Error}
+use Rattle.clap.specs.declared.error.kind.ErrorKind.TheVariants.{OutOfMemory}
+use Rattle.clap.specs.declared.parser.matches.ArgMatches.{ArgMatches}
+use Rattle.clap.proofs.WalkLemmas.{first_value-rows, one_text-rows}
+use Rattle.asremote.specs.Options.{program, given, flag, budget_given, drivers_given, is_complete, is_right}
+use Rattle.asremote.specs.declared.command.Options.{Options}
+
+program_simple : is_simple program ≡ true
+program_simple = refl
+
+-- the value of an option is the one that the line gives it
+pub value_given : (app : App) (words : List (List ℕ)) (m : ArgMatches) (name : List ℕ) → app ≡ program → HasMatchesOf app words m
+    → first_value (found_of m) name ≡ given name words
+unfolding given
+value_given app words m name is h =
+    let rows : rows_of (found_of m) ≡ matches_of program words = (h (ap is_simple is ∙ program_simple)).0 ∙ ap (λ a. matches_of a words) is in
+    first_value-rows (found_of m) name ∙ ap (first_of name) rows
+
+-- and what a flag is
+pub flag_given : (app : App) (words : List (List ℕ)) (m : ArgMatches) (name : List ℕ) → app ≡ program → HasMatchesOf app words m
+    → one_text (found_of m) name ≡ flag name words
+unfolding flag
+flag_given app words m name is h =
+    let rows : rows_of (found_of m) ≡ matches_of program words = (h (ap is_simple is ∙ program_simple)).0 ∙ ap (λ a. matches_of a words) is in
+    one_text-rows (found_of m) name ∙ ap (one_of name) rows
+
+-- a right line is one that the command line takes
+pub right_taken : (app : App) (words : List (List ℕ)) → app ≡ program → is_right words ≡ true → takes app words ≡ true
+right_taken app words is right = ap (λ a. takes a words) is ∙ (and_parts (takes program words) _ right).0
+
+-- where a line that is taken is refused for want of memory alone, so is a right one
+pub refused_right : {T : Type 0} (r : Result T Error) (e : Error) (app : App) (words : List (List ℕ)) → IsErrAnd r (λ d. d ≡ e) → app ≡ program
+    → (takes app words ≡ true → kind_of e ≡ OutOfMemory) → IfErr r (λ d. is_right words ≡ true → kind_of d ≡ OutOfMemory)
+refused_right (Ok v) e app words same is passes = tt
+refused_right (Err d) e app words same is passes = λ right. ap kind_of same ∙ passes (right_taken app words is right)
+
+-- a right line has options
+pub not_right : (app : App) (words : List (List ℕ)) (m : ArgMatches) (r : Option Options) → app ≡ program → HasMatchesOf app words m → r ≡ None
+    → is_some r ≡ is_complete (first_value (found_of m) (codes "profile")) (drivers_given (first_value (found_of m) (codes "drivers"))) (budget_given (first_value (found_of m) (codes "budget")))
+    → is_right words ≡ true → ⊥
+not_right app words m r is h none complete right =
+    let profile = value_given app words m (codes "profile") is h in
+    let drivers = value_given app words m (codes "drivers") is h in
+    let budget = value_given app words m (codes "budget") is h in
+    let all = ap (λ x. is_complete x (drivers_given (first_value (found_of m) (codes "drivers"))) (budget_given (first_value (found_of m) (codes "budget")))) profile
+    ∙ ap (λ x. is_complete (given (codes "profile") words) (drivers_given x) (budget_given (first_value (found_of m) (codes "budget")))) drivers
+    ∙ ap (λ x. is_complete (given (codes "profile") words) (drivers_given (given (codes "drivers") words)) (budget_given x)) budget in
+    false≢true (sym (ap is_some none) ∙ complete ∙ all ∙ (and_parts (takes program words) _ right).1)

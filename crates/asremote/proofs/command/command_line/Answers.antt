@@ -1,0 +1,29 @@
+use Rattle.std.proofs.Common.{◌≡◌, ◌∙◌, ap, ap₂, rules, codes, Some, true, false}
+use Rattle.std.proofs.lemmas.Result.{IfOk-weaker}
+use Rattle.clap.specs.Words.{Rule, app_of, rule_of, with_rule, new_app}
+use Rattle.clap.specs.Simple.{app_of_fields}
+use Rattle.clap.specs.declared.builder.arg.Arg.{Arg}
+use Rattle.asremote.specs.Options.{profile_rule, drivers_rule, budget_rule, echo_rule}
+use Rattle.asremote.proofs.command.command_line.Goals as goal
+
+pub returns : goal.returns
+returns c =
+    let profile_is : rule_of c.help.result ≡ profile_rule =
+    ap rule_of c.help.ensures ∙ ap rule_of c.required-profile.ensures
+    ∙ ap (λ (a : Arg). rule_of (record a { required = true })) c.long.ensures
+    ∙ ap (λ (r : Rule). record r { long = Some (codes "profile"); required = true }) c.new.ensures.rule in
+    let local : c.help.result.global ≡ false =
+    ap (λ (a : Arg). a.global) c.help.ensures ∙ ap (λ (a : Arg). a.global) c.required-profile.ensures ∙ ap (λ (a : Arg). a.global) c.long.ensures ∙ c.new.ensures.optional.1 in
+    let drivers_is : rule_of c.help-2.result ≡ drivers_rule =
+    ap rule_of c.help-2.ensures ∙ ap rule_of c.long-drivers.ensures ∙ ap (λ (r : Rule). record r { long = Some (codes "drivers") }) c.new-2.ensures.rule in
+    let budget_is : rule_of c.help-3.result ≡ budget_rule = search rules in
+    let echo_is : rule_of c.help-4.result ≡ echo_rule = search rules in
+    let told : app_of c.after_help.result ≡ new_app (codes "asremote") =
+    ap app_of_fields c.after_help.ensures ∙ ap app_of_fields c.about.ensures ∙ c.new-5.ensures.app in
+    let first : app_of c.in_ok-arg.field-0 ≡ with_rule (new_app (codes "asremote")) profile_rule =
+    c.in_ok-arg.ensures.shape local ∙ ap₂ with_rule told profile_is in
+    let second : app_of c.in_ok-arg-2.field-0 ≡ with_rule (with_rule (new_app (codes "asremote")) profile_rule) drivers_rule =
+    c.in_ok-arg-2.ensures.shape (search rules) ∙ ap₂ with_rule first drivers_is in
+    let third : app_of c.in_ok-arg-3.field-0 ≡ with_rule (with_rule (with_rule (new_app (codes "asremote")) profile_rule) drivers_rule) budget_rule =
+    c.in_ok-arg-3.ensures.shape (search rules) ∙ ap₂ with_rule second budget_is in
+    record { exact = IfOk-weaker c.arg-4.result _ _ (λ d added. added.shape (search rules) ∙ ap₂ with_rule third echo_is) c.arg-4.ensures }
