@@ -247,4 +247,5 @@ def main():
     sys.exit(1 if refused else 0)
 
 
-main()
+if __name__ == "__main__":
+    main()

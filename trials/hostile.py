@@ -479,12 +479,21 @@ def numbered(head, piece, tail="", most=20000):
     return "".join(out) + tail
 
 
+def inherited(fields=49, classes=207):
+    """So many classes of 256 fields in a chain, and below the last of them so many without members."""
+    letters = "ABCDEFGHIJKLMNOPQRSTUVWXYZ"
+    names = (a + b + c for a in letters for b in letters for c in letters)
+    chain = [f"class F{n}{f':F{n - 1}' if n else ''}{{bool {','.join(next(names) for _ in range(256))};}}" for n in range(fields)]
+    below = [f"class E{n}:F{fields - 1}{{}}" for n in range(classes)]
+    return "".join(chain + below)
+
+
 ANY = "ok|refused BuildErrors (Limit|Duplicate)"
 
 # What takes most memory: calls inside one another, each with a conversion of its argument.
 WORST = "g(" * 62 + "x" + ")" * 62 + ";"
 WORST_HEAD = "int8 x;int8 g(int64 n){return n;}void f(){"
-MOST_BYTES = 400  # of memory for a byte of source: docs/EMBEDDING.md has it
+MOST_BYTES = 400  # of memory for a byte of source, but for inherited fields: docs/SECURITY.md has it
 PARAMETERS = ",".join(["int"] * 32)
 
 # The section, and the most bytes of memory for each of its bytes.
@@ -508,6 +517,7 @@ KINDS = [
     ("`g(x);`", filled("g(x);"), MOST_BYTES),
     ("`x=u+x;` of small types", filled("x=u+x;", "int8 x;uint8 u;void f(){"), MOST_BYTES),
     ("62 calls one inside the other", filled(WORST, WORST_HEAD), MOST_BYTES),
+    ("49 classes of 256 fields in a chain, 207 empty ones below", inherited(), 900),
 ]
 
 

@@ -1,23 +1,39 @@
 #!/bin/sh
-# Runs the program once for each of its allocations, with that one refused, and says whether each run ended well.
+# Runs a program once for each of its allocations, with that one refused, and says whether each run ended well.
 #
 #     trials/refused_memory.sh [PROFILE SESSION]
+#     trials/refused_memory.sh asremote [PROFILE CONVERSATION [DRIVERS]]
 #
-# The first run's files are taken, if none are named. The program is crates/asrun/out/asrun, which `rt ci`, or `rt run` in
-# crates/asrun, leaves there. Needs a C compiler, as the library that counts allocations and refuses one is written and
-# compiled here, in a folder that is removed again.
+# The program is asrun with a session, or asremote with a stored conversation: what it printed with `--echo`. The files of
+# asrun's first run, or of the conversation in docs/FORMATS.md, are taken if none are named. The programs are
+# crates/asrun/out/asrun and crates/asremote/out/asremote, which `rt ci`, or `rt run` in the crate, leaves there. Needs a C
+# compiler, as the library that counts allocations and refuses one is written and compiled here, in a folder that is
+# removed again; and python3 for asremote, whose host, trials/clients/stored.py, keeps in step where less is asked.
 #
 # A run ended well where
-#   - its status is 0, and it wrote what it writes when nothing is refused (the C library did without that memory), or
-#   - its status is 3, it wrote a front of that, whole lines, and `asrun: no memory` on standard error, or
+#   - its status and what it wrote are those of a run where nothing is refused (the C library did without that memory), or
+#   - its status is 3, it wrote a front of that, whole lines, and `asrun: no memory`, or `asremote: no memory`, on standard
+#     error, or
 #   - its status is 1, and the first line that it wrote otherwise is an answer of want of memory.
 # Prints a line for each way to end with the number of runs, each run that did not end well, and the number of those.
 set -eu
 cd "$(dirname "$0")/.."
-program=crates/asrun/out/asrun
-profile=${1:-crates/asrun/data/first.profile}
-session=${2:-crates/asrun/data/first.session}
-[ -x "$program" ] || { echo "there is no $program: run rt ci, or rt run in crates/asrun, first" >&2; exit 2; }
+name=asrun
+profile=crates/asrun/data/first.profile
+commands=crates/asrun/data/first.session
+case ${1:-} in
+asremote)
+    name=asremote
+    profile=crates/asremote/data/lamps.profile
+    commands=crates/asremote/stdout
+    shift
+    ;;
+esac
+profile=${1:-$profile}
+commands=${2:-$commands}
+drivers=${3:-1}
+program=crates/$name/out/$name
+[ -x "$program" ] || { echo "there is no $program: run rt ci, or rt run in crates/$name, first" >&2; exit 2; }
 folder=$(mktemp -d)
 trap 'rm -rf "$folder"' EXIT
 
@@ -47,8 +63,18 @@ __attribute__((destructor)) static void tell(void) {
 C
 cc -shared -fPIC -O1 -o "$folder/refuse.so" "$folder/refuse.c"
 
+# The program on its files. The library is loaded into it alone, and not into its host.
+refusing() {
+    case $name in
+    asrun) env LD_PRELOAD="$folder/refuse.so" "$program" --profile "$profile" --session "$commands" ;;
+    asremote)
+        python3 trials/clients/stored.py "$commands" \
+            env LD_PRELOAD="$folder/refuse.so" "$program" --profile "$profile" --drivers "$drivers"
+        ;;
+    esac
+}
 run() {
-    LD_PRELOAD="$folder/refuse.so" "$program" --profile "$profile" --session "$session" > "$folder/out" 2> "$folder/err"
+    refusing > "$folder/out" 2> "$folder/err"
 }
 whole=0
 COUNT="$folder/count" run || whole=$?
@@ -59,7 +85,7 @@ ended_well() {
     lines=$(wc -l < "$folder/out")
     case $1 in
     "$whole") cmp -s "$folder/out" "$folder/whole" && return 0 ;;
-    3) head -n "$lines" "$folder/whole" | cmp -s - "$folder/out" && grep -qx 'asrun: no memory' "$folder/err" && return 0 ;;
+    3) head -n "$lines" "$folder/whole" | cmp -s - "$folder/out" && grep -qx "$name: no memory" "$folder/err" && return 0 ;;
     esac
     [ "$1" = 1 ] || return 1
     diff "$folder/whole" "$folder/out" | sed -n 's/^> //p' | head -n 1 | grep -Eqi 'memory$'
