@@ -87,9 +87,11 @@ struct Denial {
     std::uint32_t entry_mask, module_mask;
 };
 
-// What the engine answered to a command. The outcome is its last line, the cause what a callable threw meanwhile.
+// What the engine answered to a command. The outcome is its last line, the cause what a callable threw meanwhile. The
+// events are what scripts asked and which objects ended, in order: the lines `host ..` and `end ..`.
 struct Reply {
     std::string outcome;
+    std::vector<std::string> events;
     std::vector<BuildError> errors;
     std::vector<Denial> denials;
     std::exception_ptr cause;
@@ -402,21 +404,7 @@ class Engine {
         if (ticks_) budget(*ticks_);
     }
 
-  private:
-    // Does a command of one line, and gives what stands behind its `ok`.
-    std::string done(const std::string& line) {
-        if (line.find('\n') != std::string::npos) throw std::invalid_argument("a line with a line's end: " + line);
-        return value(command(line));
-    }
-
-    static std::string value(const Reply& reply) {
-        auto rest = reply.outcome.substr(std::min(reply.outcome.size(), reply.outcome.find(' ') + 1));
-        if (reply.outcome.rfind("fault ", 0) == 0) throw ScriptFault(rest, reply.cause);
-        if (!reply.ok()) throw Refused(rest);
-        return reply.outcome == "ok" ? "" : rest;
-    }
-
-    // Does a command: a line of a session, and those of its section.
+    // Does a command: a line of a session, and those of its section, without the last LF.
     Reply command(const std::string& text) {
         Reply reply;
         for (auto& line : say(text + "\n")) {
@@ -430,10 +418,25 @@ class Engine {
             } else if (words[0] == "end") {
                 objects_.by_key.erase(std::stoull(words.at(2).substr(1)));
             }
+            if (words[0] == "host" || words[0] == "end") reply.events.push_back(line);
             reply.outcome = line;
         }
         reply.cause = std::exchange(cause_, nullptr);
         return reply;
+    }
+
+  private:
+    // Does a command of one line, and gives what stands behind its `ok`.
+    std::string done(const std::string& line) {
+        if (line.find('\n') != std::string::npos) throw std::invalid_argument("a line with a line's end: " + line);
+        return value(command(line));
+    }
+
+    static std::string value(const Reply& reply) {
+        auto rest = reply.outcome.substr(std::min(reply.outcome.size(), reply.outcome.find(' ') + 1));
+        if (reply.outcome.rfind("fault ", 0) == 0) throw ScriptFault(rest, reply.cause);
+        if (!reply.ok()) throw Refused(rest);
+        return reply.outcome == "ok" ? "" : rest;
     }
 
     // Sends lines, and answers what is asked meanwhile. Where that fails there is no engine any more.

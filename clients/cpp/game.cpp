@@ -109,6 +109,7 @@ std::ostream& operator<<(std::ostream& out, const bustlebrick::Place& place) {
 
 void tell_build(const std::string& name, const Reply& reply) {
     std::cout << name << ": " << reply.outcome << '\n';
+    for (auto& event : reply.events) std::cout << "  " << event << '\n';
     for (auto& error : reply.errors)
         std::cout << "  error " << error.kind << ' ' << error.place << ' ' << error.name << '\n';
     for (auto& denial : reply.denials) std::cout << "  denied " << denial.place << ' ' << denial.declaration << '\n';
@@ -175,7 +176,8 @@ void play(Engine& engine) {
     tell<bool>("wins over 10", admin, "bool wins(int)", 10);
     tell<bool>("wins over 20", admin, "bool wins(int)", 20);
     std::cout << "monsters: " << engine.objects() << '\n';
-    admin.call("void retire()");
+    for (auto& event : engine.command("call admin () void retire()").events)
+        std::cout << "retire: " << event << '\n';
     std::cout << "monsters: " << engine.objects() << '\n';
 
     // An engine that hangs. The next one has no modules.

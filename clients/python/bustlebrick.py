@@ -76,7 +76,11 @@ class Denial(NamedTuple):
 
 
 class Reply(NamedTuple):
-    """What the engine answered to a command. The cause is what a callable raised meanwhile, if one did."""
+    """What the engine answered to a command. The cause is what a callable raised meanwhile, if one did.
+
+    The events are what scripts asked and which objects ended, in order: the lines ``host ..`` and ``end ..``.
+    """
+
     outcome: str
     events: List[str]
     errors: List[BuildError]
@@ -289,10 +293,10 @@ class Engine(AbstractContextManager["Engine"]):
         return rest
 
     def command(self, text: str) -> Reply:
-        """Does a command: a line of a session, with those of its section."""
+        """Does a command: a line of a session, with those of its section, without the last LF."""
         self._cause = None
         lines = self._conversation.say(text + "\n", self.timeout)
-        reply = Reply(lines[-1], [], [], [], self._cause)
+        reply = Reply(lines[-1] if lines else "", [], [], [], self._cause)  # a comment has no outcome
         for word, *words in (line.split(" ") for line in lines):
             if word == "error":
                 reply.errors.append(BuildError(words[0], Place(*map(int, words[1].split(":"))), words[2]))

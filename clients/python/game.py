@@ -112,6 +112,8 @@ def offered(world: World) -> Profile:
 
 def tell_build(name: str, reply: Reply) -> None:
     print(f"{name}: {reply.outcome}")
+    for event in reply.events:
+        print(f"  {event}")
     for error in reply.errors:
         print("  error {} {}:{}:{} {}".format(error.kind, *error.place, error.name))
     for denial in reply.denials:
@@ -171,7 +173,8 @@ def main() -> None:
         tell("wins over 10", lambda: admin.call("bool wins(int)", 10))
         tell("wins over 20", lambda: admin.call("bool wins(int)", 20))
         print(f"monsters: {len(engine.objects)}")
-        admin.call("void retire()")
+        for event in engine.command("call admin () void retire()").events:
+            print(f"retire: {event}")
         print(f"monsters: {len(engine.objects)}")
 
         # An engine that hangs. The next one has no modules.

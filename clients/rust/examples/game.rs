@@ -120,6 +120,9 @@ fn offered(world: &Rc<World>) -> Profile {
 
 fn tell_build(name: &str, reply: &Reply) {
     println!("{name}: {}", reply.outcome);
+    for event in &reply.events {
+        println!("  {event}");
+    }
     for error in &reply.errors {
         let [section, line, column] = error.place;
         println!("  error {} {section}:{line}:{column} {}", error.kind, error.name);
@@ -185,7 +188,9 @@ fn main() -> Result<(), Error> {
     tell("wins over 10", engine.call::<bool>(&admin, "bool wins(int)", &[&10]))?;
     tell("wins over 20", engine.call::<bool>(&admin, "bool wins(int)", &[&20]))?;
     println!("monsters: {}", engine.objects());
-    engine.call::<()>(&admin, "void retire()", &[])?;
+    for event in engine.command("call admin () void retire()")?.events {
+        println!("retire: {event}");
+    }
     println!("monsters: {}", engine.objects());
 
     // An engine that hangs. The next one has no modules.

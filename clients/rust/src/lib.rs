@@ -76,10 +76,12 @@ pub struct Denial {
     pub module_mask: u32,
 }
 
-/// What the engine answered to a command. The outcome is its last line.
+/// What the engine answered to a command. The outcome is its last line. The events are what scripts asked and which
+/// objects ended, in order: the lines `host ..` and `end ..`.
 #[derive(Debug, Default)]
 pub struct Reply {
     pub outcome: String,
+    pub events: Vec<String>,
     pub errors: Vec<BuildError>,
     pub denials: Vec<Denial>,
 }
@@ -203,16 +205,8 @@ impl Engine {
         self.done(&format!("discard {}", module.0)).map(drop)
     }
 
-    /// Does a command of one line, and gives what stands behind its `ok`.
-    fn done(&mut self, line: &str) -> Result<String, Error> {
-        if line.contains('\n') {
-            return Err(Error::Unfit(line.to_owned()));
-        }
-        self.command(line)?.value().map(str::to_owned)
-    }
-
-    /// Does a command: a line of a session, and those of its section.
-    fn command(&mut self, text: &str) -> Result<Reply, Error> {
+    /// Does a command: a line of a session, and those of its section, without the last LF.
+    pub fn command(&mut self, text: &str) -> Result<Reply, Error> {
         let mut lines = self.say(&format!("{text}\n"))?;
         let mut reply = Reply { outcome: lines.pop().unwrap_or_default(), ..Reply::default() };
         for line in lines {
@@ -229,8 +223,19 @@ impl Engine {
                 ["end", _, key] => drop(self.objects.by_key.remove(&key[1..].parse().unwrap_or(0))),
                 _ => {}
             }
+            if line.starts_with("host ") || line.starts_with("end ") {
+                reply.events.push(line);
+            }
         }
         Ok(reply)
+    }
+
+    /// Does a command of one line, and gives what stands behind its `ok`.
+    fn done(&mut self, line: &str) -> Result<String, Error> {
+        if line.contains('\n') {
+            return Err(Error::Unfit(line.to_owned()));
+        }
+        self.command(line)?.value().map(str::to_owned)
     }
 
     /// Sends lines, and answers what is asked meanwhile. Where that fails there is no engine any more.
