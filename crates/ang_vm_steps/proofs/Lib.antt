@@ -10,3 +10,6 @@ pub mod Asked
 pub mod Operands
 pub mod Borrowing
 pub mod Moving
+pub mod Lending
+pub mod LentPaths
+pub mod LentLists

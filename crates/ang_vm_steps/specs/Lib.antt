@@ -1,3 +1,4 @@
 pub mod Arms
 pub mod Turns
 pub mod Borrowed
+pub mod Lent

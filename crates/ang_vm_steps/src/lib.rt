@@ -16,6 +16,7 @@ mod fields;
 mod globals;
 mod handles;
 pub mod jumps;
+pub mod lent;
 pub mod many;
 mod operations;
 pub mod swaps;

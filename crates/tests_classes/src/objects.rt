@@ -1,6 +1,8 @@
 //! Objects of the host in scripts: what is made, asked and ended, in which order, and what is refused.
 
-use crate::harness::{errs, prints};
+use crate::harness::{added, errs, prints};
+use ang_host::Answer;
+use ang_kinds::Value;
 use asrun_session::Status;
 use std::test::Fail;
 
@@ -145,6 +147,35 @@ fn what_ends_and_when(rt: HostRuntime) -> Result<(), Fail> {
     for (section, printed) in RETURNED {
         assert!(rt;
             prints(rt.alloc(), section, CALL, printed, Status::AllOk)?,
+            "{section}"
+        );
+    }
+    Ok(())
+}
+
+/// Sections whose function `p` uses a counter, and how many references are added meanwhile.
+const LENT: [(&str, u64); 4] = [
+    (
+        "int p() { Counter c(5); c.step = 3; c.bump(); return c.value(); }",
+        0,
+    ),
+    (
+        "int p() { Counter c(5); c.step += 3; return c.step + c.value(); }",
+        0,
+    ),
+    (
+        "int p() { Counter@ c; @c = Counter(5); return c.value(); }",
+        0,
+    ),
+    ("Counter c(5); int p() { return c.value(); }", 2),
+];
+
+#[test]
+fn lent_receivers_are_not_counted(rt: HostRuntime) -> Result<(), Fail> {
+    for (section, count) in LENT {
+        let answer = added(rt.alloc(), section, "call a () int p()\n")?;
+        assert!(rt;
+            answer == Some(Answer::Gave(Value::Uint(count))),
             "{section}"
         );
     }

@@ -4,7 +4,7 @@ use ang_code::Instruction;
 use ang_code::Instruction::{
     Back, Change as Changed, Do, Drop, Load, PushBits, Return, SkipIfFalse, Tick,
 };
-use ang_kinds::Prim;
+use ang_kinds::{EntityNo, Prim};
 use ang_meaning::{Arithmetic, Callee, Change, Comparison, Operation, Slot};
 use ang_vm_fuse::fuse::fuse;
 use ang_vm_fuse::step::Step;
@@ -69,8 +69,9 @@ const BACK: [Row; 4] = [
     (Step::AddBackU32(true, 0, 1, 3), (7, 2, 5, 4, 0)),
 ];
 
-/// Calls and returns are left to the run, and so is what faults, finds no value or names no instructions.
-const LEFT: [Step; 5] = [
+/// Calls, returns and host calls are left to the run, and so is what faults, finds no value or names no instructions.
+const LEFT: [Step; 6] = [
+    Step::Ask(1),
     Step::Enter(Callee::Own(0)),
     Step::Return(0),
     Step::Other,
@@ -170,12 +171,42 @@ const STEPS: [(usize, Option<Step>); 10] = [
     (12, None),
 ];
 
+/// `c.set(n + 1); c.set(3); return n;` where `set` is a method of the host
+const ASKING: &[Instruction] = &[
+    Load(0),
+    Load(2),
+    PushBits(1),
+    Do(Operation::Work(ADD, I64)),
+    Do(Operation::Ask(EntityNo(7))),
+    Drop,
+    Load(0),
+    PushBits(3),
+    Do(Operation::Ask(EntityNo(7))),
+    Drop,
+    Load(1),
+    Return(2),
+];
+
+/// A host call whose operands are pushed one after the other begins where the first of them is loaded.
+const ASKED: [(usize, Option<Step>); 6] = [
+    (0, Some(Step::Load(0))),
+    (1, Some(Step::AddConstant64(2, 1))),
+    (4, Some(Step::Other)),
+    (6, Some(Step::Ask(2))),
+    (7, Some(Step::Push(3))),
+    (10, Some(Step::Load(1))),
+];
+
 /// The first of the places at which another step stands.
-fn first_other(alloc: Global) -> Result<Option<usize>, AllocError> {
-    let steps = fuse(alloc, COUNTING)?;
-    for (at, step) in STEPS {
-        if steps.get(at).copied() != step {
-            return Ok(Some(at));
+fn first_other(
+    alloc: Global,
+    text: &[Instruction],
+    wanted: &[(usize, Option<Step>)],
+) -> Result<Option<usize>, AllocError> {
+    let steps = fuse(alloc, text)?;
+    for (at, step) in wanted {
+        if steps.get(*at).copied() != *step {
+            return Ok(Some(*at));
         }
     }
     Ok(None)
@@ -184,6 +215,7 @@ fn first_other(alloc: Global) -> Result<Option<usize>, AllocError> {
 /// A place inside what is done at once has a step of its own.
 #[test]
 fn each_place_has_its_step(rt: HostRuntime) -> Result<(), AllocError> {
-    assert_eq!(rt; first_other(rt.alloc())?, None);
+    assert_eq!(rt; first_other(rt.alloc(), COUNTING, &STEPS)?, None);
+    assert_eq!(rt; first_other(rt.alloc(), ASKING, &ASKED)?, None);
     Ok(())
 }
