@@ -5,7 +5,7 @@
 
 ASRUN is the executable of crates/asrun. The first table is of classes: 256 in a chain, each the base class of the next, with 256
 members each, so that 65,280 members are inherited by the last. The second is of denials: builds with errors, each a call of a
-function that is hidden or not there, over a number of hidden functions. A row is run N times (3, if left out), one behind the other,
+function that is hidden or not there, over a number of hidden functions. A row is run N times (3, if left out), one after the other,
 and the quickest counts. Seconds are those of the whole process: it reads the session, builds, and ends.
 
 Ends with status 1 where a build answered otherwise than it should.
@@ -13,11 +13,11 @@ Ends with status 1 where a build answered otherwise than it should.
 
 import argparse
 import os
-import resource
 import string
-import subprocess
 import sys
 import tempfile
+
+from processes import run_session, write
 
 MOST = 65000  # bytes of a section
 CLASSES = MEMBERS = 256
@@ -101,19 +101,10 @@ def profile(hidden):
 
 def built(program, room, declarations, hidden, rounds):
     """The last line, the number of denials, the seconds and the greatest memory of a build."""
-    with open(f"{room}/profile", "w") as file:
-        file.write(profile(hidden))
-    with open(f"{room}/session", "w") as file:
-        file.write(session(declarations))
-    best = None
-    for _ in range(rounds):
-        before = resource.getrusage(resource.RUSAGE_CHILDREN)
-        ran = subprocess.run([program, "--profile", f"{room}/profile", "--session", f"{room}/session"], capture_output=True, text=True)
-        after = resource.getrusage(resource.RUSAGE_CHILDREN)
-        seconds = after.ru_utime + after.ru_stime - before.ru_utime - before.ru_stime
-        best = seconds if best is None else min(best, seconds)
-    lines = ran.stdout.splitlines() or [""]
-    return lines[-1], sum(line.startswith("denied ") for line in lines), best
+    write(room, {"profile": profile(hidden), "session": session(declarations)})
+    runs = [run_session(program, room) for _ in range(rounds)]
+    lines = runs[-1][1] or [""]
+    return lines[-1], sum(line.startswith("denied ") for line in lines), min(seconds for seconds, _ in runs)
 
 
 def main():

@@ -4,31 +4,38 @@
     python3 bench/doublings.py ASRUN [--original BUILD] [--rounds N] [--only WORD[,WORD..]] [--seconds N]
 
 ASRUN is the executable of crates/asrun, and BUILD that of bench/original/build.cpp, which bench/doublings.sh compiles. A row is a
-family of scripts, its columns are sizes, each twice the one before; the last is where a limit of the language stands. A cell has the
-milliseconds of one build and, behind `x`, how many times the one before that is. Ours are processor time without the system's part:
-sessions that make a module, give it its sections, build it and discard it, as often as a tenth of a second has room for, less the
-same without the builds. Those of the original are taken around the same four, with the system's part. A round measures each once,
-one after the other, and the quickest of N rounds counts (3, if left out). A family ends where a build takes more than `--seconds`
-(20).
+family of scripts in one of the two, and its columns are sizes, each twice the one before; the last is where a limit of the language
+stands. A cell has the milliseconds of one build and, after `x`, how many times the one before that is; `!` marks more than 2.4
+times. The last lines count these marks in the families that the bound is of, which are the first ones.
 
-`--only` picks families whose names have one of the words. Ends with status 1 where a build was answered otherwise than it should be.
-It compares no figure with a bound.
+The time of a build is the same in both: the processor time, the system's part included, of a fresh process that reads the sections
+and builds them once, less that of one that reads them too, and builds an empty section in their place. The least of N processes of
+either kind counts (`--rounds`, 5, if left out, and not less); a round has one of each for each size of a family. A build below 20
+milliseconds has more of them in a round, 40 at most, and one of more than 5 seconds is measured once. A family ends where a build
+takes more than `--seconds` (20).
+
+`--only` picks families whose names have one of the words. Ends with status 1 where a build was answered otherwise than it should be;
+no status tells of a mark.
 """
 
 import argparse
 import itertools
+import math
 import os
 import string
-import subprocess
 import sys
 import tempfile
 from collections import namedtuple
 
+from ordinary import TURN, UNIT
+from processes import lines_of, processor_seconds, run_session, write
+
 MOST = 65536  # bytes of a section
-MOST_SESSION = 15_000_000  # bytes of a session, of which 16 MiB may be
-ENOUGH = 0.1  # seconds of builds in a process
-MOST_TURNS = 400
-LONG = 1  # seconds of one build
+BOUND = 2.4  # times that a doubling may cost
+FEWEST = 5  # processes of which the least time counts
+SHORT, MOST_TIMES = 0.02, 40  # seconds of a build that is measured more often in a round, and how often at most
+LONG = 5  # seconds of a build that is measured once
+SCRIPT, EMPTY = "m", "e"  # modules: the one of the script, and the one of an empty section
 PAIRS = 17  # of letters, in each of as many names as 64 sections have
 CLASSES_OF_SECTION = 3  # of ordinary ones, so that 64 sections have no more than there may be
 CALLED, CALLS = (256, 512, 1024, 2048, 4096), 20000  # functions of a module that is called from outside, and calls
@@ -201,7 +208,7 @@ def names_of_one_byte():
 
 
 def members_used(n):
-    """A class of so many fields, each used from outside."""
+    """A class of `n` fields, each used from outside."""
     return script([f"class C{{int {','.join(each(n, 'a#'))};}}\n", *body(each(n, "c.a#=#;") * 8, "void m(C@ c){")])
 
 
@@ -263,7 +270,7 @@ def methods_called(n):
 
 
 def interfaces(n):
-    """A class under so many interfaces of one method each."""
+    """A class under `n - 1` interfaces of one method each."""
     declared = [f"interface I{i}{{void m{i}();}}\n" for i in range(n - 1)]
     bases = ",".join(f"I{i}" for i in range(n - 1))
     return script([*declared, f"class C:{bases}{{{''.join(each(n - 1, 'void m#(){}'))}}}\n"])
@@ -361,22 +368,10 @@ class Thing {
 }
 """
 
-ORDINARY_CLASS = """\
-// A unit and what it does in each turn.
-class Unit%d : Thing {
-    private int health;
-    protected int8 armour, speed;
-    Unit%d(int start, bool fast) { super(start); health = start * 2 + 1; if (fast) speed = 3; else speed = 1; }
-    int hit(int points, const Unit%d@ by) const { return health - points / (armour + 1) >> 1; }
-    void turn(int &out left, uint mask) {
+ORDINARY_CLASS = f"""\
+{UNIT}    void turn(int &out left, uint mask) {{
         left = 0;
-        for (int i = 0; i < 10 && health > 0; i++) {
-            if ((mask & 0xFF) == 7 || !alive(i)) { left += by_rank(i, mask); continue; }
-            health = health > 3 ? health - 3 : 0;
-        }
-    }
-}
-Unit%d@ find%d(int sum) { if (sum > 0) return Unit%d(sum, true); return null; }
+{TURN}Unit%d@ find%d(int sum) {{ if (sum > 0) return Unit%d(sum, true); return null; }}
 """
 
 ORDINARY = """\
@@ -408,23 +403,28 @@ bool step%d(int a, int64 b, Unit%c@ other) {
 }
 """
 
-FAMILIES = [
+# Those of which no doubling is to cost more than the bound.
+BOUNDED = [
     Family("functions", "4,096 functions", (256, 512, 1024, 2048, 4096), functions, OK),
     Family("one list of globals", "4,096 globals", (256, 512, 1024, 2048, 4096), list_of_globals, OK),
     Family("unknown types", "4,096 globals", (256, 512, 1024, 2048, 4096), unknown_types, REFUSED),
     Family("functions with one error each", "4,096 functions", (256, 512, 1024, 2048, 4096), errors, REFUSED),
     Family("functions that call one", "4,096 functions", (256, 512, 1024, 2048, 4096), call_one, OK),
-    Family("functions that call the one before", "4,096 functions", (256, 512, 1024, 2048, 4096), call_the_last, OK),
     Family("1,600 functions and 500 calls", "3,200 and 1,000", (200, 400, 800, 1600, 3200), few_calls, OK),
     Family("overloads in a profile, 32 parameters, 16 calls", "1,024 entries", (64, 128, 256, 512, 1024), overloads_of_host, OK),
-    Family("overloads in a script, 32 parameters, 16 calls", "4,095 functions", (255, 511, 1023, 2047, 4095), overloads, OK),
     Family("64 sections of 64 KiB of names", "64 sections", (4, 8, 16, 32, 64), names, REFUSED, OK),
-    Family("64 sections of names of one hash", "64 sections", (4, 8, 16, 32, 64), names_of_one_hash, REFUSED, OK),
     Family("members of classes", "256 classes of 255", (16, 32, 64, 128, 256), members, OK),
+    Family("uses of the last local", "1,024 locals, 8,192 uses", (64, 128, 256, 512, 1024), local_uses(-1), OK),
+]
+
+FAMILIES = [
+    *BOUNDED,
+    Family("functions that call the one before", "4,096 functions", (256, 512, 1024, 2048, 4096), call_the_last, OK),
+    Family("overloads in a script, 32 parameters, 16 calls", "4,095 functions", (255, 511, 1023, 2047, 4095), overloads, OK),
+    Family("64 sections of names of one hash", "64 sections", (4, 8, 16, 32, 64), names_of_one_hash, REFUSED, OK),
     Family("members of classes, of different names", "256 classes of 255", (16, 32, 64, 128, 256), different_members, OK),
     Family("methods of classes, of one hash", "64 classes of 255", (4, 8, 16, 32, 64), methods_of_one_hash, OK),
     Family("members of a class, 8 uses of each", "256 members", (16, 32, 64, 128, 256), members_used, OK),
-    Family("uses of the last local", "1,024 locals, 8,192 uses", (64, 128, 256, 512, 1024), local_uses(-1), OK),
     Family("uses of the first local", "1,024 locals, 8,192 uses", (64, 128, 256, 512, 1024), local_uses(0), OK),
     Family("uses of a global below locals", "1,024 locals, 8,192 uses", (64, 128, 256, 512, 1024), globals_and_locals, OK),
     Family("ordinary sections", "64 sections", (4, 8, 16, 32, 64), ordinary, OK),
@@ -440,7 +440,7 @@ FAMILIES = [
     Family("a chain of classes under an interface each", "128 of both", (8, 16, 32, 64, 128), under_interfaces, OK),
     Family("statements of a function", "9,000 statements", (562, 1125, 2250, 4500, 9000), statements, OK),
     Family("statements of 250 operators", "128 statements", (8, 16, 32, 64, 128), operators, OK),
-    Family("blocks one behind the other", "4,096 blocks", (256, 512, 1024, 2048, 4096), blocks, OK),
+    Family("blocks one after the other", "4,096 blocks", (256, 512, 1024, 2048, 4096), blocks, OK),
     Family("loops in one another", "8,192 loops", (512, 1024, 2048, 4096, 8192), nested_loops, OK),
     Family("loops in one another with a local each", "1,024 locals", (64, 128, 256, 512, 1024), loops_with_locals, OK),
     Family("a string of `else if`", "4,096 of them", (256, 512, 1024, 2048, 4096), else_ifs, OK),
@@ -476,208 +476,207 @@ def profile_of(made):
     return "mask 00000001\n" + "".join(f"function 0 0 {declaration}\n" for declaration in made.profile)
 
 
-def session_of(made, turns, are_built):
-    texts = "".join(f"section m {text.count(chr(10))}\n{text}" for text in made.sections)
-    turn = f"module m 00000001\n{texts}{'build m' if are_built else ''}\ndiscard m\n"
-    return turn * turns
-
-
-def user_seconds(words, output):
-    """The processor time of a command without the system's part, whose standard output goes to a file."""
-    with open(output, "wb") as out:
-        child = subprocess.Popen(words, stdout=out, stderr=subprocess.STDOUT)
-        _, status, used = os.wait4(child.pid, 0)
-        child.returncode = os.waitstatus_to_exitcode(status)
-    return used.ru_utime
+def session_of(made, module):
+    """Both modules with their sections, of which one is built."""
+    texts = "".join(f"section {SCRIPT} {text.count(chr(10))}\n{text}" for text in made.sections)
+    return f"module {SCRIPT} 00000001\n{texts}module {EMPTY} 00000001\nsection {EMPTY} 0\nbuild {module}\n"
 
 
 class Program:
-    """The program of this project, on sessions written into a folder."""
+    """The program of this project, on sessions in a folder."""
 
-    def __init__(self, path, folder):
-        self.path, self.folder = path, folder
+    name, answer_to_empty = "ours", OK
 
-    def write(self, name, text):
-        with open(f"{self.folder}/{name}", "w", newline="\n") as file:
-            file.write(text)
+    def __init__(self, path):
+        self.path = os.path.abspath(path)
 
-    def seconds(self, session):
-        words = [self.path, "--profile", f"{self.folder}/profile", "--session", f"{self.folder}/{session}"]
-        return user_seconds(words, f"{self.folder}/output")
+    def prepare(self, made, folder):
+        sessions = {module: session_of(made, module) for module in (SCRIPT, EMPTY)}
+        write(folder, {"profile": profile_of(made), **sessions})
 
-    def prepare(self, made, turns):
-        self.write("profile", profile_of(made))
-        self.write("built", session_of(made, turns, True))
-        self.write("unbuilt", session_of(made, turns, False))
+    def answer_to(self, family):
+        return family.answer
 
-    def build(self, turns, answer):
-        """The seconds of one build of what is prepared."""
-        spent = self.seconds("built")
-        with open(f"{self.folder}/output") as file:
-            lines = file.read().splitlines()
+    def seconds(self, folder, session, answer):
+        """The processor time of a session, in which nothing but this answer is to be refused."""
+        spent, lines = run_session(self.path, folder, session)
         refusals = [line for line in lines if line.startswith(("refused", "profile", "line", "fault"))]
-        wanted = [] if answer == OK else [answer] * turns
-        if refusals != wanted or not lines:
-            wrong = [line for line in lines if line != "ok"]
-            raise Refused(wrong[0] if wrong else "nothing")
-        return (spent - self.seconds("unbuilt")) / turns
+        if refusals != [answer] * (answer != OK) or not lines:
+            raise Refused(next((line for line in lines if line != "ok"), "nothing"))
+        return spent
 
 
 class Original:
     """The original engine, by the program of bench/original/build.cpp."""
 
-    def __init__(self, path, folder):
-        self.path, self.folder = path, f"{folder}/original"
+    name, answer_to_empty = "original", REFUSED  # since nothing was built
 
-    def prepare(self, made):
-        os.makedirs(self.folder, exist_ok=True)
-        for name in os.listdir(self.folder):
-            os.remove(f"{self.folder}/{name}")
-        for name, text in [("profile", profile_of(made)), *((f"{i}.as", text) for i, text in enumerate(made.sections))]:
-            with open(f"{self.folder}/{name}", "w", newline="\n") as file:
-                file.write(text)
+    def __init__(self, path):
+        self.path = os.path.abspath(path)
 
-    def build(self, turns, answer):
-        ran = subprocess.run([self.path, self.folder, str(turns)], capture_output=True, text=True)
-        if ran.returncode != 0:
-            raise Refused(ran.stderr.strip() or f"status {ran.returncode}")
-        seconds, how = ran.stdout.split()
-        if (how == "built") != (answer == OK):
-            raise Refused(how)
-        return float(seconds)
+    def prepare(self, made, folder):
+        write(folder, {"profile": profile_of(made), **{f"{i}.as": text for i, text in enumerate(made.sections)}})
+
+    def answer_to(self, family):
+        return family.theirs or family.answer
+
+    def seconds(self, folder, module, answer):
+        spent = processor_seconds([self.path, folder, module], f"{folder}/printed")
+        lines = lines_of(f"{folder}/printed")
+        if lines != [answer]:
+            raise Refused(" ".join(lines) or "nothing")
+        return spent
 
 
-def turns_for(seconds, made):
-    """How many builds of a size there is room for in a process."""
-    size = sum(len(text) + 32 for text in made.sections)
-    return max(1, min(int(ENOUGH / max(seconds, 1e-6)), MOST_SESSION // size, MOST_TURNS))
+class Case:
+    """What is measured: the times of processes with a build, or what else it is, and of those without it, which two functions give."""
 
+    def __init__(self, with_it, without):
+        self.with_it, self.without, self.pairs, self.why = with_it, without, [], None
+        self.run(1)  # which is the first round
 
-class Cell:
-    """A figure of a family: the seconds of a build, or why there is none."""
-
-    def __init__(self, seconds=None, why=""):
-        self.seconds, self.why = seconds, why
-
-    def shown(self, before):
-        if self.seconds is None:
-            return self.why
-        ratio = f" x{self.seconds / before.seconds:.2f}" if before and before.seconds else ""
-        return f"{self.seconds * 1000:.2f}{ratio}"
-
-
-def measured(build, made, rounds):
-    """The quickest of the rounds; `build` takes a number of builds and gives the seconds of one. What takes long is built once."""
-    first = build(1)
-    if first > LONG:
-        return first
-    turns = turns_for(first, made)
-    return min(build(turns) for _ in range(rounds))
-
-
-def ours(program, family, made, rounds):
-    def build(turns):
-        program.prepare(made, turns)
-        return program.build(turns, family.answer)
-
-    return measured(build, made, rounds)
-
-
-def theirs(original, family, made, rounds):
-    original.prepare(made)
-    return measured(lambda turns: original.build(turns, family.theirs or family.answer), made, rounds)
-
-
-def row(engine, measure, family, most):
-    """The cells of a family in one engine, and whether one was answered otherwise than it should be."""
-    cells, is_wrong = [], False
-    for size in family.sizes:
-        if cells and (cells[-1].seconds or 0) > most:
-            cells.append(Cell(why="-"))
-            continue
+    def run(self, count):
         try:
-            cells.append(Cell(measure(family, family.made(size))))
+            self.pairs += [(self.with_it(), self.without()) for _ in range(0 if self.why else count)]
         except Refused as why:
-            cells.append(Cell(why=f"`{str(why)[:60]}`"))
-            is_wrong = True
-    shown = [cell.shown(before) for cell, before in zip(cells, [None, *cells])]
-    print(f"| {family.what} | {family.last} | {engine} | {' | '.join(shown)} | {growth(cells)} |", flush=True)
-    return cells, is_wrong
+            self.why = f"`{str(why)[:60]}`"
+
+    def seconds(self):
+        """The least time with it less the least without it, if there was no refusal."""
+        if self.why:
+            return None
+        return min(spent for spent, _ in self.pairs) - min(spent for _, spent in self.pairs)
+
+    def times(self):
+        """How often it is run in a round."""
+        seconds = self.seconds() or 0
+        return 0 if seconds > LONG else min(MOST_TIMES, math.ceil(SHORT / max(seconds, 1e-6)))
 
 
-def growth(cells):
-    """The greatest growth at a doubling."""
-    pairs = [(a.seconds, b.seconds) for a, b in zip(cells, cells[1:]) if a.seconds and b.seconds]
-    return f"x{max(b / a for a, b in pairs):.2f}" if pairs else "-"
+def run_rounds(cases, rounds):
+    """Runs each of the cases in each round but the first, so that all of them feel what slows the machine for a while."""
+    for _ in range(rounds - 1):
+        for case in cases:
+            case.run(case.times())
 
 
-def throughput(engines):
-    """Whole texts: how long they take, and how many bytes a second that is. How many were answered otherwise than they should be."""
-    wrong = 0
-    print("\n| Text | bytes | engine | seconds | MB/s |\n|---|---|---|---|---|")
-    for what, made, answer, theirs in WHOLE:
-        family = Family(what, "", (), None, answer, theirs)
-        size = sum(map(len, made.sections))
-        for engine, measure in engines:
-            try:
-                seconds = measure(family, made)
-                shown = f"{seconds:.4f} | {size / seconds / 1e6:.2f}"
-            except Refused as why:
-                shown, wrong = f"`{why}` | -", wrong + (engine == "ours")
-            print(f"| {what} | {size:,} | {engine} | {shown} |", flush=True)
+def case_of(engine, family, made, folder):
+    engine.prepare(made, folder)
+    answer, empty = engine.answer_to(family), engine.answer_to_empty
+    return Case(lambda: engine.seconds(folder, SCRIPT, answer), lambda: engine.seconds(folder, EMPTY, empty))
+
+
+def cases_of(engine, family, given):
+    """A case for each size of a family, but for those after one that takes longer than there is time for."""
+    cases = []
+    with tempfile.TemporaryDirectory() as folder:
+        for size in family.sizes:
+            if not cases or (cases[-1].seconds() or 0) <= given.seconds:
+                cases.append(case_of(engine, family, family.made(size), f"{folder}/{size}"))
+        run_rounds(cases, given.rounds)
+    return cases
+
+
+def growths_of(cases):
+    """How many times the one before each of the figures is, but for the first one's."""
+    figures = [case.seconds() or 0 for case in cases]
+    return [after / before if before > 0 and after > 0 else None for before, after in zip(figures, figures[1:])]
+
+
+def grown(growth):
+    return f" x{growth:.2f}{'!' * (growth > BOUND)}" if growth else ""
+
+
+def cells_of(cases, sizes, unit):
+    """What a row has of its cases, in units of that many seconds."""
+    growths = [None, *growths_of(cases)]
+    found = [case.why or f"{case.seconds() / unit:.2f}{grown(growth)}" for case, growth in zip(cases, growths)]
+    return " | ".join(found + ["-"] * (len(sizes) - len(found)))
+
+
+def row(engine, family, given):
+    """Prints the row of a family in one engine; its cases."""
+    cases = cases_of(engine, family, given)
+    most = max(filter(None, growths_of(cases)), default=None)
+    cells = cells_of(cases, family.sizes, 1e-3)
+    print(f"| {family.what} | {family.last} | {engine.name} | {cells} |{grown(most) or ' -'} |", flush=True)
+    return cases
+
+
+def table(engines, families, given):
+    """Prints a row for each family and engine, and how many doublings are above the bound. How many of our rows are wrong."""
+    wrong, growths = 0, {engine.name: [] for engine in engines}
+    print("| Milliseconds of a build | the last size | engine | 1/16 | 1/8 | 1/4 | 1/2 | 1 | most at a doubling |")
+    print("|---|---|---|---|---|---|---|---|---|")
+    for family, engine in itertools.product(families, engines):
+        cases = row(engine, family, given)
+        wrong += engine.name == "ours" and any(case.why for case in cases)
+        growths[engine.name] += filter(None, growths_of(cases) if family in BOUNDED else [])
+    print("\nDoublings of the families that the bound is of:")
+    for name, found in growths.items():
+        print(f"- {name}: {sum(growth > BOUND for growth in found)} of the {len(found)} measured are above {BOUND} times")
     return wrong
 
 
+def throughput(engines, rounds):
+    """Whole texts: how long they take, and how many bytes a second that is. How many of ours are answered wrong."""
+    wrong = 0
+    print("\n| Text | bytes | engine | seconds | MB/s |\n|---|---|---|---|---|")
+    for (what, made, answer, theirs), engine in itertools.product(WHOLE, engines):
+        size = sum(map(len, made.sections))
+        with tempfile.TemporaryDirectory() as folder:
+            case = case_of(engine, Family(what, "", (), None, answer, theirs), made, folder)
+            run_rounds([case], rounds)
+        wrong += engine.name == "ours" and case.why is not None
+        figures = f"{case.why} | -" if case.why else f"{case.seconds():.4f} | {size / case.seconds() / 1e6:.2f}"
+        print(f"| {what} | {size:,} | {engine.name} | {figures} |", flush=True)
+    return wrong
+
+
+def case_of_calls(program, size, folder):
+    """Calls from outside, all of the last function."""
+    made = functions(size)
+    program.prepare(made, folder)
+    called = session_of(made, SCRIPT) + f"call {SCRIPT} (1) int f{size - 1}(int)\n" * CALLS
+    write(folder, {"called": called})
+    return Case(lambda: program.seconds(folder, "called", OK), lambda: program.seconds(folder, SCRIPT, OK))
+
+
 def call_row(program, rounds):
-    """What one call from outside takes, of the last function of so many. How many sizes were answered otherwise than they should be."""
-    cells = []
-    for size in CALLED:
-        made = functions(size)
-        built = session_of(made, 1, True).removesuffix("discard m\n")
-        program.write("profile", profile_of(made))
-        program.write("unbuilt", built)
-        program.write("built", built + f"call m (1) int f{size - 1}(int)\n" * CALLS)
-        try:
-            cells.append(Cell(min(program.build(CALLS, OK) for _ in range(rounds)) * 1000))
-        except Refused as why:
-            cells.append(Cell(why=f"`{why}`"))
-    shown = [cell.shown(before) for cell, before in zip(cells, [None, *cells])]
+    """Prints what one call from outside takes, of the last of a number of functions. How many sizes are answered wrong."""
+    with tempfile.TemporaryDirectory() as folder:
+        cases = [case_of_calls(program, size, f"{folder}/{size}") for size in CALLED]
+        run_rounds(cases, rounds)
     print(f"\n| Microseconds of a call, of the last of | {' | '.join(f'{size:,} functions' for size in CALLED)} |")
-    print(f"|{'---|' * (len(CALLED) + 1)}\n| ours | {' | '.join(shown)} |")
-    return sum(cell.seconds is None for cell in cells)
+    print(f"|{'---|' * (len(CALLED) + 1)}\n| ours | {cells_of(cases, CALLED, 1e-6 * CALLS)} |")
+    return sum(case.why is not None for case in cases)
 
 
 def options():
     words = argparse.ArgumentParser(description=__doc__, formatter_class=argparse.RawDescriptionHelpFormatter)
     words.add_argument("asrun")
     words.add_argument("--original")
-    words.add_argument("--rounds", type=int, default=3)
+    words.add_argument("--rounds", type=int, default=FEWEST)
     words.add_argument("--seconds", type=float, default=20)
     words.add_argument("--only", default="")
-    return words.parse_args()
+    given = words.parse_args()
+    if given.rounds < FEWEST:
+        words.error(f"{FEWEST} rounds at least")
+    return given
 
 
 def main():
     given = options()
     words = given.only.split(",")
     chosen = [it for it in FAMILIES if any(word in it.what for word in words)]
-    wrong = 0
-    with tempfile.TemporaryDirectory() as folder:
-        engines = [("ours", lambda f, made, p=Program(os.path.abspath(given.asrun), folder): ours(p, f, made, given.rounds))]
-        if given.original:
-            it = Original(os.path.abspath(given.original), folder)
-            engines.append(("original", lambda f, made: theirs(it, f, made, given.rounds)))
-        if chosen:
-            print("| Milliseconds of a build | the last size | engine | 1/16 | 1/8 | 1/4 | 1/2 | 1 | most at a doubling |")
-            print("|---|---|---|---|---|---|---|---|---|")
-        for family in chosen:
-            for engine, measure in engines:
-                _, is_wrong = row(engine, measure, family, given.seconds)
-                wrong += is_wrong and engine == "ours"
-        if any(word in "whole texts" for word in words):
-            wrong += throughput(engines)
-        if any(word in "calls from outside" for word in words):
-            wrong += call_row(Program(os.path.abspath(given.asrun), folder), given.rounds)
+    program, wrong = Program(given.asrun), 0
+    engines = [program] + [Original(given.original)] * bool(given.original)
+    if chosen:
+        wrong += table(engines, chosen, given)
+    if any(word in "whole texts" for word in words):
+        wrong += throughput(engines, given.rounds)
+    if any(word in "calls from outside" for word in words):
+        wrong += call_row(program, given.rounds)
     return wrong > 0
 
 

@@ -8,7 +8,7 @@ and prints what these ask of it, which is in its seconds.
     python3 bench/machine.py ASRUN [--original MACHINE] [--modes plain,bare,counted] [--rounds N] [--check] [SCRIPT ...]
 
 ASRUN is the executable of crates/asrun and MACHINE that of bench/original/machine.cpp, whose modes are named there. A round runs
-each once, one behind the other, and the quickest of N rounds counts (5, if left out). Seconds are processor time. Those of the
+each once, one after the other, and the quickest of N rounds counts (5, if left out). Seconds are processor time. Those of the
 program are the time of a session that builds and calls, less that of a session that only builds; those of the original are taken
 around the call. Each answer is compared with the one that the script's head states.
 
@@ -19,13 +19,14 @@ Ends with status 1 where a script could not be run, or gave another answer.
 
 import argparse
 import math
-import os
 import re
 import subprocess
 import sys
 import tempfile
 from dataclasses import dataclass
 from pathlib import Path
+
+from processes import run_session, write
 
 HEAD = re.compile(r"// ticks (\d+)\n// answer (-?\d+)\n(?:// events (\d+)\n)?")
 PROFILE = """mask 00000001
@@ -80,38 +81,25 @@ def building(script):
 
 
 def called(script, budget, outcome):
-    """The commands that call a script's main with so many ticks, and the lines that they print."""
+    """The commands that call a script's main with a budget of ticks, and the lines that they print."""
     return "budget %d\n%s" % (budget, CALL), ["ok", outcome]
-
-
-def seconds_of(words, output):
-    """The processor time of a command, whose standard output goes to a file."""
-    with open(output, "w") as out:
-        child = subprocess.Popen(words, stdout=out, stderr=subprocess.STDOUT)
-        _, status, used = os.wait4(child.pid, 0)
-        child.returncode = os.waitstatus_to_exitcode(status)
-    return used.ru_utime + used.ru_stime
 
 
 class Program:
     """The program of this project, on sessions written into a folder."""
 
     def __init__(self, path, folder):
-        self.path = path
-        self.profile = os.path.join(folder, "bench.profile")
-        self.session = os.path.join(folder, "bench.session")
-        self.output = os.path.join(folder, "bench.output")
-        Path(self.profile).write_text(PROFILE)
+        self.path, self.folder = path, folder
+        write(folder, {"profile": PROFILE})
 
     def seconds(self, commands, expected, events=0):
-        """The processor time of a session that prints these lines, and so many events among them (None: any number)."""
-        Path(self.session).write_text(commands)
-        seconds = seconds_of([self.path, "--profile", self.profile, "--session", self.session], self.output)
-        self.compare(expected, events)
+        """The processor time of a session that prints these lines, and among them this number of events (None: any number)."""
+        write(self.folder, {"session": commands})
+        seconds, lines = run_session(self.path, self.folder)
+        self.compare(lines, expected, events)
         return seconds
 
-    def compare(self, expected, events):
-        lines = Path(self.output).read_text().splitlines()
+    def compare(self, lines, expected, events):
         printed = [line for line in lines if not line.startswith(EVENTS)]
         if printed != expected:
             differing = [line for line in printed if line != "ok"]

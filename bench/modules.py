@@ -5,7 +5,7 @@
 
 ASRUN is the executable of crates/asrun. The first table builds one module, and 64, over 1,001 registered functions of which each module sees a half. The second
 calls a function 2,000,000 times: one of the module's own, and one of another module through a bound import. The third builds a module with globals and discards it, again
-and again. A row is run N times (3, if left out), one behind the other, and the quickest counts. Seconds are processor seconds of the whole process, less those of a
+and again. A row is run N times (3, if left out), one after the other, and the quickest counts. Seconds are processor seconds of the whole process, less those of a
 session without the builds, the calls or the globals.
 
 Ends with status 1 where the program answered otherwise than it should.
@@ -13,10 +13,10 @@ Ends with status 1 where the program answered otherwise than it should.
 
 import argparse
 import os
-import resource
-import subprocess
 import sys
 import tempfile
+
+from processes import run_session, write
 
 FUNCTIONS = 1001
 MODULES = 64
@@ -70,28 +70,17 @@ def discards(globals_of_each):
 class Bench:
     def __init__(self, program, rounds, room):
         self.program, self.rounds, self.room, self.wrong = program, rounds, room, 0
-        self.write("profile", profile())
-
-    def write(self, name, text):
-        with open(f"{self.room}/{name}", "w") as file:
-            file.write(text)
+        write(room, {"profile": profile()})
 
     def seconds(self, session, last):
         """The least seconds of a run, whose last line is to be this one."""
-        self.write("session", session)
-        best = None
-        for _ in range(self.rounds):
-            before = resource.getrusage(resource.RUSAGE_CHILDREN)
-            words = [self.program, "--profile", f"{self.room}/profile", "--session", f"{self.room}/session"]
-            ran = subprocess.run(words, capture_output=True, text=True)
-            after = resource.getrusage(resource.RUSAGE_CHILDREN)
-            spent = after.ru_utime + after.ru_stime - before.ru_utime - before.ru_stime
-            best = spent if best is None else min(best, spent)
-        lines = ran.stdout.splitlines() or [""]
-        if lines[-1] != last:
+        write(self.room, {"session": session})
+        runs = [run_session(self.program, self.room) for _ in range(self.rounds)]
+        answer = (runs[-1][1] or [""])[-1]
+        if answer != last:
             self.wrong += 1
-            print(f"wrong: {lines[-1]!r}, not {last!r}", file=sys.stderr)
-        return best
+            print(f"wrong: {answer!r}, not {last!r}", file=sys.stderr)
+        return min(seconds for seconds, _ in runs)
 
 
 def main():

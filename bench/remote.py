@@ -7,7 +7,7 @@ A script asks the host N times (100,000, if left out). A call is the time from o
 goes on, and the next ask is read. It is measured twice: by the lines alone, and by a callable of a profile (clients/python). The empty
 round trip is a line to `cat` and back, as often. The median of each is printed, with the lower and the upper tenth.
 
-Then 4,096 functions are built (bench/sections.py), N times (5) in each program, one behind the other, and the quickest counts. Seconds
+Then 4,096 functions are built (bench/sections.py), N times (5) in each program, one after the other, and the quickest counts. Seconds
 are those of the clock: of the whole process, and for asremote those of the line `build` alone too.
 
 Prints figures, and judges none.

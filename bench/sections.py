@@ -12,32 +12,22 @@ nested      statements in one another, 30 deep
 functions   4,096 functions, the most of a module, of which the first ones call a host function each
 """
 
-import os
 import sys
+
+from ordinary import TURN, UNIT
+from processes import write
 
 MOST = 65536
 
-ORDINARY = """\
-// A unit and what it does in each turn.
-class Unit%d : Thing {
-    private int health;
-    protected int8 armour, speed;
-    Unit%d(int start, bool fast) { super(start); health = start * 2 + 1; if (fast) speed = 3; else speed = 1; }
-    int hit(int points, const Unit%d@ by) const { return health - points / (armour + 1) >> 1; }
-    void turn(int &out left, uint mask) override {
-        for (int i = 0; i < 10 && health > 0; i++) {
-            if ((mask & 0xFF) == 7 || !alive(i)) { left += by_rank(i, mask); continue; }
-            health = health > 3 ? health - 3 : 0;
-        }
-    }
-}
-int64 total%d = 12345, bound%d(9000000000);
-bool step%d(int a, int64 b) {
+ORDINARY = f"""\
+{UNIT}    void turn(int &out left, uint mask) override {{
+{TURN}int64 total%d = 12345, bound%d(9000000000);
+bool step%d(int a, int64 b) {{
     int sum = 0;
-    while (a < b) { sum += a * a % 7; ++a; /* until they meet */ }
+    while (a < b) {{ sum += a * a % 7; ++a; /* until they meet */ }}
     Unit%d@ unit = find(sum);
     if (unit !is null) return unit.hit(a, null) >= b; else return cast<Unit%d>(unit) is null;
-}
+}}
 """
 
 
@@ -79,11 +69,8 @@ SECTIONS = {
 
 
 def main():
-    folder = sys.argv[1]
-    os.makedirs(folder, exist_ok=True)
+    write(sys.argv[1], {f"{name}.as": text for name, text in SECTIONS.items()})
     for name, text in SECTIONS.items():
-        with open(os.path.join(folder, name + ".as"), "w", newline="\n") as out:
-            out.write(text)
         print("%-10s %6d bytes" % (name, len(text)))
 
 

@@ -12,8 +12,6 @@ Stubs are written below crates/CRATE/out, which is never committed. docs/PROVING
 It finds the kit by `rt doc`, and what `rt ci` keeps by the kit's own functions, as `rattle-kit-13f` has them.
 """
 
-import importlib.machinery
-import importlib.util
 import os
 import re
 import shutil
@@ -21,7 +19,8 @@ import subprocess
 import sys
 
 sys.dont_write_bytecode = True
-KIT = os.path.dirname(subprocess.run(["rt", "doc"], capture_output=True, text=True, check=True).stdout.strip())
+from kit import KIT, of_kit  # noqa: E402
+
 WORD = re.compile(r"[A-Za-z_][A-Za-z0-9_]*")
 CLAUSES = {"requires", "ensures", "ghost", "measure"}
 TACTIC = re.compile(r"#\[tactic\((?:[^()]|\((?:[^()]|\([^()]*\))*\))*\)\]\n?")
@@ -29,19 +28,11 @@ CYCLE_OF_FUNCTION = re.compile(r"#\[cycle\([^()]*\)\]\s*(?=(?:#\[[^\]]*\]\s*|///
 HOLE = "use Rattle.{crate}.proofs.{path}.Statement.{{statement}}\n\npub {name}_spec : {{M : Type 1}} → statement M\n{name}_spec = ?\n"
 
 
-def loaded_kit():
-    loader = importlib.machinery.SourceFileLoader("rt_of_the_kit", f"{KIT}/bin/rt")
-    module = importlib.util.module_from_spec(importlib.util.spec_from_loader("rt_of_the_kit", loader))
-    sys.modules["rt_of_the_kit"] = module
-    loader.exec_module(module)
-    return module
-
-
 # ---- Rattle's text
 
 
 def past_token(text, at):
-    """The place behind the comment, literal or character at a place of code."""
+    """The place after the comment, literal or character at a place of code."""
     for mark, end in (("//", "\n"), ("/*", "*/")):
         if text.startswith(mark, at):
             found = text.find(end, at)
@@ -56,7 +47,7 @@ def past_token(text, at):
 
 
 def past_brackets(text, at, is_clause=False):
-    """The place behind the bracket that closes the one at a place, in code, or in a clause, which is antt's text."""
+    """The place after the bracket that closes the one at a place, in code, or in a clause, which is antt's text."""
     pairs = {"{": "}", "(": ")"}
     first, last, depth = text[at], pairs[text[at]], 0
     while True:
@@ -67,7 +58,7 @@ def past_brackets(text, at, is_clause=False):
 
 
 def past_generics(text, at):
-    """The place behind `<..>`, if that stands there."""
+    """The place after `<..>`, if that stands there."""
     depth = 0
     while text[at] == "<" or depth:
         depth += (text[at] == "<") - (text[at] == ">" and text[at - 1] != "-")
@@ -76,7 +67,7 @@ def past_generics(text, at):
 
 
 def body_of(text, at):
-    """The place of a function's body, from behind its parameters, or None where it has none."""
+    """The place of a function's body, from the end of its parameters on, or None where it has none."""
     while text[at] not in "{;":
         word = WORD.match(text, at)
         if not word:
@@ -275,7 +266,7 @@ def main():
         sys.exit(__doc__)
     top = os.path.dirname(os.path.dirname(os.path.realpath(__file__)))
     os.chdir(top)
-    rt = loaded_kit()
+    rt = of_kit("rt_of_the_kit", "rt")
     rt.Crate.allowed = rt.handles_of(top)
     crates = rt.crates_of(top)
     crate = next((it for it in crates if it.name == sys.argv[1]), None) or sys.exit(f"crates.txt has no {sys.argv[1]}")

@@ -151,7 +151,7 @@ def table(titles, rows):
 
 
 # Statements inside statements, of which each has a `;` of its own, so that no limit but that of the section's bytes
-# holds: what stands before the inner statement, and what behind.
+# holds: what stands before the inner statement, and what after.
 NESTS = [
     ("", ""),
     ("for(;;)", ""),
@@ -182,7 +182,7 @@ BOTTOMS = {
 
 CLASS_HEAD = HEAD.replace("void f(){", "class C{void f(){")
 
-# Where the nest stands: what stands in front of it and behind, and what is answered where else all is well.
+# Where the nest stands: what stands in front of it and after, and what is answered where else all is well.
 PLACES = {
     "a function": (HEAD, "}", OK),
     "a method": (CLASS_HEAD, "}}", OK),
@@ -192,11 +192,11 @@ PLACES = {
 
 def nested(nest, bottom, place="a function"):
     """A section with a nest as deep as there is room, and its number of levels."""
-    before, behind = nest
+    before, after = nest
     head, tail, _ = PLACES[place]
     room = MOST - 1 - len(head + bottom + tail)
-    levels = room // len(before + behind) if before else 0
-    return head + before * levels + bottom + behind * levels + tail, levels
+    levels = room // len(before + after) if before else 0
+    return head + before * levels + bottom + after * levels + tail, levels
 
 
 def ranks(count):
@@ -480,7 +480,7 @@ def numbered(head, piece, tail="", most=20000):
 
 
 def inherited(fields=49, classes=207):
-    """So many classes of 256 fields in a chain, and below the last of them so many without members."""
+    """Classes of 256 fields in a chain, `fields` of them, and below the last of them `classes` without members."""
     letters = "ABCDEFGHIJKLMNOPQRSTUVWXYZ"
     names = (a + b + c for a in letters for b in letters for c in letters)
     chain = [f"class F{n}{f':F{n - 1}' if n else ''}{{bool {','.join(next(names) for _ in range(256))};}}" for n in range(fields)]
@@ -539,11 +539,11 @@ def memory(trials):
 
 # What asks the host, the line of asrun for it, and the most bytes of an event: 128, 32 for the caller's name, and for an
 # argument 32, and 24 that the console notes.
-ASKINGS = [("reg;", "host m 1 0 - () 0\n", 128 + 32), ("put(x);", "host m 0 0 - (0) void\n", 128 + 32 + 32 + 24)]
+HOST_CALLS = [("reg;", "host m 1 0 - () 0\n", 128 + 32), ("put(x);", "host m 0 0 - (0) void\n", 128 + 32 + 32 + 24)]
 
 
 def events(trials):
-    """The resident memory of a call, for each asking of the host in its reply, without asrun's text of it."""
+    """The resident memory of a call, for each host call in its reply, without asrun's text of it."""
     few, many = 1 << 15, 1 << 18
 
     def resident(text, count):
@@ -552,13 +552,13 @@ def events(trials):
         return trials.tried(f"{count} times {text}", session, "fault Budget", measured=True).resident or 0
 
     def rows():
-        for text, line, bound in ASKINGS:
+        for text, line, bound in HOST_CALLS:
             figure = (resident(text, many) - resident(text, few)) / (many - few) - len(line)
             trials.held(text, figure, bound)
             yield f"`{text}`", f"{figure:.0f}", bound
 
-    print("\nMemory of a call for each asking of the host\n")
-    table(["Asking", "bytes", "the most"], rows())
+    print("\nMemory of a call for each host call\n")
+    table(["Host call", "bytes", "the most"], rows())
 
 
 def sections(unit, head=HEAD):
@@ -579,7 +579,7 @@ def limited(trials):
     for memory in range(24, 224, 4):
         ended = trials.tried(f"below {memory} MiB", session, "ok|refused BuildMemory", memory=memory << 10)
         seen[answer_of(ended)] += 1
-    print("\nBuilds below limits of memory from 24 to 220 MiB (`ulimit -v`), each behind one of the deepest section\n")
+    print("\nBuilds below limits of memory from 24 to 220 MiB (`ulimit -v`), each after one of the deepest section\n")
     table(["Answer", "times"], sorted(seen.items()))
 
 

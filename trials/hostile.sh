@@ -11,7 +11,7 @@
 #     changed   10,000 sections: those of crates/examples/data with tokens cut, doubled and swapped
 #     limited   builds below limits of the process's memory (`ulimit -v`)
 #     full      64 full sections in one build
-#     memory    the memory that a build takes for a byte of source, and a run for an asking of the host
+#     memory    the memory that a build takes for a byte of source, and a run for a host call
 #
 # Prints tables for each part, what did not go well as it comes, and a last line with the number of runs. The status is 0 where no process ended by a
 # signal or ran out of time, each answer was the expected one, and each bound on memory was held. Needs python3, and

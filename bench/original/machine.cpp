@@ -17,11 +17,11 @@
 #include <cstdio>
 #include <cstdlib>
 #include <ctime>
-#include <fstream>
 #include <limits>
-#include <sstream>
 #include <stdexcept>
 #include <string>
+
+#include "shared.h"
 
 namespace {
 
@@ -51,18 +51,6 @@ Request request_of(int count, char **words) {
     Request request{words[1], std::atoll(words[2]), std::atoi(words[3]), mode_of(count == 5 ? words[4] : "plain")};
     if (request.turns < 1) throw std::runtime_error("no number of turns: " + std::string(words[3]));
     return request;
-}
-
-std::string text_of(const std::string &path) {
-    std::ifstream file(path);
-    if (!file) throw std::runtime_error("cannot open " + path);
-    std::ostringstream text;
-    text << file.rdbuf();
-    return text.str();
-}
-
-void require(bool holds, const std::string &what) {
-    if (!holds) throw std::runtime_error(what);
 }
 
 void show_message(const asSMessageInfo *message, void *) {

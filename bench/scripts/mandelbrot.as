@@ -1,6 +1,6 @@
 // ticks 3279246
 // answer 2983820
-// How many turns the points of a grid stay within the circle, in numbers with 16 bits behind the point.
+// How many turns the points of a grid stay within the circle, in numbers with 16 bits after the point.
 int turns(int64 x, int64 y) {
     int64 a = 0;
     int64 b = 0;

@@ -426,7 +426,7 @@ class Engine {
     }
 
   private:
-    // Does a command of one line, and gives what stands behind its `ok`.
+    // Does a command of one line, and gives what stands after its `ok`.
     std::string done(const std::string& line) {
         if (line.find('\n') != std::string::npos) throw std::invalid_argument("a line with a line's end: " + line);
         return value(command(line));

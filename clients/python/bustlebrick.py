@@ -283,7 +283,7 @@ class Engine(AbstractContextManager["Engine"]):
         return Module(self, name)
 
     def done(self, text: str) -> str:
-        """Does a command, and gives the value behind ``ok``. Raises what it ended with if that is another word."""
+        """Does a command, and gives the value after ``ok``. Raises what it ended with if that is another word."""
         reply = self.command(text)
         word, _, rest = reply.outcome.partition(" ")
         if word == "fault":

@@ -4,7 +4,7 @@
     kill_at_random.py COUNT HOST..
 
 HOST is the command of a host that ends once it has lost COUNT engines and the next one has worked (kills.py here and its
-like). Each process that it starts is killed 1 to 1000 milliseconds behind its start, of which each tenfold is as likely as
+like). Each process that it starts is killed 1 to 1000 milliseconds after its start, of which each tenfold is as likely as
 the next, up to COUNT of them: at the start, in a build, in a call, or between an ask and its answer. The status is that of
 the host.
 """

@@ -17,7 +17,7 @@ NO_MORE = b"fault 1\n"  # to what was not asked before
 
 def turns(lines):
     """Each command, a section's text with it, and the answers that were given while it was done."""
-    at = 1  # behind the `done` of the start
+    at = 1  # after the `done` of the start
     while at < len(lines):
         found = re.match(rb"section [^ ]+ (\d+)\r?\n", lines[at])
         end = at + 1 + (int(found[1]) if found else 0)

@@ -262,7 +262,7 @@ class Script:
 
 
 def there(program, text):
-    """How the library ends a script, behind the arguments of what it asked of sum; and the errors of its build."""
+    """How the library ends a script, after the arguments of what it asked of sum; and the errors of its build."""
     ran = subprocess.run([program], input=text, capture_output=True, text=True, timeout=20)
     asked, ended = re.fullmatch(r"(?s)[^\n]*\n((?:\([^)]*\) )*)(.*)\n", ran.stdout).groups()
     errors = [line for line in ran.stderr.splitlines() if line.startswith("error")]
@@ -272,7 +272,7 @@ def there(program, text):
 
 
 def here(asrun, texts, room):
-    """How asrun ends each of the scripts, all in one session, behind the arguments of what it asked of sum."""
+    """How asrun ends each of the scripts, all in one session, after the arguments of what it asked of sum."""
     profile, session = os.path.join(room, "profile"), os.path.join(room, "session")
     with open(profile, "w") as out:
         out.write("mask 00000001\nfunction 0 1 int64 sum(int64, int64)\nglobal 0 0 int64 reg\n")

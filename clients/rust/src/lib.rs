@@ -92,7 +92,7 @@ impl Reply {
         self.value().is_ok()
     }
 
-    /// What stands behind the `ok`.
+    /// What stands after the `ok`.
     fn value(&self) -> Result<&str, Error> {
         let (word, rest) = self.outcome.split_once(' ').unwrap_or((&self.outcome, ""));
         match word {
@@ -230,7 +230,7 @@ impl Engine {
         Ok(reply)
     }
 
-    /// Does a command of one line, and gives what stands behind its `ok`.
+    /// Does a command of one line, and gives what stands after its `ok`.
     fn done(&mut self, line: &str) -> Result<String, Error> {
         if line.contains('\n') {
             return Err(Error::Unfit(line.to_owned()));

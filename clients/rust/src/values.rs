@@ -46,10 +46,10 @@ pub trait Plain {
 }
 
 macro_rules! plain {
-    ($behind:literal: $($type:ty)+) => {$(
+    ($suffix:literal: $($type:ty)+) => {$(
         impl Typed for $type {
             fn read(text: &str, _: &Objects) -> Option<$type> {
-                text.strip_suffix($behind).unwrap_or(text).parse().ok() // in a reply an unsigned value has no `u`
+                text.strip_suffix($suffix).unwrap_or(text).parse().ok() // in a reply an unsigned value has no `u`
             }
             fn write(self, _: &mut Objects) -> Option<String> {
                 Some(self.text())
@@ -58,7 +58,7 @@ macro_rules! plain {
 
         impl Plain for $type {
             fn text(&self) -> String {
-                format!(concat!("{}", $behind), self)
+                format!(concat!("{}", $suffix), self)
             }
         }
     )+};
