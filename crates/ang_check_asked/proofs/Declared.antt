@@ -25,7 +25,8 @@ use Rattle.ang_names_listed.specs.declared.listed.Part.TheVariants as part
 use Rattle.ang_names_listed.specs.declared.listed.Shape.{Shape}
 use Rattle.ang_names_listed.specs.Declarations.{Declaring, declarations_of, families_of}
 use Rattle.ang_names_listed.specs.Taken.{is_taken, is_first_above, name_refusal}
-use Rattle.ang_names_resolved.specs.Resolved.{families_in, space_of_declared, parameter_role}
+use Rattle.ang_names_tables.specs.Headings.{parameter_role}
+use Rattle.ang_names_resolved.specs.Resolved.{families_in, space_of_declared}
 use Rattle.ang_names_written.specs.declared.role.Role.{Role}
 use Rattle.ang_names_written.specs.declared.role.Role.TheVariants as role
 use Rattle.ang_names_written.specs.Sources.{Source, text_of}

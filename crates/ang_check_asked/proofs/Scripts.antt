@@ -17,7 +17,8 @@ use Rattle.ang_names_known.specs.Items.{each_after}
 use Rattle.ang_names_known.specs.Spaces.{Space, space_of_names}
 use Rattle.ang_names_listed.specs.declared.listed.Declared.{Declared}
 use Rattle.ang_names_listed.specs.Declarations.{Declaring, declarations_of, families_of, family_name}
-use Rattle.ang_names_resolved.specs.Resolved.{families_after, functions_in, signatures_of, families_in, names_of, space_of_declared}
+use Rattle.ang_names_tables.specs.Headings.{signatures_of}
+use Rattle.ang_names_resolved.specs.Resolved.{families_after, functions_in, families_in, names_of, space_of_declared}
 use Rattle.ang_names_written.specs.Sources.{Source, name_of}
 use Rattle.ang_names.specs.Phases.{refusals_of}
 use Rattle.ang_check_operand.specs.declared.refusal.Refusal.{Refusal}

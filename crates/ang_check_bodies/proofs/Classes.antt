@@ -13,7 +13,7 @@ pub kin_is : (fs : List Family) (n : ℕ) (f : Family) → slice_get fs n ≡ So
 unfolding kin_of
 kin_is fs n f e = ap (kin_in fs) e
 
--- the types of one family's fields stand behind those of the others
+-- the types of one family's fields stand after those of the others
 types_with : (n : ℕ) (o : Option Family) (rest : List Numbered)
     → types_behind (with_family n o rest) ≡ types_behind rest ++ list_map field_type (fields_in o)
 types_with n None rest = sym (append-nil (types_behind rest))

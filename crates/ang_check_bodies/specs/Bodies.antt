@@ -45,7 +45,7 @@ pub data Part : Type 0 where
   a_constructor : ℕ → ℕ → List ℕ → Token → Token → List BaseName → Option SuperTree → Stmts → Part
   a_default : ℕ → List ℕ → Token → List BaseName → Part
 
--- the initializers of a declaration of globals, before which so many globals stand
+-- the initializers of a declaration of globals, before which `first` globals stand
 abbrev pub initializer_parts : ℕ → List ℕ → TypeName → List Var → Var → List Part
 initializer_parts first text y before v = a_global (first + length before) text y v.initializer ∷ []
 

@@ -51,7 +51,7 @@ fn found_in(alloc: Global, build: &Build<'_>, scripts: &[Script]) -> Result<Foun
     Ok(found)
 }
 
-/// Functions, with the bodies of members behind them.
+/// Functions, with the bodies of members after them.
 fn with_members(
     functions: Vec<Function>,
     members: Vec<Function>,

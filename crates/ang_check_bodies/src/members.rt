@@ -30,7 +30,7 @@ pub struct OfClass<'a> {
     pub number: usize,
     /// The number of its base class.
     pub base: Option<usize>,
-    /// The base class's name as it is written behind `:`.
+    /// The base class's name as it is written after `:`.
     pub base_name: Token,
 }
 
@@ -219,7 +219,7 @@ fn add_default(
     note_default(alloc, class.text, found, made)
 }
 
-/// The name behind `:` that is a family's; the class's own name where none is.
+/// The name after `:` that is a family's; the class's own name where none is.
 fn name_among(text: &[u8], family: &Family, own: &Token, bases: &[BaseName]) -> Token
     ensures exact { result ≡ option_map_or (λ x. x.name)
         (find (bodies.names_family text.now family.now) bases.now) own.now }

@@ -13,7 +13,7 @@ ghost use Rattle.ang_check_body.specs.Typing as spec;
 ghost use Rattle.ang_check_body.specs.View.{view_base};
 
 use crate::functions::{member_locals, member_parameters};
-use ang_check_context::{BodyContext, LocalVariable, Within, own_type, types_of};
+use ang_check_context::{BodyContext, Locals, Within, own_type, types_of};
 use ang_check_operand::{Operand, Stop, boxed, refused, refused_for};
 use ang_check_statements::{Frame, Returns, block, own_object};
 use ang_check_typing::{arguments_for, typing_of_all};
@@ -33,7 +33,7 @@ use std::alloc::{AllocError, Global};
 pub struct BaseCall {
     /// The number of its body.
     pub body: Option<usize>,
-    /// The arguments behind `this`.
+    /// The arguments after `this`.
     pub arguments: List<Argument>,
 }
 
@@ -182,7 +182,7 @@ fn super_by(
 fn super_typing(
     alloc: Global,
     context: &BodyContext<'_>,
-    locals: &[LocalVariable<'_>],
+    locals: &Locals<'_>,
     base: Option<usize>,
     call: &SuperCall,
 ) -> Result<BaseCall, Stop>
@@ -196,7 +196,7 @@ fn super_typing(
 fn base_typing(
     alloc: Global,
     context: &BodyContext<'_>,
-    locals: &[LocalVariable<'_>],
+    locals: &Locals<'_>,
     name: &Token,
     base_name: &Token,
     base: Option<usize>,
@@ -211,7 +211,7 @@ fn base_typing(
     }
 }
 
-/// Arguments behind `this`.
+/// Arguments after `this`.
 ///
 /// The only error is want of memory.
 fn behind_this(
@@ -258,7 +258,7 @@ fn base_statement(
     Ok(Statement::Expression(Some(call)))
 }
 
-/// Statements behind another one.
+/// Statements after another one.
 ///
 /// The only error is want of memory.
 fn behind(
@@ -276,7 +276,7 @@ fn behind(
     Ok(all)
 }
 
-/// Statements behind the call of the base class's constructor, where one is written.
+/// Statements after the call of the base class's constructor, where one is written.
 ///
 /// The only error is want of memory.
 fn with_base(
@@ -373,7 +373,7 @@ pub fn constructor_typing<'a>(
     let first = base_typing(
         alloc,
         &context,
-        locals.as_slice(),
+        &locals,
         &written.name,
         base_name,
         base,

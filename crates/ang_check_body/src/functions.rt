@@ -6,7 +6,7 @@ ghost use Rattle.ang_check_operand.specs.Refusals.{Gives};
 ghost use Rattle.ang_check_statements.specs.Typing.{block_typing};
 ghost use Rattle.ang_check_body.specs.Typing as spec;
 
-use ang_check_context::{BodyContext, LocalVariable, Within, own_type};
+use ang_check_context::{BodyContext, LocalVariable, Locals, Within, own_type};
 use ang_check_operand::{Stop, refused};
 use ang_check_paths::body_ends;
 use ang_check_statements::{Frame, Returns, block, initializer};
@@ -21,18 +21,22 @@ use std::alloc::{AllocError, Global};
 
 /// The parameters of a function as its statements see them, at the end of some locals.
 fn push_locals<'a>(
-    locals: &mut Vec<LocalVariable<'a>>,
+    alloc: Global,
+    locals: &mut Locals<'a>,
     params: &'a [ScriptParameter],
 ) -> Result<(), AllocError>
-    ensures exact { OnOk result (locals.new.items
-        ≡ locals.old.items ++ list_map spec.parameter_local params.now) }
+    ensures exact { OnOk result (locals.new
+        ≡ locals.old ++ list_map spec.parameter_local params.now) }
 {
     for param in params {
-        locals.push(LocalVariable {
-            name: Text::new(param.name.as_slice()),
-            ty: param.written.ty,
-            read_only: is_read_only(param.written),
-        })?;
+        locals.push(
+            alloc,
+            LocalVariable {
+                name: Text::new(param.name.as_slice()),
+                ty: param.written.ty,
+                read_only: is_read_only(param.written),
+            },
+        )?;
     }
     Ok(())
 }
@@ -58,12 +62,12 @@ fn push_parameters(
 fn function_locals<'a>(
     alloc: Global,
     function: &'a ScriptFunction,
-) -> Result<Vec<LocalVariable<'a>>, AllocError>
+) -> Result<Locals<'a>, AllocError>
     ensures exact { IfOk result
-        (λ v. v.items ≡ list_map spec.parameter_local function.now.params) }
+        (λ v. v ≡ list_map spec.parameter_local function.now.params) }
 {
-    let mut locals = Vec::new(alloc);
-    push_locals(&mut locals, function.params.as_slice())?;
+    let mut locals = Locals::new(alloc);
+    push_locals(alloc, &mut locals, function.params.as_slice())?;
     Ok(locals)
 }
 
@@ -83,14 +87,14 @@ pub fn member_locals<'a>(
     alloc: Global,
     within: Within,
     function: &'a ScriptFunction,
-) -> Result<Vec<LocalVariable<'a>>, AllocError>
+) -> Result<Locals<'a>, AllocError>
     requires few { within.family < 256 }
-    ensures exact { IfOk result (λ v. v.items
+    ensures exact { IfOk result (λ v. v
         ≡ spec.this_local within ∷ list_map spec.parameter_local function.now.params) }
 {
-    let mut locals = Vec::new(alloc);
-    locals.push(this_local(within))?;
-    push_locals(&mut locals, function.params.as_slice())?;
+    let mut locals = Locals::new(alloc);
+    locals.push(alloc, this_local(within))?;
+    push_locals(alloc, &mut locals, function.params.as_slice())?;
     Ok(locals)
 }
 
@@ -167,11 +171,11 @@ fn body_typing<'a>(
     alloc: Global,
     context: BodyContext<'a>,
     ty: ArgType,
-    locals: Vec<LocalVariable<'a>>,
+    locals: Locals<'a>,
     body: &written::Block,
 ) -> Result<Block, Stop>
     ensures exact { Gives view_block result (block_typing
-        (spec.frame_of context.entry ty locals.entry.items) false locals.entry.items
+        (spec.frame_of context.entry ty locals.entry) false locals.entry
         (view_body body.now)) }
 {
     let mut locals = locals;
@@ -239,6 +243,7 @@ pub fn global_typing(
         (spec.global_typing context.now global.now declared.now (view_init written.now)) }
 {
     let ty = global.written.ty;
-    let initializer = initializer(alloc, context, &[], declared, ty, written)?;
+    let none = Locals::new(alloc);
+    let initializer = initializer(alloc, context, &none, declared, ty, written)?;
     Ok(TypedGlobal { ty, initializer })
 }

@@ -12,7 +12,7 @@ ghost use Rattle.ang_typed.specs.View.{view_tree};
 
 use crate::context::{BodyContext, type_or_refusal};
 use crate::receiver::Receiver;
-use crate::scope::LocalVariable;
+use crate::scope::Locals;
 use ang_check_operand::{Operand, Stop, boxed, fault, object_of, plain_operand};
 use ang_kinds::{ErrorKind, Place};
 use ang_lex::Token;
@@ -40,7 +40,7 @@ fn written_type(context: &BodyContext<'_>, declared: &TypeName) -> Result<ArgTyp
 #[tactic(auto, unfolding(crate::specs::Casts::cast_type))]
 pub fn cast_type(
     context: &BodyContext<'_>,
-    locals: &[LocalVariable<'_>],
+    locals: &Locals<'_>,
     declared: &TypeName,
 ) -> Result<ArgType, Stop>
     ensures exact { Gives (λ ty. ty) result (spec.cast_type context.now locals.now declared.now) }

@@ -9,7 +9,7 @@ ghost use Rattle.ang_check_uses.specs.Uses as uses;
 ghost use Rattle.ang_names_known.specs.Lookup as lookup;
 ghost use Rattle.ang_names_written.specs.Sources as sources;
 
-use crate::scope::{LocalVariable, Within};
+use crate::scope::{Locals, Within};
 use ang_check_operand::{Stop, refused, use_refused};
 use ang_check_uses::{Callables, Resolution, Scope, makers_of, resolution_of};
 use ang_kinds::ErrorKind;
@@ -207,15 +207,15 @@ fn has_within(context: &BodyContext<'_>, within: Option<Within>, name: &[u8]) ->
 }
 
 /// Whether a local or a parameter has the name.
-fn has_local(locals: &[LocalVariable<'_>], name: &[u8]) -> bool
+fn has_local(locals: &Locals<'_>, name: &[u8]) -> bool
     ensures exact { result ≡ list_any (λ p. bytes_eq p.name name.now) locals.now }
 {
-    locals.iter().any(|local| local.name.bytes() == name)
+    locals.has_from(0, name)
 }
 
 /// Whether a local, a parameter, or a field or method of the class has the name. It takes no
 /// memory.
-pub fn is_there(context: &BodyContext<'_>, locals: &[LocalVariable<'_>], name: &[u8]) -> bool
+pub fn is_there(context: &BodyContext<'_>, locals: &Locals<'_>, name: &[u8]) -> bool
     ensures exact { result ≡ scopes.is_there context.now locals.now name.now }
 {
     has_local(locals, name) || has_within(context, context.within(), name)
@@ -225,7 +225,7 @@ pub fn is_there(context: &BodyContext<'_>, locals: &[LocalVariable<'_>], name: &
 /// name. It takes no memory.
 pub fn type_or_refusal(
     context: &BodyContext<'_>,
-    locals: &[LocalVariable<'_>],
+    locals: &Locals<'_>,
     name: &Token,
     written: Result<ArgType, ErrorKind>,
 ) -> Result<ArgType, Stop>

@@ -18,4 +18,4 @@ pub use members::member_of;
 pub use names::named;
 pub use operands::types_of;
 pub use receiver::{Receiver, own_type, receiver_within, this, this_operand};
-pub use scope::{LocalVariable, Within};
+pub use scope::{LocalVariable, Locals, Within};

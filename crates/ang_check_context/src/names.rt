@@ -7,7 +7,7 @@ ghost use Rattle.ang_check_context.specs.Scope as scopes;
 ghost use Rattle.ang_names_written.specs.Sources as sources;
 
 use crate::context::{BodyContext, access_error, is_there, may_reach, resolved};
-use crate::scope::{LocalVariable, Within, last_named};
+use crate::scope::{Locals, Within};
 use ang_check_operand::{Operand, Stop, Target, reading, refused, use_refused};
 use ang_check_uses::Resolution;
 use ang_kinds::ErrorKind;
@@ -38,7 +38,7 @@ fn variable_at(
 /// The refusal of a use of the name as a value. Only then are the locals gone through once more.
 fn value_refused(
     context: &BodyContext<'_>,
-    locals: &[LocalVariable<'_>],
+    locals: &Locals<'_>,
     kind: ErrorKind,
     name: &Token,
 ) -> Stop
@@ -52,7 +52,7 @@ fn value_refused(
 fn value_use(
     alloc: Global,
     context: &BodyContext<'_>,
-    locals: &[LocalVariable<'_>],
+    locals: &Locals<'_>,
     name: &Token,
     resolution: Resolution,
 ) -> Result<Operand, Stop>
@@ -105,7 +105,7 @@ fn own_field(
 fn field_or_global(
     alloc: Global,
     context: &BodyContext<'_>,
-    locals: &[LocalVariable<'_>],
+    locals: &Locals<'_>,
     name: &Token,
     found: Option<(Within, FoundField)>,
 ) -> Result<Operand, Stop>
@@ -124,14 +124,14 @@ fn field_or_global(
 
 fn local_named(
     alloc: Global,
-    locals: &[LocalVariable<'_>],
+    locals: &Locals<'_>,
     token: &Token,
     name: &[u8],
 ) -> Result<Option<Operand>, AllocError>
     ensures exact { IfOk result (λ found. option_map view_operand found
         ≡ spec.local_named token.now name.now locals.now) }
 {
-    let Some(number) = last_named(locals, name) else {
+    let Some(number) = locals.last_named(name) else {
         return Ok(None);
     };
     let Some(local) = locals.get(number) else {
@@ -154,7 +154,7 @@ fn local_named(
 pub fn named(
     alloc: Global,
     context: &BodyContext<'_>,
-    locals: &[LocalVariable<'_>],
+    locals: &Locals<'_>,
     token: &Token,
 ) -> Result<Operand, Stop>
     ensures exact { Gives view_operand result (spec.name_typing context.now locals.now token.now) }

@@ -1,9 +1,11 @@
 -- A hidden entry that helps a use stands in the row of the name that the use seeks.
-use Rattle.std.specs.Prelude.{ℕ, zero, suc, ◌≡◌, ◌≤◌, ◌<◌, ◌+◌, ◌==◌, Bool, true, false, cond, not, ◌&&◌, ◌||◌, if◌then◌else◌, is_some, IfSome, bytes_eq, List, [], ◌∷◌, filter, length, map, Option, Some, None}
+use Rattle.std.specs.Prelude.{ℕ, zero, suc, ◌≡◌, ◌≤◌, ◌<◌, ◌+◌, Bool, true, false, cond, not, ◌&&◌, ◌||◌, if◌then◌else◌, is_some, IfSome, bytes_eq, List, [], ◌∷◌, ◌++◌, filter, length, Option, Some, None}
 use Rattle.std.specs.List.{range_with_len}
 use Rattle.std.specs.Option.{option_or}
 use Rattle.std.proofs.Common.{arith, refl, sym, ap, ◌∙◌}
+use Rattle.std.proofs.lemmas.List.{append-nil}
 use Rattle.std.proofs.lemmas.Slice.Eq.{bytes_eq-Decides}
+use Rattle.ang_index.specs.Rows.{Rows, Puts, items_at}
 use Rattle.ang_kinds.specs.declared.mask.EntityNo.{EntityNo}
 use Rattle.ang_types.specs.declared.arg_type.ArgType.{ArgType}
 use Rattle.ang_types.specs.declared.arg_type.ArgType.TheVariants as type
@@ -19,20 +21,18 @@ use Rattle.ang_view.specs.Hidden.{hidden_entry, is_hidden, numbers_of, seen_with
 use Rattle.ang_view.specs.Registration.{RegistrationList, entry_at, is_function, is_function_named, is_number, is_type, seen}
 use Rattle.ang_view.specs.Types.{is_type_named}
 use Rattle.ang_view.proofs.Lists.{and_gives}
-use Rattle.ang_names_known.specs.declared.host.HostProperty.{HostProperty}
-use Rattle.ang_names_known.specs.declared.host.Wanted.TheVariants as wanted
-use Rattle.ang_names_known.specs.declared.host.WantedProperty.{WantedProperty}
-use Rattle.ang_names_known.specs.declared.host.WantedProperty.TheVariants as property
+use Rattle.ang_names_host.specs.declared.host.HostProperty.{HostProperty}
+use Rattle.ang_names_host.specs.declared.host.Wanted.TheVariants as wanted
+use Rattle.ang_names_host.specs.declared.host.WantedProperty.{WantedProperty}
+use Rattle.ang_names_host.specs.declared.host.WantedProperty.TheVariants as property
 use Rattle.ang_names_known.specs.declared.space.Named.{Named}
-use Rattle.ang_names_known.specs.Added.{added_property}
-use Rattle.ang_names_known.specs.Host.{first_found, found, function_of_entry, host_type, is_factory, is_global, is_method, is_property, is_wanted, is_wanted_property, property_found, property_where, property_with}
-use Rattle.ang_names_known.proofs.Adding.{past_end, same_number}
-use Rattle.ang_names_rows.specs.Hashes.{name_hash}
-use Rattle.ang_names_rows.proofs.Hashed.{numbers_are, numbers_from}
+use Rattle.ang_names_host.specs.Added.{added_property}
+use Rattle.ang_names_host.specs.Host.{first_found, found, function_of_entry, host_type, is_factory, is_global, is_method, is_property, is_wanted, is_wanted_property, property_found, property_where, property_with}
+use Rattle.ang_names_host.proofs.Adding.{past_end, same_number}
 use Rattle.ang_check_uses.specs.Uses.{Scope, candidates_of, host_methods, resolution_of}
 use Rattle.ang_check_denials.specs.Added.{adds, call_wins, factories, has_global, is_called_by, is_factory_of, is_number_of, is_property_of, is_type_number, named_with, plain, wins, with_receiver}
 use Rattle.ang_check_denials.specs.Denials.{helps, means_entry, stays}
-use Rattle.ang_check_denials.specs.Names.{help_hash, help_hashes, help_row, name_meant, name_sought, own_name, owner_name}
+use Rattle.ang_check_denials.specs.Names.{PutsHidden, help_row, hidden_named, is_hidden_named, name_meant, name_sought, own_name, owner_name}
 use Rattle.ang_check_denials.proofs.Helping.{entry_at-hidden, helps_is, hidden_unseen, seen_helps_not}
 use Rattle.ang_check_denials.proofs.Meaning.{wins_wanted}
 
@@ -185,9 +185,6 @@ not_true : (b : Bool) → not b ≡ true → b ≡ false
 not_true true e = cc
 not_true false e = refl
 
-equal : (n : ℕ) → (n == n) ≡ true
-equal n = search arith
-
 -- An entry that helps a use has the name that the use seeks.
 pub helps_by_name : (R : RegistrationList) (m : ℕ) (s : Scope) (r : Refused) (a : Asks) (x : ℕ) → s.view ≡ seen R m → x < 1024
     → helps R m s r a x ≡ true → name_meant R (entry_at R x) ≡ name_sought R r.error.name a
@@ -199,14 +196,14 @@ helps_by_name R m s r a x view lt e =
     adds_name R m s r.error.name x (named_with R m s x r.error.name) a view (hidden_unseen R m x parts.0)
     (helps_is R m s r a x view lt parts.0 taken ∙ e)
 
-has_hash : (R : RegistrationList) (m : ℕ) (s : Scope) (r : Refused) (a : Asks) (x : ℕ) → s.view ≡ seen R m → x < 1024
-    → helps R m s r a x ≡ true → (help_hash R m x == name_hash (name_sought R r.error.name a)) ≡ true
-has_hash R m s r a x view lt e =
-    let h = name_hash (name_sought R r.error.name a) in
-    let there : is_hidden R m x ≡ true = (and_gives (is_hidden R m x) _ e).0 in
-    ap (λ b. (if b then name_hash (name_meant R (entry_at R x)) else 256) == h) there
-    ∙ ap (λ name. name_hash name == h) (helps_by_name R m s r a x view lt e)
-    ∙ equal h
+both : (b c : Bool) → b ≡ true → c ≡ true → (b && c) ≡ true
+both b c e f = cc
+
+hidden_by_name : (R : RegistrationList) (m : ℕ) (s : Scope) (r : Refused) (a : Asks) (x : ℕ) → s.view ≡ seen R m → x < 1024
+    → helps R m s r a x ≡ true → is_hidden_named R m (name_sought R r.error.name a) x ≡ true
+hidden_by_name R m s r a x view lt e =
+    both (is_hidden R m x) (bytes_eq (name_meant R (entry_at R x)) (name_sought R r.error.name a)) (and_gives (is_hidden R m x) _ e).0
+    ((bytes_eq-Decides (name_meant R (entry_at R x)) (name_sought R r.error.name a)).1 (helps_by_name R m s r a x view lt e))
 
 -- ---- the row
 
@@ -219,21 +216,42 @@ pub one_more : (p : ℕ → Bool) (b : Bool) (n : ℕ) (row rest : List ℕ) →
 one_more p true n row rest h e = ap (λ ks. cond (p n) (n ∷ ks) ks) e
 one_more p false n row rest h e = left_out (p n) n (filter p row) rest h e
 
-in_row : (p : ℕ → Bool) (f : ℕ → ℕ) (h : ℕ) → ((k : ℕ) → k < 1024 → p k ≡ true → (f k == h) ≡ true) → (n count : ℕ) → n + count ≤ 1024
-    → filter p (numbers_from h n (map f (range_with_len n count))) ≡ filter p (range_with_len n count)
-in_row p f h has n zero few = refl
-in_row p f h has n (suc count) few =
-    one_more p (f n == h) n (numbers_from h (n + 1) (map f (range_with_len (n + 1) count))) (filter p (range_with_len (n + 1) count))
-    (has n (omega (arith, few))) (in_row p f h has (n + 1) count (omega (arith, few)))
+in_row : (p q : ℕ → Bool) → ((k : ℕ) → k < 1024 → p k ≡ true → q k ≡ true) → (n count : ℕ) → n + count ≤ 1024
+    → filter p (filter q (range_with_len n count)) ≡ filter p (range_with_len n count)
+in_row p q has n zero few = refl
+in_row p q has n (suc count) few =
+    one_more p (q n) n (filter q (range_with_len (n + 1) count)) (filter p (range_with_len (n + 1) count))
+    (has n (omega (arith, few))) (in_row p q has (n + 1) count (omega (arith, few)))
 
 -- All that help are in the row.
 pub row_helps : (R : RegistrationList) (m : ℕ) (s : Scope) (r : Refused) (a : Asks) (row : List ℕ) → s.view ≡ seen R m → length R ≤ 1024
     → row ≡ help_row R m r.error.name a → filter (helps R m s r a) row ≡ filter (helps R m s r a) (numbers_of R)
+unfolding hidden_named
 row_helps R m s r a row view few e =
-    let h = name_hash (name_sought R r.error.name a) in
     let most : 0 + length R ≤ 1024 = omega (arith, few) in
-    ap (filter (helps R m s r a)) (e ∙ sym (numbers_are h (help_hashes R m)))
-    ∙ in_row (helps R m s r a) (help_hash R m) h (λ k lt help. has_hash R m s r a k view lt help) 0 (length R) most
+    ap (filter (helps R m s r a)) e
+    ∙ in_row (helps R m s r a) (is_hidden_named R m (name_sought R r.error.name a))
+    (λ k lt help. hidden_by_name R m s r a k view lt help) 0 (length R) most
+
+-- ---- an entry more by its name
+
+-- one that is hidden is put in
+one_put : (b : Bool) (xs : List ℕ) (x : ℕ) → cond b (xs ++ x ∷ []) xs ≡ xs ++ (if b then x ∷ [] else [])
+one_put true xs x = refl
+one_put false xs x = sym (append-nil xs)
+
+pub hidden_put : (R : RegistrationList) (m x : ℕ) (own : List ℕ) (old new : Rows ℕ) → true ≡ is_hidden R m x
+    → own ≡ name_meant R (entry_at R x) → Puts old new 0 own x → PutsHidden R m x old new
+hidden_put R m x own old new hides is puts name =
+    puts 0 name
+    ∙ one_put (bytes_eq own name) (items_at 0 name old) x
+    ∙ (λ i. items_at 0 name old ++ (if hides i && bytes_eq (is i) name then x ∷ [] else []))
+
+-- another one is not
+pub seen_not_put : (R : RegistrationList) (m x : ℕ) (rows : Rows ℕ) → false ≡ is_hidden R m x → PutsHidden R m x rows rows
+seen_not_put R m x rows hides name =
+    sym (append-nil (items_at 0 name rows))
+    ∙ (λ i. items_at 0 name rows ++ (if hides i && bytes_eq (name_meant R (entry_at R x)) name then x ∷ [] else []))
 
 -- no entry stands past the end
 pub past_helps_not : (R : RegistrationList) (m : ℕ) (s : Scope) (r : Refused) (a : Asks) (x : ℕ) → length R ≤ x → helps R m s r a x ≡ false

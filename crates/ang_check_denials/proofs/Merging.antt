@@ -6,7 +6,7 @@ use Rattle.std.proofs.lemmas.List.{append_assoc}
 use Rattle.ang_check_denials.specs.Rising.{behind, lower_first}
 use Rattle.ang_check_denials.proofs.ByName.{one_more}
 
--- a list with x in front, merged with another one, where `rest` merges what is behind x
+-- a list with x in front, merged with another one, where `rest` merges what is after x
 abbrev pub merged_front : ℕ → (List ℕ → List ℕ) → List ℕ → List ℕ
 merged_front x rest [] = x ∷ rest []
 merged_front x rest (y ∷ ys) = cond (nat_lt y x) (y ∷ merged_front x rest ys) (x ∷ rest (behind x (y ∷ ys)))
@@ -52,7 +52,7 @@ turn_by n x y xs ys true t e =
     λ i. e i ∷ merged (sym (behind_other n x xs over) i) (sym (behind_own n y ys e) i)
 turn_by n x y xs ys false t e = λ i. e i ∷ merged (sym (behind_own n x xs e) i) (behind (e i) (y ∷ ys))
 
--- The lower of the numbers in front comes first, and then what is behind it in both lists.
+-- The lower of the numbers in front comes first, and then what is after it in both lists.
 pub one_turn : (n : ℕ) (xs ys : List ℕ) → lower_first xs ys ≡ Some n → merged xs ys ≡ n ∷ merged (behind n xs) (behind n ys)
 one_turn n [] [] e = cc
 one_turn n [] (y ∷ ys) e = let same = the_number y n e in λ i. same i ∷ sym (behind_own n y ys same) i

@@ -1,14 +1,13 @@
--- The names by which uses can mean entries, and hidden entries by the hashes of these names. Which hash a name has shows in nothing.
-use Rattle.std.specs.Prelude.{ℕ, ◌≡◌, Bool, false, if◌then◌else◌, List, [], map, filter, Option, Some, None}
+-- The names by which uses can mean entries, and hidden entries by these names.
+use Rattle.std.specs.Prelude.{ℕ, ◌≡◌, Bool, false, ◌&&◌, if◌then◌else◌, List, [], ◌∷◌, ◌++◌, filter, Option, Some, None, bytes_eq}
+use Rattle.ang_index.specs.Rows.{Rows, items_at}
 use Rattle.ang_kinds.specs.declared.mask.EntityNo.{EntityNo}
 use Rattle.ang_types.specs.declared.asks.Asks.{Asks}
 use Rattle.ang_types.specs.declared.asks.Asks.TheVariants as asks
 use Rattle.ang_view.specs.declared.entry.Entry.{Entry}
 use Rattle.ang_view.specs.Hidden.{is_hidden, numbers_of}
 use Rattle.ang_view.specs.Registration.{RegistrationList, entry_at, is_type}
-use Rattle.ang_names_known.specs.Host.{is_factory}
-use Rattle.ang_names_rows.specs.Hashes as hashes
-use Rattle.ang_names_rows.specs.Hashes.{name_hash}
+use Rattle.ang_names_host.specs.Host.{is_factory}
 
 -- ---- names
 
@@ -35,18 +34,28 @@ name_sought R name (asks.Default n) = own_name (entry_at R n)
 name_sought R name (asks.Property n) = name
 name_sought R name (asks.Method n c args) = name
 
--- ---- rows
+-- ---- hidden entries by name
 
--- the hash of a hidden entry's name; of what is not hidden 256, which no name has
-abbrev pub help_hash : RegistrationList → ℕ → ℕ → ℕ
-help_hash R m x = if is_hidden R m x then name_hash (name_meant R (entry_at R x)) else 256
+-- entry x is hidden, and uses of this name can mean it
+abbrev pub is_hidden_named : RegistrationList → ℕ → List ℕ → ℕ → Bool
+is_hidden_named R m name x = is_hidden R m x && bytes_eq (name_meant R (entry_at R x)) name
 
-abbrev pub help_hashes : RegistrationList → ℕ → List ℕ
-help_hashes R m = map (help_hash R m) (numbers_of R)
+-- the numbers of the hidden entries that uses of this name can mean, rising
+unfoldable pub hidden_named : RegistrationList → ℕ → List ℕ → List ℕ
+hidden_named R m name = filter (is_hidden_named R m name) (numbers_of R)
 
--- the numbers of the hidden entries whose names have the hash of the name that a use seeks
+-- entry x is put in under its name, where it is hidden
+abbrev pub PutsHidden : RegistrationList → ℕ → ℕ → Rows ℕ → Rows ℕ → Type 0
+PutsHidden R m x old new = (name : List ℕ) →
+    items_at 0 name new ≡ items_at 0 name old ++ (if is_hidden_named R m name x then x ∷ [] else [])
+
+-- the rows have the hidden entries under their names, in scope 0
+pub record HasHidden (R : RegistrationList) (m : ℕ) (rows : Rows ℕ) : Type 0 where
+  pub numbers : (name : List ℕ) → items_at 0 name rows ≡ hidden_named R m name
+
+-- the numbers of the hidden entries that a use can mean
 abbrev pub help_row : RegistrationList → ℕ → List ℕ → Asks → List ℕ
-help_row R m name a = hashes.numbers_of (name_hash (name_sought R name a)) (help_hashes R m)
+help_row R m name a = hidden_named R m (name_sought R name a)
 
 -- ---- what comes with an entry
 

@@ -8,7 +8,7 @@ lower_first [] (y ∷ ys) = Some y
 lower_first (x ∷ xs) [] = Some x
 lower_first (x ∷ xs) (y ∷ ys) = Some (if nat_lt y x then y else x)
 
--- what is left of a list behind a number, where this one stands in front
+-- what is left of a list after a number, where this one stands in front
 abbrev pub behind : ℕ → List ℕ → List ℕ
 behind n [] = []
 behind n (x ∷ xs) = if x == n then xs else x ∷ xs

@@ -7,7 +7,8 @@ ghost use Rattle.ang_check_uses.specs.Uses as uses;
 ghost use Rattle.ang_check_denials.specs.Added as spec;
 
 use ang_check_uses::{Scope, functions_of, host_methods, types_with_receiver};
-use ang_names_known::{HostProperty, Text, Wanted, WantedProperty, host_where, property_where};
+use ang_names_host::{HostProperty, Wanted, WantedProperty, host_where, property_where};
+use ang_names_known::Text;
 use ang_types::{ArgType, Asks, Candidate, Rivals};
 use ang_view::View;
 use std::alloc::{AllocError, Global};

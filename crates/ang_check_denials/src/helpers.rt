@@ -13,9 +13,9 @@ use crate::masked::Masked;
 use crate::meanings::adds;
 use crate::sought::help_row;
 use ang_check_uses::Scope;
+use ang_index::Index;
 use ang_kinds::EntityNo;
 use ang_names_known::Names;
-use ang_names_rows::Rows;
 use ang_types::{Asks, Refused};
 use ang_view::{EntryKind, View};
 use std::alloc::{AllocError, Global};
@@ -118,7 +118,7 @@ fn kept(keeps: bool, number: u32) -> Option<u32>
     if keeps { Some(number) } else { None }
 }
 
-/// The number at a place of a row, where its entry resolves a refused use. `count` is how many entries there are.
+/// A number of a row, where its entry resolves a refused use. `count` is how many entries there are.
 #[tactic(auto, using(crate::proofs::ByName::past_helps_not))]
 fn helper_at(
     alloc: Global,
@@ -128,7 +128,7 @@ fn helper_at(
     asks: &Asks,
     beside: &Beside,
     count: u32,
-    place: usize,
+    number: u32,
 ) -> Result<Option<u32>, AllocError>
     requires view { scope.now.view ≡ seen masked.now.list masked.now.mask }
     requires rivals { AreRivals beside.now.rivals scope.now.ancestors
@@ -142,12 +142,11 @@ fn helper_at(
     requires few { count ≤ 1024 }
     ensures exact { IfOk result (λ helper. option_to_list helper ≡ filter
         (spec.helps masked.now.list masked.now.mask scope.now refused.now asks.now)
-        (place ∷ [])) }
+        (number ∷ [])) }
 {
-    if place >= count as usize {
+    if number >= count {
         return Ok(None);
     }
-    let number = place as u32;
     let help = helps(alloc, masked, scope, refused, asks, beside, number)?;
     Ok(kept(help, number))
 }
@@ -170,7 +169,7 @@ fn helpers_among(
     refused: &Refused,
     asks: &Asks,
     count: u32,
-    row: &[usize],
+    row: &[u32],
 ) -> Result<Vec<u32>, AllocError>
     requires view { scope.now.view ≡ seen masked.now.list masked.now.mask }
     requires count { count ≡ length masked.now.list }
@@ -183,8 +182,8 @@ fn helpers_among(
         return Ok(numbers);
     }
     let beside = beside_of(alloc, scope, refused.error.name.as_slice(), asks)?;
-    for place in row {
-        let helper = helper_at(alloc, masked, scope, refused, asks, &beside, count, *place)?;
+    for number in row {
+        let helper = helper_at(alloc, masked, scope, refused, asks, &beside, count, *number)?;
         push_number(&mut numbers, helper)?;
     }
     Ok(numbers)
@@ -196,13 +195,13 @@ fn helpers_among(
 pub fn helpers(
     alloc: Global,
     masked: &Masked<'_>,
-    rows: &Rows,
+    rows: &Index<u32>,
     scope: &Scope<'_>,
     refused: &Refused,
     asks: &Asks,
 ) -> Result<Vec<u32>, AllocError>
     requires view { scope.now.view ≡ seen masked.now.list masked.now.mask }
-    requires rows { rows.now ≡ names.help_hashes masked.now.list masked.now.mask }
+    requires rows { names.HasHidden masked.now.list masked.now.mask rows.now }
     ensures exact { IfOk result (λ numbers. numbers.items ≡ filter
         (spec.helps masked.now.list masked.now.mask scope.now refused.now asks.now)
         (numbers_of masked.now.list)) }

@@ -4,9 +4,9 @@ ghost use Rattle.ang_types.specs.declared.asks.Asks.TheVariants as asks_of;
 ghost use Rattle.ang_types.specs.declared.candidate.Candidate.{Candidate};
 ghost use Rattle.ang_types.specs.Rivals.{AreRivals};
 ghost use Rattle.ang_view.specs.Registration.{seen};
-ghost use Rattle.ang_names_known.specs.declared.host.Wanted.TheVariants as sought;
-ghost use Rattle.ang_names_known.specs.declared.host.WantedProperty.TheVariants as sought_property;
-ghost use Rattle.ang_names_known.specs.Added.{added_property};
+ghost use Rattle.ang_names_host.specs.declared.host.Wanted.TheVariants as sought;
+ghost use Rattle.ang_names_host.specs.declared.host.WantedProperty.TheVariants as sought_property;
+ghost use Rattle.ang_names_host.specs.Added.{added_property};
 ghost use Rattle.ang_names_known.specs.Spaces as spaces;
 ghost use Rattle.ang_check_uses.specs.Uses.{candidates_of, functions_of};
 ghost use Rattle.ang_check_denials.specs.Added as spec;
@@ -16,9 +16,8 @@ use crate::masked::Masked;
 use crate::named::{is_called_by, is_type_named, named_with};
 use ang_check_uses::{Scope, params_with_receiver};
 use ang_kinds::EntityNo;
-use ang_names_known::{
-    HostProperty, Named, Names, Text, Wanted, WantedProperty, family_of_type, found_at, property_at,
-};
+use ang_names_host::{HostProperty, Wanted, WantedProperty, found_at, property_at};
+use ang_names_known::{Named, Names, Text, family_of_type};
 use ang_types::{ArgType, Asks, Lineage, Rivals};
 use std::alloc::{AllocError, Global};
 

@@ -22,7 +22,7 @@ pub fn lower_first(left: &[u32], right: &[u32]) -> Option<u32>
     }
 }
 
-/// What is left of a list behind a number, where this one stands in front.
+/// What is left of a list after a number, where this one stands in front.
 pub fn behind(numbers: &[u32], number: u32) -> &[u32]
     ensures exact { result.now ≡ spec.behind number numbers.now }
 {

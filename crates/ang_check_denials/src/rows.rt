@@ -4,15 +4,15 @@ ghost use Rattle.std.specs.List.{list_any, flat_map};
 ghost use Rattle.ang_view.specs.Hidden.{is_unmet, is_with, numbers_of};
 ghost use Rattle.ang_view.specs.Registration.{seen};
 ghost use Rattle.ang_check_denials.specs.Denials as spec;
-ghost use Rattle.ang_check_denials.specs.Names.{Picked, help_hashes, type_numbers};
+ghost use Rattle.ang_check_denials.specs.Names.{HasHidden, Picked, type_numbers};
 
 use crate::helpers::{helpers, push_kept};
 use crate::masked::Masked;
 use crate::rising::{behind, lower_first};
 use crate::sought::{help_rows, type_numbers};
 use ang_check_uses::Scope;
+use ang_index::Index;
 use ang_kinds::{Denial, EntityNo};
-use ang_names_rows::Rows;
 use ang_types::{Asks, Refused};
 use std::alloc::{AllocError, Global};
 
@@ -66,14 +66,14 @@ fn denied_with(
 fn denied_numbers(
     alloc: Global,
     masked: &Masked<'_>,
-    hidden: &Rows,
+    hidden: &Index<u32>,
     types: &[u32],
     scope: &Scope<'_>,
     refused: &Refused,
     asks: &Asks,
 ) -> Result<Vec<u32>, AllocError>
     requires view { scope.now.view ≡ seen masked.now.list masked.now.mask }
-    requires hidden { hidden.now ≡ help_hashes masked.now.list masked.now.mask }
+    requires hidden { HasHidden masked.now.list masked.now.mask hidden.now }
     requires types { types.now ≡ type_numbers masked.now.list }
     ensures exact { IfOk result (λ numbers. numbers.items ≡ filter
         (spec.denied masked.now.list masked.now.mask scope.now refused.now asks.now)
@@ -115,13 +115,13 @@ fn push_denied(
     alloc: Global,
     rows: &mut Vec<Denial>,
     masked: &Masked<'_>,
-    hidden: &Rows,
+    hidden: &Index<u32>,
     types: &[u32],
     scope: &Scope<'_>,
     refused: &Refused,
 ) -> Result<(), AllocError>
     requires view { scope.now.view ≡ seen masked.now.list masked.now.mask }
-    requires hidden { hidden.now ≡ help_hashes masked.now.list masked.now.mask }
+    requires hidden { HasHidden masked.now.list masked.now.mask hidden.now }
     requires types { types.now ≡ type_numbers masked.now.list }
     ensures pushed { OnOk result (rows.new.items ≡ rows.old.items
         ++ spec.rows_for masked.now.list masked.now.mask scope.now refused.now) }

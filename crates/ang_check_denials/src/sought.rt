@@ -1,18 +1,18 @@
-//! Hidden entries by the hashes of the names by which uses can mean them, so that few are looked at.
-ghost use Rattle.std.specs.Prelude.{◌≡◌, IfOk};
+//! Hidden entries by the names by which uses can mean them, so that few are looked at.
+ghost use Rattle.std.specs.Prelude.{◌≡◌, IfOk, OnOk};
 ghost use Rattle.ang_view.specs.Registration.{entry_at};
 ghost use Rattle.ang_check_denials.specs.Names as spec;
 
 use crate::helpers::push_kept;
 use crate::masked::Masked;
+use ang_index::Index;
 use ang_kinds::EntityNo;
-use ang_names_rows::{Rows, name_hash, rows_of};
 use ang_types::Asks;
 use ang_view::{EntryKind, View};
 use std::alloc::{AllocError, Global};
 
-/// A hash that no name has.
-const NO_HASH: usize = 256;
+/// The scope of all names.
+const NAMES: u64 = 0;
 
 /// The name of the entry of this number.
 fn own_name(whole: &View, number: u32) -> &[u8]
@@ -50,38 +50,34 @@ fn name_meant(whole: &View, number: u32) -> &[u8]
     }
 }
 
-/// The hash of the name of a hidden entry, and of what is not hidden one that no name has.
-fn help_hash(masked: &Masked<'_>, number: u32) -> usize
-    ensures exact { result ≡ spec.help_hash masked.now.list masked.now.mask number }
+/// Puts the number of an entry in under the name by which uses can mean it, where it is hidden.
+#[tactic(auto, using(crate::proofs::ByName::hidden_put, crate::proofs::ByName::seen_not_put))]
+fn push_hidden(
+    alloc: Global,
+    rows: &mut Index<u32>,
+    masked: &Masked<'_>,
+    number: u32,
+) -> Result<(), AllocError>
+    ensures pushed { OnOk result
+        (spec.PutsHidden masked.now.list masked.now.mask number rows.old rows.new) }
 {
     if masked.hides(number) {
-        name_hash(name_meant(masked.whole(), number))
-    } else {
-        NO_HASH
+        rows.push(alloc, NAMES, name_meant(masked.whole(), number), number)?;
     }
+    Ok(())
 }
 
-#[tactic(auto, using(crate::proofs::Kept::hash_more))]
-fn help_hashes(alloc: Global, masked: &Masked<'_>) -> Result<Vec<usize>, AllocError>
-    ensures exact { IfOk result
-        (λ found. found.items ≡ spec.help_hashes masked.now.list masked.now.mask) }
-{
-    let mut found = Vec::new(alloc);
-    for number in 0..masked.len() {
-        found.push(help_hash(masked, number))?;
-    }
-    Ok(found)
-}
-
-/// The hidden entries by the hashes of the names by which uses can mean them.
+/// The hidden entries by the names by which uses can mean them.
 ///
 /// The only error is want of memory.
-pub fn help_rows(alloc: Global, masked: &Masked<'_>) -> Result<Rows, AllocError>
-    ensures exact { IfOk result
-        (λ rows. rows ≡ spec.help_hashes masked.now.list masked.now.mask) }
+pub fn help_rows(alloc: Global, masked: &Masked<'_>) -> Result<Index<u32>, AllocError>
+    ensures exact { IfOk result (λ rows. spec.HasHidden masked.now.list masked.now.mask rows) }
 {
-    let hashes = help_hashes(alloc, masked)?;
-    rows_of(alloc, hashes)
+    let mut rows = Index::new(alloc);
+    for number in 0..masked.len() {
+        push_hidden(alloc, &mut rows, masked, number)?;
+    }
+    Ok(rows)
 }
 
 /// The numbers of the types of the list, rising.
@@ -109,12 +105,16 @@ fn name_sought<'n>(whole: &'n View, name: &'n [u8], asks: &Asks) -> &'n [u8]
     }
 }
 
-/// The numbers of the hidden entries whose names have the hash of the name that a use seeks, rising.
-pub fn help_row<'r>(rows: &'r Rows, masked: &Masked<'_>, name: &[u8], asks: &Asks) -> &'r [usize]
-    requires rows { rows.now ≡ spec.help_hashes masked.now.list masked.now.mask }
+/// The numbers of the hidden entries that a use can mean, rising.
+pub fn help_row<'r>(
+    rows: &'r Index<u32>,
+    masked: &Masked<'_>,
+    name: &[u8],
+    asks: &Asks,
+) -> &'r [u32]
+    requires rows { spec.HasHidden masked.now.list masked.now.mask rows.now }
     ensures exact { result.now
         ≡ spec.help_row masked.now.list masked.now.mask name.now asks.now }
 {
-    let sought = name_sought(masked.whole(), name, asks);
-    rows.row(name_hash(sought))
+    rows.find(NAMES, name_sought(masked.whole(), name, asks))
 }

@@ -222,7 +222,7 @@ postfix_by k.Increment a = stepped step.IncrementAfter a.place a
 postfix_by k.Decrement a = stepped step.DecrementAfter a.place a
 postfix_by _ a = misplaced a.place
 
--- An operand with `++` or `--` behind it.
+-- An operand with `++` or `--` after it.
 unfoldable pub postfix_typing : Operand → TokenKind → Typing Operand
 postfix_typing a op = postfix_by op a
 

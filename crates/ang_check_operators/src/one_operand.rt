@@ -1,4 +1,4 @@
-//! One operand: operators in front of it and behind it, conversions, and parentheses.
+//! One operand: operators in front of it and after it, conversions, and parentheses.
 ghost use Rattle.std.specs.Prelude.{◌≡◌};
 ghost use Rattle.ang_check_operand.specs.Refusals.{Gives};
 ghost use Rattle.ang_check_operand.specs.View.{view_operand};
@@ -150,7 +150,7 @@ pub fn prefix(
     }
 }
 
-/// An operand with `++` or `--` behind it.
+/// An operand with `++` or `--` after it.
 ///
 /// # Errors
 ///

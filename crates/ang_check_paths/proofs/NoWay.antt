@@ -1,4 +1,4 @@
--- A body that ends has no path to what stands behind it.
+-- A body that ends has no path to what stands after it.
 use Rattle.std.specs.Prelude.{◌≡◌, ◌⊎◌, Bool, true, false, not, ◌&&◌, ◌||◌, refl}
 use Rattle.std.proofs.Common.{inl, inr}
 use Rattle.ang_tree.specs.Stmt.{Stmt, Body, Stmts, block, variables, expression, break, continue, return, when, either, while, do_while, for, body, end, then}

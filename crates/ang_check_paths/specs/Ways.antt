@@ -5,7 +5,7 @@ use Rattle.ang_tree.specs.Tree.{Tree}
 use Rattle.ang_tree.specs.Stmt.{Stmt, Body, Stmts, block, variables, expression, break, continue, return, when, either, while, do_while, for, body, end, then}
 use Rattle.ang_check_paths.specs.Paths.{is_true_word}
 
--- to what stands behind, to behind the loop around, to the next pass of that loop, or out of the function
+-- to what stands after it, to what stands after the loop around, to the next pass of that loop, or out of the function
 pub data Exit : Type 0 where
   ahead : Exit
   out : Exit
@@ -39,7 +39,7 @@ abbrev mutual
   pub LeavesBody : Exit → Body → Type 0
   LeavesBody w (body left ss right) = LeavesAll w ss
 
-  -- one statement behind the other
+  -- one statement after the other
   pub LeavesAll : Exit → Stmts → Type 0
   LeavesAll w end = w ≡ ahead
   LeavesAll w (then s ss) = (Leaves ahead s × LeavesAll w ss) ⊎ ((w ≢ ahead) × Leaves w s)

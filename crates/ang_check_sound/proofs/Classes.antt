@@ -16,7 +16,9 @@ use Rattle.ang_names_heritage.specs.Graphs.{leads, numbers_below, above}
 use Rattle.ang_names_listed.specs.declared.listed.Declared.{Declared}
 use Rattle.ang_names_listed.specs.Declarations.{Declaring, declarations_of, families_of}
 use Rattle.ang_names_resolved.specs.Resolved.{space_of_declared}
-use Rattle.ang_names_resolved.specs.Resolved.{is_parent, is_base, families_after, signatures_of, functions_in, families_in, names_of}
+use Rattle.ang_names_tables.specs.Headings.{signatures_of}
+use Rattle.ang_names_tables.specs.Hierarchy.{is_parent, is_base}
+use Rattle.ang_names_resolved.specs.Resolved.{families_after, functions_in, families_in, names_of}
 use Rattle.ang_check_bodies.specs.Bodies.{slot_and_body, typed_class, typed_classes}
 use Rattle.ang_source.specs.Sound.{Module, IsChosen, AreChosen, SoundClasses}
 use Rattle.ang_check_sound.specs.Checked.{with_this}
@@ -64,7 +66,7 @@ below_of n k (j ∷ ks) h e = by (j == k) refl e h.0 (below_of n k ks h.1)
 
 -- ---- what stands above a family of the declarations
 
--- its base class and all that is above it are among so many
+-- its base class and all that is above it are among the first n
 pub record IsBelow (n : ℕ) (f : Family) : Type 0 where
   pub base : IfSome f.base (λ b. b < n)
   pub above : Every (λ k. k < n) f.above

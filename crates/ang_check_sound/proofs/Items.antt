@@ -74,7 +74,7 @@ pub not_true : (b : Bool) → not b ≡ true → b ≡ false
 not_true true e = cc
 not_true false e = refl
 
--- what stands in a list stands at its place with others behind it
+-- what stands in a list stands at its place with others after it
 pub at_front : {A : Type 0} (xs ys : List A) (i : ℕ) (a : A) → slice_get xs i ≡ Some a → slice_get (xs ++ ys) i ≡ Some a
 at_front [] ys i a e = cc
 at_front (x ∷ xs) ys zero a e = e

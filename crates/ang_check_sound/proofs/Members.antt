@@ -33,7 +33,7 @@ use Rattle.ang_check_sound.proofs.Places.{Behind, all_left, next_item, next_left
 -- ---- parts by number
 
 module _ (V : RegistrationList) (names : Names) where
-  -- A body's number comes behind those of the functions and of j others.
+  -- A body's number comes after those of the functions and of j others.
   abbrev pub number_of : ℕ → ℕ
   number_of j = length names.functions + j
 
@@ -51,7 +51,7 @@ module _ (V : RegistrationList) (names : Names) where
     pub place : constructor.function.place ≡ x.place
     pub body : constructor.body ≡ number_of j
 
--- Over a view and names, with so many bodies of members in all:
+-- Over a view and names, with `total` bodies of members in all:
 module _ (V : RegistrationList) (names : Names) (total : ℕ) where
   -- These parts are of what has their numbers, in their order, where i functions, g globals and j bodies of members stand before them.
   abbrev pub AreNumbered : ℕ → ℕ → ℕ → List Part → Type 0

@@ -45,7 +45,7 @@ module _ (M : Module) (n : ℕ) where
   IsTargeted None e = Unit {0}
   IsTargeted (Some x) e = x.read_only ≡ false → IfSome (site_in e) IsStoredSite
 
-  -- The same of the site behind `@`.
+  -- The same of the site after `@`.
   abbrev pub IsSeated : Option Seat → t.Expr → Type 0
   IsSeated None e = Unit {0}
   IsSeated (Some s) e = IsTargeted (Some s.target) e

@@ -22,7 +22,8 @@ use Rattle.ang_names_written.specs.Types.{written_in}
 use Rattle.ang_names_written.specs.Sources.{Source}
 use Rattle.ang_names_listed.specs.declared.listed.Declared.{Declared}
 use Rattle.ang_names_listed.specs.Declarations.{Declaring, stands_at, class_shape, interface_shape, globals_from, declared_at, declarations_of, declaring_of, families_of, family_name}
-use Rattle.ang_names_resolved.specs.Resolved.{function_of, global_of, body_members, signatures_of, families_after, family_with, functions_in, families_in, names_of, space_of_declared}
+use Rattle.ang_names_tables.specs.Headings.{signatures_of}
+use Rattle.ang_names_resolved.specs.Resolved.{function_of, global_of, body_members, families_after, family_with, functions_in, families_in, names_of, space_of_declared}
 use Rattle.ang_check_bodies.specs.Bodies.{Part, a_function, a_global, a_method, a_constructor, a_default, InSection, function_count, global_count, family_count, initializer_parts, class_parts, declaration_parts, in_sections, parts_of, judged_method, judged_constructor, judged_function, judged_global, base_name, base_of, judged, judgements}
 use Rattle.ang_check_sound.specs.Parts.{IsPartOf}
 use Rattle.ang_check_sound.proofs.Declared.{Declare, all_declared}
@@ -114,7 +115,7 @@ module _ (V : RegistrationList) (names : Names) (declared : List (List ℕ)) (fs
             (subst (λ q. AreNumbered V names total i q j ps) end h),
       )
 
-  -- what follows behind the declaration
+  -- what follows after the declaration
   abbrev Then : List InSection → ℕ → ℕ → List Declaring → List Declared → List Part → Type 0
   Then before i g front rest ps = Left before i g front rest → Follow i g front (filter_map declaring_of rest) ps
 

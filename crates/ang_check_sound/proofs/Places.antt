@@ -1,4 +1,4 @@
--- Where items stand in a list: what is left of it behind some of them, and what holds of each by its number.
+-- Where items stand in a list: what is left of it after some of them, and what holds of each by its number.
 use Rattle.std.specs.Prelude.{◌≡◌, ℕ, zero, suc, ◌+◌, Bool, true, false, if◌then◌else◌, cond, Contains, All, length, filter, List, [], ◌∷◌, ◌++◌, sum_by, slice_get, Some}
 use Rattle.std.proofs.Common.{refl, ap, sym, ◌∙◌, subst, arith, append_assoc, append-nil, length-append}
 use Rattle.std.proofs.lemmas.List.Elements.{All-nil, All-cons, Contains-append_right, filter-append}
@@ -6,7 +6,7 @@ use Rattle.std.proofs.lemmas.List.Sums.{sum_by-append}
 use Rattle.std.proofs.lemmas.Option.{same_Some}
 use Rattle.ang_tree.specs.Stmt.{Every}
 
--- ---- what is left behind n items
+-- ---- what is left after n items
 
 abbrev pub Behind : (A : Type 0) → ℕ → List A → List A → Type 0
 Behind A n xs rest = (front : List A) × (xs ≡ front ++ rest) × (length front ≡ n)

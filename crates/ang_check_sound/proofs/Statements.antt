@@ -1,4 +1,4 @@
--- A typed statement is sound, and what stands behind it are the locals that are alive there.
+-- A typed statement is sound, and what stands after it are the locals that are alive there.
 use Rattle.std.specs.Prelude.{◌≡◌, ℕ, suc, ◌+◌, ◌≤◌, ◌<◌, Bool, true, false, length, List, [], ◌∷◌, ◌++◌, Option, Some, None, IfSome, Ok, IfOk}
 use Rattle.std.proofs.Common.{refl, subst, arith, length-append}
 use Rattle.ang_lex.specs.declared.token.Token.{Token}
@@ -117,7 +117,7 @@ module _ (f : Frame) (built : IsBuiltContext f.context) (can : CanReturn f.retur
   abbrev Alive : List LocalVariable → Type 0
   Alive ps = HasThis f.context (length ps)
 
-  -- A statement is sound, in a loop or not, and so many locals are alive behind it.
+  -- A statement is sound, in a loop or not, and n locals are alive after it.
   abbrev Leaves : Bool → ℕ → List LocalVariable × t.Stmt → Type 0
   Leaves loop n r = SoundStatement M loop n r.1 × (length r.0 ≡ declared r.1 + n) × Alive r.0
 

@@ -14,14 +14,14 @@ use Rattle.ang_check_sound.specs.Checked.{with_this, module_in}
 
 -- In a module:
 module _ (M : Module) where
-  -- The methods of the slot of a method of family c take what it takes, and its body, where it has one, has its parameters behind `this`.
+  -- The methods of the slot of a method of family c take what it takes, and its body, where it has one, has its parameters after `this`.
   pub record IsMethodIn (c : ℕ) (y : Method) : Type 0 where
     pub heading : List Parameter
     pub slot_is : slice_get M.methods y.slot ≡ Some heading
     pub alike : passings_of heading ≡ passings_of (with_this (record { family = c; read_only = y.read_only }) y.function)
     pub body : (k : ℕ) → y.body ≡ Some k → slice_get M.parameters k ≡ Some (with_this (record { family = c; read_only = y.read_only }) y.function)
 
-  -- The body of a constructor of family c has its parameters behind `this`.
+  -- The body of a constructor of family c has its parameters after `this`.
   abbrev pub IsConstructorIn : ℕ → Constructor → Type 0
   IsConstructorIn c k = slice_get M.parameters k.body ≡ Some (with_this (record { family = c; read_only = false }) k.function)
 

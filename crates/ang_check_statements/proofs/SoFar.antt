@@ -20,7 +20,7 @@ use Rattle.ang_check_statements.specs.Typing.{Frame, Keeps, with_same, stmt_typi
 
 -- ---- lists
 
--- the item of an index stands in front of what is behind it
+-- the item of an index stands in front of what is after it
 pub drop_item : {A : Type 0} (xs : List A) (i : ℕ) (x : A) → i < length xs → x ≡ get_or xs i x → drop i xs ≡ x ∷ drop (i + 1) xs
 drop_item xs i x lt e = drop-cons xs i x lt ∙ ap (λ y. y ∷ drop (suc i) xs) (sym e) ∙ ap (λ n. x ∷ drop n xs) (sym (add-one i))
 
@@ -45,7 +45,7 @@ pub ruleset keeps = (keeps_same, keeps_pushed, keeps_on)
 
 -- ---- statements
 
--- a statement behind which the same locals are alive
+-- a statement after which the same locals are alive
 pub gives_same : (ps : List LocalVariable) (r : Result typed.Statement Halt) (j : Typing t.Stmt) → GivesOrHalts view_stmt r j
     → GivesOrHalts (λ x. (ps, view_stmt x)) r (with_same ps j)
 gives_same ps (Ok x) j h = ap (λ k. with_same ps k) h
@@ -107,7 +107,7 @@ statements_end f loop start ps all xs ws i h le =
 
 -- ---- locals
 
--- locals in front of others, with the locals behind them all
+-- locals in front of others, with the locals after them all
 abbrev pub locals_behind : List t.Local → Typing (List LocalVariable × List t.Local) → Typing (List LocalVariable × List t.Local)
 locals_behind ls (Err r) = Err r
 locals_behind ls (Ok x) = Ok ((x.0, ls ++ x.1))

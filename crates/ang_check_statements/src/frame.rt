@@ -36,7 +36,7 @@ impl<'a> Model for Frame<'a> {
 }
 
 impl<'a> Frame<'a> {
-    /// What stands in this context, returns so, and begins with so many locals.
+    /// What stands in this context, returns so, and begins with `parameters` locals.
     pub fn new(context: BodyContext<'a>, returns: Returns, parameters: usize) -> Frame<'a>
         ensures context { result.context ≡ context.entry }
         ensures returns { result.returns ≡ returns }

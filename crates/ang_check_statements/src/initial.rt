@@ -6,7 +6,7 @@ ghost use Rattle.ang_check_operand.specs.Refusals.{Gives};
 ghost use Rattle.ang_check_operand.specs.View.{view_operand, view_operands};
 ghost use Rattle.ang_check_statements.specs.Typing as spec;
 
-use ang_check_context::{BodyContext, LocalVariable};
+use ang_check_context::{BodyContext, Locals};
 use ang_check_operand::{Operand, Stop, fault, fit, refused};
 use ang_check_typing::{default_typing, made_typing, typing, typing_of_all};
 use ang_kinds::ErrorKind;
@@ -20,7 +20,7 @@ use std::alloc::Global;
 fn made_by_default(
     alloc: Global,
     context: &BodyContext<'_>,
-    locals: &[LocalVariable<'_>],
+    locals: &Locals<'_>,
     declared: &TypeName,
     ty: ArgType,
 ) -> Result<Option<Box<Expression>>, Stop>
@@ -36,7 +36,7 @@ fn made_by_default(
     }
 }
 
-/// The value behind `=`, as one of the variable's type; `NoAssign` at the `=` of an object.
+/// The value after `=`, as one of the variable's type; `NoAssign` at the `=` of an object.
 fn assigned(
     alloc: Global,
     lineage: &Lineage,
@@ -60,7 +60,7 @@ fn assigned(
 fn made_with(
     alloc: Global,
     context: &BodyContext<'_>,
-    locals: &[LocalVariable<'_>],
+    locals: &Locals<'_>,
     declared: &TypeName,
     ty: ArgType,
     operands: Vec<Operand>,
@@ -89,7 +89,7 @@ fn made_with(
 pub fn initializer(
     alloc: Global,
     context: &BodyContext<'_>,
-    locals: &[LocalVariable<'_>],
+    locals: &Locals<'_>,
     declared: &TypeName,
     ty: ArgType,
     initializer: &Initializer,

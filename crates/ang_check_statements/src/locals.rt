@@ -7,7 +7,7 @@ ghost use Rattle.ang_check_statements.specs.Typing as spec;
 
 use crate::frame::Frame;
 use crate::initial::initializer;
-use ang_check_context::{BodyContext, LocalVariable, type_or_refusal};
+use ang_check_context::{BodyContext, LocalVariable, Locals, type_or_refusal};
 use ang_check_operand::{Stop, refused};
 use ang_kinds::ErrorKind;
 use ang_lex::Token;
@@ -27,7 +27,7 @@ const MOST_LOCALS: usize = 1024;
 #[tactic(auto, unfolding(crate::specs::Typing::local_type))]
 fn local_type(
     context: &BodyContext<'_>,
-    locals: &[LocalVariable<'_>],
+    locals: &Locals<'_>,
     declared: &TypeName,
 ) -> Result<ArgType, Stop>
     ensures exact { Gives (λ ty. ty) result (spec.local_type context.now locals.now declared.now) }
@@ -53,25 +53,18 @@ fn local_with<'a>(name: Text<'a>, ty: ArgType, declared: &TypeName) -> LocalVari
     }
 }
 
-/// Whether some local has this name.
-fn has_named(locals: &[LocalVariable<'_>], name: &[u8]) -> bool
-    ensures exact { result ≡ spec.has_named name.now locals.now }
-{
-    locals.iter().any(|local| local.name.bytes() == name)
-}
-
 /// Why a local can't have the name, in the block that begins at local `start`.
 fn name_error(
     frame: &Frame<'_>,
     start: usize,
-    locals: &[LocalVariable<'_>],
+    locals: &Locals<'_>,
     name: &[u8],
 ) -> Option<ErrorKind>
     requires block { start ≤ length locals.now }
     requires parameters { frame.now.parameters ≤ length locals.now }
     ensures exact { result ≡ spec.local_name_error frame.now start locals.now name.now }
 {
-    if has_named(&locals[start..], name) {
+    if locals.has_from(start, name) {
         Some(ErrorKind::Duplicate)
     } else if locals.len() - frame.parameters() < MOST_LOCALS {
         None
@@ -88,7 +81,7 @@ fn name_error(
 fn local_name<'a>(
     frame: &Frame<'a>,
     start: usize,
-    locals: &[LocalVariable<'a>],
+    locals: &Locals<'a>,
     token: &Token,
 ) -> Result<Text<'a>, Stop>
     requires block { start ≤ length locals.now }
@@ -109,28 +102,28 @@ fn local_variable<'a>(
     alloc: Global,
     frame: &Frame<'a>,
     start: usize,
-    locals: &mut Vec<LocalVariable<'a>>,
+    locals: &mut Locals<'a>,
     declared: &TypeName,
     ty: ArgType,
     variable: &Variable,
 ) -> Result<Local, Stop>
-    requires block { start ≤ length locals.old.items }
-    requires parameters { frame.now.parameters ≤ length locals.old.items }
-    ensures exact { Gives (λ l. (locals.new.items, view_local l)) result
-        (spec.local_typing frame.now start locals.old.items declared.now ty
+    requires block { start ≤ length locals.old }
+    requires parameters { frame.now.parameters ≤ length locals.old }
+    ensures exact { Gives (λ l. (locals.new, view_local l)) result
+        (spec.local_typing frame.now start locals.old declared.now ty
         (view_var variable.now)) }
-    ensures kept { OnOk result (spec.Keeps locals.old.items locals.new.items) }
+    ensures kept { OnOk result (spec.Keeps locals.old locals.new) }
 {
-    let name = local_name(frame, start, locals.as_slice(), &variable.name)?;
+    let name = local_name(frame, start, locals, &variable.name)?;
     let initializer = initializer(
         alloc,
         frame.context(),
-        locals.as_slice(),
+        locals,
         declared,
         ty,
         &variable.initializer,
     )?;
-    locals.push(local_with(name, ty, declared))?;
+    locals.push(alloc, local_with(name, ty, declared))?;
     Ok(Local { ty, initializer })
 }
 
@@ -150,16 +143,16 @@ fn local_variables<'a>(
     alloc: Global,
     frame: &Frame<'a>,
     start: usize,
-    locals: &mut Vec<LocalVariable<'a>>,
+    locals: &mut Locals<'a>,
     variables: &Variables,
 ) -> Result<Vec<Local>, Stop>
-    requires block { start ≤ length locals.old.items }
-    requires parameters { frame.now.parameters ≤ length locals.old.items }
-    ensures exact { Gives (λ ls. (locals.new.items, list_map view_local ls.items)) result
-        (spec.locals_typing frame.now start locals.old.items (view_vars variables.now)) }
-    ensures kept { OnOk result (spec.Keeps locals.old.items locals.new.items) }
+    requires block { start ≤ length locals.old }
+    requires parameters { frame.now.parameters ≤ length locals.old }
+    ensures exact { Gives (λ ls. (locals.new, list_map view_local ls.items)) result
+        (spec.locals_typing frame.now start locals.old (view_vars variables.now)) }
+    ensures kept { OnOk result (spec.Keeps locals.old locals.new) }
 {
-    let ty = local_type(frame.context(), locals.as_slice(), &variables.declared_type)?;
+    let ty = local_type(frame.context(), locals, &variables.declared_type)?;
     let mut found = Vec::new(alloc);
     for variable in &variables.items {
         let local = local_variable(
@@ -183,14 +176,14 @@ pub fn locals_statement<'a>(
     alloc: Global,
     frame: &Frame<'a>,
     start: usize,
-    locals: &mut Vec<LocalVariable<'a>>,
+    locals: &mut Locals<'a>,
     variables: &Variables,
 ) -> Result<Statement, Stop>
-    requires block { start ≤ length locals.old.items }
-    requires parameters { frame.now.parameters ≤ length locals.old.items }
-    ensures exact { Gives (λ x. (locals.new.items, view_stmt x)) result
-        (spec.declaration_typing frame.now start locals.old.items (view_vars variables.now)) }
-    ensures kept { OnOk result (spec.Keeps locals.old.items locals.new.items) }
+    requires block { start ≤ length locals.old }
+    requires parameters { frame.now.parameters ≤ length locals.old }
+    ensures exact { Gives (λ x. (locals.new, view_stmt x)) result
+        (spec.declaration_typing frame.now start locals.old (view_vars variables.now)) }
+    ensures kept { OnOk result (spec.Keeps locals.old locals.new) }
 {
     let found = local_variables(alloc, frame, start, locals, variables)?;
     Ok(Statement::Locals(found))

@@ -12,7 +12,7 @@ use crate::frame::Frame;
 use crate::halt::Halt;
 use crate::locals::locals_statement;
 use crate::values::{expression_statement, optional_condition, steps};
-use ang_check_context::LocalVariable;
+use ang_check_context::Locals;
 use ang_check_operand::Stop;
 use ang_tree as written;
 use ang_tree::{Argument, ForStart};
@@ -42,13 +42,13 @@ fn boxed(alloc: Global, statement: Statement) -> Result<Box<Statement>, AllocErr
 fn loop_start<'a>(
     alloc: Global,
     frame: &Frame<'a>,
-    locals: &mut Vec<LocalVariable<'a>>,
+    locals: &mut Locals<'a>,
     written: &ForStart,
 ) -> Result<Box<Statement>, Stop>
-    requires parameters { frame.now.parameters ≤ length locals.old.items }
-    ensures exact { Gives (λ x. (locals.new.items, view_boxed x)) result
-        (spec.start_typing frame.now locals.old.items (trees.view_start written.now)) }
-    ensures kept { OnOk result (spec.Keeps locals.old.items locals.new.items) }
+    requires parameters { frame.now.parameters ≤ length locals.old }
+    ensures exact { Gives (λ x. (locals.new, view_boxed x)) result
+        (spec.start_typing frame.now locals.old (trees.view_start written.now)) }
+    ensures kept { OnOk result (spec.Keeps locals.old locals.new) }
 {
     match written {
         ForStart::Variables(variables) => {
@@ -70,25 +70,25 @@ fn loop_start<'a>(
 pub fn loop_head<'a>(
     alloc: Global,
     frame: &Frame<'a>,
-    locals: &mut Vec<LocalVariable<'a>>,
+    locals: &mut Locals<'a>,
     first: &ForStart,
     test: &Option<Box<written::Expression>>,
     items: &[Argument],
 ) -> Result<LoopHead, Stop>
-    requires parameters { frame.now.parameters ≤ length locals.old.items }
+    requires parameters { frame.now.parameters ≤ length locals.old }
     ensures exact { Gives (λ h. (
-      locals.new.items,
+      locals.new,
       view_boxed h.start,
       view_option h.condition,
       list_map view_expr h.steps.items,
     )) result
-        (spec.head_typing frame.now locals.old.items (trees.view_start first.now)
+        (spec.head_typing frame.now locals.old (trees.view_start first.now)
         (trees.view_option test.now) (trees.view_items items.now)) }
-    ensures kept { OnOk result (spec.Keeps locals.old.items locals.new.items) }
+    ensures kept { OnOk result (spec.Keeps locals.old locals.new) }
 {
     let start = loop_start(alloc, frame, locals, first)?;
-    let condition = optional_condition(alloc, frame.context(), locals.as_slice(), test)?;
-    let steps = steps(alloc, frame.context(), locals.as_slice(), items)?;
+    let condition = optional_condition(alloc, frame.context(), locals, test)?;
+    let steps = steps(alloc, frame.context(), locals, items)?;
     Ok(LoopHead {
         start,
         condition,

@@ -13,7 +13,7 @@ use crate::halt::{Halt, halt_of};
 use crate::locals::locals_statement;
 use crate::loops::{LoopHead, loop_head};
 use crate::values::{condition, expression_statement, returned};
-use ang_check_context::LocalVariable;
+use ang_check_context::Locals;
 use ang_check_operand::refused;
 use ang_kinds::ErrorKind;
 use ang_lex::Token;
@@ -46,7 +46,7 @@ pub fn jump(
 pub fn condition_or_halt(
     alloc: Global,
     frame: &Frame<'_>,
-    locals: &[LocalVariable<'_>],
+    locals: &Locals<'_>,
     value: &written::Expression,
 ) -> Result<Box<Expression>, Halt>
     ensures exact { GivesOrHalts view_tree result
@@ -64,7 +64,7 @@ pub fn condition_or_halt(
 pub fn expression_or_halt(
     alloc: Global,
     frame: &Frame<'_>,
-    locals: &[LocalVariable<'_>],
+    locals: &Locals<'_>,
     value: &Option<Box<written::Expression>>,
 ) -> Result<Statement, Halt>
     ensures exact { GivesOrHalts (λ x. (locals.now, view_stmt x)) result
@@ -83,7 +83,7 @@ pub fn expression_or_halt(
 pub fn return_or_halt(
     alloc: Global,
     frame: &Frame<'_>,
-    locals: &[LocalVariable<'_>],
+    locals: &Locals<'_>,
     word: &Token,
     value: &Option<Box<written::Expression>>,
 ) -> Result<Statement, Halt>
@@ -104,14 +104,14 @@ pub fn locals_or_halt<'a>(
     alloc: Global,
     frame: &Frame<'a>,
     start: usize,
-    locals: &mut Vec<LocalVariable<'a>>,
+    locals: &mut Locals<'a>,
     variables: &Variables,
 ) -> Result<Statement, Halt>
-    requires block { start ≤ length locals.old.items }
-    requires parameters { frame.now.parameters ≤ length locals.old.items }
-    ensures exact { GivesOrHalts (λ x. (locals.new.items, view_stmt x)) result
-        (spec.declaration_typing frame.now start locals.old.items (trees.view_vars variables.now)) }
-    ensures kept { OnOk result (spec.Keeps locals.old.items locals.new.items) }
+    requires block { start ≤ length locals.old }
+    requires parameters { frame.now.parameters ≤ length locals.old }
+    ensures exact { GivesOrHalts (λ x. (locals.new, view_stmt x)) result
+        (spec.declaration_typing frame.now start locals.old (trees.view_vars variables.now)) }
+    ensures kept { OnOk result (spec.Keeps locals.old locals.new) }
 {
     match locals_statement(alloc, frame, start, locals, variables) {
         Ok(found) => Ok(found),
@@ -125,21 +125,21 @@ pub fn locals_or_halt<'a>(
 pub fn head_or_halt<'a>(
     alloc: Global,
     frame: &Frame<'a>,
-    locals: &mut Vec<LocalVariable<'a>>,
+    locals: &mut Locals<'a>,
     first: &ForStart,
     test: &Option<Box<written::Expression>>,
     items: &[Argument],
 ) -> Result<Box<LoopHead>, Halt>
-    requires parameters { frame.now.parameters ≤ length locals.old.items }
+    requires parameters { frame.now.parameters ≤ length locals.old }
     ensures exact { GivesOrHalts (λ h. (
-      locals.new.items,
+      locals.new,
       view_boxed h.value.start,
       view_option h.value.condition,
       list_map view_expr h.value.steps.items,
     )) result
-        (spec.head_typing frame.now locals.old.items (trees.view_start first.now)
+        (spec.head_typing frame.now locals.old (trees.view_start first.now)
         (trees.view_option test.now) (trees.view_items items.now)) }
-    ensures kept { OnOk result (spec.Keeps locals.old.items locals.new.items) }
+    ensures kept { OnOk result (spec.Keeps locals.old locals.new) }
 {
     match loop_head(alloc, frame, locals, first, test, items) {
         Ok(found) => Ok(Box::new(alloc, found)?),

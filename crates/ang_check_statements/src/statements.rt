@@ -18,7 +18,7 @@ use crate::loops::{LoopHead, for_of, list_of_one};
 use crate::parts::{
     condition_or_halt, expression_or_halt, head_or_halt, jump, locals_or_halt, return_or_halt,
 };
-use ang_check_context::LocalVariable;
+use ang_check_context::Locals;
 use ang_check_operand::Stop;
 use ang_tree as written;
 use ang_tree::{Argument, ForStart, Statement as Written};
@@ -113,7 +113,7 @@ fn while_of(alloc: Global, condition: Box<Expression>, body: Block) -> Result<St
 fn do_while_of(
     alloc: Global,
     frame: &Frame<'_>,
-    locals: &[LocalVariable<'_>],
+    locals: &Locals<'_>,
     body: Block,
     test: &written::Expression,
 ) -> Result<Statement, Halt>
@@ -143,15 +143,15 @@ fn statements<'a>(
     frame: &Frame<'a>,
     in_loop: bool,
     start: usize,
-    locals: &mut Vec<LocalVariable<'a>>,
+    locals: &mut Locals<'a>,
     written: &[Written],
 ) -> Result<Block, Halt>
-    requires block { start ≤ length locals.old.items }
-    requires parameters { frame.now.parameters ≤ length locals.old.items }
+    requires block { start ≤ length locals.old }
+    requires parameters { frame.now.parameters ≤ length locals.old }
     ensures exact { GivesOrHalts view_block result
-        (spec.stmts_typing frame.now in_loop start locals.old.items
+        (spec.stmts_typing frame.now in_loop start locals.old
         (trees.view_stmts written.now)) }
-    ensures kept { OnOk result (spec.Keeps locals.old.items locals.new.items) }
+    ensures kept { OnOk result (spec.Keeps locals.old locals.new) }
 {
     let mut found = Vec::new(alloc);
     for item in written {
@@ -168,13 +168,13 @@ fn inner_block<'a>(
     alloc: Global,
     frame: &Frame<'a>,
     in_loop: bool,
-    locals: &mut Vec<LocalVariable<'a>>,
+    locals: &mut Locals<'a>,
     written: &[Written],
 ) -> Result<Block, Halt>
-    requires parameters { frame.now.parameters ≤ length locals.old.items }
+    requires parameters { frame.now.parameters ≤ length locals.old }
     ensures exact { GivesOrHalts view_block result (spec.stmts_typing frame.now in_loop
-        (length locals.old.items) locals.old.items (trees.view_stmts written.now)) }
-    ensures same { OnOk result (locals.new.items ≡ locals.old.items) }
+        (length locals.old) locals.old (trees.view_stmts written.now)) }
+    ensures same { OnOk result (locals.new ≡ locals.old) }
 {
     let start = locals.len();
     let found = statements(alloc, frame, in_loop, start, locals, written)?;
@@ -189,13 +189,13 @@ fn branch<'a>(
     alloc: Global,
     frame: &Frame<'a>,
     in_loop: bool,
-    locals: &mut Vec<LocalVariable<'a>>,
+    locals: &mut Locals<'a>,
     written: &Written,
 ) -> Result<Block, Halt>
-    requires parameters { frame.now.parameters ≤ length locals.old.items }
+    requires parameters { frame.now.parameters ≤ length locals.old }
     ensures exact { GivesOrHalts view_block result
-        (spec.branch_typing frame.now in_loop locals.old.items (trees.view_stmt written.now)) }
-    ensures same { OnOk result (locals.new.items ≡ locals.old.items) }
+        (spec.branch_typing frame.now in_loop locals.old (trees.view_stmt written.now)) }
+    ensures same { OnOk result (locals.new ≡ locals.old) }
 {
     let start = locals.len();
     match statement(alloc, frame, in_loop, start, locals, written) {
@@ -215,14 +215,14 @@ fn block_statement<'a>(
     alloc: Global,
     frame: &Frame<'a>,
     in_loop: bool,
-    locals: &mut Vec<LocalVariable<'a>>,
+    locals: &mut Locals<'a>,
     written: &written::Block,
 ) -> Result<Statement, Halt>
-    requires parameters { frame.now.parameters ≤ length locals.old.items }
-    ensures exact { GivesOrHalts (λ x. (locals.new.items, view_stmt x)) result
-        (spec.with_same locals.old.items (spec.block_of
-        (spec.block_typing frame.now in_loop locals.old.items (trees.view_body written.now)))) }
-    ensures kept { OnOk result (spec.Keeps locals.old.items locals.new.items) }
+    requires parameters { frame.now.parameters ≤ length locals.old }
+    ensures exact { GivesOrHalts (λ x. (locals.new, view_stmt x)) result
+        (spec.with_same locals.old (spec.block_of
+        (spec.block_typing frame.now in_loop locals.old (trees.view_body written.now)))) }
+    ensures kept { OnOk result (spec.Keeps locals.old locals.new) }
 {
     match inner_block(alloc, frame, in_loop, locals, written.statements.as_slice()) {
         Ok(found) => Ok(Statement::Block(found)),
@@ -237,17 +237,17 @@ fn first_branch<'a>(
     alloc: Global,
     frame: &Frame<'a>,
     in_loop: bool,
-    locals: &mut Vec<LocalVariable<'a>>,
+    locals: &mut Locals<'a>,
     then: &Written,
     test: &written::Expression,
 ) -> Result<Box<Tested>, Halt>
-    requires parameters { frame.now.parameters ≤ length locals.old.items }
+    requires parameters { frame.now.parameters ≤ length locals.old }
     ensures exact { GivesOrHalts (λ x. (view_tree x.value.condition, view_block x.value.«then»))
-        result (spec.tested_typing frame.now in_loop locals.old.items (trees.view_expr test.now)
+        result (spec.tested_typing frame.now in_loop locals.old (trees.view_expr test.now)
         (trees.view_stmt «then».now)) }
-    ensures same { OnOk result (locals.new.items ≡ locals.old.items) }
+    ensures same { OnOk result (locals.new ≡ locals.old) }
 {
-    let condition = condition_or_halt(alloc, frame, locals.as_slice(), test)?;
+    let condition = condition_or_halt(alloc, frame, locals, test)?;
     match branch(alloc, frame, in_loop, locals, then) {
         Ok(then) => tested_of(alloc, condition, then),
         Err(halted) => {
@@ -264,15 +264,15 @@ fn second_branch<'a>(
     alloc: Global,
     frame: &Frame<'a>,
     in_loop: bool,
-    locals: &mut Vec<LocalVariable<'a>>,
+    locals: &mut Locals<'a>,
     otherwise: &Written,
     tested: Box<Tested>,
 ) -> Result<Statement, Halt>
-    requires parameters { frame.now.parameters ≤ length locals.old.items }
+    requires parameters { frame.now.parameters ≤ length locals.old }
     ensures exact { GivesOrHalts view_stmt result (spec.either_of
         (Ok (view_tree tested.value.condition, view_block tested.value.«then»))
-        (spec.branch_typing frame.now in_loop locals.old.items (trees.view_stmt otherwise.now))) }
-    ensures same { OnOk result (locals.new.items ≡ locals.old.items) }
+        (spec.branch_typing frame.now in_loop locals.old (trees.view_stmt otherwise.now))) }
+    ensures same { OnOk result (locals.new ≡ locals.old) }
 {
     match branch(alloc, frame, in_loop, locals, otherwise) {
         Ok(otherwise) => either_of(alloc, tested, otherwise),
@@ -290,17 +290,17 @@ fn second_branch<'a>(
 fn while_statement<'a>(
     alloc: Global,
     frame: &Frame<'a>,
-    locals: &mut Vec<LocalVariable<'a>>,
+    locals: &mut Locals<'a>,
     body: &Written,
     test: &written::Expression,
 ) -> Result<Statement, Halt>
-    requires parameters { frame.now.parameters ≤ length locals.old.items }
+    requires parameters { frame.now.parameters ≤ length locals.old }
     ensures exact { GivesOrHalts view_stmt result (spec.while_of
-        (spec.condition_typing frame.now.context locals.old.items (trees.view_expr test.now))
-        (spec.branch_typing frame.now true locals.old.items (trees.view_stmt body.now))) }
-    ensures same { OnOk result (locals.new.items ≡ locals.old.items) }
+        (spec.condition_typing frame.now.context locals.old (trees.view_expr test.now))
+        (spec.branch_typing frame.now true locals.old (trees.view_stmt body.now))) }
+    ensures same { OnOk result (locals.new ≡ locals.old) }
 {
-    let condition = condition_or_halt(alloc, frame, locals.as_slice(), test)?;
+    let condition = condition_or_halt(alloc, frame, locals, test)?;
     match branch(alloc, frame, true, locals, body) {
         Ok(body) => while_of(alloc, condition, body),
         Err(halted) => {
@@ -317,18 +317,18 @@ fn while_statement<'a>(
 fn do_while_statement<'a>(
     alloc: Global,
     frame: &Frame<'a>,
-    locals: &mut Vec<LocalVariable<'a>>,
+    locals: &mut Locals<'a>,
     repeated: &Written,
     test: &written::Expression,
 ) -> Result<Statement, Halt>
-    requires parameters { frame.now.parameters ≤ length locals.old.items }
+    requires parameters { frame.now.parameters ≤ length locals.old }
     ensures exact { GivesOrHalts view_stmt result (spec.do_while_of
-        (spec.branch_typing frame.now true locals.old.items (trees.view_stmt repeated.now))
-        (spec.condition_typing frame.now.context locals.old.items (trees.view_expr test.now))) }
-    ensures same { OnOk result (locals.new.items ≡ locals.old.items) }
+        (spec.branch_typing frame.now true locals.old (trees.view_stmt repeated.now))
+        (spec.condition_typing frame.now.context locals.old (trees.view_expr test.now))) }
+    ensures same { OnOk result (locals.new ≡ locals.old) }
 {
     match branch(alloc, frame, true, locals, repeated) {
-        Ok(body) => do_while_of(alloc, frame, locals.as_slice(), body, test),
+        Ok(body) => do_while_of(alloc, frame, locals, body, test),
         Err(halted) => Err(halted),
     }
 }
@@ -338,18 +338,18 @@ fn do_while_statement<'a>(
 fn for_body<'a>(
     alloc: Global,
     frame: &Frame<'a>,
-    locals: &mut Vec<LocalVariable<'a>>,
+    locals: &mut Locals<'a>,
     passed: &Written,
     head: Box<LoopHead>,
 ) -> Result<Statement, Halt>
-    requires parameters { frame.now.parameters ≤ length locals.old.items }
+    requires parameters { frame.now.parameters ≤ length locals.old }
     ensures exact { GivesOrHalts view_stmt result (spec.for_of (
       view_boxed head.value.start,
       view_option head.value.condition,
       list_map view_expr head.value.steps.items,
     )
-        (spec.branch_typing frame.now true locals.old.items (trees.view_stmt passed.now))) }
-    ensures same { OnOk result (locals.new.items ≡ locals.old.items) }
+        (spec.branch_typing frame.now true locals.old (trees.view_stmt passed.now))) }
+    ensures same { OnOk result (locals.new ≡ locals.old) }
 {
     match branch(alloc, frame, true, locals, passed) {
         Ok(body) => for_of(alloc, head, body),
@@ -367,17 +367,17 @@ fn for_body<'a>(
 fn for_statement<'a>(
     alloc: Global,
     frame: &Frame<'a>,
-    locals: &mut Vec<LocalVariable<'a>>,
+    locals: &mut Locals<'a>,
     passed: &Written,
     first: &ForStart,
     test: &Option<Box<written::Expression>>,
     steps: &[Argument],
 ) -> Result<Statement, Halt>
-    requires parameters { frame.now.parameters ≤ length locals.old.items }
-    ensures exact { GivesOrHalts (λ x. (locals.new.items, view_stmt x)) result
-        (spec.for_typing frame.now locals.old.items (trees.view_start first.now)
+    requires parameters { frame.now.parameters ≤ length locals.old }
+    ensures exact { GivesOrHalts (λ x. (locals.new, view_stmt x)) result
+        (spec.for_typing frame.now locals.old (trees.view_start first.now)
         (trees.view_option test.now) (trees.view_items steps.now) (trees.view_stmt passed.now)) }
-    ensures kept { OnOk result (spec.Keeps locals.old.items locals.new.items) }
+    ensures kept { OnOk result (spec.Keeps locals.old locals.new) }
 {
     let outside = locals.len();
     let head = head_or_halt(alloc, frame, locals, first, test, steps)?;
@@ -394,14 +394,14 @@ fn statement<'a>(
     frame: &Frame<'a>,
     in_loop: bool,
     start: usize,
-    locals: &mut Vec<LocalVariable<'a>>,
+    locals: &mut Locals<'a>,
     written: &Written,
 ) -> Result<Statement, Halt>
-    requires block { start ≤ length locals.old.items }
-    requires parameters { frame.now.parameters ≤ length locals.old.items }
-    ensures exact { GivesOrHalts (λ x. (locals.new.items, view_stmt x)) result
-        (spec.stmt_typing frame.now in_loop start locals.old.items (trees.view_stmt written.now)) }
-    ensures kept { OnOk result (spec.Keeps locals.old.items locals.new.items) }
+    requires block { start ≤ length locals.old }
+    requires parameters { frame.now.parameters ≤ length locals.old }
+    ensures exact { GivesOrHalts (λ x. (locals.new, view_stmt x)) result
+        (spec.stmt_typing frame.now in_loop start locals.old (trees.view_stmt written.now)) }
+    ensures kept { OnOk result (spec.Keeps locals.old locals.new) }
 {
     match written {
         Written::Block(inner) => block_statement(alloc, frame, in_loop, locals, inner),
@@ -447,13 +447,13 @@ pub fn block<'a>(
     alloc: Global,
     frame: &Frame<'a>,
     in_loop: bool,
-    locals: &mut Vec<LocalVariable<'a>>,
+    locals: &mut Locals<'a>,
     written: &[Written],
 ) -> Result<Block, Stop>
-    requires parameters { frame.now.parameters ≤ length locals.old.items }
+    requires parameters { frame.now.parameters ≤ length locals.old }
     ensures exact { Gives view_block result (spec.stmts_typing frame.now in_loop
-        (length locals.old.items) locals.old.items (trees.view_stmts written.now)) }
-    ensures same { OnOk result (locals.new.items ≡ locals.old.items) }
+        (length locals.old) locals.old (trees.view_stmts written.now)) }
+    ensures same { OnOk result (locals.new ≡ locals.old) }
 {
     match inner_block(alloc, frame, in_loop, locals, written) {
         Ok(found) => Ok(found),

@@ -7,7 +7,7 @@ ghost use Rattle.ang_check_operand.specs.View.{view_operand, view_operands};
 ghost use Rattle.ang_check_statements.specs.Typing as spec;
 
 use crate::frame::{Frame, Returns};
-use ang_check_context::{BodyContext, LocalVariable};
+use ang_check_context::{BodyContext, Locals};
 use ang_check_operand::{Operand, Stop, boxed, fault, fit, truth};
 use ang_check_typing::{typing, typing_of_all};
 use ang_kinds::ErrorKind;
@@ -21,7 +21,7 @@ use std::alloc::{AllocError, Global};
 fn optional(
     alloc: Global,
     context: &BodyContext<'_>,
-    locals: &[LocalVariable<'_>],
+    locals: &Locals<'_>,
     value: &Option<Box<written::Expression>>,
 ) -> Result<Option<Box<Expression>>, Stop>
     ensures exact { Gives view_option result
@@ -41,7 +41,7 @@ fn optional(
 pub fn expression_statement(
     alloc: Global,
     frame: &Frame<'_>,
-    locals: &[LocalVariable<'_>],
+    locals: &Locals<'_>,
     value: &Option<Box<written::Expression>>,
 ) -> Result<Statement, Stop>
     ensures exact { Gives (λ x. (locals.now, view_stmt x)) result
@@ -57,7 +57,7 @@ pub fn expression_statement(
 pub fn condition(
     alloc: Global,
     context: &BodyContext<'_>,
-    locals: &[LocalVariable<'_>],
+    locals: &Locals<'_>,
     value: &written::Expression,
 ) -> Result<Box<Expression>, Stop>
     ensures exact { Gives view_tree result
@@ -71,7 +71,7 @@ pub fn condition(
 pub fn optional_condition(
     alloc: Global,
     context: &BodyContext<'_>,
-    locals: &[LocalVariable<'_>],
+    locals: &Locals<'_>,
     value: &Option<Box<written::Expression>>,
 ) -> Result<Option<Box<Expression>>, Stop>
     ensures exact { Gives view_option result
@@ -111,7 +111,7 @@ fn trees_of(alloc: Global, operands: Vec<Operand>) -> Result<Vec<Expression>, Al
 pub fn steps(
     alloc: Global,
     context: &BodyContext<'_>,
-    locals: &[LocalVariable<'_>],
+    locals: &Locals<'_>,
     items: &[Argument],
 ) -> Result<Vec<Expression>, Stop>
     ensures exact { Gives (λ v. list_map view_expr v.items) result
@@ -201,7 +201,7 @@ fn return_value(
 fn result_value(
     alloc: Global,
     frame: &Frame<'_>,
-    locals: &[LocalVariable<'_>],
+    locals: &Locals<'_>,
     word: &Token,
     value: &Option<Box<written::Expression>>,
 ) -> Result<Option<Box<Expression>>, Stop>
@@ -226,7 +226,7 @@ fn result_value(
 pub fn returned(
     alloc: Global,
     frame: &Frame<'_>,
-    locals: &[LocalVariable<'_>],
+    locals: &Locals<'_>,
     word: &Token,
     value: &Option<Box<written::Expression>>,
 ) -> Result<Statement, Stop>

@@ -14,7 +14,7 @@ use Rattle.ang_check_typing.proofs.SoFar.{all_behind}
 abbrev Params : Type 0
 Params = List (ArgType × Pass)
 
--- the item of an index stands in front of what is behind it
+-- the item of an index stands in front of what is after it
 drop_item : {A : Type 0} (xs : List A) (i : ℕ) (x d : A) → i < length xs → x ≡ get_or xs i d → drop i xs ≡ x ∷ drop (i + 1) xs
 drop_item xs i x d lt e = drop-cons xs i d lt ∙ ap (λ y. y ∷ drop (suc i) xs) (sym e) ∙ ap (λ n. x ∷ drop n xs) (sym (add-one i))
 

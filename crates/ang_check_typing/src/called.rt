@@ -8,7 +8,7 @@ ghost use Rattle.ang_names_written.specs.Sources as sources;
 ghost use Rattle.ang_typed.specs.View.{view_arg, view_tree};
 
 use crate::arguments::arguments_for;
-use ang_check_context::{BodyContext, LocalVariable, access_error, is_there, may_reach};
+use ang_check_context::{BodyContext, Locals, access_error, is_there, may_reach};
 use ang_check_operand::{Operand, Stop, boxed, plain_operand, refused, use_refused};
 use ang_check_uses::{Callable, Called, Resolution};
 use ang_kinds::{ErrorKind, List, Place};
@@ -107,7 +107,7 @@ pub fn called(
 /// The refusal of a use of a bare name. Only then are the locals gone through.
 fn bare_refused(
     context: &BodyContext<'_>,
-    locals: &[LocalVariable<'_>],
+    locals: &Locals<'_>,
     kind: ErrorKind,
     name: &Token,
     asks: Asks,
@@ -123,7 +123,7 @@ fn bare_refused(
 pub fn called_bare(
     alloc: Global,
     context: &BodyContext<'_>,
-    locals: &[LocalVariable<'_>],
+    locals: &Locals<'_>,
     site: CallSite,
     asks: Asks,
     operands: Vec<Operand>,

@@ -16,7 +16,7 @@ ghost use Rattle.ang_names_written.specs.Sources as sources;
 use crate::called::{CallSite, called_bare};
 use crate::methods::{called_on, direct_meant, own_method};
 use ang_check_context::{
-    BodyContext, LocalVariable, Receiver, Within, receiver_within, resolved, this_operand, types_of,
+    BodyContext, Locals, Receiver, Within, receiver_within, resolved, this_operand, types_of,
 };
 use ang_check_operand::{Operand, Stop, refused};
 use ang_check_uses::Resolution;
@@ -51,7 +51,7 @@ fn named_methods<'a>(
 fn function_call(
     alloc: Global,
     context: &BodyContext<'_>,
-    locals: &[LocalVariable<'_>],
+    locals: &Locals<'_>,
     name: &Token,
     operands: Vec<Operand>,
 ) -> Result<Operand, Stop>
@@ -101,7 +101,7 @@ fn method_of_this(
 pub fn call(
     alloc: Global,
     context: &BodyContext<'_>,
-    locals: &[LocalVariable<'_>],
+    locals: &Locals<'_>,
     token: &Token,
     operands: Vec<Operand>,
 ) -> Result<Operand, Stop>

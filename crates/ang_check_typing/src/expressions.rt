@@ -9,7 +9,7 @@ ghost use Rattle.ang_check_typing.specs.Typing as spec;
 
 use crate::calls::{call, scoped_call};
 use crate::object_methods::method_call;
-use ang_check_context::{BodyContext, LocalVariable, cast, cast_type, member_of, named, this};
+use ang_check_context::{BodyContext, Locals, cast, cast_type, member_of, named, this};
 use ang_check_operand::{Operand, Stop};
 use ang_check_operators::{
     assignment, binary, conditional, convert, group, literal, postfix, prefix,
@@ -44,13 +44,13 @@ fn word(alloc: Global, context: &BodyContext<'_>, token: &Token) -> Result<Opera
 ///
 /// # Errors
 ///
-/// The first refusal of an item, as `typing` has it; the items behind that one are not typed.
+/// The first refusal of an item, as `typing` has it; the items after that one are not typed.
 /// `Memory` where a growth was refused.
 #[cycle(typing)]
 pub fn typing_of_all(
     alloc: Global,
     context: &BodyContext<'_>,
-    locals: &[LocalVariable<'_>],
+    locals: &Locals<'_>,
     items: &[Argument],
 ) -> Result<Vec<Operand>, Stop>
     ensures exact { Gives (λ v. view_operands v.items) result
@@ -88,7 +88,7 @@ struct Asked {
 pub fn typing(
     alloc: Global,
     context: &BodyContext<'_>,
-    locals: &[LocalVariable<'_>],
+    locals: &Locals<'_>,
     expression: &Expression,
 ) -> Result<Operand, Stop>
     ensures exact { Gives view_operand result
@@ -129,7 +129,7 @@ pub fn typing(
 fn typing_over_object(
     alloc: Global,
     context: &BodyContext<'_>,
-    locals: &[LocalVariable<'_>],
+    locals: &Locals<'_>,
     expression: &Expression,
 ) -> Result<Operand, Stop>
     requires kind { is_of_object (trees.view_expr expression.now) ≡ true }
@@ -170,7 +170,7 @@ fn typing_over_object(
 fn typing_over_one(
     alloc: Global,
     context: &BodyContext<'_>,
-    locals: &[LocalVariable<'_>],
+    locals: &Locals<'_>,
     expression: &Expression,
 ) -> Result<Operand, Stop>
     requires kind { has_one_operand (trees.view_expr expression.now) ≡ true }
@@ -207,7 +207,7 @@ fn typing_over_one(
 fn typing_over_two(
     alloc: Global,
     context: &BodyContext<'_>,
-    locals: &[LocalVariable<'_>],
+    locals: &Locals<'_>,
     expression: &Expression,
 ) -> Result<Operand, Stop>
     requires kind { has_two_operands (trees.view_expr expression.now) ≡ true }
@@ -242,7 +242,7 @@ fn typing_over_two(
 fn typing_over_three(
     alloc: Global,
     context: &BodyContext<'_>,
-    locals: &[LocalVariable<'_>],
+    locals: &Locals<'_>,
     expression: &Expression,
 ) -> Result<Operand, Stop>
     requires kind { has_three_operands (trees.view_expr expression.now) ≡ true }

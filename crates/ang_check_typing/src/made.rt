@@ -9,7 +9,7 @@ ghost use Rattle.ang_check_uses.specs.Uses as uses;
 ghost use Rattle.ang_names_known.specs.Spaces as spaces;
 
 use crate::called::{CallSite, called_bare, called_own};
-use ang_check_context::{BodyContext, LocalVariable, makers, resolved, types_of};
+use ang_check_context::{BodyContext, Locals, makers, resolved, types_of};
 use ang_check_operand::{Operand, Stop};
 use ang_check_uses::{Resolution, best_of_those};
 use ang_kinds::{ErrorKind, List};
@@ -38,7 +38,7 @@ fn maker_meant(
 fn made_by(
     alloc: Global,
     context: &BodyContext<'_>,
-    locals: &[LocalVariable<'_>],
+    locals: &Locals<'_>,
     name: &Token,
     unviable: ErrorKind,
     number: u32,
@@ -69,7 +69,7 @@ fn made_by(
 pub fn default_typing(
     alloc: Global,
     context: &BodyContext<'_>,
-    locals: &[LocalVariable<'_>],
+    locals: &Locals<'_>,
     name: &Token,
     number: u32,
 ) -> Result<Operand, Stop>
@@ -96,7 +96,7 @@ pub fn default_typing(
 pub fn made_typing(
     alloc: Global,
     context: &BodyContext<'_>,
-    locals: &[LocalVariable<'_>],
+    locals: &Locals<'_>,
     name: &Token,
     number: u32,
     operands: Vec<Operand>,

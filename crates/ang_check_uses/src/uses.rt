@@ -1,6 +1,7 @@
 //! What a use of a name means.
 use ang_kinds::ErrorKind;
-use ang_names_known::{Access, HostProperty};
+use ang_names_host::HostProperty;
+use ang_names_known::Access;
 use ang_typed::{Callee, HostEntity, Variable};
 use ang_types::{ArgType, Candidate};
 

@@ -21,15 +21,15 @@ pub enum Instruction {
     Do(Operation),
     /// Gives up the top value.
     Drop,
-    /// Gives up so many values.
+    /// Gives up that number of values.
     Leave(usize),
-    /// Takes a truth value, and passes so many instructions where it is false.
+    /// Takes a truth value, and passes that number of instructions where it is false.
     SkipIfFalse(usize),
-    /// Passes so many instructions.
+    /// Passes that number of instructions.
     GoOn(usize),
     /// Takes a tick.
     Tick,
-    /// Takes a tick and goes back by so many instructions.
+    /// Takes a tick and goes back by that number of instructions.
     Back(usize),
     /// Enters a script function, whose arguments are on top, the last one first.
     Enter(Callee),
@@ -64,9 +64,9 @@ pub enum Instruction {
         /// The field's number.
         field: u32,
     },
-    /// Gives up so many values below the top one, the lowest first.
+    /// Gives up that number of values below the top one, the lowest first.
     DropUnder(usize),
-    /// Leaves the body with the top value; below it so many locals are given up, and then the parameters
+    /// Leaves the body with the top value; below it that number of locals is given up, and then the parameters
     /// other than `&out`.
     Return(usize),
 }

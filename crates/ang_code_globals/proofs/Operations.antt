@@ -30,7 +30,7 @@ module _ (ns : List ℕ) where
   DoneHas (Fine v w) = Has ns w
   DoneHas (Fails f w) = Has ns w
 
-  -- ---- askings
+  -- ---- host calls
 
   holding_has : (v : Slot) (o : Tried) → TriedHas ns o → DoneHas (or_else o (Fails Tally) (Fine v))
   holding_has v (No w) h = h

@@ -14,7 +14,7 @@ use Rattle.ang_code_globals.specs.Globals.{globals_of_each}
 -- ---- giving up
 
 module _ (ns : List ℕ) where
-  -- the modules have so many globals
+  -- the modules have these numbers of globals
   abbrev pub Has : World → Type 0
   Has w = globals_of_each w ≡ ns
 

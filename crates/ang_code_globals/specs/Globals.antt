@@ -11,7 +11,7 @@ use Rattle.ang_code.specs.Runs.{Ending, Runs}
 abbrev pub globals_of_each : World → List ℕ
 globals_of_each w = list_map length w.globals
 
--- in the world of a configuration the modules have so many
+-- in the world of a configuration the modules have these numbers of globals
 abbrev pub HasSoMany : List ℕ → Config → Type 0
 HasSoMany ns (At f pc room s fr t w) = globals_of_each w ≡ ns
 HasSoMany ns (Over (Finished v t w)) = globals_of_each w ≡ ns

@@ -1,4 +1,4 @@
-//! A run of code writes globals, and makes and drops none: each module has as many behind it as before
+//! A run of code writes globals, and makes and drops none: each module has as many after it as before
 //! (docs/MEANING.md, "Code").
 //!
 //! `specs/` says what that means; `laws` says that it holds.

@@ -55,7 +55,7 @@ match_same (Fresh n ∷ a) = match_same a
 match_whole : (apart : Type 0) (a b : List Input) → Match apart a b → Match apart (a ++ []) (b ++ [])
 match_whole apart a b h = subst (λ l. Match apart l (b ++ [])) (sym (append-nil a)) (subst (λ l. Match apart a l) (sym (append-nil b)) h)
 
--- the second goes on behind inputs that match all of the first
+-- the second goes on after inputs that match all of the first
 record GoesPast (u v : List Input) : Type 0 where
   front : List Input
   first : Input
@@ -63,7 +63,7 @@ record GoesPast (u v : List Input) : Type 0 where
   parts : v ≡ front ++ (first ∷ rest)
   alike : Match ⊥ u front
 
--- and the first behind all of the second
+-- and the first after all of the second
 record GoesPastBack (u v : List Input) : Type 0 where
   front : List Input
   first : Input

@@ -1,4 +1,4 @@
--- What each strict operation lists: its askings are of its entity.
+-- What each strict operation lists: its host calls are of its entity.
 use Rattle.std.proofs.Common.{◌≡◌, ℕ, suc, ◌+◌, ◌≤◌, inl, inr, List, [], ◌∷◌, ◌++◌, length, Option, Some, None, refl, sym, ap, ◌∙◌, arith, append-nil}
 use Rattle.std.specs.Prelude.{Bool, true, false, cond, ◌&&◌, not, nat_eq, reverse}
 use Rattle.std.proofs.lemmas.List.{length-reverse}
@@ -31,7 +31,7 @@ use Rattle.ang_meaning.proofs.Moving.{give_moves, give_all_moves, put_moves, fie
 use Rattle.ang_code_laws.specs.Asked.{MayBeAsked, ArgumentsBy, FitsUse, Asks}
 use Rattle.ang_code_laws.proofs.Events.{asks_then, nothing, untold, TriedAsks, memory_asks, more_asks, hold_asks}
 
--- ---- what an asking hands over
+-- ---- what a host call hands over
 
 values_length : (d : ℕ) (types : List HostType) (vs : List Slot) → length types ≤ length vs → length (values_of d types vs) ≡ length types
 values_length d [] vs le = refl
@@ -147,7 +147,7 @@ module _ (z : Setting) (m : ℕ) where
   kind_asks true w o p = p refl
   kind_asks false w o p = nothing z w
 
-  -- an asking of an entity that may be asked
+  -- a host call of an entity that may be asked
   module _ (e : EntityNo) (may : MayBeAsked z m e) where
     asked_said : (object : Option ℕ) (args : List Value) (result : HostType) (inputs : List Input) (w : World) → FitsUse (use_at z m e) object args → DoneAsks w (asked_from z m e object args result inputs w)
     asked_said object args result (Said reply ∷ rest) w fits =
@@ -252,7 +252,7 @@ module _ (z : Setting) (m : ℕ) where
   made_asks k w (No w') p = p
   made_asks k w (Yes w') p = done_then w w' _ p (made_from_asks k w'.inputs w')
 
-  -- the askings of each operation, by its guard
+  -- the host calls of each operation, by its guard
   ask_asks : (e : EntityNo) (vs : List Slot) (w : World) → is_fit z m (Ask e) ≡ true → length vs ≡ operands z m (Ask e)
       → DoneAsks w (called_of z m e (receiver_of (use_at z m e) vs) (arguments_of (use_at z m e) vs) w)
   unfolding is_fit operands

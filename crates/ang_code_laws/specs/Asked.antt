@@ -32,7 +32,7 @@ pub record FitsUse (u : HostUse) (object : Option ℕ) (args : List Value) : Typ
   pub of_object : is_some object ≡ u.member
   pub arguments : ArgumentsBy u.role u args
 
--- the event is an asking by a module, of an entity that this module sees, of its driver, as it is declared, and its reply is of the kind that its role gives;
+-- the event is a host call by a module, of an entity that this module sees, of its driver, as it is declared, and its reply is of the kind that its role gives;
 -- or an object's end
 abbrev pub IsAskedBy : Setting → HostEvent → Type 0
 IsAskedBy z (Called caller entity driver object args reply) =

@@ -4,7 +4,7 @@ ghost use Rattle.ang_code_laws.specs.Asked.{CallsAsk, InitializersAsk, CallRunsA
 ghost use Rattle.ang_code_laws.specs.Counting.{CallsCount, InitializersCount, StepsCount, CallRunsCount, InitializerRunsCount};
 ghost use Rattle.ang_code_laws.specs.Determined.{HasOneEnd};
 
-/// A run lists, as far as it has come, askings by modules and ends of objects. Each asking is of an entity
+/// A run lists, as far as it has come, host calls by modules and ends of objects. Each host call is of an entity
 /// that this module sees and of its driver, of an object just where it is a member, with as many arguments
 /// as it declares and with a reply of the kind that its role gives; a `const` property is never written.
 #[tactic(auto, using(crate::proofs::Asking::calls_ask, crate::proofs::Asking::initializers_ask))]

@@ -1,4 +1,4 @@
-//! What holds of every run of code: each asking is by the module that runs, of an entity that it sees, as that
+//! What holds of every run of code: each host call is by the module that runs, of an entity that it sees, as that
 //! entity is declared; counts of objects are those of the places that hold them; a run has one end; and the
 //! numbers of objects do not show (docs/MEANING.md, "Code").
 //!

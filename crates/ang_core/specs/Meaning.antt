@@ -40,7 +40,7 @@ abbrev mutual
   eval_args z m c (more_of-Expression e rest) vs ls t w =
       then_rest vs (eval z m c e ls t w) (λ v ls' t' w'. eval_args z m c rest (v ∷ vs) ls' t' w')
 
--- the rest of a loop's pass behind its test, where it leaves n locals: the body, the step, and the tick of the next pass
+-- the rest of a loop's pass after its test, where it leaves n locals: the body, the step, and the tick of the next pass
 abbrev pub turned : ℕ → Ran → (List Slot → ℕ → World → Ran) → (List Slot → ℕ → World → Ran) → Ran
 turned n body step next =
     caught n body (λ ls t w. then_run (leave (length ls) (step ls t w)) (λ ls' t' w'. ticked t' (Halted Budget ls' w') (λ t''. next ls' t'' w')))
@@ -96,7 +96,7 @@ begun z bodies g vs t w = or_else (memory_step w) (λ w'. Raises Memory (give_al
 abbrev pub called_with : Setting → Bodies → ℕ → Routine → List Slot → World → Reply
 called_with z bodies budget g vs w = ticked budget (Raises Budget (give_all vs w)) (λ t. begun z bodies g vs t w)
 
--- An initializer's run, with so many ticks left: its entry takes none.
+-- An initializer's run, with t ticks left: its entry takes none.
 abbrev pub initialized : Setting → Bodies → ℕ → Routine → World → Reply
 initialized z bodies t g w = begun z bodies g [] t w
 

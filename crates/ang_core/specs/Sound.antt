@@ -28,14 +28,14 @@ out_count (In ∷ ps) = out_count ps
 out_count (Object ∷ ps) = out_count ps
 out_count (Out ∷ ps) = suc (out_count ps)
 
--- a function takes so many arguments and gives so many `&out` values
+-- a function takes `args` arguments and gives `outs` values of `&out` parameters
 pub record Takes (z : Setting) (g : Routine) (args outs : ℕ) : Type 0 where
   pub params : List Passing
   pub known : z.params g ≡ Some params
   pub count : length params ≡ args
   pub given : out_count params ≡ outs
 
--- a call gives so many arguments and takes so many `&out` values, as the function or the import is declared, or the methods in a slot
+-- a call gives `args` arguments and takes `outs` values of `&out` parameters, as the function or the import is declared, or the methods in a slot
 abbrev pub Fits : Setting → ℕ → Callee → ℕ → ℕ → Type 0
 Fits z m (Own g) args outs = Takes z (record { home = m; number = g }) args outs
 Fits z m (Import i) args outs = (params : List Passing) × (z.imported m i ≡ Some params) × (length params ≡ args) × (out_count params ≡ outs)

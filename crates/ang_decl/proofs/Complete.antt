@@ -52,7 +52,7 @@ passed test kind (Some t) ts f h e = ap test f ∙ h
 
 -- ---- types
 
--- what stands behind a type is no part of it
+-- what stands after a type is no part of it
 pub record EndsType (ts : List Token) : Type 0 where
   pub no_handle : begins is_at ts ≡ false
   pub no_plus : begins r.is_plus ts ≡ false
@@ -106,7 +106,7 @@ type_read y ts f e =
 
 -- ---- parameters
 
--- what stands behind a parameter is no part of it
+-- what stands after a parameter is no part of it
 record EndsParam (ts : List Token) : Type 0 where
   pub ends_type : EndsType ts
   pub no_reference : begins is_ampersand ts ≡ false

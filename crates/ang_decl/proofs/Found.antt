@@ -6,7 +6,7 @@ use Rattle.ang_lex.specs.declared.token.TokenKind.{TokenKind}
 use Rattle.ang_parse_read.specs.Read.{Parser, Outcome, and_then, pure, refuse, Choice, given, chosen, look, Turn, turned, repeat}
 use Rattle.ang_parse_read.specs.Tokens.{a_token, perhaps}
 
--- what is read, and the tokens behind it, have the property
+-- what is read, and the tokens after it, have the property
 abbrev pub Found : {A : Type 0} → (A → List Token → Type 0) → Outcome A → Type 0
 Found R (Ok p) = R p.0 p.1
 Found R (Err f) = Unit {0}
@@ -21,7 +21,7 @@ chosen_found : {A : Type 0} (t : Token) (u : List Token) (Q : A → List Token �
 chosen_found t u Q None w h k = k
 chosen_found t u Q (Some q) w h k = h
 
--- What a kind of token chooses is found so, behind each token of that kind.
+-- What a kind of token chooses is found so, after each token of that kind.
 abbrev pub ChoiceFound : {A : Type 0} → (List Token → A → List Token → Type 0) → (TokenKind → Choice A) → Type 0
 ChoiceFound Q f = (kind : TokenKind) (t : Token) (u : List Token) → t.kind ≡ kind → IfSome (f kind) (λ q. Found (Q (t ∷ u)) (q t u))
 

@@ -102,7 +102,7 @@ pub record SpellsFunction (f : HostFunction) (tokens : List Token) : Type 0 wher
   pub method : SpellsMethod f tokens
   pub no_const : is_none f.constant ≡ true
 
--- `@`, with neither `+` nor `const` behind it
+-- `@`, with neither `+` nor `const` after it
 abbrev pub is_bare_handle : Option HostHandle → Bool
 is_bare_handle None = false
 is_bare_handle (Some h) = is_none h.plus && is_none h.constant

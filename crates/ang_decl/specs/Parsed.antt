@@ -45,7 +45,7 @@ judged_tokens reader form left_out signature (Ok ts) = judged form left_out sign
 abbrev pub of_any_form : {A : Type 0} → A → Bool
 of_any_form x = true
 
--- no `const` behind the parameters
+-- no `const` after the parameters
 abbrev pub is_function_form : HostFunction → Bool
 is_function_form f = is_none f.constant
 

@@ -54,11 +54,11 @@ a_reference = look reference_by (pure None)
 abbrev pub parameter_of : Option Token → HostType → Option Reference → Option Token → HostParameter
 parameter_of comma y r x = record { comma = comma; declared_type = y; reference = r; name = x }
 
--- a parameter, behind its comma
+-- a parameter, after its comma
 unfoldable pub a_param : Option Token → Parser HostParameter
 a_param comma = do y ← a_type; r ← a_reference; x ← perhaps is_name; pure (parameter_of comma y r x)
 
--- one more, behind the comma
+-- one more, after the comma
 unfoldable pub another_param : List HostParameter → Token → Turn (List HostParameter)
 another_param ps comma = do p ← a_param (Some comma); pure (ps ++ p ∷ [], true)
 
@@ -88,7 +88,7 @@ module _ (limit : ℕ) where
   params_by left k.RightParen = Some (λ right. pure (parameters_of left None [] right))
   params_by left _ = None
 
-  -- behind the left parenthesis
+  -- after the left parenthesis
   unfoldable pub params : Token → Parser HostParameters
   params left = look (params_by left) (some_params left)
 

@@ -23,7 +23,7 @@ use Rattle.ang_decl.specs.Grammar.{is_void, is_plain_handle}
 
 -- ---- what is left out
 
--- `@+`, without `const` behind it
+-- `@+`, without `const` after it
 abbrev pub is_auto_handle : Option HostHandle → Bool
 is_auto_handle None = false
 is_auto_handle (Some h) = is_some h.plus && is_none h.constant

@@ -103,7 +103,7 @@ fn method_in(alloc: Global, text: &[u8]) -> Result<Signature, DeclError>
 
 /// The signature of the method that the text declares, by `type NAME params [ "const" ]`: `int get() const`.
 ///
-/// The `const` behind the parameters makes the signature read only.
+/// The `const` after the parameters makes the signature read only.
 ///
 /// # Errors
 ///

@@ -118,7 +118,7 @@ fn reference(tokens: &[Token]) -> (Option<Reference>, &[Token])
     }
 }
 
-/// Reads a parameter, behind its comma.
+/// Reads a parameter, after its comma.
 #[tactic(auto, unfolding(crate::specs::Read::a_param))]
 fn parameter(
     comma: Option<Token>,
@@ -138,7 +138,7 @@ fn parameter(
     Ok((parameter, rest))
 }
 
-/// Reads one more parameter, behind a comma.
+/// Reads one more parameter, after a comma.
 #[tactic(auto, unfolding(crate::specs::Read::another_param))]
 fn another_parameter<'a>(
     first: Vec<HostParameter>,
@@ -242,7 +242,7 @@ fn some_parameters(
     Ok((settled(alloc, open, items, close), rest))
 }
 
-/// Reads the parameters behind the left parenthesis `open`, and the right one.
+/// Reads the parameters after the left parenthesis `open`, and the right one.
 #[tactic(auto, unfolding(crate::specs::Read::params))]
 fn parameters(
     alloc: Global,

@@ -112,7 +112,7 @@ pub fn is_type_left_out(host_type: &HostType) -> bool
     !(is_result_type(host_type) || is_property_type(host_type) || is_plain_handle(host_type))
 }
 
-/// Whether it is a function: no `const` stands behind the parameters.
+/// Whether it is a function: no `const` stands after the parameters.
 pub fn is_function_form(function: &HostFunction) -> bool
     ensures exact { result ≡ form.is_function_form function.now }
 {

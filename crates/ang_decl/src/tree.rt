@@ -61,7 +61,7 @@ pub struct HostFunction {
     pub name: Token,
     /// Its parameters, with their parentheses.
     pub parameters: HostParameters,
-    /// The word `const` behind the parameters, where it is written.
+    /// The word `const` after the parameters, where it is written.
     pub constant: Option<Token>,
 }
 

@@ -17,7 +17,7 @@ use Rattle.std.proofs.lemmas.List.Sums.{sum_by-cons}
 use Rattle.ang_host.specs.State.{Tally, total, count_of, count_at}
 use Rattle.ang_host.proofs.Steps.{same_test}
 use Rattle.ang_host.proofs.Counts.{total-empty}
-use Rattle.ang_drivers.specs.Objects.{Ledger, by_key}
+use Rattle.ang_drivers.specs.Objects.{Ledger, by_key, one_more, one_less_if}
 
 -- ---- maps
 
@@ -208,7 +208,23 @@ module _ {O V : Type 0} (f : O → V) where
       → ((q : ℕ) → lookup (is_at (nat_cmp q)) gs ≡ cond (is_at (nat_cmp k) q) (Some w) (lookup (is_at (nat_cmp q)) es)) → by_key f gs ≡ by_key f es
   by_key-replaced es gs k w s h = by_key-inserted es gs k w h ∙ insert_same (by_key f es) k (f w) s
 
--- ---- what is true of counts, where so many objects were made and so many references added and released
+-- a live key's count, as a number
+pub stands : (m : map.FinMap nat_cmp ℕ) (k n : ℕ) → map.get m k ≡ Some n → map.get m k ≡ Some (count_at m k)
+stands m k n h = h ∙ ap Some (sym (ap count_of h))
+
+-- the object o under the key k, changed to w in its place: what f reads of it stays, or is one more, or one less
+module _ {O : Type 0} (es gs : List (ℕ × O)) (k : ℕ) (o w : O) (h : lookup (is_at (nat_cmp k)) es ≡ Some o)
+    (u : (q : ℕ) → lookup (is_at (nat_cmp q)) gs ≡ cond (is_at (nat_cmp k) q) (Some w) (lookup (is_at (nat_cmp q)) es)) where
+  pub by_key-kept : {V : Type 0} (f : O → V) → f w ≡ f o → by_key f gs ≡ by_key f es
+  by_key-kept f e = by_key-replaced f es gs k w (read_at f es k o h ∙ ap Some (sym e)) u
+
+  pub by_key-more : (f : O → ℕ) → f w ≡ f o + 1 → by_key f gs ≡ one_more (by_key f es) k
+  by_key-more f e = by_key-inserted f es gs k w u ∙ ap (λ n. map.insert (by_key f es) k n) (e ∙ ap (λ n. n + 1) (sym (ap count_of (read_at f es k o h))))
+
+  pub by_key-less : (f : O → ℕ) → f w ≡ f o - 1 → by_key f gs ≡ one_less_if true (by_key f es) k
+  by_key-less f e = by_key-inserted f es gs k w u ∙ ap (λ n. map.insert (by_key f es) k n) (e ∙ ap (λ n. n - 1) (sym (ap count_of (read_at f es k o h))))
+
+-- ---- what is true of counts, where `made` objects were made and `added` and `released` references were added and released
 
 pub record AreCounted (m : map.FinMap nat_cmp ℕ) (made added released : ℕ) : Type 0 where
   pub sums : made + added ≡ released + total m

@@ -30,12 +30,12 @@ not_full fits s a (Fault n) t p h = h
 not_full fits s a Memory t p h = h
 not_full fits s a Full t p h = absurd p
 
--- the objects after an asking that was counted, apart from their values
+-- the objects after a host call that was counted, apart from their values
 pub record IsAsking {T : Type 0} (s u : Ledger T) : Type 0 where
   pub counts : u.counts ≡ s.counts
   pub tally : u.tally ≡ one_asked s.tally
 
--- an asking that changes no more than values
+-- a host call that changes no more than values
 pub record IsKept {T : Type 0} (t u : Ledger T) : Type 0 where
   pub counts : u.counts ≡ t.counts
   pub tally : u.tally ≡ t.tally
@@ -59,7 +59,7 @@ module _ {T : Type 0} (code : T → List ℕ) where
   asked_table : (s t : Ledger T) → Asks s true t → t.table ≡ s.table
   asked_table s t e = ap (λ x. x.table) e
 
-  -- an object that was live before an asking is live after it
+  -- an object that was live before a host call is live after it
   pub held_after : (s t : Ledger T) (o : Option ℕ) (k : ℕ) → Asks s true t → o ≡ Some k → IsLiveOption (state_of code s) o → IsHeld t k
   held_after s t o k q e h =
       let live : IsLiveOption (state_of code s) (Some k) = subst (IsLiveOption (state_of code s)) e h in
@@ -110,7 +110,7 @@ module _ {T : Type 0} (code : T → List ℕ) where
       sound = sound;
     }
 
-    -- the asking for an object of the value v moves as the making of that value
+    -- the host call for an object of the value v moves as the making of that value
     pub made_value : (s t u : Ledger T) (a : Ask) (v : T) (r : Made) → Asks s true t → MakesOne t v r u
         → ((r : HostReply) (y : Table T) → MakesValue t.table (Some v) r y → moves t.table a r y) → IsSound (state_of code u)
         → WasMade (CoreFits code moves) (state_of code s) a r (state_of code u)

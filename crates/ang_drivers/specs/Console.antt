@@ -78,7 +78,7 @@ ConsoleFits c (read f o) r d = ReadFits c f r d
 ConsoleFits c (write f o v) r d = WriteFits c f v r d
 ConsoleFits c (end k) r d = ⊥
 
--- the state of a console with this register, these notes and so many askings
+-- the state of a console with this register, these notes and `asked` host calls
 abbrev pub console_state : ℤ → List Value → ℕ → State
 console_state register notes asked = record {
   counts = map.empty;

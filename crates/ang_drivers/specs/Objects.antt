@@ -1,15 +1,23 @@
 -- Objects with counts, as a driver keeps them (the AngelScript manual, "Registering reference types"; docs/EMBEDDING.md).
-use Rattle.std.specs.Prelude.{ℕ, ◌+◌, ◌≡◌, Bool, true, false, List, Some, None, map as list_map}
+use Rattle.std.specs.Prelude.{ℕ, ◌+◌, ◌-◌, ◌≡◌, cond, Bool, true, false, List, Some, None, map as list_map}
 use Rattle.std.specs.Ordering.{nat_cmp}
 use Rattle.std.specs.FinMap as map
 use Rattle.ang_host.specs.declared.answer.Made.{Made}
 use Rattle.ang_host.specs.declared.answer.Made.TheVariants.{Key as MadeKey, Nothing, Fault as MadeFault, Memory as MadeMemory, Full as MadeFull}
-use Rattle.ang_host.specs.State.{Tally, limit}
+use Rattle.ang_host.specs.State.{Tally, limit, count_at}
 use Rattle.ang_host.specs.Laws.{one_asked}
 
 -- the part of each object that f reads, by the object's key
 unfoldable pub by_key : {O V : Type 0} → (O → V) → List (ℕ × O) → map.FinMap nat_cmp V
 by_key f es = map.from_entries (list_map (λ e. (e.0, f e.1)) es)
+
+-- one reference more to the key k
+abbrev pub one_more : map.FinMap nat_cmp ℕ → ℕ → map.FinMap nat_cmp ℕ
+one_more m k = map.insert m k (count_at m k + 1)
+
+-- one reference fewer to the key k where b is true, and else the same
+abbrev pub one_less_if : Bool → map.FinMap nat_cmp ℕ → ℕ → map.FinMap nat_cmp ℕ
+one_less_if b m k = cond b (map.insert m k (count_at m k - 1)) m
 
 -- objects without their counts: the key that the next one gets, and the value of each live one
 pub record Table (T : Type 0) : Type 0 where
@@ -46,7 +54,7 @@ without x k = record { next = x.next; values = map.remove x.values k }
 abbrev pub with_new : {T : Type 0} → Table T → T → Table T
 with_new x v = record { next = x.next + 1; values = map.insert x.values x.next v }
 
--- an asking is counted; false where the tally of askings is full
+-- a host call is counted; false where the tally of host calls is full
 abbrev pub Asks : {T : Type 0} → Ledger T → Bool → Ledger T → Type 0
 Asks s true t = t ≡ record s { tally = one_asked s.tally }
 Asks s false t = (t ≡ s) × (s.tally.asked ≡ limit)
@@ -59,7 +67,7 @@ pub record Inserts {T : Type 0} (s : Ledger T) (v : T) (k : ℕ) (t : Ledger T) 
   pub table : t.table ≡ with_new s.table v
   pub tally : t.tally ≡ record s.tally { made = s.tally.made + 1 }
 
--- an asking for an object of the value v, for which there may be no memory
+-- a host call for an object of the value v, for which there may be no memory
 abbrev pub MakesOne : {T : Type 0} → Ledger T → T → Made → Ledger T → Type 0
 MakesOne s v (MadeKey k) t = Inserts s v k t
 MakesOne s v MadeMemory t = t ≡ s

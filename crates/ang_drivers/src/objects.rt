@@ -1,10 +1,10 @@
 //! Objects that a driver keeps for scripts, each under a key, with the references that are held to it.
-ghost use Rattle.std.specs.Prelude.{ℕ, ◌+◌, ◌≡◌, ◌<◌, ◌≤◌, ◌^◌, ◌↔◌, cond, Some, IsSome, IsTrue, IfOk, OnErr};
+ghost use Rattle.std.specs.Prelude.{ℕ, ◌+◌, ◌≡◌, ◌<◌, ◌≤◌, ◌^◌, ◌↔◌, nat_lt, Some, IsSome, IsTrue, IfOk, OnErr};
 ghost use Rattle.std.specs.Ordering.{nat_cmp};
 ghost use Rattle.std.specs.FinMap as map;
-ghost use Rattle.std.specs.BTreeMap.{get, is_at};
+ghost use Rattle.std.specs.BTreeMap.{get};
 ghost use Rattle.ang_host.specs.State.{total, count_at};
-ghost use Rattle.ang_drivers.specs.Objects.{by_key, fresh, IsHeld, IsRevalued, Asks, Inserts, MakesOne, AddsOne, ReleasesOne};
+ghost use Rattle.ang_drivers.specs.Objects.{by_key, fresh, one_more, one_less_if, IsHeld, IsRevalued, Asks, Inserts, MakesOne, AddsOne, ReleasesOne};
 
 use crate::values::LIMIT;
 use ang_host::Made;
@@ -21,7 +21,7 @@ struct Counted<T> {
 /// The live objects by key, and the tallies of a driver that keeps them.
 ///
 /// Keys rise from 0 and are not used again: the next key is the number of objects made so far. Each
-/// object that is made takes an asking, so `made` never runs out before `asked`.
+/// object that is made takes a host call, so `made` never runs out before `asked`.
 #[derive(Drop)]
 pub struct Objects<T> {
     live: BTreeMap<u64, Counted<T>>,
@@ -67,7 +67,7 @@ impl<T: Copy> Objects<T> {
         self.added
     }
 
-    /// Counts an asking. False, with nothing done, where 2^63 - 1 are counted.
+    /// Counts a host call. False, with nothing done, where 2^63 - 1 are counted.
     pub fn ask(&mut self) -> bool
         ensures asked { Asks (ledger self.old) result (ledger self.new) }
     {
@@ -79,7 +79,7 @@ impl<T: Copy> Objects<T> {
     }
 
     /// Makes an object of this value, with one reference: answers its key, or want of memory with
-    /// nothing done. The asking for it has to be counted first (`ask`).
+    /// nothing done. The host call for it has to be counted first (`ask`).
     pub fn make(&mut self, value: T) -> Made
         requires asking_left { (ledger self.old).tally.made < (ledger self.old).tally.asked }
         ensures made { MakesOne (ledger self.old) value result (ledger self.new) }
@@ -116,8 +116,7 @@ impl<T: Copy> Objects<T> {
         requires held { IsHeld (ledger self.old) key }
         ensures revalued { IsRevalued (ledger self.old) key value (ledger self.new) }
     {
-        let count = object_at(&self.live, key).count;
-        replace(&mut self.live, key, Counted { count, value });
+        revalue(&mut self.live, key, value);
     }
 
     /// Adds a reference to a live object. False, with nothing done, where 2^63 - 1 were added.
@@ -128,15 +127,7 @@ impl<T: Copy> Objects<T> {
         if self.added == LIMIT {
             return false;
         }
-        let Counted { count, value } = object_at(&self.live, key);
-        replace(
-            &mut self.live,
-            key,
-            Counted {
-                count: count + 1,
-                value,
-            },
-        );
+        count_up(&mut self.live, key);
         self.added += 1;
         true
     }
@@ -147,21 +138,12 @@ impl<T: Copy> Objects<T> {
         requires held { IsHeld (ledger self.old) key }
         ensures released { ReleasesOne (ledger self.old) key result (ledger self.new) }
     {
-        let Counted { count, value } = object_at(&self.live, key);
         self.released += 1;
-        if count == 1 {
-            self.live.remove(&key);
-            return true;
+        if count_down(&mut self.live, key) {
+            return false;
         }
-        replace(
-            &mut self.live,
-            key,
-            Counted {
-                count: count - 1,
-                value,
-            },
-        );
-        false
+        self.live.remove(&key);
+        true
     }
 }
 
@@ -176,14 +158,53 @@ fn object_at<T: Copy>(live: &BTreeMap<u64, Counted<T>>, key: u64) -> Counted<T>
     }
 }
 
-// Puts an object in the place of that of a live key.
-fn replace<T: Copy>(live: &mut BTreeMap<u64, Counted<T>>, key: u64, object: Counted<T>)
+// Gives the object of a live key another value, with one look-up.
+fn revalue<T: Copy>(live: &mut BTreeMap<u64, Counted<T>>, key: u64, value: T)
     requires held { IsSome (get nat_cmp live.old key) }
-    ensures replaced { (q : ℕ) → get nat_cmp live.new q
-        ≡ cond (is_at (nat_cmp key) q) (Some object) (get nat_cmp live.old q) }
+    ensures counts { by_key (λ c. c.count) live.new.entries
+        ≡ by_key (λ c. c.count) live.old.entries }
+    ensures values { by_key (λ c. c.value) live.new.entries
+        ≡ map.insert (by_key (λ c. c.value) live.old.entries) key value }
 {
     match live.get_mut(&key) {
-        Some(place) => *place = object,
+        Some(object) => object.value = value,
+        None => unreachable!(),
+    }
+}
+
+// Adds a reference to the object of a live key, with one look-up.
+fn count_up<T: Copy>(live: &mut BTreeMap<u64, Counted<T>>, key: u64)
+    requires held { IsSome (get nat_cmp live.old key) }
+    requires room { count_at (by_key (λ c. c.count) live.old.entries) key + 1 < 2 ^ 64 }
+    ensures counts { by_key (λ c. c.count) live.new.entries
+        ≡ one_more (by_key (λ c. c.count) live.old.entries) key }
+    ensures values { by_key (λ c. c.value) live.new.entries
+        ≡ by_key (λ c. c.value) live.old.entries }
+{
+    match live.get_mut(&key) {
+        Some(object) => object.count += 1,
+        None => unreachable!(),
+    }
+}
+
+// Releases a reference to the object of a live key, with one look-up. False, with nothing done,
+// where it is the last.
+fn count_down<T: Copy>(live: &mut BTreeMap<u64, Counted<T>>, key: u64) -> bool
+    requires held { IsSome (get nat_cmp live.old key) }
+    ensures exact { result ≡ nat_lt 1 (count_at (by_key (λ c. c.count) live.old.entries) key) }
+    ensures counts { by_key (λ c. c.count) live.new.entries
+        ≡ one_less_if result (by_key (λ c. c.count) live.old.entries) key }
+    ensures values { by_key (λ c. c.value) live.new.entries
+        ≡ by_key (λ c. c.value) live.old.entries }
+{
+    match live.get_mut(&key) {
+        Some(object) => {
+            if object.count > 1 {
+                object.count -= 1;
+                return true;
+            }
+            false
+        }
         None => unreachable!(),
     }
 }

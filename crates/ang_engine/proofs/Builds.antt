@@ -112,7 +112,7 @@ module _ (R : RegistrationList) (w : World) (i : ℕ) (m : ModuleState) (budget 
         ap (λ b. after_build (seen R m.mask) (denials_in R m.mask m.sections) b others i m budget r) c
         ∙ ap (λ p. started (end_of (initialization_of (built_in (placed others i (with_program p m))) budget i (globals_begun i p r))) others i m p) loaded-over
 
-    -- the modules behind it: this one is built, or it is left emptied
+    -- the modules after it: this one is built, or it is left emptied
     abbrev pub IsPlacedBy : {U : Type 0} → Result U BuildRefused → ModuleStates → Type 0
     IsPlacedBy (Ok x) ss = ss ≡ placed others i (with_program (program_in l) m)
     IsPlacedBy (Err e) ss = ss ≡ placed others i (emptied m)

@@ -32,7 +32,7 @@ pub back_globals : (vs : List Slot) (w : RunWorld) → (give_back vs w).globals 
 back_globals [] w = refl
 back_globals (v ∷ vs) w = give_globals v (give_back vs w) ∙ back_globals vs w
 
--- the first of several is given up behind the others
+-- the first of several is given up after the others
 pub back_last : (vs : List Slot) (v : Slot) (w : RunWorld) → give_back (vs ++ v ∷ []) w ≡ give_back vs (give v w)
 back_last [] v w = refl
 back_last (u ∷ vs) v w = ap (give u) (back_last vs v w)
@@ -112,7 +112,7 @@ only_ends [] h = ([], refl)
 only_ends (Called caller entity driver object args reply ∷ es) h = absurd (let x : ⊥ = cc in x)
 only_ends (Ended d k ∷ es) h = let p = only_ends es h in ((d, k) ∷ p.0, ap (λ l. Ended d k ∷ l) p.1)
 
--- a world behind which ends are listed, and nothing else
+-- a world after which ends are listed, and nothing else
 pub record ListsEnds (before after : RunWorld) : Type 0 where
   pub ends : List (ℕ × ℕ)
   pub events : after.events ≡ before.events ++ ends_of ends

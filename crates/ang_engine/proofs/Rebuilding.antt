@@ -107,17 +107,17 @@ view_of_place : (R : RegistrationList) (n d : Option Module) (l : LoadedModule) 
 view_of_place R None d l k h e = absurd h
 view_of_place R (Some m) d l k h e = h.view ∙ ap (λ p. seen R (module_in p).built_mask) e
 
--- The place `home` among these, d before and n behind: its globals have ended, its code is gone, and no import leads to it.
+-- The place `home` among these, d before and n after: its globals have ended, its code is gone, and no import leads to it.
 module _ {V : Type 0} {P : V → Type 0} (m : Meanings P) (R : RegistrationList) (ms : List (Option Module)) (ls cs : List (Option LoadedModule)) (order : List ℕ) (home budget : ℕ) (n d : Option Module)
     (s t : Store V P) (es fs : Vec HostEvent Global) (zip : AllZip (IsSoundPlace R) ms ls) (lt : home < length ms) (at : slice_index_or ms home None ≡ d)
     (cleared : cs ≡ unbound_in home (slice_set ls home None)) (first : es.items ≡ [])
     (ended : (is : List Input) → globals_ended home (with_inputs is (world_of m (record s { events = es }))) ≡ with_inputs is (world_of m (record t { events = fs })))
     (moves : (roles : List Role) → StoreMoves m roles (record s { events = es }) (record t { events = fs })) where
-  -- the modules behind it, with what is built of them
+  -- the modules after it, with what is built of them
   abbrev pub states_by : List (Option LoadedModule) → ModuleStates
   states_by ks = record { places = places_of (slice_set ms home n) ks; order = order }
 
-  -- the world before, and the one behind the end of its globals
+  -- the world before, and the one after the end of its globals
   abbrev pub old : World
   old = left_to (record { places = places_of ms ls; order = order }) (world_of m (record s { events = es }))
 

@@ -43,7 +43,7 @@ removed_places R x home zip =
 -- Its globals have ended between the stores s and t, and it is taken out of the modules.
 module _ {V : Type 0} {P : V → Type 0} (m : Meanings P) (R : RegistrationList) (x y : ModuleList) (home : ℕ) (s t : Store V P) (es fs : Vec HostEvent Global) (first : es.items ≡ [])
     (ended : StoreBecomes m (globals_ended home) (record s { events = es }) (record t { events = fs })) where
-  -- the world before, and the one behind the end of its globals
+  -- the world before, and the one after the end of its globals
   abbrev before : World
   before = left_to (states_in x) (world_of m s)
 

@@ -121,7 +121,7 @@ none_set [] home e = refl
 none_set (g ∷ gs) zero e = ap (λ (l : List Slot). length l ∷ map length gs) e
 none_set (g ∷ gs) (suc home) e = ap (λ ns. length g ∷ ns) (none_set gs home e)
 
--- a list of globals was put there, and the run behind it left each module as many as it had
+-- a list of globals was put there, and the run after it left each module as many as it had
 pub put_lengths : (gs hs ks : List (List Slot)) (home : ℕ) (values : List Slot) → hs ≡ slice_set gs home values → map length ks ≡ map length hs → map length ks ≡ slice_set (map length gs) home (length values)
 put_lengths gs hs ks home values put same = same ∙ ap (map length) put ∙ map_set length gs home values
 

@@ -45,7 +45,7 @@ follow_count : {B V : Type 0} (st : B → State) (kind : B → V) (rule : V → 
     → AllFollow st kind rule roles xs es ys → length ys ≡ length xs
 follow_count st kind rule roles xs es ys h = sym (length-map ys st) ∙ h.follow.same_length ∙ length-map xs st
 
--- what an engine keeps, behind a command that has asked
+-- what an engine keeps, after a command that has asked
 pub sound-asked : {V : Type 0} {P : V → Type 0} (m : Meanings P) (e f : Engine V P) (v : World) (es : List HostEvent) → IsSound m e → registrations f ≡ registrations e
     → AreSoundModules (registrations e) f.modules → HaveGlobals f.modules (values_in f.machine.store.globals) → HasAsked m (registrations e) v es e.machine.store f.machine.store → IsSound m f
 sound-asked m e f v es sound same modules globals asked = record {

@@ -45,7 +45,7 @@ pub struct Engine {
     modules: ModuleList,
 }
 
-/// Whether each entry's driver is in a list of so many.
+/// Whether each entry's driver is in a list of `count`.
 fn have_drivers(registry: &Registry, count: usize) -> bool
     ensures exact { IsTrue result ↔ HaveDrivers registry.now.entries count }
 {

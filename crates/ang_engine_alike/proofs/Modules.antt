@@ -163,7 +163,7 @@ modules_sound ms h = record {
 
 -- ---- where imports lead
 
--- A link of the modules behind is one of those before, between modules whose trees stay.
+-- A link of the modules after it is one of those before, between modules whose trees stay.
 record IsLinkBefore (ms ns : List Module) (m i : ℕ) (g : Routine) : Type 0 where
   before : link_at ms m i ≡ Some g
   importer : (module_at ns m).tree ≡ (module_at ms m).tree
@@ -336,7 +336,7 @@ links_put (l ∷ ls) (suc index) link (suc k) g e = put_later index k link l g l
 abbrev IsRelinked : ℕ → Option Routine → Module → Module → Type 0
 IsRelinked index link x y = (y.tree ≡ x.tree) × ((k : ℕ) (g : Routine) → option_flatten (slice_get y.links k) ≡ Some g → IsPut index link k g x.links)
 
--- module n behind, where module i has another link
+-- module n afterwards, where module i has another link
 abbrev IsAfterPut : ℕ → ℕ → Option Routine → ℕ → Module → Module → Type 0
 IsAfterPut i index link n x y = (y.tree ≡ x.tree)
     × ((k : ℕ) (g : Routine) → option_flatten (slice_get y.links k) ≡ Some g → ((n ≡ i) × ((k ≡ index) × (link ≡ Some g))) ⊎ (option_flatten (slice_get x.links k) ≡ Some g))

@@ -66,7 +66,7 @@ between_of a b m = record {
 only_same : (a b : Stepped) → SteppedAlike ⊥ a b → AreSame ⊥ a b
 only_same a b h = three (λ m. m) (λ l. absurd l.0) (λ l. absurd l.0) h
 
--- The replies, which are the same with their denials where there is one list, and the worlds behind them.
+-- The replies, which are the same with their denials where there is one list, and the worlds after them.
 record AreTold (one_list : Type 0) (reply answer : Reply) (w u : World) : Type 0 where
   same : undenied reply ≡ undenied answer
   whole : one_list → reply ≡ answer

@@ -37,7 +37,7 @@ use Rattle.ang_engine_alike.proofs.Runs.{EndAlike, turned_result, called_alike, 
 
 -- ---- two ends of a command
 
--- The replies are the same; the worlds are alike, and so are the inputs that are left; and what holds between commands holds behind them.
+-- The replies are the same; the worlds are alike, and so are the inputs that are left; and what holds between commands holds after them.
 pub record AreSame (apart : Type 0) (a b : Stepped) : Type 0 where
   pub by : Renaming
   pub reply : b.reply ≡ a.reply

@@ -21,7 +21,8 @@ use Rattle.ang_names.specs.Phases as phase
 use Rattle.ang_names.specs.Refusals.{parameter_limit, parameters_refusal, parameter_list_refusal, part_refusal, type_refusal, type_refusal_of}
 use Rattle.ang_names_written.specs.declared.role.Role.TheVariants as role
 use Rattle.ang_names.specs.Phases.{first_refusals, refusals, refusals_of}
-use Rattle.ang_names_resolved.specs.Resolved.{function_by, function_of, heading_of as meant_heading, names_of, space_of_declared}
+use Rattle.ang_names_tables.specs.Headings.{heading_of as meant_heading}
+use Rattle.ang_names_resolved.specs.Resolved.{function_by, function_of, names_of, space_of_declared}
 use Rattle.ang_engine_call.specs.Headings.{Heading, heading_of}
 use Rattle.ang_engine_call.specs.Named.{IsNamedBy, function_named_by}
 use Rattle.ang_engine_call.proofs.Found.{found, only}
@@ -108,7 +109,7 @@ at_or_behind None rest k g e P now later = later k e
 at_or_behind (Some f) rest zero g e P now later = now e
 at_or_behind (Some f) rest (suc k) g e P now later = later k e
 
--- What the first two phases refuse of a list, behind these declarations.
+-- What the first two phases refuse of a list, after these declarations.
 abbrev names_behind : RegistrationList → List Declared → List Declared → List Refused
 names_behind V before xs = each_after (λ before d. option_to_list (name_refusal V before d)) before xs
 
@@ -119,7 +120,7 @@ module _ (V : RegistrationList) (small : length V ≤ 1024) (all : List Declared
   abbrev E : Space
   E = space_of_declared V all
 
-  -- none behind a function has its heading
+  -- none after a function has its heading
   apart_from : (d : Declared) (f : ScriptFunction) → function_of E d ≡ Some f → type_refusal E all d ≡ None → (before typed xs : List Declared) → Stands d before
       → names_behind V before xs ≡ [] → types_behind V all typed xs ≡ [] → (k : ℕ) (g : ScriptFunction) → slice_get (filter_map (function_of E) xs) k ≡ Some g → heading_of f ≡ heading_of g → ⊥
   unfolding function_of type_refusal

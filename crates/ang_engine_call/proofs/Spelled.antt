@@ -34,7 +34,7 @@ use Rattle.ang_names_written.specs.Sources.{text_of}
 use Rattle.ang_names_written.specs.Spellings.{base_by, sign_by, sign_of, sign_number, spelling_of, same_base, same_spelling, same_spellings}
 use Rattle.ang_names_written.specs.Types.{TypeOrError, without_handle, object_type, written_type, no_void, passed, own_role, pass_of, type_in, is_const_handle, settled, ◌and_then◌}
 use Rattle.ang_names.specs.Refusals.{parameters_refusal, type_refusal_of, why_refused}
-use Rattle.ang_names_resolved.specs.Resolved.{parameter_of}
+use Rattle.ang_names_tables.specs.Headings.{parameter_of}
 use Rattle.ang_engine_call.specs.Headings.{Passed, passed_of}
 
 -- ---- a type's name by its number
@@ -105,7 +105,7 @@ one_name E a b n small s t = one_of_two E.families E.view a b _ _ _ _ n small re
 
 -- ---- what a type tells of its spelling
 
--- A type, with whether `const` stands behind its `@`, that is spelled by this base and sign.
+-- A type, with whether `const` stands after its `@`, that is spelled by this base and sign.
 abbrev IsSpelled : Space → ArgType → Bool → Base → Sign → Type 0
 IsSpelled E type.Void r b s = ⊥
 IsSpelled E type.Null r b s = ⊥

@@ -14,7 +14,7 @@ use Rattle.ang_names_known.specs.declared.names.Origin.{Origin}
 use Rattle.ang_names_known.specs.declared.names.ScriptFunction.{ScriptFunction}
 use Rattle.ang_names_known.specs.Spaces.{Space}
 use Rattle.ang_names.specs.Refusals.{heading_refusal}
-use Rattle.ang_names_resolved.specs.Resolved.{heading_of}
+use Rattle.ang_names_tables.specs.Headings.{heading_of}
 
 -- the text, a line end and `{}`
 abbrev pub with_empty_body : List ℕ → List ℕ
@@ -60,7 +60,7 @@ abbrev pub heading_alone : Space → List ℕ → Option (List Decl) → Option 
 heading_alone E text None = None
 heading_alone E text (Some ds) = heading_of_one E text ds
 
--- The function that the text declares: with a line end and an empty body behind it, it is a script of one function and nothing
+-- The function that the text declares: with a line end and an empty body after it, it is a script of one function and nothing
 -- else, each of whose types can stand where it is written.
 unfoldable pub declared_by : Space → List ℕ → Option ScriptFunction
 declared_by E decl = heading_alone E (with_empty_body decl) (declarations_in (with_empty_body decl))

@@ -97,7 +97,7 @@ fn heading_alone(
     }
 }
 
-/// The function that a text declares without its body: with a line end and `{}` behind it, it is a
+/// The function that a text declares without its body: with a line end and `{}` after it, it is a
 /// script of one function and nothing else, each of whose types can stand where it is written. Types are
 /// those that the names of the space mean.
 ///

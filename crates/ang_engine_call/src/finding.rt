@@ -11,7 +11,7 @@ use std::alloc::{AllocError, Global};
 /// `names.functions`.
 ///
 /// `view` is what the module saw of the host when it was built, and `names` are those of its scripts. The
-/// text declares a function where it is, with a line end and `{}` behind it, a script of one function and
+/// text declares a function where it is, with a line end and `{}` after it, a script of one function and
 /// nothing else, each of whose types can stand where it is written, among the types of the module
 /// (docs/LANGUAGE.md, "Names of a build"). The module's function is that of the same name, the same result
 /// and the same parameters, each type with its `const` as it is spelled, and each parameter with its

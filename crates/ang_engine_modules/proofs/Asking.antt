@@ -33,7 +33,7 @@ module _ (ms : List Module) (nesting : ℕ) where
   all_asked_in [] h = tt
   all_asked_in (e ∷ es) h = (asked_in e h.0, all_asked_in es h.1)
 
-  -- behind what was asked before
+  -- after what was asked before
   pub asks_more : (w w' : World) → AllByRecursion (IsAskedIn ms) w.events → Asks (setting_for ms nesting) w w' → AllByRecursion (IsAskedIn ms) w'.events
   asks_more w w' before asks =
       subst (AllByRecursion (IsAskedIn ms)) (sym asks.events)

@@ -1,4 +1,4 @@
--- The numbers of a module's bodies: those of its functions, and behind them those of its initializers.
+-- The numbers of a module's bodies: those of its functions, and after them those of its initializers.
 use Rattle.std.proofs.Common.{◌≡◌, ℕ, zero, suc, ◌+◌, ◌<◌, List, [], ◌∷◌, ◌++◌, length, Option, Some, None, refl, ap, ◌∙◌, map, arith}
 use Rattle.std.specs.Prelude.{slice_get}
 use Rattle.ang_kinds.specs.declared.primitive.Primitive.{Primitive}

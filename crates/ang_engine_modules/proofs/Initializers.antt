@@ -98,7 +98,7 @@ module _ (t : Table) (ms : List Module) (is : IsTableOf t ms) (ticks m n : ℕ) 
   pub initializer_gives_asks : (v : Slot) (left : ℕ) (w : World) → Runs z code from (Gives v left) w → AllByRecursion (IsAskedIn ms) now.events → AllByRecursion (IsAskedIn ms) (give v w).events
   initializer_gives_asks v left w run asked = gives_more ms 201 v w (initializer_asks (Gives v left) w run asked)
 
-  -- its value is given up, and those behind it are left
+  -- its value is given up, and those after it are left
   pub leaves : (budget left : ℕ) (gs : List Routine) (before w : World) → HaveComeTo ms budget m before (routine m n ∷ gs) ticks now
       → (v : Slot) → Runs z code from (Gives v left) w → HaveComeTo ms budget m before gs left (give v w)
   leaves budget left gs before w come v run =

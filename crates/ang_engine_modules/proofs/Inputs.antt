@@ -1,4 +1,4 @@
--- What a run is told, behind what it was told before; and that giving up neither asks nor answers.
+-- What a run is told, after what it was told before; and that giving up neither asks nor answers.
 use Rattle.std.proofs.Common.{◌≡◌, ℕ, zero, suc, List, [], ◌∷◌, ◌++◌, Some, None, refl, ap, ◌∙◌, append-nil}
 use Rattle.std.specs.Prelude.{true, false}
 use Rattle.std.specs.FinMap as map
@@ -10,7 +10,7 @@ use Rattle.ang_meaning.specs.World.{World, Input, Room, Said, Tallied, Fresh, wi
 use Rattle.ang_meaning.specs.Told.{has_room, stopped_by, answers_told, answers_listed}
 use Rattle.ang_meaning.proofs.Moving.{give_moves}
 
--- ---- inputs behind inputs
+-- ---- inputs after inputs
 
 pub room_append : (a b : List Input) → has_room a ≡ true → has_room (a ++ b) ≡ has_room b
 room_append [] b h = refl

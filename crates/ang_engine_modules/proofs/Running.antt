@@ -99,7 +99,7 @@ module _ (t : Table) (budget m first end : ℕ) (before : World) where
     abbrev rest : List Routine
     rest = routines_at m (n + 1) (end - (n + 1))
 
-    -- the routines are those that are gone, this one, and those behind it
+    -- the routines are those that are gone, this one, and those after it
     there : n < end → (gs : List Routine) → gs ≡ routines_at m first (end - first) → gs ≡ at.gone ++ routine m n ∷ rest
     there lt gs all = all ∙ at.listed ∙ ap (λ l. at.gone ++ l) (next_routine m n end lt)
 
@@ -140,7 +140,7 @@ module _ (t : Table) (budget m first end : ℕ) (before : World) where
       }
       ends_by fault after (inr (null, lost)) = absurd (initializer_stands t ms is ticks m n known now lost.count (lost.told.used ++ []) (lost.told.tells []))
 
-    -- what is counted behind one that ended
+    -- what is counted after one that ended
     count_next : (left : ℕ) (after : World) → HasInitialized (setting_of t 201) (texts_of t) (beginning t (setting_of t 201) ticks m n now) (Ok left) after → IsCounted [] after
     count_next left after (v, given) =
         subst (IsCounted []) (sym given.given) (counted_given (setting_of t 201) (texts_of t) ticks (routine m n) now given.end at.counted v left given.runs)
@@ -151,7 +151,7 @@ module _ (t : Table) (budget m first end : ℕ) (before : World) where
     keep_next left after (v, given) =
         subst (λ w. globals_of_each w ≡ globals_of_each now) (sym given.given) (kept_given (setting_of t 201) (texts_of t) ticks (routine m n) now given.end v left given.runs)
 
-    -- this one ended, and those behind it are left
+    -- this one ended, and those after it are left
     pub goes_on_at : (left : ℕ) (after : World) → n < end
         → HasInitialized (setting_of t 201) (texts_of t) (beginning t (setting_of t 201) ticks m n now) (Ok left) after
         → HaveComeAt t budget m first end before (n + 1) left after

@@ -15,7 +15,7 @@ pub record Ended : Type 0 where
   pub result : Result Slot Fault
   pub world : World
 
--- Nothing is held behind a command: nobody takes the `&out` values of its call, which are given up,
+-- Nothing is held after a command: nobody takes the `&out` values of its call, which are given up,
 -- and then its value is.
 abbrev pub end_of : Reply → Ended
 end_of (Yields v outs t w) = record { result = Ok v; world = give v (give_all outs w) }

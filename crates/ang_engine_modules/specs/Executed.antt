@@ -43,11 +43,11 @@ abbrev pub routines_from : ℕ → ℕ → List Code → List Routine
 routines_from m n [] = []
 routines_from m n (c ∷ cs) = routine m n ∷ routines_from m (suc n) cs
 
--- a module's initializers, whose numbers come behind those of its functions
+-- a module's initializers, whose numbers come after those of its functions
 abbrev pub initializers_of : ℕ → t.Program → List Routine
 initializers_of m p = routines_from m (length p.functions) (initializers_from 0 p.globals)
 
--- Initializers of modules in turn, with so many ticks left. An initializer is no function, so with
+-- Initializers of modules in turn, with t ticks left. An initializer is no function, so with
 -- it 201 may stand one inside the other.
 abbrev pub initialized_in : List Module → List Routine → ℕ → World → Reply
 initialized_in ms gs ticks w =

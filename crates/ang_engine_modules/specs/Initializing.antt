@@ -7,7 +7,7 @@ use Rattle.ang_engine_modules.specs.Modules.{Module}
 use Rattle.ang_engine_modules.specs.Executed.{initialized_in, initialization_of}
 
 -- The initializers of module m have come to those that are left: told these inputs, with memory
--- each time, they go on as those, with so many ticks, from the world that there is now. Drivers
+-- each time, they go on as those, with the ticks that are left, from the world that there is now. Drivers
 -- answered just what is listed.
 pub record HaveComeTo (ms : List Module) (budget m : ℕ) (before : World) (gs : List Routine)
     (ticks : ℕ) (now : World) : Type 0 where

@@ -62,7 +62,7 @@ abbrev pub codes_of : Option ModuleCode → List RoutineCode
 codes_of c = list_in (λ y. y.bodies.items) c
 
 -- Code in the place m of a table is that of a module: its name, its view, what its tree declares,
--- and what its tree is compiled to, so many bodies that a number has 32 bits; the tree is sound
+-- and what its tree is compiled to, no more bodies than a number of 32 bits counts; the tree is sound
 -- over the view.
 pub record IsCodeOf (m : ℕ) (c : Option ModuleCode) (x : Module) : Type 0 where
   pub name : list_in (λ y. y.name.items) c ≡ x.name

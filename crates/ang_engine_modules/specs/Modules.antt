@@ -65,7 +65,7 @@ trees_of ms = map (λ x. x.tree) ms
 abbrev pub entry_in : List Module → ℕ → ℕ → Option Entry
 entry_in ms m e = entry_at (module_at ms m).view e
 
--- the driver of each entry that some module sees is one of so many
+-- the driver of each entry that some module sees is one of the first `count`
 abbrev pub AreDriversThere : List Module → ℕ → Type 0
 AreDriversThere ms count = (m e : ℕ) (x : Entry) → entry_in ms m e ≡ Some x → x.driver < count
 
@@ -74,7 +74,7 @@ pub record AgreesWith (roles : List Role) (ms : List Module) : Type 0 where
   pub each :
       (m e : ℕ) (u : HostUse) → use_in (module_at ms m).view e ≡ Some u → role_at roles e ≡ u.role
 
--- an asking by one of the modules, of an entry that this module sees; or an object's end
+-- a host call by one of the modules, of an entry that this module sees; or an object's end
 abbrev pub IsAskedIn : List Module → HostEvent → Type 0
 IsAskedIn ms (Called caller entity driver object args reply) =
     (m : ℕ) × (caller ≡ (module_at ms m).name) × IsSome (entry_in ms m entity.0)
@@ -88,7 +88,7 @@ result_in (Some f) = primitive_of f.result
 abbrev pub result_at : List Module → ℕ → ℕ → Option Primitive
 result_at ms m n = result_in (slice_get (module_at ms m).tree.functions n)
 
--- the function of that number in module m takes so many arguments
+-- the function of that number in module m takes n arguments
 pub record TakesSoMany (ms : List Module) (m n count : ℕ) : Type 0 where
   pub function : t.Function
   pub at : slice_get (module_at ms m).tree.functions n ≡ Some function

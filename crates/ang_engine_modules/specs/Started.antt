@@ -17,7 +17,7 @@ use Rattle.ang_engine_modules.specs.Loaded.{IsTableOf}
 use Rattle.ang_engine_modules.specs.Numbers.{routines_at}
 
 -- A run of these modules has ended as it means. It asked only what they may ask, nothing is held
--- behind it but by globals and fields, and each module has as many globals as before it.
+-- after it but by globals and fields, and each module has as many globals as before it.
 pub record HasEnded (ms : List Module) (go : World → Reply) (before : World)
     (result : Result Slot Fault) (after : World) : Type 0 where
   pub means : Ends go before result after

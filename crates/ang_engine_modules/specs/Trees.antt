@@ -17,8 +17,8 @@ headings_in hs = map (λ (h : Heading). passings_of h.parameters) hs
 abbrev pub own_methods : ℕ → List (ℕ × ℕ) → List Method
 own_methods m rows = map (λ (r : ℕ × ℕ). record { slot = r.0; function = routine m r.1 }) rows
 
--- And behind them those of the classes above it, so that the nearest one of a slot is the first.
--- The class and so many above it are asked.
+-- And after them those of the classes above it, so that the nearest one of a slot is the first.
+-- The class and n above it are asked.
 abbrev pub methods_by : ℕ → List families.Class → ℕ → Option families.Class → List Method
 methods_by m classes n None = []
 methods_by m classes zero (Some c) = own_methods m c.chosen

@@ -5,6 +5,7 @@ ghost use Rattle.ang_engine_modules.specs.Loaded as spec;
 ghost use Rattle.ang_engine_modules.specs.Trees.{own_methods, methods_by, script_class, classes_from};
 
 use ang_kinds::List;
+use ang_lower_expr::narrow_number;
 use ang_meaning as meaning;
 use ang_meaning::{Routine, ValueKind};
 use ang_typed::Class;
@@ -31,21 +32,11 @@ fn kinds_of(alloc: Global, fields: &[ArgType]) -> Result<Vec<ValueKind>, AllocEr
     fields.iter().map(|ty| kind_of(*ty)).collect(alloc)
 }
 
-/// A number in 32 bits. Where it has more, as no module's can, the answer is want of memory.
-fn small(number: usize) -> Result<u32, AllocError>
-    ensures exact { IfOk result (λ n. n ≡ number) }
-{
-    match u32::try_from(number) {
-        Ok(n) => Ok(n),
-        Err(_) => Err(AllocError),
-    }
-}
-
 /// One more number at the end.
 fn add_number(number: usize, found: &mut Vec<u32>) -> Result<(), AllocError>
     ensures added { OnOk result (found.new.items ≡ found.old.items ++ number ∷ []) }
 {
-    let number = small(number)?;
+    let number = narrow_number(number)?;
     found.push(number)?;
     Ok(())
 }
@@ -66,18 +57,18 @@ fn numbers_of(alloc: Global, number: usize, above: &[usize]) -> Result<Vec<u32>,
 fn class_in(alloc: Global, number: usize, class: &Class) -> Result<meaning::Class, AllocError>
     ensures exact { IfOk result (λ c. c ≡ class_in number class.now) }
 {
-    let rank = small(class.rank)?;
+    let rank = narrow_number(class.rank)?;
     let fields = kinds_of(alloc, class.fields.as_slice())?;
     let under = numbers_of(alloc, number, class.above.as_slice())?;
     Ok(meaning::Class {
-        number: small(number)?,
+        number: narrow_number(number)?,
         rank,
         fields: List::from_vec(fields),
         under: List::from_vec(under),
     })
 }
 
-/// The methods that a class has itself, behind those that there are.
+/// The methods that a class has itself, after those that there are.
 fn add_methods(
     home: u32,
     rows: &[(usize, usize)],
@@ -86,8 +77,8 @@ fn add_methods(
     ensures added { OnOk result (found.new.items ≡ found.old.items ++ own_methods home rows.now) }
 {
     for row in rows {
-        let slot = small(row.0)?;
-        let number = small(row.1)?;
+        let slot = narrow_number(row.0)?;
+        let number = narrow_number(row.1)?;
         let function = Routine { home, number };
         found.push(Method { slot, function })?;
     }
@@ -103,7 +94,7 @@ fn base_of<'a>(classes: &'a [Class], class: &Class) -> Option<&'a Class>
     classes.get(class.base?)
 }
 
-/// The methods of a class and of so many classes above it, behind those that there are.
+/// The methods of a class and of up to `left` classes above it, after those that there are.
 fn add_chain(
     home: u32,
     classes: &[Class],

@@ -127,7 +127,7 @@ impl Modules {
         }
     }
 
-    /// Adds a module that is not built, behind those that there are.
+    /// Adds a module that is not built, after those that there are.
     ///
     /// # Errors
     /// Want of memory.
@@ -234,7 +234,7 @@ impl Modules {
     }
 
     /// Runs the initializers of a module's globals, in the order of declaration and on one budget
-    /// of ticks. What they ask and which objects end is listed behind the events, which need room
+    /// of ticks. What they ask and which objects end is listed after the events, which need room
     /// for the end of each live host object. A module that is not built has none.
     ///
     /// # Errors
@@ -274,7 +274,7 @@ impl Modules {
 
     /// Calls the function of a number of a module with a budget of ticks, and answers its value,
     /// where it is of a primitive type. Any other value has been given up. The arguments stand in
-    /// the order of the parameters. What the function asks and which objects end is listed behind
+    /// the order of the parameters. What the function asks and which objects end is listed after
     /// the events, which need room for the end of each live host object.
     ///
     /// # Errors

@@ -8,6 +8,7 @@ use crate::entities::uses_of;
 use ang_code::RoutineCode;
 use ang_gen::Code;
 use ang_lower::passings;
+use ang_lower_expr::narrow_number;
 use ang_meaning::Passing;
 use ang_typed::{Heading, Typed};
 use ang_view::View;
@@ -112,9 +113,7 @@ pub fn code_of(
         (λ m. list_map (λ y. y.items) m.slots.items ≡ headings_in tree.now.methods) }
 {
     let codes = code.into_bodies();
-    if codes.len() > u32::MAX as usize {
-        return Err(AllocError);
-    }
+    narrow_number(codes.len())?;
     let name = Vec::from_slice(alloc, name)?;
     let entities = uses_of(alloc, view)?;
     let imports = imports_of(alloc, tree.imports.as_slice())?;

@@ -67,7 +67,7 @@ empty_there ms i e =
     let p = position-passes is_none ms i None e in
     (p.0, is_empty (slice_index_or ms i None) p.1)
 
--- the place behind all others has the default
+-- the place after all others has the default
 behind : {A : Type 0} (xs : List A) (d : A) (i : ℕ) → i ≡ length xs → slice_index_or (xs ++ d ∷ []) i d ≡ d
 behind [] d zero e = refl
 behind [] d (suc i) e = refl
@@ -85,7 +85,7 @@ past_end [] d j le = refl
 past_end (x ∷ xs) d zero le = absurd (omega (arith, le))
 past_end (x ∷ xs) d (suc j) le = past_end xs d j (omega (arith, le))
 
--- ---- what stands in the places behind it
+-- ---- what stands in the places after it
 
 set_get : (xs : List (Option Module)) (i : ℕ) (m : Module) (j : ℕ) (q : Module) → slice_get (slice_set xs i (Some m)) j ≡ Some (Some q)
     → (slice_get xs j ≡ Some (Some q)) ⊎ ((j ≡ i) × (q ≡ m))

@@ -90,7 +90,7 @@ fn push_place(alloc: Global, list: &mut ModuleList, globals: &mut Globals) -> Re
     Ok(())
 }
 
-/// The number of an empty place: of the first one that there is, or of one more behind all others.
+/// The number of an empty place: of the first one that there is, or of one more after all others.
 ///
 /// # Errors
 /// `Limit` where there are as many places as there can be modules; `Memory`.

@@ -45,7 +45,7 @@ if_arm t0 t1 t2 t3 q n j exit again m k e s r exit_in again_in e1 k_is m_is e2 e
     ∙ ap (λ z. either_code (expr_code 0 e) (block_at q n j z (length t2 - again) s) other ++ t0) b_is
     ∙ ap (λ z. either_code (expr_code 0 e) (block_at q n j (b + length other + length past) z s) other ++ t0) c_is
 
--- a loop's body where n locals are alive, and so many instructions stand between it and the loop's exit
+-- a loop's body where n locals are alive, and `far` instructions stand between it and the loop's exit
 abbrev pub body_at : ℕ → ℕ → ℕ → Statement → List Instruction
 body_at q n far s = block_code (stmt_code q n n (far + ending s) (ending s) s) (declared s)
 

@@ -37,7 +37,7 @@ abbrev pub ReplyGoes : Setting → Texts → Config → List Frame → List Slot
 ReplyGoes z code start fr s k t (Yields v outs t' w) = Comes z code start (back fr v outs s t' w) × (t' ≤ t) × (length outs ≡ k)
 ReplyGoes z code start fr s k t (Raises x w) = Comes z code start (fault x s w)
 
--- the loop round a statement, if any: the locals alive at it, the place behind it, and the place of its next step
+-- the loop round a statement, if any: the locals alive at it, the place after it, and the place of its next step
 pub record Exits : Type 0 where
   pub loop : Bool
   pub alive : ℕ

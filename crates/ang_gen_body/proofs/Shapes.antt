@@ -7,7 +7,7 @@ use Rattle.ang_code.specs.declared.instruction.Instruction.{Instruction}
 use Rattle.ang_code.specs.declared.instruction.Instruction.TheVariants.{SkipIfFalse, Tick, Back}
 use Rattle.ang_gen_body.specs.Code.{past_code, either_code, while_code, leave_code, block_code, stmt_code}
 
--- a choice, where m and k are the places behind its first and its second side
+-- a choice, where m and k are the places after its first and its second side
 pub choice : (t0 t1 t2 t3 t4 test one two : List Instruction) (m k : ℕ) → t1 ≡ two ++ t0 → t2 ≡ past_code (m - k) ++ t1 → m ≡ length t1 → k ≡ length t0 → t3 ≡ one ++ t2 →
     t4 ≡ test ++ (SkipIfFalse (length t3 - m) ∷ t3) → t4 ≡ either_code test one two ++ t0
 choice t0 t1 t2 t3 t4 test one two m k e1 e2 m_is k_is e3 e4 =
@@ -72,7 +72,7 @@ loop_length t0 t1 t2 t3 test n e1 same e3 =
     let l3 : length t3 ≡ suc (length t2) = ap length e3 in
     omega arith
 
--- the place behind what was written since
+-- the place after what was written since
 pub behind_more : (t0 t1 part : List Instruction) (mark : ℕ) → t1 ≡ part ++ t0 → mark ≤ length t0 → length t1 - mark ≡ length t0 - mark + length part
 behind_more t0 t1 part mark e h =
     let l : length t1 ≡ length part + length t0 = ap length e ∙ length-append part t0 in omega arith

@@ -77,7 +77,7 @@ length_set [] i x = refl
 length_set (v ∷ a) zero x = refl
 length_set (v ∷ a) (suc i) x = ap suc (length_set a i x)
 
--- the value behind these
+-- the value after these
 pub local_seam : (a : List Slot) (v : Slot) (b : List Slot) → local_at (a ++ v ∷ b) (length a) ≡ v
 local_seam [] v b = refl
 local_seam (x ∷ a) v b = local_seam a v b

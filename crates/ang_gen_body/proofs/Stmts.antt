@@ -152,7 +152,7 @@ module _ (z : Setting) (code : Texts) (r : Running) (ps : List Passing) where
   in_no_loop x y start pc n0 n t (Broken ls t' w) no_loop q = absurd (no_true x.loop no_loop q.3)
   in_no_loop x y start pc n0 n t (Continued ls t' w) no_loop q = absurd (no_true x.loop no_loop q.3)
 
-  -- a loop's body: leave its block at pc, go on behind, or get out at x.out, where the loop has n locals
+  -- a loop's body: leave its block at pc, go on after it, or get out at x.out, where the loop has n locals
   dropped : (n : ℕ) (ls : List Slot) → n ≤ length ls → length (drop_some (length ls - n) ls) ≡ n
   dropped n ls h =
       let e : length ls - (length ls - n) ≡ n = omega arith in

@@ -16,7 +16,7 @@ use Rattle.ang_code.specs.declared.instruction.Instruction.TheVariants.{PushBits
 abbrev pub if_code : List Instruction → List Instruction → List Instruction → List Instruction
 if_code test a b = test ++ (SkipIfFalse (length a + 1) ∷ (a ++ (GoOn (length b) ∷ b)))
 
--- a jump past so many instructions, where there are any
+-- a jump past n instructions, where there are any
 abbrev pub past_code : ℕ → List Instruction
 past_code zero = []
 past_code (suc n) = GoOn (suc n) ∷ []
@@ -62,7 +62,7 @@ abbrev mutual
   args_code d end_of-Expression = []
   args_code d (more_of-Expression e rest) = expr_code d e ++ args_code (suc d) rest
 
--- so many locals are given up
+-- n locals are given up
 abbrev pub leave_code : ℕ → List Instruction
 leave_code zero = []
 leave_code (suc n) = Leave (suc n) ∷ []

@@ -3,21 +3,12 @@ ghost use Rattle.std.specs.Prelude.{◌≡◌, ◌+◌, ◌++◌, IfOk, OnOk};
 ghost use Rattle.ang_gen_body.specs.Code.{expr_code, outs_code, swap_at, swaps_code};
 ghost use Rattle.ang_gen_body.specs.Rows.{list_code};
 
+use crate::room::grown;
 use crate::text::Text;
 use ang_code::Instruction;
 use ang_core::Expression;
 use ang_meaning::{Spot, Target};
 use std::alloc::AllocError;
-
-/// The sum, or want of memory where no stack could have so many values.
-pub fn sum(a: usize, b: usize) -> Result<usize, AllocError>
-    ensures exact { IfOk result (λ n. n ≡ a + b) }
-{
-    match a.checked_add(b) {
-        Some(n) => Ok(n),
-        None => Err(AllocError),
-    }
-}
 
 // The value of an `&out` parameter at the place `under` moves into its target, where the locals begin at
 // the place `base`.
@@ -26,7 +17,7 @@ fn swap(target: &Target, under: u32, base: usize) -> Result<Instruction, AllocEr
 {
     match target.spot {
         Spot::Local(i) => {
-            let with = sum(base, i)?;
+            let with = grown(base, i)?;
             Ok(Instruction::Swap {
                 to: target.to,
                 under,
@@ -39,29 +30,18 @@ fn swap(target: &Target, under: u32, base: usize) -> Result<Instruction, AllocEr
             global,
         }),
         Spot::Field { object, field } => {
-            let place = sum(base, object)?;
-            let object = narrow(place)?;
+            let place = grown(base, object)?;
             Ok(Instruction::SwapField {
                 to: target.to,
                 under,
-                object,
+                object: place as u32,
                 field,
             })
         }
     }
 }
 
-// A place as an instruction has it, or want of memory where no stack could have it.
-fn narrow(place: usize) -> Result<u32, AllocError>
-    ensures exact { IfOk result (λ n. n ≡ place) }
-{
-    match u32::try_from(place) {
-        Ok(n) => Ok(n),
-        Err(_) => Err(AllocError),
-    }
-}
-
-// The code of all targets, behind a call. The first target in the list is the last one of the call.
+// The code of all targets, after a call. The first target in the list is the last one of the call.
 fn write_swaps(text: &mut Text, base: usize, targets: &[Target]) -> Result<(), AllocError>
     ensures code { OnOk result (text.new ≡ swaps_code 1 base targets.now ++ text.old) }
 {
@@ -69,19 +49,10 @@ fn write_swaps(text: &mut Text, base: usize, targets: &[Target]) -> Result<(), A
     for target in targets {
         let instruction = swap(target, under, base)?;
         text.put(instruction)?;
-        under = next_place(under)?;
+        let next = grown(under as usize, 1)?;
+        under = next as u32;
     }
     Ok(())
-}
-
-// The place below, or want of memory where no stack could have it.
-fn next_place(under: u32) -> Result<u32, AllocError>
-    ensures exact { IfOk result (λ n. n ≡ under + 1) }
-{
-    match under.checked_add(1) {
-        Some(n) => Ok(n),
-        None => Err(AllocError),
-    }
 }
 
 // What follows a call's entry: the values of its `&out` parameters move into their targets.
@@ -91,8 +62,8 @@ fn write_outs(text: &mut Text, above: usize, targets: &[Target]) -> Result<(), A
     if targets.is_empty() {
         return Ok(());
     }
-    let count = sum(1, targets.len())?;
-    let base = sum(count, above)?;
+    let count = grown(1, targets.len())?;
+    let base = grown(count, above)?;
     text.put(Instruction::DropUnder(targets.len()))?;
     write_swaps(text, base, targets)
 }
@@ -106,16 +77,16 @@ pub fn write_expression(text: &mut Text, above: usize, e: &Expression) -> Result
         Expression::Number(n) => text.put(Instruction::PushBits(*n)),
         Expression::Null => text.put(Instruction::PushNull),
         Expression::Local(i) => {
-            let place = sum(above, *i)?;
+            let place = grown(above, *i)?;
             text.put(Instruction::Load(place))
         }
         Expression::Assign(i, value) => {
-            let place = sum(above, *i)?;
+            let place = grown(above, *i)?;
             text.put(Instruction::Store(place))?;
             write_expression(text, above, value)
         }
         Expression::Change(i, change, value) => {
-            let place = sum(above, *i)?;
+            let place = grown(above, *i)?;
             text.put(Instruction::Change(*change, place))?;
             write_expression(text, above, value)
         }
@@ -146,7 +117,7 @@ pub fn write_expression(text: &mut Text, above: usize, e: &Expression) -> Result
 fn write_operands(text: &mut Text, above: usize, operands: &[Expression]) -> Result<(), AllocError>
     ensures code { OnOk result (text.new ≡ list_code above operands.now ++ text.old) }
 {
-    let mut next = sum(above, operands.len())?;
+    let mut next = grown(above, operands.len())?;
     for e in operands.iter().rev() {
         next -= 1;
         write_expression(text, next, e)?;

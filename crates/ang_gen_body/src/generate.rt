@@ -5,15 +5,15 @@ ghost use Rattle.ang_gen_body.specs.Code.{body_code};
 ghost use Rattle.ang_gen_body.specs.Peaks.{body_peak};
 ghost use Rattle.ang_gen_body.specs.Programs.{IsBodyCode};
 
-use crate::expression::sum;
 use crate::height::statement_peak;
+use crate::room::grown;
 use crate::statement::{Exits, declared_by, write_statement};
 use crate::text::Text;
 use ang_code::{Instruction, RoutineCode};
 use ang_core::{Body, Statement};
 use std::alloc::{AllocError, Global};
 
-// The instructions of a whole body with so many parameters.
+// The instructions of a whole body with `params` parameters.
 fn body_text(alloc: Global, params: usize, s: &Statement) -> Result<Vec<Instruction>, AllocError>
     ensures exact { IfOk result (λ text. text.items ≡ body_code params s.now) }
 {
@@ -31,12 +31,12 @@ fn body_text(alloc: Global, params: usize, s: &Statement) -> Result<Vec<Instruct
     Ok(text.into_vec())
 }
 
-// The greatest number of values in the frame of a whole body with so many parameters.
+// The greatest number of values in the frame of a whole body with `params` parameters.
 fn frame_peak(params: usize, s: &Statement) -> Result<usize, AllocError>
     ensures exact { IfOk result (λ n. n ≡ body_peak params s.now) }
 {
-    let locals = sum(declared_by(s), params)?;
-    let end = sum(locals, 1)?;
+    let locals = grown(declared_by(s), params)?;
+    let end = grown(locals, 1)?;
     let inside = statement_peak(params, s)?;
     Ok(inside.max(end))
 }
@@ -63,8 +63,8 @@ fn generate_body(alloc: Global, body: &Body) -> Result<RoutineCode, AllocError>
 /// the parameters within which it always stays.
 ///
 /// # Errors
-/// Want of memory. It is also answered where a place on the stack would be past the numbers that
-/// instructions have for places.
+/// Want of memory. A frame has room for fewer than 2^32 values: a body that would have more is refused for it
+/// too.
 pub fn generate_module(alloc: Global, bodies: &[Body]) -> Result<Vec<RoutineCode>, AllocError>
     ensures codes { IfOk result (λ codes. AllZip IsBodyCode bodies.now codes.items) }
 {

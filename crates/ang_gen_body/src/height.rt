@@ -2,7 +2,7 @@
 ghost use Rattle.std.specs.Prelude.{◌≡◌, ◌+◌, IfOk};
 ghost use Rattle.ang_gen_body.specs.Peaks.{peak, list_peak, statement_peak, statements_peak};
 
-use crate::expression::sum;
+use crate::room::grown;
 use crate::statement::declared_by;
 use ang_core::{Expression, Statement};
 use std::alloc::AllocError;
@@ -14,19 +14,19 @@ pub fn expression_peak(below: usize, e: &Expression) -> Result<usize, AllocError
     ensures exact { IfOk result (λ n. n ≡ peak below e.now) }
 {
     match e {
-        Expression::Number(_) => sum(below, 1),
-        Expression::Null => sum(below, 1),
-        Expression::Local(_) => sum(below, 1),
+        Expression::Number(_) => grown(below, 1),
+        Expression::Null => grown(below, 1),
+        Expression::Local(_) => grown(below, 1),
         Expression::Assign(_, value) => expression_peak(below, value),
         Expression::Change(_, _, value) => expression_peak(below, value),
         Expression::Apply(_, operands) => {
-            let own = sum(below, 1)?;
+            let own = grown(below, 1)?;
             let inner = operands_peak(below, operands)?;
             Ok(own.max(inner))
         }
         Expression::Call(_, operands, targets) => {
-            let outs = sum(targets.len(), below)?;
-            let own = sum(outs, 1)?;
+            let outs = grown(targets.len(), below)?;
+            let own = grown(outs, 1)?;
             let inner = operands_peak(below, operands)?;
             Ok(own.max(inner))
         }
@@ -48,7 +48,7 @@ fn operands_peak(below: usize, operands: &[Expression]) -> Result<usize, AllocEr
     let mut next = below;
     for e in operands {
         highest = highest.max(expression_peak(next, e)?);
-        next = sum(next, 1)?;
+        next = grown(next, 1)?;
     }
     Ok(highest)
 }
@@ -96,7 +96,7 @@ fn row_peak(alive: usize, row: &[Statement]) -> Result<usize, AllocError>
     let mut here = alive;
     for s in row {
         highest = highest.max(statement_peak(here, s)?);
-        here = sum(declared_by(s), here)?;
+        here = grown(declared_by(s), here)?;
     }
     Ok(highest)
 }

@@ -8,6 +8,7 @@ mod expression;
 mod generate;
 mod height;
 pub mod laws;
+mod room;
 mod statement;
 mod text;
 

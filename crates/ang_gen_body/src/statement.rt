@@ -6,21 +6,22 @@ ghost use Rattle.ang_core.specs.Sound.{declared};
 ghost use Rattle.ang_gen_body.specs.Code.{expr_code, past_code, leave_code, block_code, stmt_code, while_code};
 ghost use Rattle.ang_gen_body.specs.Rows.{statements_code, declared_in};
 
-use crate::expression::{sum, write_expression};
+use crate::expression::write_expression;
+use crate::room::grown;
 use crate::text::Text;
 use ang_code::Instruction;
 use ang_core::{Expression, Statement};
 use std::alloc::AllocError;
 
 /// Where the statements that are being written can leave to. A place is the number of instructions that
-/// stand behind it.
+/// stand after it.
 #[derive(Clone, Copy)]
 pub struct Exits {
     /// The body's parameters.
     pub params: usize,
     /// The locals alive at the loop.
     pub alive: usize,
-    /// Behind the loop.
+    /// After the loop.
     pub exit: usize,
     /// At the loop's step.
     pub again: usize,
@@ -56,7 +57,7 @@ fn declared_by_all(statements: &[Statement]) -> usize
     count
 }
 
-// So many locals are given up.
+// `n` locals are given up.
 fn write_leave(text: &mut Text, n: usize) -> Result<(), AllocError>
     ensures code { OnOk result (text.new ≡ leave_code n ++ text.old) }
 {
@@ -66,7 +67,7 @@ fn write_leave(text: &mut Text, n: usize) -> Result<(), AllocError>
     Ok(())
 }
 
-// A jump past so many instructions, where there are any.
+// A jump past `n` instructions, where there are any.
 fn write_past(text: &mut Text, n: usize) -> Result<(), AllocError>
     ensures code { OnOk result (text.new ≡ past_code n ++ text.old) }
 {
@@ -88,7 +89,7 @@ fn write_test(text: &mut Text, mark: usize, test: &Expression) -> Result<(), All
 }
 
 // The beginning of a loop whose body and step are written, in front of its jump back, which has `behind`
-// instructions behind it.
+// instructions after it.
 fn begin_loop(text: &mut Text, behind: usize, test: &Expression) -> Result<(), AllocError>
     requires behind { behind < length text.old }
     ensures code { (body step rest : List Instruction) →
@@ -117,7 +118,7 @@ fn begin_at_body(text: &mut Text, behind: usize, test: &Expression) -> Result<()
     text.put(Instruction::GoOn(start - body))
 }
 
-// So many locals are given up, and the run goes on where so many instructions stand behind.
+// `n` locals are given up, and the run goes on where `behind` instructions stand after it.
 fn write_way_out(text: &mut Text, n: usize, behind: usize) -> Result<(), AllocError>
     requires behind { behind ≤ length text.old }
     ensures code { OnOk result (text.new ≡ (leave_code n ++ GoOnBy (length text.old - behind) ∷ [])
@@ -172,7 +173,7 @@ fn write_step(
     write_statement(text, exits, locals, s)
 }
 
-// A loop's body, in front of the loop's step. So many instructions stand behind the loop.
+// A loop's body, in front of the loop's step. `behind` instructions stand after the loop.
 #[cycle(statement)]
 fn write_body(
     text: &mut Text,
@@ -212,7 +213,7 @@ fn write_row(
     ensures code { OnOk result (text.new ≡ statements_code exits.params locals exits.alive
         (length text.old - exits.exit) (length text.old - exits.again) row.now ++ text.old) }
 {
-    let mut here = sum(declared_by_all(row), locals)?;
+    let mut here = grown(declared_by_all(row), locals)?;
     for s in row.iter().rev() {
         here -= declared_by(s);
         write_statement(text, exits, here, s)?;
@@ -220,7 +221,7 @@ fn write_row(
     Ok(())
 }
 
-/// Writes the code of a statement where so many locals are alive.
+/// Writes the code of a statement where `alive` locals are alive.
 #[cycle(statement)]
 pub fn write_statement(
     text: &mut Text,

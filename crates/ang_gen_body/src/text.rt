@@ -53,7 +53,7 @@ impl Text {
         Ok(())
     }
 
-    /// Makes the instruction that has `behind` instructions behind it a jump back by `distance`. The
+    /// Makes the instruction that has `behind` instructions after it a jump back by `distance`. The
     /// others stay.
     pub fn set_back(&mut self, behind: usize, distance: usize)
         requires there { behind < length self.old }

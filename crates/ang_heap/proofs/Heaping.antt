@@ -206,7 +206,7 @@ field_read s k i o v other g e = e ∙ sym (ap (λ x. field_of x i other) (get_o
 pub no_field : (s : Slab ScriptObject) (k i : ℕ) (other : Slot) → get s k ≡ None → other ≡ field_of (map.get (objects_in s) k) i other
 no_field s k i other g = sym (ap (λ x. field_of x i other) (free_object s k g))
 
--- an object put where there was none, behind the slab's growth
+-- an object put where there was none, after the slab's growth
 pub object_new : (s u t : Slab ScriptObject) (k : ℕ) (o : ScriptObject) → u.slots ≡ s.slots → Updates u t k (Some o) → objects_in t ≡ map.insert (objects_in s) k (record_of o)
 object_new s u t k o e p = object_set u t k o p ∙ ap (λ m. map.insert m k (record_of o)) (same_objects s u e)
 

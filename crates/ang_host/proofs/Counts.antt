@@ -92,7 +92,7 @@ at_none m k q g false t = omega arith
 pub Makes-count : (fits : Fits) (s t : State) (a : Ask) (k : ℕ) → Makes fits s a (MadeKey k) t → (q : ℕ) → count_at t.counts q ≡ count_at s.counts q + one_if (nat_eq k q)
 Makes-count fits s t a k h q = ap (λ m. count_at m q) h.1 ∙ at_insert s.counts k 1 q ∙ at_none s.counts k q h.0 (nat_eq k q) refl
 
--- an asking that is answered by no key changes no count
+-- a host call that is answered by no key changes no count
 pub Answers-counts : (fits : Fits) (s t : State) (a : Ask) (r : Answer) → Answers fits s a r t → t.counts ≡ s.counts
 Answers-counts fits s t a Void h = h.0
 Answers-counts fits s t a (Gave v) h = h.0

@@ -48,7 +48,7 @@ module _ (roles : List Role) (fits : Fits) (s t : State) (caller : List ℕ) (en
   the_event : HostEvent
   the_event = Called caller entity d o args reply
 
-  -- an asking that was not refused as full
+  -- a host call that was not refused as full
   called_follows : is_full reply ≡ false → fits s.core (ask_of (role_at roles entity.0) o args) reply t.core
       → ((k : ℕ) → map.contains_key t.counts k ≡ cond (is_born k reply) true (map.contains_key s.counts k))
       → t.tally.asked ≡ s.tally.asked + 1 → s.tally.made ≤ t.tally.made → s.tally.added ≤ t.tally.added
@@ -63,7 +63,7 @@ module _ (roles : List Role) (fits : Fits) (s t : State) (caller : List ℕ) (en
         full = λ h. let e : (false || false) ≡ true = subst (λ b. (b || false) ≡ true) f h in cc;
       }
 
-  -- an asking that was
+  -- a host call that was
   full_follows : is_full reply ≡ true → ((k : ℕ) → is_born k reply ≡ false) → t ≡ s → IsFull s
       → Follows roles fits s (Called caller entity d o args reply ∷ []) t
   full_follows f unborn same full =

@@ -81,7 +81,7 @@ abbrev pub live_along : ℕ → Bool → List HostEvent → Bool
 live_along k b [] = b
 live_along k b (e ∷ es) = live_along k (live_after k b e) es
 
--- what an event adds to the tally of askings
+-- what an event adds to the tally of host calls
 abbrev pub counts_as_asked : HostEvent → ℕ
 counts_as_asked (Called caller entity driver object args reply) = cond (is_full reply) 0 1
 counts_as_asked (Ended driver key) = 0

@@ -52,16 +52,16 @@ pub record IsSound (s : State) : Type 0 where
   pub sums : s.tally.made + s.tally.added ≡ s.tally.released + total s.counts
   pub positive : (k n : ℕ) → map.get s.counts k ≡ Some n → 0 < n
 
--- one asking more
+-- one host call more
 abbrev pub one_asked : Tally → Tally
 one_asked t = record t { asked = t.asked + 1 }
 
--- one asking that was not refused as `Full` and made no key
+-- one host call that was not refused as `Full` and made no key
 abbrev pub IsAsked : Fits → State → Ask → HostReply → State → Type 0
 IsAsked fits s a r t =
     (t.counts ≡ s.counts) × (t.tally ≡ one_asked s.tally) × fits s.core a r t.core
 
--- an asking through `call`, `read` or `write`
+-- a host call through `call`, `read` or `write`
 abbrev pub Answers : Fits → State → Ask → Answer → State → Type 0
 Answers fits s a Full t = (t ≡ s) × IsFull s
 Answers fits s a Void t = IsAsked fits s a (Asking Void) t
@@ -69,7 +69,7 @@ Answers fits s a (Gave v) t = IsAsked fits s a (Asking (Gave v)) t
 Answers fits s a (Fault n) t = IsAsked fits s a (Asking (Fault n)) t
 Answers fits s a Memory t = IsAsked fits s a (Asking Memory) t
 
--- an asking through `make`
+-- a host call through `make`
 abbrev pub Makes : Fits → State → Ask → Made → State → Type 0
 Makes fits s a MadeFull t = (t ≡ s) × IsFull s
 Makes fits s a (MadeKey k) t =

@@ -35,7 +35,7 @@ pub enum Answer {
     Full,
 }
 
-/// The answer to one asking, as an event lists it.
+/// The answer to one host call, as an event lists it.
 #[derive(Clone, Copy, PartialEq, Eq, Debug)]
 pub enum HostReply {
     /// The answer to `make`.

@@ -10,10 +10,10 @@ use ang_kinds::Value;
 ///
 /// A driver's meaning is a `state`, which has three parts, and a relation `fits` of its own. The state
 /// has the number of references to each live key, the `core`, a list of numbers that stands for what
-/// the driver keeps, and the tallies of its askings, of the objects made, and of the references added
+/// the driver keeps, and the tallies of its host calls, of the objects made, and of the references added
 /// and released. Made plus added always equals released plus the sum of the counts.
 ///
-/// `make`, `call`, `read` and `write` are the askings. An asking raises `asked` by one and moves the
+/// `make`, `call`, `read` and `write` are the host calls. A host call raises `asked` by one and moves the
 /// core as `fits` says, except where it answers `Full`, which changes nothing and comes only where a
 /// tally stands at 2^63 - 1. No call changes `fits`.
 ///

@@ -1,4 +1,4 @@
-//! Askings and releases of drivers that are listed as events.
+//! Host calls and releases of drivers that are listed as events.
 //!
 //! The place of the event is reserved before, so listing it takes no memory. Each of them says what
 //! the one driver did, and that the list of drivers follows the event: the answer in it is the

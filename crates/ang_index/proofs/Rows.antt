@@ -1,6 +1,6 @@
 -- What the table's calls do, as rows of items.
 use Rattle.std.proofs.Common.{◌≡◌, ℕ, ◌==◌, Bool, true, false, cond, ◌&&◌, List, [], ◌∷◌, ◌++◌, Option, Some, None, refl, sym, ap, ◌∙◌, arith, true≢false, bytes_eq}
-use Rattle.std.specs.Prelude.{unwrap_or, Result, Ok, Err, OnErr, OnOk}
+use Rattle.std.specs.Prelude.{unwrap_or, Result, Ok, Err, IfNone, IfSome, OnErr, OnOk}
 use Rattle.std.specs.Map.{lookup, set_value}
 use Rattle.std.proofs.lemmas.Slice.Eq.{bytes_eq-Decides}
 use Rattle.indexmap.specs.IndexMap.{insert_entry}
@@ -16,6 +16,16 @@ on_ok (Err e) f h = h
 pub on_err : {A E P Q : Type 0} (r : Result A E) → (P → Q) → OnErr r P → OnErr r Q
 on_err (Ok a) f h = h
 on_err (Err e) f h = f h
+
+-- ---- an answer that may be none
+
+pub if_some : {A : Type 0} {P Q : A → Type 0} (r : Option A) → ((x : A) → P x → Q x) → IfSome r P → IfSome r Q
+if_some (Some a) f h = f a h
+if_some None f h = h
+
+pub if_none : {A P Q : Type 0} (r : Option A) → (P → Q) → IfNone r P → IfNone r Q
+if_none (Some a) f h = h
+if_none None f h = f h
 
 -- ---- a scope's number and a name
 
@@ -130,6 +140,42 @@ module _ {T : Type 0} where
   pub present_stays : (s : ℕ) (name : List ℕ) (es new : List (Key × List T)) (row same : List T)
       → lookup_asked s name es ≡ Some row → same ≡ row → new ≡ set_value (is_asked s name) es same → new ≡ es
   present_stays s name es new row same h e is = is ∙ ap (set_value (is_asked s name) es) e ∙ stays s name es row h
+
+  -- ---- an item less in a row that is there
+
+  set_found : (p : Key → Bool) (es : List (Key × List T)) (row less : List T) → lookup p es ≡ Some row → lookup p (set_value p es less) ≡ Some less
+  set_found p [] row less h = cc
+  set_found p (e ∷ es) row less h = by (p e.0) refl (set_found p es row less) h
+    where
+      by : (b : Bool) → p e.0 ≡ b → (lookup p es ≡ Some row → lookup p (set_value p es less) ≡ Some less)
+          → cond b (Some e.1) (lookup p es) ≡ Some row → lookup p (cond b ((e.0, less) ∷ es) (e ∷ set_value p es less)) ≡ Some less
+      by true is later h = ap (λ b. cond b (Some less) (lookup p es)) is
+      by false is later h = ap (λ b. cond b (Some e.1) (lookup p (set_value p es less))) is ∙ later h
+
+  set_back : (p : Key → Bool) (es : List (Key × List T)) (row less : List T) → lookup p es ≡ Some row → set_value p (set_value p es less) row ≡ es
+  set_back p [] row less h = cc
+  set_back p (e ∷ es) row less h = by (p e.0) refl (set_back p es row less) h
+    where
+      by : (b : Bool) → p e.0 ≡ b → (lookup p es ≡ Some row → set_value p (set_value p es less) row ≡ es)
+          → cond b (Some e.1) (lookup p es) ≡ Some row → set_value p (cond b ((e.0, less) ∷ es) (e ∷ set_value p es less)) row ≡ e ∷ es
+      by true is later h =
+          ap (λ b. cond b ((e.0, row) ∷ es) ((e.0, less) ∷ set_value p es row)) is ∙ ap (λ v. (e.0, v) ∷ es) (sym (some_same e.1 row h))
+      by false is later h =
+          ap (λ b. cond b ((e.0, row) ∷ set_value p es less) (e ∷ set_value p (set_value p es less) row)) is ∙ ap (λ r. e ∷ r) (later h)
+
+  pub present_takes : (s : ℕ) (name : List ℕ) (es new : List (Key × List T)) (row less : List T) (x : T)
+      → lookup_asked s name es ≡ Some row → row ≡ less ++ x ∷ [] → new ≡ set_value (is_asked s name) es less
+      → Puts (rows_of new) (rows_of es) s name x
+  present_takes s name es new row less x h e is =
+      let found : lookup_asked s name new ≡ Some less = ap (lookup (is_asked s name)) is ∙ set_found (is_asked s name) es row less h in
+      let back : es ≡ set_value (is_asked s name) new row = sym (ap (λ n. set_value (is_asked s name) n row) is ∙ set_back (is_asked s name) es row less h) in
+      present_puts s name new es less row x found e back
+
+  pub present_none : (s : ℕ) (name : List ℕ) (es : List (Key × List T)) (row : List T) → lookup_asked s name es ≡ Some row → row ≡ [] → items_at s name (rows_of es) ≡ []
+  present_none s name es row h e = sym (row_there s name es row h) ∙ e
+
+  pub absent_none : (s : ℕ) (name : List ℕ) (es : List (Key × List T)) → lookup_asked s name es ≡ None → items_at s name (rows_of es) ≡ []
+  absent_none s name es h = sym (none_there s name es h)
 
   -- ---- the first item of a name
 

@@ -16,7 +16,7 @@ abbrev pub items_at : {T : Type 0} → ℕ → List ℕ → Rows T → List T
 items_at scope name [] = []
 items_at scope name (r ∷ rs) = if is_under scope name r.0 then r.1 else items_at scope name rs
 
--- x is put in under a scope's number and a name: it stands behind all that were there, and under all others nothing changes
+-- x is put in under a scope's number and a name: it stands after all that were there, and under all others nothing changes
 abbrev pub Puts : {T : Type 0} → Rows T → Rows T → ℕ → List ℕ → T → Type 0
 Puts old new scope name x = (t : ℕ) (other : List ℕ) →
     items_at t other new ≡ (if is_under t other (scope, name) then items_at t other old ++ x ∷ [] else items_at t other old)

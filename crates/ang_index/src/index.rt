@@ -1,5 +1,5 @@
 //! Items by name, one more at a time.
-ghost use Rattle.std.specs.Prelude.{◌≡◌, ◌++◌, ◌∷◌, [], None, IfOk, OnErr, OnOk};
+ghost use Rattle.std.specs.Prelude.{◌≡◌, ◌++◌, ◌∷◌, [], None, IfNone, IfOk, IfSome, OnErr, OnOk};
 ghost use Rattle.ang_index.specs.Rows as spec;
 
 use crate::key::{Asked, Key, key_of};
@@ -34,6 +34,14 @@ impl<T: Drop> Row<T> {
     {
         self.items.push(item)?;
         Ok(())
+    }
+
+    fn pop(&mut self) -> Option<T>
+        ensures popped { IfSome result (λ x. self.old ≡ self.new ++ x ∷ []) }
+        ensures none { IfNone result (self.old ≡ []) }
+        ensures unchanged { IfNone result (self.new ≡ self.old) }
+    {
+        self.items.pop()
     }
 }
 
@@ -99,8 +107,22 @@ fn put<T: Drop>(
     put_row(alloc, rows, scope, name, item)
 }
 
+/// Takes the last item of the row of its name. The row stays where it was its only one.
+fn take<T: Drop>(rows: &mut IndexMap<Key, Row<T>>, scope: u64, name: &[u8]) -> Option<T>
+    ensures popped { IfSome result (λ x. spec.Puts (spec.rows_of rows.new.entries)
+        (spec.rows_of rows.old.entries) scope name.now x) }
+    ensures none { IfNone result
+        (spec.items_at scope name.now (spec.rows_of rows.old.entries) ≡ []) }
+    ensures unchanged { IfNone result (rows.new.entries ≡ rows.old.entries) }
+{
+    if let Some(row) = rows.get_mut(Asked { scope, name }) {
+        return row.pop();
+    }
+    None
+}
+
 impl<T: Drop> Index<T> {
-    ghost use Rattle.std.specs.Prelude.{◌≡◌, [], OnErr, OnOk};
+    ghost use Rattle.std.specs.Prelude.{◌≡◌, [], IfNone, IfSome, OnErr, OnOk};
     ghost use Rattle.ang_index.specs.Rows.{Puts, items_at};
 
     /// Nothing is put in yet. It takes no memory.
@@ -112,7 +134,7 @@ impl<T: Drop> Index<T> {
         }
     }
 
-    /// Puts an item in under a scope's number and a name, behind all that stand there. After want of memory all is as before.
+    /// Puts an item in under a scope's number and a name, after all that stand there. After want of memory all is as before.
     ///
     /// The only error is want of memory.
     pub fn push(
@@ -126,6 +148,16 @@ impl<T: Drop> Index<T> {
         ensures unchanged { OnErr result (self.new ≡ self.old) }
     {
         put(alloc, &mut self.rows, scope, name, item)
+    }
+
+    /// Takes the last item under a scope's number and a name: put in again, it gives what was there. It takes no memory,
+    /// and its time is that of one look-up.
+    pub fn pop(&mut self, scope: u64, name: &[u8]) -> Option<T>
+        ensures popped { IfSome result (λ x. Puts self.new self.old scope name.now x) }
+        ensures none { IfNone result (items_at scope name.now self.old ≡ []) }
+        ensures unchanged { IfNone result (self.new ≡ self.old) }
+    {
+        take(&mut self.rows, scope, name)
     }
 
     /// The items under a scope's number and a name, in the order in which they were put in. It takes no memory.

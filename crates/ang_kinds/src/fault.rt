@@ -34,7 +34,7 @@ pub enum Fault {
     /// Want of memory, in the engine or in the driver.
     #[error("out of memory")]
     Memory,
-    /// A driver's counter of references or askings stands at 2^63-1.
+    /// A driver's counter of references or host calls stands at 2^63-1.
     #[error("a tally is full")]
     Tally,
 }

@@ -48,7 +48,7 @@ guarded false o = refl
 prefixed_cons : (z l : ℕ) (ds : List ℕ) → is_prefixed (z ∷ l ∷ ds) ≡ (nat_eq z 48 && are_digits_at (base_of l) ds)
 prefixed_cons z l ds = guarded (nat_eq z 48) (option_and_then (digits_in ds) (base_of l)) ∙ ap (λ t. nat_eq z 48 && t) (prefixed_at (base_of l) ds)
 
--- what is behind a prefix counts from one digit on
+-- what is after a prefix counts from one digit on
 behind_more : (d : ℕ) → 0 < behind_prefix d → (0 < d) × (behind_prefix d ≡ suc (suc d))
 behind_more zero some = absurd (omega arith)
 behind_more (suc d) some = (omega arith, omega arith)
@@ -58,7 +58,7 @@ behind_less zero zero less = inr refl
 behind_less zero (suc k) less = inl (omega arith)
 behind_less (suc d) k less = inl (omega arith)
 
--- the digits behind a prefix
+-- the digits after a prefix
 record Behind (o : Option ℕ) (ds : List ℕ) : Type 0 where
   count : ℕ
   len : digits_in_len o ds ≡ suc (suc count)

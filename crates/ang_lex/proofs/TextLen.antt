@@ -19,7 +19,7 @@ run = prefix_len is_text_byte
 begins_within : (p : ℕ → Bool) (xs : List ℕ) (n : ℕ) → begins p (drop n xs) ≡ true → n < length xs
 begins_within p xs n e = ⊎_elim (λ below. below) (λ past. absurd (both_ways false refl (rw (drop_all n xs past) at e))) (order n (length xs))
 
--- what follows an opening quote is closed behind its first n bytes
+-- what follows an opening quote is closed after its first n bytes
 record Closes (r : List ℕ) (n : ℕ) : Type 0 where
   end : n ≡ run r + 1
   quote : begins is_quote (drop (run r) r) ≡ true

@@ -27,7 +27,7 @@ pub record IsLineComment (rest : List ℕ) (n : ℕ) : Type 0 where
   pub one_line : list_all stays_in_line (take n rest) ≡ true
   pub ended : begins stays_in_line (drop n rest) ≡ false
 
--- They are `/*`, a body, and the first `*/` behind the `/*`.
+-- They are `/*`, a body, and the first `*/` after the `/*`.
 pub record IsBlockComment (rest : List ℕ) (n : ℕ) : Type 0 where
   pub opened : starts_with nat_eq rest (codes "/*") ≡ true
   pub body : ℕ
@@ -95,7 +95,7 @@ IsFaultAt rest fault.OpenComment = IsOpenComment rest
 
 -- ---- sections
 
--- From a point of a section on, behind `at` bytes and at a place, the rest is gaps and these tokens.
+-- From a point of a section on, after `at` bytes and at a place, the rest is gaps and these tokens.
 pub data IsCut : ℕ → Place → List ℕ → List Token → Type 0 where
   ended : {at : ℕ} {place : Place} → IsCut at place [] []
   gap : {at : ℕ} {place : Place} {rest : List ℕ} {ts : List Token} (n : ℕ) → IsGap rest n →

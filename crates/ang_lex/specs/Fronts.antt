@@ -13,7 +13,7 @@ name_len = prefix_len is_name_byte
 abbrev pub digits_len : ℕ → List ℕ → ℕ
 digits_len base = prefix_len (is_digit_in base)
 
--- behind a prefix one digit at least has to come
+-- after a prefix one digit at least has to come
 abbrev pub behind_prefix : ℕ → ℕ
 behind_prefix zero = 0
 behind_prefix (suc n) = suc n + 2

@@ -28,7 +28,7 @@ closing_len (b ∷ bs) = if starts_with nat_eq (b ∷ bs) (codes "*/") then Some
 
 -- ---- what stands at the front of a rest that has a byte at least
 
--- a number of 2^64 or more, or one with a letter, a digit, `_` or `.` directly behind it
+-- a number of 2^64 or more, or one with a letter, a digit, `_` or `.` directly after it
 abbrev pub is_bad_number : TokenKind → List ℕ → List ℕ → Bool
 is_bad_number k.Number text after = is_none (spelled_number text) || begins (λ b. is_name_byte b || b == 46) after
 is_bad_number _ text after = false
@@ -60,11 +60,11 @@ piece_of rest =
 
 -- ---- places
 
--- A byte takes a column; behind an LF a line begins.
+-- A byte takes a column; after an LF a line begins.
 abbrev pub next_place : Place → ℕ → Place
 next_place place b = if b == line_feed then record place { line = place.line + 1; column = 1 } else record place { column = place.column + 1 }
 
--- the place behind these bytes
+-- the place after these bytes
 abbrev pub place_after : Place → List ℕ → Place
 place_after place [] = place
 place_after place (b ∷ bs) = place_after (next_place place b) bs
@@ -80,7 +80,7 @@ error_at place fault.BadByte = BadByte place
 error_at place fault.BadNumber = BadNumber place
 error_at place fault.OpenComment = OpenComment place
 
--- a token of n bytes at a point of a section, which has so many bytes before it, and its place
+-- a token of n bytes at a point of a section, which has `at` bytes before it, and its place
 abbrev pub token_at : TokenKind → ℕ → ℕ → Place → Token
 token_at kind n at place = record { kind = kind; span = record { start = at; end = at + n }; place = place }
 
@@ -98,7 +98,7 @@ abbrev pub tokens_with : List Token → Piece → ℕ → Place → List Token
 tokens_with tokens (piece.Gap n) at place = tokens
 tokens_with tokens (piece.Token kind n) at place = tokens ++ token_at kind n at place ∷ []
 
--- a piece, and what is read behind its bytes
+-- a piece, and what is read after its bytes
 abbrev pub with_piece : Result Piece Fault → ℕ → Place → (ℕ → Result (List Token) LexError) → Result (List Token) LexError
 with_piece (Err f) at place behind = Err (error_at place f)
 with_piece (Ok (piece.Gap n)) at place behind = behind n
@@ -123,6 +123,6 @@ tokens_of sect text =
     if nat_lt 65536 (length text) then Err (TooLong (start_of sect))
     else tokens_from (length text) n (place_after (start_of sect) (take n text)) (drop n text)
 
--- the token has a byte at least, and its bytes are among so many
+-- the token has a byte at least, and its bytes are among the first `size`
 abbrev pub IsWithin : ℕ → Token → Type 0
 IsWithin size t = (t.span.start < t.span.end) × (t.span.end ≤ size)

@@ -18,7 +18,7 @@ pub enum LexError {
     /// A byte outside comments that begins no token, or a `"` that begins no text.
     #[error("line {}, column {}: no token begins with this byte", .0.line, .0.column)]
     BadByte(Place),
-    /// A number of 2^64 or more, one without digits behind its prefix, or one directly followed by
+    /// A number of 2^64 or more, one without digits after its prefix, or one directly followed by
     /// a letter, a digit, `_` or `.`. The place is that of its first byte.
     #[error("line {}, column {}: not a number", .0.line, .0.column)]
     BadNumber(Place),

@@ -31,7 +31,7 @@ fn next_place(place: Place, b: u8) -> Place
     }
 }
 
-/// The place behind the bytes.
+/// The place after the bytes.
 fn place_after(mut place: Place, bytes: &[u8]) -> Place
     requires line { place.line + length bytes.now < 2 ^ 32 }
     requires column { place.column + length bytes.now < 2 ^ 32 }

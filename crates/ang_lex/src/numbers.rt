@@ -64,7 +64,7 @@ fn numeral(text: &[u8]) -> Option<(u8, &[u8])>
     }
 }
 
-/// The value with one more digit behind it, if it is below 2^64.
+/// The value with one more digit after it, if it is below 2^64.
 fn with_digit(value: u64, base: u8, digit: u8) -> Option<u64>
     ensures exact { SomeIff result (value * base + digit < 2 ^ 64) (value * base + digit) }
 {
@@ -119,8 +119,8 @@ pub fn spelled_number(text: &[u8]) -> Option<Number>
 
 /// The value and the type of a number's text, as a token of the kind `Number` has it.
 ///
-/// Decimal digits, also behind `0d`, are an `int` up to 2^31-1, an `int64` up to 2^63-1 and a `uint64`
-/// up to 2^64-1. Digits behind `0x`, `0o` and `0b` are a `uint` up to 2^32-1, else a `uint64`. A text
+/// Decimal digits, also after `0d`, are an `int` up to 2^31-1, an `int64` up to 2^63-1 and a `uint64`
+/// up to 2^64-1. Digits after `0x`, `0o` and `0b` are a `uint` up to 2^32-1, else a `uint64`. A text
 /// that is no number, or one of 2^64 or more, gives the `int` 0; no token has one (docs/LANGUAGE.md).
 pub fn number(text: &[u8]) -> Number
     ensures exact { result ≡ spec.number_of text.now }

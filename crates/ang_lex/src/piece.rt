@@ -23,7 +23,7 @@ fn longest_token(rest: &[u8]) -> (TokenKind, usize)
     front_token(rest)
 }
 
-/// What may not stand directly behind a number.
+/// What may not stand directly after a number.
 fn spoils_number(after: &[u8]) -> bool
     ensures exact { result ≡ bytes.begins (λ b. bytes.is_name_byte b || b == 46) after.now }
 {

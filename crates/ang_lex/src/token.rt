@@ -7,7 +7,7 @@ use ang_kinds::{Place, Prim};
 pub struct Span {
     /// The number of the first byte: how many bytes of the section stand before it.
     pub start: u32,
-    /// The number of the byte behind the last, which is none of them.
+    /// The number of the byte after the last, which is none of them.
     pub end: u32,
 }
 

@@ -249,7 +249,7 @@ caught_leave n (Halted f ls w) go = ap (λ i. Halted f (drop_some i (drop_some (
 caught_leave n (Broken ls t w) go = ap (λ i. Went (drop_some i (drop_some (length ls - n) ls)) t (give_some i (drop_some (length ls - n) ls) (give_some (length ls - n) ls w))) (none_over n ls)
 caught_leave n (Continued ls t w) go = ap (λ i. go (drop_some i (drop_some (length ls - n) ls)) t (give_some i (drop_some (length ls - n) ls) (give_some (length ls - n) ls w))) (none_over n ls)
 
--- ---- one statement and others behind it
+-- ---- one statement and others after it
 
 pub then_went : (o : Ran) → then_run o (λ ls t w. Went ls t w) ≡ o
 then_went (Went ls t w) = refl

@@ -18,7 +18,7 @@ use Rattle.ang_lower.proofs.PlainMeaning.{eval, run, run_all}
 use Rattle.ang_lower.proofs.Ends.{SameRun, SameRunFrom, SameSteps, run_at, run_lower, with_value_same, then_run_same, caught_same, leave_same, ticked_same, test_run, leave_leave, caught_leave, then_went, then_then, then_value, leave_exact, exact_keeps, discarded_exact, steps_same}
 use Rattle.ang_lower.proofs.Values.{CalleesAgree, value_same, begin_same, or_same}
 
--- ---- statements behind one another
+-- ---- statements after one another
 
 module _ (z : Setting) (m : ℕ) (k : Callees) (p : plain.Passes) where
   run_append : (a b : List stmt.Stmt) (ls : List Slot) (t : ℕ) (w : World) → run_all z m k p (stmt.stmts (a ++ b)) ls t w ≡ then_run (run_all z m k p (stmt.stmts a) ls t w) (λ ls' t' w'. run_all z m k p (stmt.stmts b) ls' t' w')

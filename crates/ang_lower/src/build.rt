@@ -58,7 +58,7 @@ pub fn either(
 pub struct LoopHead {
     /// What decides before each pass of the body whether there is one: a truth value.
     pub test: Box<Expression>,
-    /// What runs behind each pass of the body, before the next test.
+    /// What runs after each pass of the body, before the next test.
     pub step: Statement,
 }
 

@@ -14,22 +14,20 @@ use crate::build::{
     let_go_of_test, let_go_of_tested, loop_of, make_tested,
 };
 use ang_core::Statement;
-use ang_lower_expr::{lower_begin, lower_boxed, lower_or};
+use ang_lower_expr::{lower_begin, lower_boxed, lower_or, narrow_number};
 use ang_typed as typed;
 use ang_typed::{Block, Choice, Expression, For, Local, Loop};
 use std::alloc::{AllocError, Global};
 
-/// One more local, or want of memory where no memory could have so many.
+/// One more local. Their number has 32 bits before, as that of any frame has.
 fn one_more(alive: usize) -> Result<usize, AllocError>
     ensures exact { IfOk result (λ n. n ≡ suc alive) }
 {
-    match alive.checked_add(1) {
-        Some(n) => Ok(n),
-        None => Err(AllocError),
-    }
+    let before = narrow_number(alive)?;
+    Ok(before as usize + 1)
 }
 
-/// Each local as a statement of its own, behind those that there are. The result is how many are then alive.
+/// Each local as a statement of its own, after those that there are. The result is how many are then alive.
 #[inline(never)]
 fn add_locals(
     alloc: Global,
@@ -167,7 +165,7 @@ pub fn lower_block(alloc: Global, alive: usize, written: &Block) -> Result<State
     }
 }
 
-/// Statements in turn, behind those that there are. The result is how many locals are then alive.
+/// Statements in turn, after those that there are. The result is how many locals are then alive.
 #[cycle(statement)]
 fn add_all(
     alloc: Global,
@@ -322,7 +320,7 @@ fn lower_statement(
     }
 }
 
-/// The statements that stand for one, behind those that there are. The result is how many locals are then
+/// The statements that stand for one, after those that there are. The result is how many locals are then
 /// alive.
 #[cycle(statement)]
 #[inline(never)]

@@ -171,7 +171,7 @@ abbrev mutual
   lowered_read n (t.named x) = read n x
   lowered_read n (t.member_of o a) = unary (reading a) (lowered n o)
 
-  -- a value is stored there; a member's object comes behind it
+  -- a value is stored there; a member's object comes after it
   pub lowered_store : ℕ → t.Site → c.Expr → c.Expr
   lowered_store n (t.named x) v = stored n x v
   lowered_store n (t.member_of o a) v = binary (writing a) v (lowered n o)

@@ -9,7 +9,7 @@ ghost use Rattle.ang_lower_expr.specs.Lowered as spec;
 use crate::build::{Pair, add_operand, apply, binary, call, choice, nullary, unary};
 use crate::folding::{complement, conversion, denial, negation};
 use crate::operators::{arithmetic, compound, is_signed, step, test};
-use crate::variables::{altering, change, read, reading, small, store, targets, writing};
+use crate::variables::{altering, change, narrow_number, read, reading, store, targets, writing};
 use ang_core::Expression;
 use ang_meaning::{Callee, Change, Operation};
 use ang_typed as typed;
@@ -17,7 +17,7 @@ use ang_typed::{Argument, Local, Site};
 use ang_types::ArgType;
 use std::alloc::{AllocError, Global};
 
-/// The core tree of an expression, where so many locals are alive.
+/// The core tree of an expression, where `alive` locals are alive.
 ///
 /// # Errors
 /// Want of memory, which is also answered where a number has more than 32 bits.
@@ -93,7 +93,7 @@ fn lower_unary(alloc: Global, alive: usize, e: &typed::Expression) -> Result<Exp
             denial(alloc, operand)
         }
         typed::Expression::Cast { family, operand } => {
-            let number = small(*family)?;
+            let number = narrow_number(*family)?;
             let operand = lower_expression(alloc, alive, operand)?;
             unary(alloc, Operation::Cast(number), operand)
         }
@@ -270,15 +270,15 @@ fn code_callee(callee: typed::Callee) -> Result<Callee, AllocError>
 {
     match callee {
         typed::Callee::Own(f) => {
-            let number = small(f)?;
+            let number = narrow_number(f)?;
             Ok(Callee::Own(number))
         }
         typed::Callee::Import(i) => {
-            let number = small(i)?;
+            let number = narrow_number(i)?;
             Ok(Callee::Import(number))
         }
         typed::Callee::Chosen(slot) => {
-            let number = small(slot)?;
+            let number = narrow_number(slot)?;
             Ok(Callee::Virtual(number))
         }
     }
@@ -288,7 +288,7 @@ fn code_callee(callee: typed::Callee) -> Result<Callee, AllocError>
 fn made(alloc: Global, family: usize) -> Result<Expression, AllocError>
     ensures exact { IfOk result (λ x. plain_expr x ≡ spec.made family) }
 {
-    let number = small(family)?;
+    let number = narrow_number(family)?;
     Ok(nullary(alloc, Operation::Make(number)))
 }
 
@@ -355,7 +355,7 @@ fn lower_make(
     match constructor {
         None => made(alloc, family),
         Some(body) => {
-            let number = small(body)?;
+            let number = narrow_number(body)?;
             let object = made(alloc, family)?;
             let mut values = Vec::new(alloc);
             add_operand(&mut values, object)?;
@@ -381,7 +381,7 @@ fn lower_arguments(
     Ok(found)
 }
 
-/// The same behind the operands that there are.
+/// The same after the operands that there are.
 #[cycle(expression)]
 fn add_arguments(
     alloc: Global,
@@ -445,7 +445,7 @@ pub fn lower_or(
     }
 }
 
-/// The core tree of what a new local begins with, where so many others are alive.
+/// The core tree of what a new local begins with, where `alive` others are alive.
 #[inline(never)]
 pub fn lower_begin(
     alloc: Global,

@@ -19,9 +19,12 @@ fn place(alive: usize, local: usize) -> usize
     if local < alive { alive - local - 1 } else { 0 }
 }
 
-/// A number of a function or a global in 32 bits. Where it has more, as no module can, the answer is want of
-/// memory.
-pub fn small(number: usize) -> Result<u32, AllocError>
+/// A number of what a module or a frame has, in 32 bits, as code and tables have it.
+///
+/// # Errors
+/// Want of memory: the number has more than 32 bits, as none of a checked module has. It is the one place from
+/// the resolved tree to code that answers it though no allocation was refused, but for the room of a frame.
+pub fn narrow_number(number: usize) -> Result<u32, AllocError>
     ensures exact { IfOk result (λ n. n ≡ number) }
 {
     match u32::try_from(number) {
@@ -58,7 +61,7 @@ pub fn reading(member: &Member) -> Result<Operation, AllocError>
 {
     match member {
         Member::Field(i) => {
-            let number = small(*i)?;
+            let number = narrow_number(*i)?;
             Ok(Operation::FieldGet(number))
         }
         Member::Property(host) => Ok(Operation::Read(host.entity)),
@@ -71,7 +74,7 @@ pub fn writing(member: &Member) -> Result<Operation, AllocError>
 {
     match member {
         Member::Field(i) => {
-            let number = small(*i)?;
+            let number = narrow_number(*i)?;
             Ok(Operation::FieldSet(number))
         }
         Member::Property(host) => Ok(Operation::Write(host.entity)),
@@ -84,14 +87,14 @@ pub fn altering(member: &Member, by: Change) -> Result<Operation, AllocError>
 {
     match member {
         Member::Field(i) => {
-            let number = small(*i)?;
+            let number = narrow_number(*i)?;
             Ok(Operation::FieldChange(number, by))
         }
         Member::Property(host) => Ok(Operation::Alter(host.entity, by)),
     }
 }
 
-/// A variable's value, where so many locals are alive.
+/// A variable's value, where `alive` locals are alive.
 pub fn read(alloc: Global, alive: usize, variable: &Variable) -> Result<Expression, AllocError>
     ensures exact { IfOk result (λ x. plain_expr x ≡ spec.read alive variable.now) }
 {
@@ -101,12 +104,12 @@ pub fn read(alloc: Global, alive: usize, variable: &Variable) -> Result<Expressi
             Ok(Expression::Local(place))
         }
         Variable::Global(g) => {
-            let number = small(*g)?;
+            let number = narrow_number(*g)?;
             Ok(nullary(alloc, Operation::GlobalGet(number)))
         }
         Variable::Property(host) => Ok(nullary(alloc, Operation::Read(host.entity))),
         Variable::Field(i) => {
-            let number = small(*i)?;
+            let number = narrow_number(*i)?;
             let object = this(alive);
             unary(alloc, Operation::FieldGet(number), object)
         }
@@ -130,12 +133,12 @@ pub fn store(
             Ok(Expression::Assign(place, value))
         }
         Variable::Global(g) => {
-            let number = small(*g)?;
+            let number = narrow_number(*g)?;
             unary(alloc, Operation::GlobalSet(number), value)
         }
         Variable::Property(host) => unary(alloc, Operation::Write(host.entity), value),
         Variable::Field(i) => {
-            let number = small(*i)?;
+            let number = narrow_number(*i)?;
             with_this(alloc, alive, Operation::FieldSet(number), value)
         }
     }
@@ -159,12 +162,12 @@ pub fn change(
             Ok(Expression::Change(place, by, value))
         }
         Variable::Global(g) => {
-            let number = small(*g)?;
+            let number = narrow_number(*g)?;
             unary(alloc, Operation::GlobalChange(number, by), value)
         }
         Variable::Property(host) => unary(alloc, Operation::Alter(host.entity, by), value),
         Variable::Field(i) => {
-            let number = small(*i)?;
+            let number = narrow_number(*i)?;
             with_this(alloc, alive, Operation::FieldChange(number, by), value)
         }
     }
@@ -181,19 +184,19 @@ fn spot(alive: usize, variable: &Variable) -> Result<Spot, AllocError>
             Ok(Spot::Local(place))
         }
         Variable::Global(g) => {
-            let number = small(*g)?;
+            let number = narrow_number(*g)?;
             Ok(Spot::Global(number))
         }
         Variable::Property(_) => Ok(Spot::Local(0)),
         Variable::Field(i) => {
             let object = place(alive, 0);
-            let field = small(*i)?;
+            let field = narrow_number(*i)?;
             Ok(Spot::Field { object, field })
         }
     }
 }
 
-// The target of one argument behind those that there are, if it is an `&out` one.
+// The target of one argument after those that there are, if it is an `&out` one.
 fn add_target(alive: usize, argument: &Argument, found: &mut Vec<Target>) -> Result<(), AllocError>
     ensures exact { OnOk result (reverse found.new.items
         ≡ spec.with_target alive (view_arg argument.now) (reverse found.old.items)) }

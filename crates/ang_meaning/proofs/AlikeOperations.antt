@@ -37,7 +37,7 @@ use Rattle.ang_meaning.proofs.Renaming.{to_eq, swapped, swapped_at, swapped_alik
 use Rattle.ang_meaning.proofs.AlikeWorlds.{three, TriedLeaves, DoneLeaves, TriedSame, DoneSame, DoneAlike, memory_alike, more_alike, hold_alike, give_alike, give_all_alike, global_renamed, put_alike, field_renamed, field_alike, takes_renamed, holding_alike}
 use Rattle.ang_meaning.proofs.Matching.{Match, AlikeUpTo}
 
--- another renaming may do behind an operation; it agrees on what stands on the stack
+-- another renaming may do after an operation; it agrees on what stands on the stack
 pub record OneAlike (apart : Type 0) (r : Renaming) (s : List Slot) (o p : Done) : Type 0 where
   pub by : Renaming
   pub same : renamed_all by s ≡ renamed_all r s
@@ -252,7 +252,7 @@ module _ (apart : Type 0) (r : Renaming) where
       three (λ t. made_told_alike k s (memory_step v) (memory_step w) t (memory_counted s v counted)) (λ l. kept s _ _ (inr (inl (made_leaves k (memory_step v) l))))
       (λ l. kept s _ _ (inr (inr (made_leaves k (memory_step w) l)))) (memory_alike apart r v w h)
 
-  -- ---- askings
+  -- ---- host calls
 
   accepted_alike : (o : Option Slot) (v w : World) → IsFixed r o → AlikeUpTo apart r v w → DoneAlike apart r (accepted o v) (accepted o w)
   accepted_alike None v w e h = inl (refl, h)

@@ -236,7 +236,7 @@ given_fewer n (Host d (Some k)) w = omega arith
 given_fewer zero (Script (Some k)) w = omega arith
 given_fewer (suc n) (Script (Some k)) w = script_fewer (given n) (given_fewer n) (lowered_at k (map.get w.objects k) w.objects) w (lower_fewer k w.objects (map.get w.objects k) refl)
 
--- each of so many
+-- each of a list, where up to n objects may end one inside the other
 each_counts : (e : Thing → ℕ) (go : Slot → World → World) (n : ℕ) → AreFewer go → ((v : Slot) (vs : List Slot) (w : World) → map.len w.objects ≤ n → Counts e (v ∷ vs) w → Counts e vs (go v w))
     → (fs vs : List Slot) (w : World) → map.len w.objects ≤ n → Counts e (fs ++ vs) w → Counts e vs (each_given go fs w)
 each_counts e go n small good [] vs w le p = p

@@ -1,15 +1,15 @@
 -- A count at least for each place and each field: it stays so, whatever is held and given up, and what stands among the places is live.
 use Rattle.std.proofs.Common.{◌≡◌, ℕ, zero, suc, ◌+◌, ◌≤◌, List, [], ◌∷◌, ◌++◌, Option, Some, None, refl, sym, ap, ◌∙◌, subst, arith}
-use Rattle.std.specs.Prelude.{Bool, true, false, cond, nat_eq}
+use Rattle.std.specs.Prelude.{Bool, true, false, cond, nat_eq, ◌&&◌}
 use Rattle.std.specs.FinMap as map
 use Rattle.std.proofs.lemmas.Bool.{eqb-true}
 use Rattle.ang_host.specs.State.{count_of, count_at}
 use Rattle.ang_meaning.specs.declared.slot.Slot.{Slot}
 use Rattle.ang_meaning.specs.declared.slot.Slot.TheVariants.{Bits, Script, Host}
 use Rattle.ang_meaning.specs.World.{World, ScriptRecord, ScriptObjects, HostCounts, one_more, Lowered, Gone, Kept, lowered_at, script_lowered, host_less, host_lowered, host_given, each_given, script_given, given, give, give_all}
-use Rattle.ang_meaning.specs.Counting.{Thing, KeyOf, names, how_many, in_lists, Counts, EnoughIn, CanGive, IsCounted, HasKey}
+use Rattle.ang_meaning.specs.Counting.{Thing, KeyOf, NumberOf, names, how_many, in_lists, Counts, EnoughIn, CanGive, EachEnoughIn, CanGiveEach, IsCounted, HasKey}
 use Rattle.ang_meaning.proofs.Tables.{get_without}
-use Rattle.ang_meaning.proofs.Counting.{many_append, key_named, more_key, more_fields, lower_host, left_of, freed_of, lower_fields}
+use Rattle.ang_meaning.proofs.Counting.{many_append, bits_name_none, key_named, more_key, more_fields, lower_host, left_of, freed_of, lower_fields}
 
 -- ---- from counts, and of parts of the places
 
@@ -38,6 +38,43 @@ enough_key (Host d (Some k)) vs os hs h p = omega (arith, p.enough d k, h (KeyOf
 
 pub first_key : (v : Slot) (vs : List Slot) (os : ScriptObjects) (hs : HostCounts) → EnoughIn (v ∷ vs) os hs → HasKey v hs
 first_key v vs os hs p = enough_key v (v ∷ vs) os hs (λ x. omega arith) p
+
+-- ---- each on its own
+
+pub each_enough : (vs : List Slot) (w : World) → CanGive vs w → CanGiveEach vs w
+each_enough vs w p = record { each = λ v h. enough_as vs (v ∷ []) w.objects w.hosts (λ x. let q = h x in omega (arith, q)) p }
+
+pub each_fewer : (us vs : List Slot) (w : World) → ((x : Thing) → how_many x vs ≤ how_many x us) → CanGiveEach us w → CanGiveEach vs w
+each_fewer us vs w h p = record { each = λ v k. p.each v (λ x. let q = h x in let r = k x in omega (arith, q, r)) }
+
+pub each_key : (vs : List Slot) (os : ScriptObjects) (hs : HostCounts) → EachEnoughIn vs os hs → (v : Slot) → ((x : Thing) → names x v ≤ how_many x vs) → HasKey v hs
+each_key vs os hs p v h = first_key v [] os hs (p.each v h)
+
+pub each_none : (vs : List Slot) (w : World) → CanGiveEach vs w → CanGive [] w
+each_none vs w p = rest_enough (Bits 0) [] w.objects w.hosts (p.each (Bits 0) (λ x. let q = bits_name_none 0 x in omega (arith, q)))
+
+once_at : (b : Bool) → cond b 1 0 ≤ 1
+once_at true = omega arith
+once_at false = omega arith
+
+-- a value names a thing once at most
+names_once : (x : Thing) (v : Slot) → names x v ≤ 1
+names_once (KeyOf d k) (Bits n) = omega arith
+names_once (KeyOf d k) (Script j) = omega arith
+names_once (KeyOf d k) (Host e None) = omega arith
+names_once (KeyOf d k) (Host e (Some j)) = once_at (nat_eq e d && nat_eq j k)
+names_once (NumberOf n) (Bits x) = omega arith
+names_once (NumberOf n) (Script None) = omega arith
+names_once (NumberOf n) (Script (Some j)) = once_at (nat_eq j n)
+names_once (NumberOf n) (Host e j) = omega arith
+
+-- one of them once more
+pub each_again : (v : Slot) (vs : List Slot) (w : World) → ((x : Thing) → names x v ≤ how_many x vs) → CanGiveEach vs w → CanGiveEach (v ∷ vs) w
+each_again v vs w h p = record { each = λ u k. p.each u (λ x. let q = h x in let r = k x in omega (arith, q, r, names_once x u)) }
+
+-- what can be given up still, whatever else is held
+pub each_still : (vs : List Slot) (w w' : World) → ((us : List Slot) → CanGive us w → CanGive us w') → CanGiveEach vs w → CanGiveEach vs w'
+each_still vs w w' h p = record { each = λ v k. h (v ∷ []) (p.each v k) }
 
 -- ---- one more place
 

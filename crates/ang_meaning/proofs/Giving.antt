@@ -23,7 +23,7 @@ pub give_key : (d k : ℕ) (w : World) → give (Host d (Some k)) w ≡ host_giv
 unfolding give given
 give_key d k w = refl
 
--- so many may end one inside the other
+-- up to n objects may end one inside the other
 each_give : (n : ℕ) (vs : List Slot) (w : World) → map.len w.objects ≤ n → each_given (given n) vs w ≡ give_all vs w
 unfolding give
 each_give n [] w le = refl

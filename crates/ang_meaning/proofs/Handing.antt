@@ -1,4 +1,4 @@
--- What is handed to a driver is live: the operands are among the places.
+-- What is handed to a driver is live, where each operand is counted.
 use Rattle.std.proofs.Common.{◌≡◌, ℕ, ◌≤◌, List, [], ◌∷◌, Some, None, refl, sym, ap, subst, arith}
 use Rattle.std.specs.Prelude.{Bool, true, false, cond, nat_eq, reverse}
 use mathlib.Core.List.{reverse-cons}
@@ -14,12 +14,10 @@ use Rattle.ang_meaning.specs.declared.slot.Slot.TheVariants.{Bits, Script, Host}
 use Rattle.ang_meaning.specs.declared.host.HostType.{HostType}
 use Rattle.ang_meaning.specs.declared.host.HostType.TheVariants.{Nothing, Plain, Handle}
 use Rattle.ang_meaning.specs.declared.host.HostUse.{HostUse}
-use Rattle.ang_meaning.specs.World.{ScriptObjects}
 use Rattle.ang_meaning.specs.Hosts.{plain_value, value_of, values_of}
 use Rattle.ang_meaning.specs.Perform.{Receiver, Of, key_at, receiver_of, behind_first, arguments_of, NoReceiver, NullReceiver}
-use Rattle.ang_meaning.specs.Counting.{Thing, names, how_many, EnoughIn, HasKey, counts_by}
+use Rattle.ang_meaning.specs.Counting.{Thing, names, how_many, HasKey, counts_by}
 use Rattle.ang_meaning.proofs.Counting.{many_append}
-use Rattle.ang_meaning.proofs.Enough.{enough_key}
 use Rattle.ang_meaning.proofs.Driving.{live_of}
 
 pub many_reverse : (x : Thing) (vs : List Slot) → how_many x (reverse vs) ≡ how_many x vs
@@ -54,9 +52,9 @@ module _ (ss : List State) where
   value_live d Handle (Host e None) h = tt
   value_live d Handle (Host e (Some k)) h = handle_live d e k (nat_eq d e) refl h
 
-  module _ (s : List Slot) (os : ScriptObjects) (enough : EnoughIn s os (counts_by ss)) where
+  module _ (s : List Slot) (keys : (v : Slot) → ((x : Thing) → names x v ≤ how_many x s) → HasKey v (counts_by ss)) where
     pub value_handed : (d : ℕ) (ty : HostType) (v : Slot) → ((x : Thing) → names x v ≤ how_many x s) → IsLiveValue (state_at ss d) (value_of d ty v)
-    value_handed d ty v h = value_live d ty v (enough_key v s os (counts_by ss) h enough)
+    value_handed d ty v h = value_live d ty v (keys v h)
 
     pub values_handed : (d : ℕ) (types : List HostType) (vs : List Slot) → ((x : Thing) → how_many x vs ≤ how_many x s) → AreLive (state_at ss d) (values_of d types vs)
     values_handed d [] vs h = tt
@@ -80,7 +78,7 @@ module _ (ss : List State) where
     key_handed d (Script j ∷ vs) h = tt
     key_handed d (Host e None ∷ vs) h = tt
     key_handed d (Host e (Some k) ∷ vs) h =
-        of_live d e k (nat_eq d e) refl (enough_key (Host e (Some k)) s os (counts_by ss) (λ x. let q = h x in omega (arith, q)) enough)
+        of_live d e k (nat_eq d e) refl (keys (Host e (Some k)) (λ x. let q = h x in omega (arith, q)))
 
     receiver_at : (b : Bool) (d : ℕ) (vs : List Slot) → ((x : Thing) → how_many x vs ≤ how_many x s) → IsLiveReceiver d (cond b (key_at d vs) NoReceiver)
     receiver_at true d vs h = key_handed d vs h

@@ -13,6 +13,8 @@ pub mod Driving
 pub mod Cancelling
 pub mod Handing
 pub mod Commuting
+pub mod Keys
+pub mod Lending
 pub mod Unheld
 pub mod Matching
 pub mod Renaming

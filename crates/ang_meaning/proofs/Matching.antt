@@ -6,7 +6,7 @@ use Rattle.ang_host.specs.declared.answer.HostReply.{HostReply}
 use Rattle.ang_meaning.specs.World.{World, Input, Room, Said, Tallied, Fresh}
 use Rattle.ang_meaning.specs.Alike.{Renaming, renamed_lists, Tables, SameButNumbers, Alike}
 
--- Inputs that are the same but for the numbers of new objects. Where some may be apart, they are the same up to two of different sorts, and any behind these.
+-- Inputs that are the same but for the numbers of new objects. Where some may be apart, they are the same up to two of different sorts, and any after these.
 abbrev pub Match : Type 0 → List Input → List Input → Type 0
 Match apart [] [] = apart → ⊥
 Match apart [] (j ∷ js) = ⊥

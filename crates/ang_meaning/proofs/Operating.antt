@@ -177,7 +177,7 @@ module _ (z : Setting) (m : ℕ) (e : EntityNo) where
   called_counted (Of k) args s w p = asked_counted (Some k) (values_of (use_at z m e).driver (use_at z m e).params args) (use_at z m e).result s w p
   called_counted NullReceiver args s w p = p
 
-  read_counted : (r : Receiver) (s : List Slot) (w : World) → IsCounted s w → DoneWith s (read_of z m e r w)
+  pub read_counted : (r : Receiver) (s : List Slot) (w : World) → IsCounted s w → DoneWith s (read_of z m e r w)
   read_counted NoReceiver s w p = asked_counted None [] (use_at z m e).result s w p
   read_counted (Of k) s w p = asked_counted (Some k) [] (use_at z m e).result s w p
   read_counted NullReceiver s w p = p

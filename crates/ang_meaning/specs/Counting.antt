@@ -99,6 +99,13 @@ pub record EnoughIn (vs : List Slot) (os : ScriptObjects) (hs : HostCounts) : Ty
 abbrev pub CanGive : List Slot → World → Type 0
 CanGive vs w = EnoughIn vs w.objects w.hosts
 
+-- The same for each of these on its own: several may be held by one place, which need not be among them. It is all that a driver asks of what it is handed.
+pub record EachEnoughIn (vs : List Slot) (os : ScriptObjects) (hs : HostCounts) : Type 0 where
+  pub each : (v : Slot) → ((x : Thing) → names x v ≤ how_many x vs) → EnoughIn (v ∷ []) os hs
+
+abbrev pub CanGiveEach : List Slot → World → Type 0
+CanGiveEach vs w = EachEnoughIn vs w.objects w.hosts
+
 -- where the value names a host object, that is counted: what a driver asks before it adds a reference
 abbrev pub HasKey : Slot → HostCounts → Type 0
 HasKey (Bits n) hs = Unit {0}

@@ -1,4 +1,4 @@
--- Values that pass between a script and its drivers, and askings (docs/MEANING.md, "Operations"; docs/EMBEDDING.md, "Drivers"; the AngelScript manual, "Registering a function").
+-- Values that pass between a script and its drivers, and host calls (docs/MEANING.md, "Operations"; docs/EMBEDDING.md, "Drivers"; the AngelScript manual, "Registering a function").
 use Rattle.std.specs.Prelude.{ℕ, ◌^◌, ◌-◌, ◌&&◌, Bool, true, false, not, nat_eq, nat_lt, int_le, ℤ, pos, negsuc, List, [], ◌∷◌, ◌++◌, Option, Some, None, if◌then◌else◌}
 use Rattle.ang_kinds.specs.declared.value.Value.{Value}
 use Rattle.ang_kinds.specs.declared.value.Value.TheVariants.{Int, Uint, Bool as Truth, Key}
@@ -116,7 +116,7 @@ is_reply_to (CallingRole f) (Asking answer) = true
 is_reply_to (PropertyRole f) (Making made) = false
 is_reply_to (PropertyRole f) (Asking answer) = true
 
--- One asking: the event is listed, whatever the reply says. A reply of another kind is none to this asking, and is left as an input of another sort is.
+-- One host call: the event is listed, whatever the reply says. A reply of another kind is none to this host call, and is left as an input of another sort is.
 abbrev pub asked_from : Setting → ℕ → EntityNo → Option ℕ → List Value → HostType → List Input → World → Done
 asked_from z m e object args result (Said reply ∷ rest) w =
     if is_reply_to (use_at z m e).role reply
@@ -125,6 +125,6 @@ asked_from z m e object args result (Said reply ∷ rest) w =
     else (Fails Memory w)
 asked_from z m e object args result _ w = Fails Memory w
 
--- An asking of entity e for module m: memory for its event first, and then the driver's reply.
+-- A host call of entity e for module m: memory for its event first, and then the driver's reply.
 unfoldable pub asked : Setting → ℕ → EntityNo → Option ℕ → List Value → HostType → World → Done
 asked z m e object args result w = or_else (memory_step w) (Fails Memory) (λ u. asked_from z m e object args result u.inputs u)

@@ -195,7 +195,7 @@ then_run (Halted f ls w) go = Halted f ls w
 then_run (Broken ls t w) go = Broken ls t w
 then_run (Continued ls t w) go = Continued ls t w
 
--- the end of a loop's body, which leaves n locals: a `continue` goes on with the step, and a `break` behind the loop
+-- the end of a loop's body, which leaves n locals: a `continue` goes on with the step, and a `break` after the loop
 abbrev pub caught : ℕ → Ran → (List Slot → ℕ → World → Ran) → Ran
 caught n (Went ls t w) go = go (drop_some (length ls - n) ls) t (give_some (length ls - n) ls w)
 caught n (Continued ls t w) go = go (drop_some (length ls - n) ls) t (give_some (length ls - n) ls w)
@@ -230,7 +230,7 @@ finished ps (Halted f ls w) = Raises f (give_all ls w)
 finished ps (Broken ls t w) = yielded ps (Bits 0) ls t w
 finished ps (Continued ls t w) = yielded ps (Bits 0) ls t w
 
--- whether a body with so many callers may call
+-- whether a body with d callers may call
 abbrev pub may_nest : Setting → ℕ → Bool
 may_nest z d = ltb (d + 1) z.nesting
 

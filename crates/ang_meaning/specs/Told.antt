@@ -49,7 +49,7 @@ answers_listed [] = []
 answers_listed (Called caller entity driver object args reply ∷ events) = reply ∷ answers_listed events
 answers_listed (Ended driver key ∷ events) = answers_listed events
 
--- A piece of a run takes one world to the other: it was told these inputs, the first that there were, and listed events behind those before, in which
+-- A piece of a run takes one world to the other: it was told these inputs, the first that there were, and listed events after those before, in which
 -- the answers are just those that it was told.
 pub record Moves (before : World) (used : List Input) (after : World) : Type 0 where
   pub more : List HostEvent

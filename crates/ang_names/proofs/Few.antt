@@ -17,7 +17,9 @@ use Rattle.ang_names_listed.proofs.Few as listed
 use Rattle.ang_names_written.specs.Sources.{Source}
 use Rattle.ang_names.specs.Phases as phase
 use Rattle.ang_names.specs.Phases.{all_phases, errors_in, first_refusals, refusals_of}
-use Rattle.ang_names_resolved.specs.Resolved.{families_after, families_in, functions_in, is_parent, names_of, signatures_of, space_of_declared}
+use Rattle.ang_names_tables.specs.Headings.{signatures_of}
+use Rattle.ang_names_tables.specs.Hierarchy.{is_parent}
+use Rattle.ang_names_resolved.specs.Resolved.{families_after, families_in, functions_in, names_of, space_of_declared}
 
 module _ {A B : Type 0} (f : List A → A → List B) where
   -- where each item gives one there are as many

@@ -21,9 +21,10 @@ use Rattle.ang_names_listed.specs.declared.listed.Part.{Part}
 use Rattle.ang_names_listed.specs.declared.listed.Part.TheVariants as part
 use Rattle.ang_names_listed.specs.Declarations.{Declaring, declaring_by, declaring_of, families_of}
 use Rattle.ang_names_listed.specs.Taken.{each_refused}
-use Rattle.ang_names_resolved.specs.declared.tables.Tables.{Tables}
-use Rattle.ang_names_resolved.specs.Resolved.{families_in, holds, is_parent, space_of_declared}
-use Rattle.ang_names_resolved.specs.Tables.{AreTables}
+use Rattle.ang_names_tables.specs.declared.tables.Tables.{Tables}
+use Rattle.ang_names_tables.specs.Hierarchy.{holds, is_parent}
+use Rattle.ang_names_resolved.specs.Resolved.{families_in, space_of_declared}
+use Rattle.ang_names_tables.specs.Tables.{AreTables}
 use Rattle.ang_names.specs.Phases as phase
 use Rattle.ang_names_heirs.specs.Heirs.{ancestor_refusal, at_name, cycle_refusal, heir_refusal}
 use Rattle.ang_names_heirs.specs.ByNumber.{heritage_refusals, refused_from, ring_refusal}
@@ -51,7 +52,7 @@ module _ (p : ℕ → Family → Option Refused) (fs : List Family) where
   none_more : (n more : ℕ) → more ≡ 0 → refused_from p n (drop n fs) ≡ refused_from p (n + more) (drop (n + more) fs)
   none_more n more none = let up : n ≡ n + more = omega (arith, none) in ap (λ k. refused_from p k (drop k fs)) up
 
-  -- what is refused of a declaration, and of the families behind it
+  -- what is refused of a declaration, and of the families after it
   one_declared : (before : List Declared) (d : Declared) (q : Part) (n more later : ℕ) (rest : List Refused) → n ≡ length (families_of before)
       → more ≡ length (cons_option (declaring_by d q) []) → length fs ≡ n + more + later → refused_from p (n + more) (drop (n + more) fs) ≡ rest
       → refused_from p n (drop n fs) ≡ option_to_list (of_family p fs before q) ++ rest
@@ -143,7 +144,7 @@ module _ (V : RegistrationList) (all : List Declared) (E : Space) (e : E ≡ spa
       → heritage_refusals t.above.items t.reach.items fs ≡ first_refusals V all (phase.Ancestors ∷ phase.Heirs ∷ phase.Cycles ∷ [])
   heritage_refused fs t h s = refused_by V all t fs (h ∙ ap (λ F. families_in F all) e) (subst (λ F. AreTables F (families_of all) t) e s)
 
--- where the second phase refuses nothing, those behind it decide
+-- where the second phase refuses nothing, those after it decide
 pub types_passed : (V : RegistrationList) (all : List Declared) (found : List Refused) → found ≡ refusals V all phase.Types → found ≡ []
     → first_refusals V all (phase.Ancestors ∷ phase.Heirs ∷ phase.Cycles ∷ []) ≡ first_refusals V all (phase.Types ∷ phase.Ancestors ∷ phase.Heirs ∷ phase.Cycles ∷ [])
 types_passed V all found e none = ap (λ rs. list_or rs (first_refusals V all (phase.Ancestors ∷ phase.Heirs ∷ phase.Cycles ∷ []))) (sym none ∙ e)

@@ -21,7 +21,9 @@ use Rattle.ang_names_known.specs.Spaces.{Space}
 use Rattle.ang_names_listed.specs.declared.listed.Declared.{Declared}
 use Rattle.ang_names_listed.specs.Declarations.{Declaring, declarations_of, families_of, family_name}
 use Rattle.ang_names_listed.specs.Taken.{each_refused}
-use Rattle.ang_names_resolved.specs.Resolved.{families_after, families_in, field_types_at, functions_in, held_by, holds, is_base, is_parent, is_place, is_under_or, names_of, names_place, place_of, signatures_of, space_of_declared}
+use Rattle.ang_names_tables.specs.Headings.{signatures_of}
+use Rattle.ang_names_tables.specs.Hierarchy.{field_types_at, held_by, holds, is_base, is_parent, is_place, is_under_or, names_place, place_of}
+use Rattle.ang_names_resolved.specs.Resolved.{families_after, families_in, functions_in, names_of, space_of_declared}
 use Rattle.ang_names_written.specs.Sources.{Source, text_of}
 use Rattle.ang_names.specs.Phases as phase
 use Rattle.ang_names_heirs.specs.Heirs.{ancestor_refusal, at_name, cycle_refusal}

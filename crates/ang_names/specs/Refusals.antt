@@ -28,7 +28,7 @@ use Rattle.ang_types.specs.Refusals.{plain_refusal}
 use Rattle.ang_names_written.specs.Sources.{text_of, error_at}
 use Rattle.ang_names_written.specs.Spellings.{same_spellings}
 use Rattle.ang_names_written.specs.Types.{TypeOrError, type_in, is_unknown_type}
-use Rattle.ang_names_resolved.specs.Resolved.{parameter_role}
+use Rattle.ang_names_tables.specs.Headings.{parameter_role}
 
 abbrev pub refusal_if : Bool → ErrorKind → List ℕ → Token → Option Refused
 refusal_if true why text t = Some (plain_refusal (error_at why text t))

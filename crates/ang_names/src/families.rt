@@ -3,11 +3,12 @@ ghost use Rattle.std.specs.Prelude.{◌≡◌, option_copied, option_map, slice_
 ghost use Rattle.ang_names.specs.Refusals as spec;
 
 use ang_names_listed::{Declaring, Shape};
-use ang_names_resolved::Placed;
+use ang_names_tables::Placed;
 
 /// What the class or interface of this number declares.
 fn shape_at<'l, 'a>(families: &[Declaring<'l, 'a>], number: usize) -> Option<&'l Shape<'a>>
-    ensures exact { option_copied result ≡ option_map (λ d. d.shape) (slice_get families.now number) }
+    ensures exact { option_copied result
+        ≡ option_map (λ d. d.shape) (slice_get families.now number) }
 {
     match families.get(number) {
         None => None,

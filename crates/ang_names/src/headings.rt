@@ -7,7 +7,7 @@ ghost use Rattle.ang_names.specs.Refusals as spec;
 use ang_kinds::ErrorKind;
 use ang_lex::Token;
 use ang_names_known::Space;
-use ang_names_resolved::parameter_role;
+use ang_names_tables::parameter_role;
 use ang_names_written::{Role, error_at, type_in};
 use ang_tree::{Parameter, TypeName};
 use ang_types::{ArgType, Asks, Refused};

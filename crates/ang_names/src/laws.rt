@@ -13,7 +13,7 @@ ghost use Rattle.ang_names_resolved.specs.Resolved.{names_of};
 
 /// The families of a build are few enough for each to have a number as a type, and what stands above one is among them: where
 /// there are 256 at most (`few`), and so where nothing is refused (`accepted`). A refusal that asks for a name comes from a
-/// phase behind the first, which lets no more through (`asked`).
+/// phase after the first, which lets no more through (`asked`).
 pub fn few_families()
     ensures few { (V : RegistrationList) (ds : List Declared) →
         length (families_of ds) ≤ 256 → AreFamilies (names_of V ds).families }

@@ -18,6 +18,6 @@ pub use ang_names_known::{
     Access, Constructor, Family, Field, Method, Names, Origin, ScriptFunction, ScriptGlobal,
     ScriptParameter, Written,
 };
-pub use ang_names_resolved::heading_of;
+pub use ang_names_tables::heading_of;
 pub use declaring::{declare, names_over, phase_refusals, unbuilt};
 pub use headings::heading_refusal;

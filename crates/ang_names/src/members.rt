@@ -13,7 +13,7 @@ use ang_kinds::ErrorKind;
 use ang_lex::Token;
 use ang_names_known::Space;
 use ang_names_listed::{Attributes, Declared, Member, MemberKind, Shape};
-use ang_names_resolved::Placed;
+use ang_names_tables::Placed;
 use ang_names_written::{Role, have_same_types, text_at};
 use ang_tree::Parameter;
 use ang_types::Refused;
@@ -184,7 +184,7 @@ fn members_refusal(
     Ok(None)
 }
 
-/// What is refused of the names behind `:`: the first that can't stand there.
+/// What is refused of the names after `:`: the first that can't stand there.
 fn bases_refusal(
     alloc: Global,
     families: &Placed<'_, '_, '_>,

@@ -18,7 +18,7 @@ use Rattle.ang_names_known.specs.Items.{is_empty}
 use Rattle.ang_names_known.specs.Spaces.{Space}
 use Rattle.ang_names_listed.specs.Declarations.{Declaring}
 use Rattle.ang_types.specs.Refusals.{plain_refusal}
-use Rattle.ang_names_resolved.specs.Resolved.{stands_above, is_cyclic}
+use Rattle.ang_names_tables.specs.Hierarchy.{stands_above, is_cyclic}
 
 abbrev pub refused_at : ErrorKind → Place → List ℕ → Refused
 refused_at why place name = plain_refusal (record { kind = why; place = place; name = name })

@@ -1,52 +1,74 @@
--- The members of a family by the hashes of their names and slots. Which hash one has shows in nothing.
-use Rattle.std.specs.Prelude.{ℕ, ◌%◌, Bool, false, ◌||◌, if◌then◌else◌, List, [], ◌∷◌, map, bytes_eq, Option, Some, None, slice_get}
+-- The members of a family by their names and slots: where each stands among those of its kind.
+use Rattle.std.specs.Prelude.{ℕ, ◌≡◌, ◌+◌, ◌==◌, Bool, false, ◌||◌, if◌then◌else◌, List, [], ◌∷◌, bytes_eq, Option, Some, None, slice_get}
 use Rattle.std.specs.List.{list_any}
 use Rattle.std.specs.Option.{option_or}
+use Rattle.ang_index.specs.Rows.{Rows, items_at}
 use Rattle.ang_names_known.specs.declared.names.Family.{Family}
 use Rattle.ang_names_known.specs.declared.names.Field.{Field}
 use Rattle.ang_names_known.specs.declared.names.Method.{Method}
 use Rattle.ang_names_known.specs.Lookup.{fields_in}
-use Rattle.ang_names_rows.specs.Hashes.{name_hash, numbers_of}
 use Rattle.ang_names_heirs.specs.ByNumber.{methods_in}
 use Rattle.ang_names_heirs.specs.declared.indexed.MemberRows.{MemberRows}
 
-abbrev pub slot_hashes : List Method → List ℕ
-slot_hashes ms = map (λ (m : Method). m.slot % 256) ms
+-- the places of those that pass, of some whose first has the place n
+abbrev pub places_from : {A : Type 0} → (A → Bool) → ℕ → List A → List ℕ
+places_from p n [] = []
+places_from p n (x ∷ xs) = if p x then n ∷ places_from p (n + 1) xs else places_from p (n + 1) xs
 
-abbrev pub field_hashes : List Field → List ℕ
-field_hashes xs = map (λ (x : Field). name_hash x.name) xs
+-- the places of the methods of a slot
+unfoldable pub slot_row : ℕ → List Method → List ℕ
+slot_row slot ms = places_from (λ (m : Method). m.slot == slot) 0 ms
 
-abbrev pub method_hashes : List Method → List ℕ
-method_hashes ms = map (λ (m : Method). name_hash m.function.name) ms
+-- the places of the fields of a name
+unfoldable pub field_row : List ℕ → List Field → List ℕ
+field_row name xs = places_from (λ (x : Field). bytes_eq x.name name) 0 xs
 
--- the hashes of a family's methods by slot, of its fields and of its methods by name
-abbrev pub member_rows : Family → MemberRows
-member_rows f =
-    record { slots = slot_hashes f.methods; fields = field_hashes f.fields; methods = method_hashes f.methods }
+-- the places of the methods of a name
+unfoldable pub method_row : List ℕ → List Method → List ℕ
+method_row name ms = places_from (λ (m : Method). bytes_eq m.function.name name) 0 ms
 
--- the places of the methods whose slots have the hash of this one
-abbrev pub slot_row : ℕ → List Method → List ℕ
-slot_row slot ms = numbers_of (slot % 256) (slot_hashes ms)
+-- ---- as they are kept
 
--- the places of the fields whose names have the hash of this one
-abbrev pub field_row : List ℕ → List Field → List ℕ
-field_row name xs = numbers_of (name_hash name) (field_hashes xs)
+-- under each slot the places of its methods
+pub record HasSlots (ms : List Method) (rows : Rows ℕ) : Type 0 where
+  pub places : (slot : ℕ) → items_at slot [] rows ≡ slot_row slot ms
 
--- the places of the methods whose names have the hash of this one
-abbrev pub method_row : List ℕ → List Method → List ℕ
-method_row name ms = numbers_of (name_hash name) (method_hashes ms)
+-- under each name the places of its fields
+pub record HasFields (xs : List Field) (rows : Rows ℕ) : Type 0 where
+  pub places : (name : List ℕ) → items_at 0 name rows ≡ field_row name xs
+
+-- under each name the places of its methods
+pub record HasMethods (ms : List Method) (rows : Rows ℕ) : Type 0 where
+  pub places : (name : List ℕ) → items_at 0 name rows ≡ method_row name ms
+
+pub record HasMembers (f : Family) (r : MemberRows) : Type 0 where
+  pub of_slots : HasSlots f.methods r.slots
+  pub of_fields : HasFields f.fields r.fields
+  pub of_methods : HasMethods f.methods r.methods
+
+abbrev pub AllHaveMembers : List Family → List MemberRows → Type 0
+AllHaveMembers [] [] = Unit {0}
+AllHaveMembers [] (r ∷ rs) = ⊥
+AllHaveMembers (f ∷ fs) [] = ⊥
+AllHaveMembers (f ∷ fs) (r ∷ rs) = HasMembers f r × AllHaveMembers fs rs
+
+-- the members of each family stand in the rows of its number
+pub record HasRows (fs : List Family) (rs : List MemberRows) : Type 0 where
+  pub members : AllHaveMembers fs rs
 
 abbrev pub slot_row_in : ℕ → Option MemberRows → List ℕ
 slot_row_in slot None = []
-slot_row_in slot (Some r) = numbers_of (slot % 256) r.slots
+slot_row_in slot (Some r) = items_at slot [] r.slots
 
 abbrev pub field_row_in : List ℕ → Option MemberRows → List ℕ
 field_row_in name None = []
-field_row_in name (Some r) = numbers_of (name_hash name) r.fields
+field_row_in name (Some r) = items_at 0 name r.fields
 
 abbrev pub method_row_in : List ℕ → Option MemberRows → List ℕ
 method_row_in name None = []
-method_row_in name (Some r) = numbers_of (name_hash name) r.methods
+method_row_in name (Some r) = items_at 0 name r.methods
+
+-- ---- what is looked for at these places
 
 -- there is one, and it passes
 abbrev pub is_at : {A : Type 0} → (A → Bool) → Option A → Bool

@@ -7,7 +7,7 @@ ghost use Rattle.ang_names_heirs.specs.Heirs as spec;
 ghost use Rattle.ang_names_heirs.specs.ByNumber as numbered;
 ghost use Rattle.ang_names_heirs.specs.Rows as rows;
 
-use crate::indexed::{HashedName, Indexed, index_members};
+use crate::indexed::{Indexed, index_members};
 use crate::rings::refused_at;
 use ang_kinds::{ErrorKind, Place};
 use ang_names_heritage::after_first;
@@ -237,32 +237,32 @@ fn has_method_at(methods: &[Method], row: &[usize], name: &[u8]) -> bool
 }
 
 /// Whether a class declares a field of this name itself.
-fn declares_field(families: &Indexed<'_>, number: usize, name: &HashedName<'_>) -> bool
+fn declares_field(families: &Indexed<'_>, number: usize, name: &[u8]) -> bool
     ensures exact { result ≡ list_any (λ x. bytes_eq x.name name.now)
         (lookup.fields_in (slice_get families.now number)) }
 {
     let fields = fields_of(families.families(), number);
-    has_field_at(fields, families.field_row(number, name), name.bytes())
+    has_field_at(fields, families.field_row(number, name), name)
 }
 
 /// Whether a class or an interface declares a method of this name itself.
-fn declares_method(families: &Indexed<'_>, number: usize, name: &HashedName<'_>) -> bool
+fn declares_method(families: &Indexed<'_>, number: usize, name: &[u8]) -> bool
     ensures exact { result ≡ list_any (λ x. bytes_eq x.function.name name.now)
         (numbered.methods_in (slice_get families.now number)) }
 {
     let methods = methods_of(families.families(), number);
-    has_method_at(methods, families.method_row(number, name), name.bytes())
+    has_method_at(methods, families.method_row(number, name), name)
 }
 
 /// Whether a class declares a member of this name itself.
-fn declares(families: &Indexed<'_>, number: usize, name: &HashedName<'_>) -> bool
+fn declares(families: &Indexed<'_>, number: usize, name: &[u8]) -> bool
     ensures exact { result ≡ rows.declares name.now (slice_get families.now number) }
 {
     declares_field(families, number, name) || declares_method(families, number, name)
 }
 
 /// Whether one of these classes declares a member of this name.
-fn declares_among(families: &Indexed<'_>, order: &[usize], name: &HashedName<'_>) -> bool
+fn declares_among(families: &Indexed<'_>, order: &[usize], name: &[u8]) -> bool
     ensures exact { result
         ≡ list_any (λ n. rows.declares name.now (slice_get families.now n)) order.now }
 {
@@ -270,7 +270,7 @@ fn declares_among(families: &Indexed<'_>, order: &[usize], name: &HashedName<'_>
 }
 
 /// Whether a class has a member of this name, own or inherited.
-fn has_member(families: &Indexed<'_>, class: usize, name: &HashedName<'_>) -> bool
+fn has_member(families: &Indexed<'_>, class: usize, name: &[u8]) -> bool
     ensures exact { result ≡ lookup.has_member families.now class name.now }
 {
     declares_among(families, order_of(families.families(), class), name)
@@ -282,7 +282,7 @@ fn inherits(families: &Indexed<'_>, base: Option<usize>, name: &[u8]) -> bool
 {
     match base {
         None => false,
-        Some(base) => has_member(families, base, &HashedName::new(name)),
+        Some(base) => has_member(families, base, name),
     }
 }
 

@@ -1,73 +1,31 @@
-//! Classes and interfaces with their members by the hashes of names and slots, so that few are
-//! looked at.
-ghost use Rattle.std.specs.Prelude.{◌≡◌, map as list_map, slice_get, IfOk};
+//! Classes and interfaces with their members by names and slots, so that no look-up goes through
+//! the members of one.
+ghost use Rattle.std.specs.Prelude.{◌≡◌, slice_get, IfOk};
 ghost use Rattle.ang_names_known.specs.Lookup as lookup;
-ghost use Rattle.ang_names_rows.specs.Hashes.{name_hash as hash_of};
 ghost use Rattle.ang_names_heirs.specs.ByNumber as numbered;
 ghost use Rattle.ang_names_heirs.specs.Rows as spec;
 
+use ang_index::Index;
 use ang_names_known::{Family, Field, Method};
-use ang_names_rows::{Rows, name_hash, number_hash, rows_of};
 use std::alloc::{AllocError, Global};
 use std::marker::Model;
 
-/// A name with its hash. Contracts see the name.
-#[derive(Drop)]
-pub struct HashedName<'a> {
-    name: &'a [u8],
-    hash: usize,
-}
+/// The scope of all names of fields, or of methods.
+const NAMES: u64 = 0;
 
-impl<'a> Model for HashedName<'a> {
-    ghost use Rattle.std.specs.Prelude.{◌≡◌, ◌<◌, ℕ, List};
-    ghost use Rattle.ang_names_rows.specs.Hashes.{name_hash};
-
-    ghost Value = { List ℕ };
-
-    ghost view = { λ n. n.name.now };
-
-    ghost invariant = { λ n. (n.hash ≡ name_hash n.name.now) × (n.hash < 256) };
-}
-
-impl<'a> HashedName<'a> {
-    ghost use Rattle.std.specs.Prelude.{◌≡◌, ◌<◌};
-
-    /// A name with its hash.
-    pub fn new(name: &'a [u8]) -> HashedName<'a>
-        ensures same { result ≡ name.now }
-    {
-        let hash = name_hash(name);
-        HashedName { name, hash }
-    }
-
-    /// The name.
-    pub fn bytes(&self) -> &'a [u8]
-        ensures same { result.now ≡ self.now }
-    {
-        self.name
-    }
-
-    fn hash(&self) -> usize
-        ensures exact { result ≡ hash_of self.now }
-        ensures small { result < 256 }
-    {
-        self.hash
-    }
-}
-
-/// The members of a class or an interface by the hashes of names and slots.
+/// Where the members of a class or an interface stand.
 #[derive(Drop)]
 pub struct MemberRows {
-    /// Its methods by their slots.
-    pub slots: Rows,
-    /// Its fields by their names.
-    pub fields: Rows,
-    /// Its methods by their names.
-    pub methods: Rows,
+    /// The places of its methods, each in the scope of its slot and without a name.
+    pub slots: Index<usize>,
+    /// The places of its fields by their names.
+    pub fields: Index<usize>,
+    /// The places of its methods by their names.
+    pub methods: Index<usize>,
 }
 
 /// Classes and interfaces, which contracts see as the list of them. Beside them stand their members
-/// by the hashes of names and slots.
+/// by names and slots.
 #[derive(Drop)]
 pub struct Indexed<'a> {
     families: &'a [Family],
@@ -75,62 +33,62 @@ pub struct Indexed<'a> {
 }
 
 impl<'a> Model for Indexed<'a> {
-    ghost use Rattle.std.specs.Prelude.{◌≡◌, List, map};
+    ghost use Rattle.std.specs.Prelude.{List};
     ghost use Rattle.ang_names_known.specs.declared.names.Family.{Family};
-    ghost use Rattle.ang_names_heirs.specs.Rows.{member_rows};
+    ghost use Rattle.ang_names_heirs.specs.Rows.{HasRows};
 
     ghost Value = { List Family };
 
     ghost view = { λ i. i.families.now };
 
-    ghost invariant = { λ i. i.rows.items ≡ map member_rows i.families.now };
+    ghost invariant = { λ i. HasRows i.families.now i.rows.items };
 }
 
-fn slot_hashes(alloc: Global, methods: &[Method]) -> Result<Vec<usize>, AllocError>
-    ensures exact { IfOk result (λ found. found.items ≡ spec.slot_hashes methods.now) }
+fn places_by_slot(alloc: Global, methods: &[Method]) -> Result<Index<usize>, AllocError>
+    ensures exact { IfOk result (λ slots. spec.HasSlots methods.now slots) }
 {
-    let mut found = Vec::new(alloc);
-    for method in methods {
-        found.push(number_hash(method.slot))?;
+    let mut slots = Index::new(alloc);
+    for (place, method) in methods.iter().enumerate() {
+        slots.push(alloc, method.slot as u64, &[], place)?;
     }
-    Ok(found)
+    Ok(slots)
 }
 
-fn field_hashes(alloc: Global, fields: &[Field]) -> Result<Vec<usize>, AllocError>
-    ensures exact { IfOk result (λ found. found.items ≡ spec.field_hashes fields.now) }
+fn places_of_fields(alloc: Global, fields: &[Field]) -> Result<Index<usize>, AllocError>
+    ensures exact { IfOk result (λ names. spec.HasFields fields.now names) }
 {
-    let mut found = Vec::new(alloc);
-    for field in fields {
-        found.push(name_hash(field.name.as_slice()))?;
+    let mut names = Index::new(alloc);
+    for (place, field) in fields.iter().enumerate() {
+        names.push(alloc, NAMES, field.name.as_slice(), place)?;
     }
-    Ok(found)
+    Ok(names)
 }
 
-fn method_hashes(alloc: Global, methods: &[Method]) -> Result<Vec<usize>, AllocError>
-    ensures exact { IfOk result (λ found. found.items ≡ spec.method_hashes methods.now) }
+fn places_of_methods(alloc: Global, methods: &[Method]) -> Result<Index<usize>, AllocError>
+    ensures exact { IfOk result (λ names. spec.HasMethods methods.now names) }
 {
-    let mut found = Vec::new(alloc);
-    for method in methods {
-        found.push(name_hash(method.function.name.as_slice()))?;
+    let mut names = Index::new(alloc);
+    for (place, method) in methods.iter().enumerate() {
+        names.push(alloc, NAMES, method.function.name.as_slice(), place)?;
     }
-    Ok(found)
+    Ok(names)
 }
 
 fn member_rows(alloc: Global, family: &Family) -> Result<MemberRows, AllocError>
-    ensures exact { IfOk result (λ rows. rows ≡ spec.member_rows family.now) }
+    ensures exact { IfOk result (λ rows. spec.HasMembers family.now rows) }
 {
-    let slots = slot_hashes(alloc, family.methods.as_slice())?;
-    let fields = field_hashes(alloc, family.fields.as_slice())?;
-    let methods = method_hashes(alloc, family.methods.as_slice())?;
+    let slots = places_by_slot(alloc, family.methods.as_slice())?;
+    let fields = places_of_fields(alloc, family.fields.as_slice())?;
+    let methods = places_of_methods(alloc, family.methods.as_slice())?;
     Ok(MemberRows {
-        slots: rows_of(alloc, slots)?,
-        fields: rows_of(alloc, fields)?,
-        methods: rows_of(alloc, methods)?,
+        slots,
+        fields,
+        methods,
     })
 }
 
 fn all_rows(alloc: Global, families: &[Family]) -> Result<Vec<MemberRows>, AllocError>
-    ensures exact { IfOk result (λ rows. rows.items ≡ list_map spec.member_rows families.now) }
+    ensures exact { IfOk result (λ rows. spec.HasRows families.now rows.items) }
 {
     let mut found = Vec::new(alloc);
     for family in families {
@@ -139,7 +97,7 @@ fn all_rows(alloc: Global, families: &[Family]) -> Result<Vec<MemberRows>, Alloc
     Ok(found)
 }
 
-/// These classes and interfaces, with their members by hashes.
+/// These classes and interfaces, with their members by names and slots.
 ///
 /// The only error is want of memory.
 pub fn index_members<'a>(alloc: Global, families: &'a [Family]) -> Result<Indexed<'a>, AllocError>
@@ -154,25 +112,25 @@ fn slot_row_at(rows: &[MemberRows], number: usize, slot: usize) -> &[usize]
 {
     match rows.get(number) {
         None => &[],
-        Some(rows) => rows.slots.row(number_hash(slot)),
+        Some(rows) => rows.slots.find(slot as u64, &[]),
     }
 }
 
-fn field_row_at<'r>(rows: &'r [MemberRows], number: usize, name: &HashedName<'_>) -> &'r [usize]
+fn field_row_at<'r>(rows: &'r [MemberRows], number: usize, name: &[u8]) -> &'r [usize]
     ensures exact { result.now ≡ spec.field_row_in name.now (slice_get rows.now number) }
 {
     match rows.get(number) {
         None => &[],
-        Some(rows) => rows.fields.row(name.hash()),
+        Some(rows) => rows.fields.find(NAMES, name),
     }
 }
 
-fn method_row_at<'r>(rows: &'r [MemberRows], number: usize, name: &HashedName<'_>) -> &'r [usize]
+fn method_row_at<'r>(rows: &'r [MemberRows], number: usize, name: &[u8]) -> &'r [usize]
     ensures exact { result.now ≡ spec.method_row_in name.now (slice_get rows.now number) }
 {
     match rows.get(number) {
         None => &[],
-        Some(rows) => rows.methods.row(name.hash()),
+        Some(rows) => rows.methods.find(NAMES, name),
     }
 }
 
@@ -186,8 +144,8 @@ impl<'a> Indexed<'a> {
         self.families
     }
 
-    /// The places of the methods whose slots have the hash of this one, of those that the class or
-    /// interface of this number declares itself.
+    /// The places of the methods of this slot, of those that the class or interface of this number
+    /// declares itself.
     #[tactic(auto, using(crate::proofs::InRows::slot_row_known))]
     pub fn slot_row(&self, number: usize, slot: usize) -> &[usize]
         ensures exact { result.now
@@ -196,18 +154,18 @@ impl<'a> Indexed<'a> {
         slot_row_at(self.rows.as_slice(), number, slot)
     }
 
-    /// The places of the fields whose names have the hash of this one.
+    /// The places of the fields of this name.
     #[tactic(auto, using(crate::proofs::InRows::field_row_known))]
-    pub fn field_row(&self, number: usize, name: &HashedName<'_>) -> &[usize]
+    pub fn field_row(&self, number: usize, name: &[u8]) -> &[usize]
         ensures exact { result.now
             ≡ spec.field_row name.now (lookup.fields_in (slice_get self.now number)) }
     {
         field_row_at(self.rows.as_slice(), number, name)
     }
 
-    /// The places of the methods whose names have the hash of this one.
+    /// The places of the methods of this name.
     #[tactic(auto, using(crate::proofs::InRows::method_row_known))]
-    pub fn method_row(&self, number: usize, name: &HashedName<'_>) -> &[usize]
+    pub fn method_row(&self, number: usize, name: &[u8]) -> &[usize]
         ensures exact { result.now
             ≡ spec.method_row name.now (numbered.methods_in (slice_get self.now number)) }
     {

@@ -16,7 +16,7 @@ use Rattle.ang_names_heritage.proofs.Rings.{any_numbers, edge_shown, or_false}
 pub row_more : (p : ℕ → Bool) (j : ℕ) → row_below p (j + 1) ≡ row_below p j ++ p j ∷ []
 row_more p j = map-range_with_len_more p 0 j j (omega arith)
 
--- one entry more behind what was there
+-- one entry more after what was there
 pub pushed_more : (p : ℕ → Bool) (was t now : List Bool) (j : ℕ) (b : Bool) → t ≡ was ++ row_below p j → now ≡ t ++ b ∷ [] → b ≡ p j
     → now ≡ was ++ row_below p (j + 1)
 pushed_more p was t now j b begun pushed is =

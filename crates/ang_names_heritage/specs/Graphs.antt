@@ -13,7 +13,7 @@ unfoldable pub leads : (ℕ → ℕ → Bool) → ℕ → ℕ → ℕ → Bool
 leads e zero i j = e i j
 leads e (suc k) i j = leads e k i j || (leads e k i k && leads e k k j)
 
--- so many edges and one more, one after the other
+-- m edges and one more, one after the other
 abbrev pub Way : (ℕ → ℕ → Bool) → ℕ → ℕ → ℕ → Type 0
 Way e zero i j = e i j ≡ true
 Way e (suc m) i j = (k : ℕ) × (e i k ≡ true) × Way e m k j

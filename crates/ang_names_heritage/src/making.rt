@@ -1,4 +1,4 @@
-//! Tables that are made row by row, each behind those before it.
+//! Tables that are made row by row, each after those before it.
 ghost use Rattle.std.specs.Prelude.{ℕ, Bool, ◌≡◌, ◌==◌, ◌||◌, ◌++◌, ◌*◌, ◌<◌, ◌≤◌, Some, None, find, if◌then◌else◌, false, length, slice_index_or, IfOk, OnOk};
 ghost use Rattle.std.specs.List.{list_any, range_with_len};
 ghost use Rattle.std.specs.Option.{option_or};
@@ -10,7 +10,7 @@ use crate::close;
 use crate::orders::{has_edge, targets_of, unmarked};
 use std::alloc::{AllocError, Global};
 
-/// Puts a row of `n` entries behind those of a table, in which these places are marked.
+/// Puts a row of `n` entries after those of a table, in which these places are marked.
 ///
 /// The only error is want of memory.
 pub fn push_row(table: &mut Vec<bool>, n: usize, places: &[usize]) -> Result<(), AllocError>
@@ -23,7 +23,7 @@ pub fn push_row(table: &mut Vec<bool>, n: usize, places: &[usize]) -> Result<(),
     Ok(())
 }
 
-/// Puts a row behind those of a table, with all marks that these places have in their rows of another table.
+/// Puts a row after those of a table, with all marks that these places have in their rows of another table.
 ///
 /// The only error is want of memory.
 pub fn push_joined_row(
@@ -59,7 +59,7 @@ fn join_row(row: &mut [bool], marks: &[bool], n: usize, place: usize)
     }
 }
 
-/// Puts a row behind those of a table, with the marks of row `i` of another one, and with what leads to one of those by a
+/// Puts a row after those of a table, with the marks of row `i` of another one, and with what leads to one of those by a
 /// table that `close` has closed.
 ///
 /// The only error is want of memory.

@@ -1,10 +1,7 @@
-pub mod Adding
-pub mod AddingProperties
 pub mod Kin
 pub mod MembersByPlace
 pub mod NearestMethods
-pub mod SoFar
 pub mod Turns
-pub mod Among
 pub mod Headings
 pub mod NameIndex
+pub mod PlacesByName

@@ -105,7 +105,7 @@ place_more before n ms ps i o old new lt is so_far pushed =
     ∙ ap (λ r. nearest (before ++ r)) (sym (at_places-append n ms (take i ps) (get_or ps i 0 ∷ [])))
     ∙ ap (λ r. nearest (before ++ at_places n ms r)) (sym (take_more ps i 0 lt))
 
--- ---- slots of those behind the first eight
+-- ---- slots of those after the first eight
 
 pub any_of_both : (slot : ℕ) (found : List FoundMethod) (few behind : Bool) → few ≡ list_any (stands_in slot) (take 8 found) → behind ≡ list_any (stands_in slot) (drop 8 found)
     → (few || behind) ≡ list_any (stands_in slot) found
@@ -129,7 +129,7 @@ or_turned true false = refl
 or_turned false true = refl
 or_turned false false = refl
 
--- a method behind them, with its slot
+-- a method after them, with its slot
 pub slot_more : (found new : List FoundMethod) (x : FoundMethod) (slot : ℕ) (old b : Bool) → 8 ≤ length found → new ≡ found ++ x ∷ []
     → b ≡ cond (x.method.slot == slot) true old → old ≡ list_any (stands_in slot) (drop 8 found)
     → b ≡ list_any (stands_in slot) (drop 8 new)

@@ -1,9 +1,6 @@
-pub mod Added
-pub mod Host
 pub mod Items
 pub mod Lookup
 pub mod Spaces
 pub mod Nearest
-pub mod Among
 pub mod NameIndex
 pub mod Headings

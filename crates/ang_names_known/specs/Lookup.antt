@@ -45,7 +45,7 @@ same_type (type.Object n c) (type.Object m d) = n == m && beq c d
 same_type (type.Handle n c) (type.Handle m d) = n == m && beq c d
 same_type _ _ = false
 
--- Two types are written the same: `int32` is `int`, and `const` stands at both or at neither, in front and behind `@`. Object types are
+-- Two types are written the same: `int32` is `int`, and `const` stands at both or at neither, in front and after `@`. Object types are
 -- the same by number.
 abbrev pub same_written : Written → Written → Bool
 same_written a b = same_type a.ty b.ty && beq a.constant b.constant && beq a.const_handle b.const_handle

@@ -27,7 +27,7 @@ global_names gs = map (λ (g : ScriptGlobal). g.name) gs
 abbrev pub families_names : List Family → List (List ℕ)
 families_names fs = map (λ (f : Family). f.name) fs
 
--- the places of some names are put in under a scope's number, behind what stands there
+-- the places of some names are put in under a scope's number, after what stands there
 abbrev pub PutsAll : Rows ℕ → Rows ℕ → ℕ → List (List ℕ) → Type 0
 PutsAll old new scope names = (s : ℕ) (name : List ℕ) →
     items_at s name new ≡ items_at s name old ++ (if scope == s then places_of names name else [])

@@ -28,6 +28,6 @@ abbrev pub nearest_at : List FoundMethod → Option FoundMethod → List FoundMe
 nearest_at before None = []
 nearest_at before (Some x) = if_nearest before x
 
--- a set has the slots of all methods behind the first eight
+-- a set has the slots of all methods after the first eight
 abbrev pub HasSlots : {S : Type 0} → HashSet ℕ S → List FoundMethod → Type 0
 HasSlots slots found = (slot : ℕ) → contains nat_eq slots slot ≡ list_any (stands_in slot) (drop 8 found)

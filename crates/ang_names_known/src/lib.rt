@@ -8,9 +8,7 @@
 mod borrowed;
 mod family_types;
 mod functions;
-mod host;
 mod indexed;
-pub mod laws;
 mod lineage;
 mod lookup;
 mod members;
@@ -22,10 +20,6 @@ mod space;
 pub use borrowed::Text;
 pub use family_types::{FIRST_FAMILY, family_of_type, family_type};
 pub use functions::parameters_of;
-pub use host::{
-    HostFunction, HostProperty, Wanted, WantedProperty, found_at, host_where, property_at,
-    property_where,
-};
 pub use indexed::IndexedNames as Names;
 pub use lineage::lineage_of;
 pub use lookup::{

@@ -80,7 +80,7 @@ fn own_methods(families: &[Family], number: usize) -> &[Method]
     }
 }
 
-/// Puts the methods at these places, of those that a family declares, behind those of the families below it.
+/// Puts the methods at these places, of those that a family declares, after those of the families below it.
 fn push_methods<'a>(
     found: &mut Vec<FoundMethod<'a>>,
     slots: &mut HashSet<usize>,
@@ -130,7 +130,7 @@ fn push_method<'a>(
     push_nearest(found, slots, method)
 }
 
-/// Puts a method in behind all others.
+/// Puts a method in after all others.
 fn push_nearest<'a>(
     found: &mut Vec<FoundMethod<'a>>,
     slots: &mut HashSet<usize>,

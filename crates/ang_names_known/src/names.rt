@@ -20,7 +20,7 @@ pub struct Written {
     pub ty: ArgType,
     /// Whether `const` stands in front.
     pub constant: bool,
-    /// Whether `const` stands behind `@`.
+    /// Whether `const` stands after `@`.
     pub const_handle: bool,
 }
 

@@ -19,7 +19,7 @@ pub(crate) const GLOBALS: u64 = 3;
 /// The scope of the names of classes and interfaces.
 pub(crate) const FAMILIES: u64 = 4;
 
-/// A place as an index keeps it. There is no memory for so many names that it would not fit.
+/// A place as an index keeps it. There is no memory for more names than it can tell apart.
 fn place_of(number: usize) -> Result<u32, AllocError>
     ensures exact { IfOk result (λ place. place ≡ number) }
 {

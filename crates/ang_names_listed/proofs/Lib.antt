@@ -2,3 +2,4 @@ pub mod Among
 pub mod Counts
 pub mod Few
 pub mod HostNames
+pub mod NamesSoFar

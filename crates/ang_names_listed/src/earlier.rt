@@ -1,17 +1,21 @@
 //! The declarations before one, found by name, so that no look-up goes through all of them.
-ghost use Rattle.std.specs.Prelude.{◌≡◌, ◌<◌, ◌-◌, ◌^◌};
+ghost use Rattle.std.specs.Prelude.{◌≡◌, ◌<◌, ◌-◌, ◌^◌, ◌++◌, IfOk, OnOk};
 ghost use Rattle.ang_names_listed.specs.Declarations as declarations;
 ghost use Rattle.ang_names_listed.specs.Earlier as spec;
-ghost use Rattle.ang_names_listed.specs.Taken as taken;
 
 use crate::listed::{Declared, Part};
 use ang_index::Index;
-use ang_names_written::text_at;
+use ang_names_written::{push_spellings, text_at};
+use ang_tree::Parameter;
 use std::alloc::{AllocError, Global};
 use std::marker::Model;
 
 /// The scope of all names.
-const DECLARATIONS: u64 = 0;
+const NAMES: u64 = 0;
+
+/// The scope of all keys: of functions and imports their names with how their parameters are spelled, of all others
+/// their names.
+const KEYS: u64 = 1;
 
 /// How many declarations there are of each kind.
 #[derive(Clone, Copy, PartialEq, Eq, Debug)]
@@ -27,7 +31,7 @@ pub struct Counts {
 }
 
 /// The declarations before one, which contracts see as the list of them. Beside them stand their
-/// numbers by name, and how many there are of each kind.
+/// numbers by name and by key, and how many there are of each kind.
 #[derive(Drop)]
 pub struct Earlier<'l, 'a> {
     items: &'l [Declared<'a>],
@@ -52,6 +56,40 @@ pub fn declared_name<'a>(declared: &Declared<'a>) -> &'a [u8]
     ensures exact { result.now ≡ declarations.declared_name declared.now }
 {
     text_at(declared.text.bytes(), &declared.name)
+}
+
+/// The key of a function or an import with these parameters.
+#[tactic(auto, using(std::proofs::Common::append_assoc))]
+pub fn function_key(
+    alloc: Global,
+    declared: &Declared<'_>,
+    params: &[Parameter],
+) -> Result<Vec<u8>, AllocError>
+    ensures exact { IfOk result (λ key. key.items ≡ spec.function_key declared.now params.now) }
+{
+    let mut key = Vec::from_slice(alloc, declared_name(declared))?;
+    key.push(0)?;
+    push_spellings(&mut key, declared.text.bytes(), params)?;
+    Ok(key)
+}
+
+/// The key of what is no function.
+fn name_key(alloc: Global, declared: &Declared<'_>) -> Result<Vec<u8>, AllocError>
+    ensures exact { IfOk result (λ key. key.items ≡ declarations.declared_name declared.now) }
+{
+    Ok(Vec::from_slice(alloc, declared_name(declared))?)
+}
+
+/// The key of a declaration.
+fn key_of(alloc: Global, declared: &Declared<'_>) -> Result<Vec<u8>, AllocError>
+    ensures exact { IfOk result (λ key. key.items ≡ spec.key_of declared.now) }
+{
+    match &declared.part {
+        Part::Function(_, params) => function_key(alloc, declared, params.items()),
+        Part::Import(_, params) => function_key(alloc, declared, params.items()),
+        Part::Family(_) => name_key(alloc, declared),
+        Part::Global(_) => name_key(alloc, declared),
+    }
 }
 
 /// With one declaration more.
@@ -82,13 +120,27 @@ fn counted(counts: Counts, part: &Part<'_>) -> Counts
     }
 }
 
+/// Puts the number of a declaration in, under its name and under its key.
+#[tactic(auto, using(crate::proofs::Among::both_put))]
+fn push_places(
+    alloc: Global,
+    places: &mut Index<usize>,
+    declared: &Declared<'_>,
+    number: usize,
+) -> Result<(), AllocError>
+    ensures pushed { OnOk result (spec.PutsPlaces places.old places.new declared.now number) }
+{
+    let key = key_of(alloc, declared)?;
+    places.push(alloc, NAMES, declared_name(declared), number)?;
+    places.push(alloc, KEYS, key.as_slice(), number)
+}
+
 impl<'l, 'a> Earlier<'l, 'a> {
-    ghost use Rattle.std.specs.Prelude.{◌≡◌, ◌++◌, ◌∷◌, [], OnOk};
-    ghost use Rattle.std.specs.List.{list_any};
+    ghost use Rattle.std.specs.Prelude.{◌≡◌, ◌++◌, ◌∷◌, [], IfOk};
     ghost use Rattle.ang_names_listed.specs.Earlier.{counts_of};
 
     /// No declarations yet. It takes no memory.
-    #[tactic(auto, unfolding(crate::specs::Declarations::families_of))]
+    #[tactic(auto, unfolding(crate::specs::Declarations::families_of), using(crate::proofs::Among::no_places))]
     pub fn new(alloc: Global) -> Earlier<'l, 'a>
         ensures none { result ≡ [] }
     {
@@ -118,31 +170,40 @@ impl<'l, 'a> Earlier<'l, 'a> {
         self.counts
     }
 
-    /// The numbers of those that have this one's name. It takes no memory.
-    pub fn row(&self, declared: &Declared<'_>) -> &[usize]
-        ensures all { list_any (spec.clashes_at self.now declared.now) result.now
-            ≡ list_any (taken.clashes declared.now) self.now }
+    /// The numbers of those of this name. It takes no memory.
+    pub fn named(&self, name: &[u8]) -> &[usize]
+        ensures exact { result.now ≡ spec.named self.now name.now }
     {
-        self.places.find(DECLARATIONS, declared_name(declared))
+        self.places.find(NAMES, name)
     }
 
-    /// Goes on to these, which are one declaration more.
+    /// The numbers of those of this key. It takes no memory.
+    pub fn keyed(&self, key: &[u8]) -> &[usize]
+        ensures exact { result.now ≡ spec.keyed self.now key.now }
+    {
+        self.places.find(KEYS, key)
+    }
+
+    /// These, which are one declaration more.
     ///
     /// The only error is want of memory.
-    pub fn grow(
-        &mut self,
+    pub fn grown(
+        self,
         alloc: Global,
         items: &'l [Declared<'a>],
         declared: &Declared<'a>,
-    ) -> Result<(), AllocError>
-        requires one_more { items.now ≡ self.old ++ declared.now ∷ [] }
-        ensures grown { OnOk result (self.new ≡ items.now) }
+    ) -> Result<Earlier<'l, 'a>, AllocError>
+        requires one_more { items.now ≡ self ++ declared.now ∷ [] }
+        ensures grown { IfOk result (λ all. all ≡ items.now) }
     {
         let number = self.items.len();
-        self.places
-            .push(alloc, DECLARATIONS, declared_name(declared), number)?;
-        self.counts = counted(self.counts, &declared.part);
-        self.items = items;
-        Ok(())
+        let counts = counted(self.counts, &declared.part);
+        let mut places = self.places;
+        push_places(alloc, &mut places, declared, number)?;
+        Ok(Earlier {
+            items,
+            places,
+            counts,
+        })
     }
 }

@@ -38,7 +38,7 @@ pub struct Shape<'a> {
     pub is_class: bool,
     /// Whether it is a class that is written with `final`.
     pub is_final: bool,
-    /// The names behind `:`.
+    /// The names after `:`.
     pub bases: List<Token>,
     /// Its members, in order: each name of a declaration of fields is one of its own.
     pub members: List<Member<'a>>,
@@ -66,7 +66,7 @@ pub enum MemberKind<'a> {
     Constructor(WrittenParameters<'a>),
 }
 
-/// The words behind a method's parameters.
+/// The words after a method's parameters.
 #[derive(Clone, Copy, PartialEq, Eq, Debug)]
 pub struct Attributes {
     /// `const`

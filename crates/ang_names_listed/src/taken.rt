@@ -1,5 +1,5 @@
 //! Names that are taken, and too many of them.
-ghost use Rattle.std.specs.Prelude.{◌≡◌, ◌++◌, IfOk, OnOk, Some, option_to_list};
+ghost use Rattle.std.specs.Prelude.{◌≡◌, ◌++◌, ◌||◌, IfOk, OnOk, Some, option_to_list};
 ghost use Rattle.std.specs.List.{list_any};
 ghost use Rattle.ang_types.specs.Refusals.{plain_refusal};
 ghost use Rattle.ang_view.specs.Registration.{entry_at};
@@ -7,7 +7,7 @@ ghost use Rattle.ang_names_written.specs.Sources as sources;
 ghost use Rattle.ang_names_listed.specs.Earlier as earlier;
 ghost use Rattle.ang_names_listed.specs.Taken as spec;
 
-use crate::earlier::{Earlier, declared_name};
+use crate::earlier::{Earlier, declared_name, function_key};
 use crate::listed::{Declared, Part};
 use ang_kinds::{EntityNo, ErrorKind, Param};
 use ang_names_written::{error_at, have_same_types, have_same_types_as_host};
@@ -141,17 +141,74 @@ fn clashes_with_one(before: &[Declared<'_>], row: &[usize], declared: &Declared<
         .any(|number| clashes_with_earlier(before, *number, declared))
 }
 
-fn is_taken_before(before: &Earlier<'_, '_>, declared: &Declared<'_>) -> bool
+/// Whether a declaration clashes with one of the earlier ones of these numbers, or of those.
+fn clashes_with_either(
+    before: &[Declared<'_>],
+    others: &[usize],
+    functions: &[usize],
+    declared: &Declared<'_>,
+) -> bool
+    ensures exact { result ≡ (list_any (earlier.clashes_at before.now declared.now) others.now
+        || list_any (earlier.clashes_at before.now declared.now) functions.now) }
+{
+    clashes_with_one(before, others, declared) || clashes_with_one(before, functions, declared)
+}
+
+/// Whether a function or an import with these parameters clashes with an earlier declaration: with one that is no
+/// function, or with one of the same parameters.
+fn is_function_taken(
+    alloc: Global,
+    before: &Earlier<'_, '_>,
+    declared: &Declared<'_>,
+    params: &[Parameter],
+) -> Result<bool, AllocError>
+    requires params { earlier.params_of declared.now.part ≡ Some params.now }
+    ensures exact { IfOk result
+        (λ taken. taken ≡ list_any (spec.clashes declared.now) before.now) }
+{
+    let key = function_key(alloc, declared, params)?;
+    let items = before.items();
+    let others = before.keyed(declared_name(declared));
+    let functions = before.keyed(key.as_slice());
+    Ok(clashes_with_either(items, others, functions, declared))
+}
+
+/// Whether some earlier declaration has the name of this one, which is no function.
+#[tactic(auto, using(crate::proofs::Among::all_among))]
+fn is_name_taken(before: &Earlier<'_, '_>, declared: &Declared<'_>) -> bool
     ensures exact { result ≡ list_any (spec.clashes declared.now) before.now }
 {
-    clashes_with_one(before.items(), before.row(declared), declared)
+    let named = before.named(declared_name(declared));
+    clashes_with_one(before.items(), named, declared)
+}
+
+/// Whether a declaration clashes with an earlier one.
+fn is_taken_before(
+    alloc: Global,
+    before: &Earlier<'_, '_>,
+    declared: &Declared<'_>,
+) -> Result<bool, AllocError>
+    ensures exact { IfOk result
+        (λ taken. taken ≡ list_any (spec.clashes declared.now) before.now) }
+{
+    match &declared.part {
+        Part::Function(_, params) => is_function_taken(alloc, before, declared, params.items()),
+        Part::Import(_, params) => is_function_taken(alloc, before, declared, params.items()),
+        Part::Family(_) => Ok(is_name_taken(before, declared)),
+        Part::Global(_) => Ok(is_name_taken(before, declared)),
+    }
 }
 
 #[tactic(auto, unfolding(crate::specs::Taken::is_taken))]
-fn is_taken(view: &View, before: &Earlier<'_, '_>, declared: &Declared<'_>) -> bool
-    ensures exact { result ≡ spec.is_taken view.now before.now declared.now }
+fn is_taken(
+    alloc: Global,
+    view: &View,
+    before: &Earlier<'_, '_>,
+    declared: &Declared<'_>,
+) -> Result<bool, AllocError>
+    ensures exact { IfOk result (λ taken. taken ≡ spec.is_taken view.now before.now declared.now) }
 {
-    is_taken_before(before, declared) || is_taken_by_host(view, declared)
+    Ok(is_taken_before(alloc, before, declared)? || is_taken_by_host(view, declared))
 }
 
 /// Whether a function is declared there, and no import. It takes no memory.
@@ -196,7 +253,7 @@ fn name_refusal(
 ) -> Result<Option<Refused>, AllocError>
     ensures exact { IfOk result (λ r. r ≡ spec.name_refusal view.now before.now declared.now) }
 {
-    let kind = if is_taken(view, before, declared) {
+    let kind = if is_taken(alloc, view, before, declared)? {
         ErrorKind::Duplicate
     } else if is_first_above(before, &declared.part) {
         ErrorKind::Limit
@@ -236,7 +293,7 @@ pub fn name_refusals(
     for (i, declared) in all.iter().enumerate() {
         let refused = name_refusal(alloc, view, &before, declared)?;
         push_refused(&mut found, refused)?;
-        before.grow(alloc, &all[..i + 1], declared)?;
+        before = before.grown(alloc, &all[..i + 1], declared)?;
     }
     Ok(found)
 }

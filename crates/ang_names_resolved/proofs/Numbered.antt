@@ -18,7 +18,9 @@ use Rattle.ang_names_listed.specs.declared.listed.Member.{Member}
 use Rattle.ang_names_listed.specs.declared.listed.MemberKind.{MemberKind}
 use Rattle.ang_names_listed.specs.declared.listed.MemberKind.TheVariants as member
 use Rattle.ang_names_listed.specs.Declarations.{Declaring}
-use Rattle.ang_names_resolved.specs.Resolved.{body_members, constructors_after, constructors_by, families_after, family_with, field_numbered, field_type, fields_after, has_body, heading_of, method_with, methods_after, methods_by, with_bodies}
+use Rattle.ang_names_tables.specs.Headings.{heading_of}
+use Rattle.ang_names_tables.specs.Hierarchy.{field_type}
+use Rattle.ang_names_resolved.specs.Resolved.{body_members, constructors_after, constructors_by, families_after, family_with, field_numbered, fields_after, has_body, method_with, methods_after, methods_by, with_bodies}
 
 module _ {A B : Type 0} (f : List A → A → List B) where
   after_more : (before xs : List A) (x : A) → each_after f before (xs ++ x ∷ []) ≡ each_after f before xs ++ f (before ++ xs) x
@@ -84,7 +86,7 @@ body_next is_class first ms i m body next h lt is e =
     let more = ap (λ xs. length (with_bodies is_class xs)) (one_taken ms i m lt is) ∙ passed_more (λ (x : Member). has_body is_class x.kind) (take i ms) m in
     omega (arith, h, e, more)
 
--- a method behind those before it
+-- a method after those before it
 pub one_method : (E : Space) (all : List (ScriptFunction × Bool)) (d : Declaring) (m : Member) (body : ℕ) (y : TypeName) (ps : List Parameter) (a : Attributes) (k : MemberKind)
     (f : ScriptFunction) (method : Method) (was now : List Method) → k ≡ member.Method y ps a → f ≡ heading_of E d.origin d.text m.name y ps
     → method ≡ method_with all d m body f a → now ≡ was ++ method ∷ [] → now ≡ was ++ methods_by E all d m body k

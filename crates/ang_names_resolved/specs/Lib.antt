@@ -1,4 +1,1 @@
-pub mod Slots
 pub mod Resolved
-pub mod Tables
-pub mod Placed

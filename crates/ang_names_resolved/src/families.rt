@@ -5,16 +5,17 @@ ghost use Rattle.ang_names_heritage.specs.Graphs.{leads};
 ghost use Rattle.ang_names_heritage.specs.Tables.{Shows};
 ghost use Rattle.ang_names_known.specs.Items.{each_after};
 ghost use Rattle.ang_names_known.specs.Spaces as spaces;
+ghost use Rattle.ang_names_tables.specs.Headings as headings;
+ghost use Rattle.ang_names_tables.specs.Hierarchy as hierarchy;
+ghost use Rattle.ang_names_tables.specs.Tables as tables;
 ghost use Rattle.ang_names_resolved.specs.Resolved as spec;
-ghost use Rattle.ang_names_resolved.specs.Tables as tables;
 
-use crate::held::field_count;
 use crate::members::{body_after, constructors_of, fields_of, methods_of};
-use crate::tables::Tables;
 use ang_kinds::List;
 use ang_names_heritage::{above_of, after_first, first_of, order_of, reach_of};
 use ang_names_known::{Family, Space};
 use ang_names_listed::Declaring;
+use ang_names_tables::{Tables, field_count};
 use ang_names_written::copy_at;
 use std::alloc::{AllocError, Global};
 
@@ -22,8 +23,8 @@ use std::alloc::{AllocError, Global};
 fn base_of(families: &[Declaring<'_, '_>], bases: &[bool], number: usize) -> Option<usize>
     requires few { length families.now ≤ 256 }
     requires there { number < length families.now }
-    requires bases { Shows bases.now (length families.now) (spec.is_base families.now) }
-    ensures exact { result ≡ spec.first_below (spec.is_base families.now number)
+    requires bases { Shows bases.now (length families.now) (hierarchy.is_base families.now) }
+    ensures exact { result ≡ spec.first_below (hierarchy.is_base families.now number)
         (length families.now) }
 {
     first_of(bases, families.len(), number)
@@ -39,9 +40,9 @@ fn all_above(
     requires few { length families.now ≤ 256 }
     requires there { number < length families.now }
     requires above { Shows above.now (length families.now)
-        (leads (spec.is_parent families.now) (length families.now)) }
+        (leads (hierarchy.is_parent families.now) (length families.now)) }
     ensures exact { IfOk result (λ places. places.items
-        ≡ graphs.above (spec.is_parent families.now) (length families.now) number) }
+        ≡ graphs.above (hierarchy.is_parent families.now) (length families.now) number) }
 {
     above_of(alloc, above, families.len(), number)
 }
@@ -55,9 +56,9 @@ fn chain_of(
 ) -> Result<Vec<usize>, AllocError>
     requires few { length families.now ≤ 256 }
     requires there { number < length families.now }
-    requires bases { Shows bases.now (length families.now) (spec.is_base families.now) }
+    requires bases { Shows bases.now (length families.now) (hierarchy.is_base families.now) }
     ensures exact { IfOk result (λ places. places.items
-        ≡ graphs.order_of (spec.is_base families.now) (length families.now) number) }
+        ≡ graphs.order_of (hierarchy.is_base families.now) (length families.now) number) }
 {
     order_of(alloc, bases, families.len(), number)
 }
@@ -71,9 +72,9 @@ fn ancestors_of(
 ) -> Result<Vec<usize>, AllocError>
     requires few { length families.now ≤ 256 }
     requires there { number < length families.now }
-    requires parents { Shows parents.now (length families.now) (spec.is_parent families.now) }
+    requires parents { Shows parents.now (length families.now) (hierarchy.is_parent families.now) }
     ensures exact { IfOk result (λ places. places.items
-        ≡ graphs.order_of (spec.is_parent families.now) (length families.now) number) }
+        ≡ graphs.order_of (hierarchy.is_parent families.now) (length families.now) number) }
 {
     order_of(alloc, parents, families.len(), number)
 }
@@ -110,9 +111,9 @@ fn rank_of(
     requires few { length families.now ≤ 256 }
     requires there { number < length families.now }
     requires reach { Shows reach.now (length families.now)
-        (leads (spec.holds space.now families.now) (length families.now)) }
+        (leads (hierarchy.holds space.now families.now) (length families.now)) }
     ensures exact { result
-        ≡ graphs.reach_of (spec.holds space.now families.now) (length families.now) number }
+        ≡ graphs.reach_of (hierarchy.holds space.now families.now) (length families.now) number }
 {
     reach_of(reach, families.len(), number)
 }
@@ -120,7 +121,7 @@ fn rank_of(
 /// How many fields the class or interface of this number declares itself.
 fn field_count_at(families: &[Declaring<'_, '_>], number: usize) -> usize
     ensures exact { (E : spaces.Space) →
-        result ≡ length (spec.field_types_in E (slice_get families.now number)) }
+        result ≡ length (hierarchy.field_types_in E (slice_get families.now number)) }
 {
     match families.get(number) {
         None => 0,
@@ -131,7 +132,7 @@ fn field_count_at(families: &[Declaring<'_, '_>], number: usize) -> usize
 /// How many fields the classes and interfaces of these numbers declare. Memory holds each of them.
 fn field_counts(families: &[Declaring<'_, '_>], places: &[usize]) -> Result<usize, AllocError>
     ensures exact { (E : spaces.Space) → IfOk result
-        (λ count. count ≡ length (spec.field_types_at E families.now places.now)) }
+        (λ count. count ≡ length (hierarchy.field_types_at E families.now places.now)) }
 {
     let mut count: usize = 0;
     for place in places {
@@ -151,7 +152,7 @@ fn inherited_fields(
 ) -> Result<usize, AllocError>
     requires few { length families.now ≤ 256 }
     requires there { number < length families.now }
-    requires bases { Shows bases.now (length families.now) (spec.is_base families.now) }
+    requires bases { Shows bases.now (length families.now) (hierarchy.is_base families.now) }
     ensures exact { (E : spaces.Space) → IfOk result
         (λ count. count ≡ spec.inherited_fields E families.now number) }
 {
@@ -173,7 +174,7 @@ fn family_with(
     requires there { number < length families.now }
     requires known { tables.AreTables space.now families.now known.now }
     ensures exact { IfOk result (λ f. f ≡ spec.family_with space.now families.now
-        (spec.signatures_of space.now families.now) number first family.now) }
+        (headings.signatures_of space.now families.now) number first family.now) }
 {
     let is_class = family.shape().is_class;
     let inherited = inherited_fields(alloc, families, &known.bases, number)?;
@@ -211,7 +212,7 @@ pub fn families_in(
     requires few { length families.now ≤ 256 }
     requires known { tables.AreTables space.now families.now known.now }
     ensures exact { IfOk result (λ fs. fs ≡ each_after (spec.families_after
-        space.now families.now (spec.signatures_of space.now families.now)
+        space.now families.now (headings.signatures_of space.now families.now)
         functions) [] families.now) }
 {
     let mut found = Vec::new(alloc);

@@ -3,19 +3,9 @@
 #![tactic(auto)]
 
 mod families;
-mod headings;
-mod held;
 mod members;
-mod placed;
 mod resolved;
-mod signatures;
-mod slots;
 mod space;
-mod tables;
 
-pub use headings::{heading_of, parameter_role};
-pub use placed::Placed;
 pub use resolved::{families_among, names_of};
-pub use slots::Signatures;
 pub use space::space_of;
-pub use tables::Tables;

@@ -1,14 +1,13 @@
 //! Fields, methods and constructors, each with its number.
 ghost use Rattle.std.specs.Prelude.{◌≡◌, ◌+◌, ◌++◌, [], length, option_to_list, if◌then◌else◌, IfOk, OnOk};
 ghost use Rattle.ang_names_known.specs.Items.{each_after};
+ghost use Rattle.ang_names_tables.specs.Hierarchy as hierarchy;
 ghost use Rattle.ang_names_resolved.specs.Resolved as spec;
 
-use crate::headings::{heading_of, maker_of};
-use crate::held::field_type;
-use crate::slots::{Signatures, slot_of};
 use ang_kinds::List;
 use ang_names_known::{Constructor, Field, Method, ScriptFunction, Space, Written};
 use ang_names_listed::{Attributes, Declaring, Member, MemberKind};
+use ang_names_tables::{Signatures, field_type, heading_of, maker_of, slot_of};
 use ang_names_written::copy_at;
 use std::alloc::{AllocError, Global};
 
@@ -38,7 +37,7 @@ fn field_with(
     })
 }
 
-/// Puts a member behind the fields before it, if it is one, and gives the next field's number.
+/// Puts a member after the fields before it, if it is one, and gives the next field's number.
 fn push_field(
     alloc: Global,
     space: &Space<'_>,
@@ -49,9 +48,10 @@ fn push_field(
 ) -> Result<usize, AllocError>
     ensures pushed { OnOk result (found.new.items ≡ found.old.items
         ++ spec.field_numbered family.now member.now number
-        (spec.field_type space.now family.now member.now.kind)) }
+        (hierarchy.field_type space.now family.now member.now.kind)) }
     ensures next { IfOk result (λ next. next
-        ≡ number + length (option_to_list (spec.field_type space.now family.now member.now.kind))) }
+        ≡ number + length (option_to_list
+        (hierarchy.field_type space.now family.now member.now.kind))) }
 {
     match field_type(space, family, &member.kind) {
         None => Ok(number),
@@ -132,18 +132,19 @@ fn body_number(is_class: bool, body: usize) -> Option<usize>
 
 /// A method with this heading and this body.
 fn method_with(
+    alloc: Global,
     signatures: &Signatures,
     family: &Declaring<'_, '_>,
     member: &Member<'_>,
     body: usize,
     function: ScriptFunction,
     attributes: Attributes,
-) -> Method
-    ensures exact { result ≡ spec.method_with
-        signatures.now family.now member.now body function attributes }
+) -> Result<Method, AllocError>
+    ensures exact { IfOk result (λ method. method ≡ spec.method_with
+        signatures.now family.now member.now body function attributes) }
 {
-    let slot = slot_of(signatures, &function, attributes.read_only);
-    Method {
+    let slot = slot_of(alloc, signatures, &function, attributes.read_only)?;
+    Ok(Method {
         function,
         access: member.access,
         read_only: attributes.read_only,
@@ -151,10 +152,10 @@ fn method_with(
         is_override: attributes.is_override,
         slot,
         body: body_number(family.shape().is_class, body),
-    }
+    })
 }
 
-/// Puts a member behind the methods before it, if it is one.
+/// Puts a member after the methods before it, if it is one.
 fn push_method(
     alloc: Global,
     space: &Space<'_>,
@@ -178,7 +179,16 @@ fn push_method(
                 result,
                 params.items(),
             )?;
-            found.push(method_with(signatures, family, member, body, function, *attributes))?;
+            let method = method_with(
+                alloc,
+                signatures,
+                family,
+                member,
+                body,
+                function,
+                *attributes,
+            )?;
+            found.push(method)?;
             Ok(())
         }
         MemberKind::Field(_) | MemberKind::Constructor(_) => Ok(()),
@@ -209,7 +219,7 @@ pub fn methods_of(
     Ok(List::from_vec(found))
 }
 
-/// Puts a member behind the constructors before it, if it is one.
+/// Puts a member after the constructors before it, if it is one.
 fn push_constructor(
     alloc: Global,
     space: &Space<'_>,

@@ -4,16 +4,15 @@ ghost use Rattle.std.specs.List.{filter_map};
 ghost use Rattle.ang_names_known.specs.Spaces as spaces;
 ghost use Rattle.ang_names_listed.specs.Declarations.{declared_name};
 ghost use Rattle.ang_names_listed.specs.Declarations as listed;
+ghost use Rattle.ang_names_tables.specs.Tables as tables;
 ghost use Rattle.ang_names_resolved.specs.Resolved as spec;
-ghost use Rattle.ang_names_resolved.specs.Tables as tables;
 
 use crate::families::families_in;
-use crate::headings::{function_with, heading_of, parameters_of};
 use crate::space::space_of;
-use crate::tables::{Tables, tables_of};
 use ang_kinds::List;
 use ang_names_known::{Family, NameLists, Names, ScriptFunction, ScriptGlobal, Space};
 use ang_names_listed::{Declared, Part, declares_function, families_of};
+use ang_names_tables::{Tables, function_with, heading_of, parameters_of, tables_of};
 use ang_names_written::{Role, copy_at, written_in};
 use ang_tree::{Parameter, TypeName};
 use ang_view::View;

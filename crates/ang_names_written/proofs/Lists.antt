@@ -2,7 +2,7 @@
 use Rattle.std.proofs.Common.{◌≡◌, ap, sym, ◌∙◌, ℕ, ◌+◌, ◌<◌, suc, List, ◌∷◌, ◌++◌, append_assoc, length, get_or, drop, drop-cons, add-one, map as list_map}
 use Rattle.std.specs.List.{flat_map}
 
--- the item of an index stands in front of what is behind it
+-- the item of an index stands in front of what is after it
 drop_item : {A : Type 0} (xs : List A) (i : ℕ) (x : A) → i < length xs → x ≡ get_or xs i x → drop i xs ≡ x ∷ drop (i + 1) xs
 drop_item xs i x lt e = drop-cons xs i x lt ∙ ap (λ y. y ∷ drop (suc i) xs) (sym e) ∙ ap (λ n. x ∷ drop n xs) (sym (add-one i))
 

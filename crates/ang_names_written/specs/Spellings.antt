@@ -1,7 +1,8 @@
 -- How parameters are spelled, for functions that overload one name (docs/LANGUAGE.md, "Names of a build"; the AngelScript manual,
 -- "Function overloading"; what is the same is this profile's own): two parameters are the same
 -- where their types are spelled the same (`int32` is `int`, `T@+` is `T@`), both are `const` or neither, and they are passed alike.
-use Rattle.std.specs.Prelude.{ℕ, Bool, true, false, ◌==◌, ◌&&◌, is_some, List, Option, Some, None, bytes_eq}
+use Rattle.std.specs.Prelude.{ℕ, Bool, true, false, ◌+◌, ◌==◌, ◌&&◌, is_some, List, [], ◌∷◌, ◌++◌, Option, Some, None, bytes_eq}
+use Rattle.std.specs.List.{flat_map}
 use Rattle.std.specs.Cmp.Lexicographic.{pointwise}
 use Rattle.std.proofs.Math.Bool.{beq}
 use Rattle.ang_kinds.specs.declared.types.Param.{Param}
@@ -101,3 +102,24 @@ same_spellings text ps other qs = pointwise (λ p q. same_spelling (spelling_of 
 
 abbrev pub same_as_host : List ℕ → List Parameter → List Param → Bool
 same_as_host text ps qs = pointwise (λ p q. same_spelling (spelling_of text p) (host_spelling_of q)) ps qs
+
+-- ---- as bytes, so that functions that can't overload one name are found by them
+
+abbrev pub named_code : List ℕ → List ℕ
+named_code name = 10 ∷ name
+
+abbrev pub base_code : Base → List ℕ
+base_code base.Void = 0 ∷ []
+base_code (base.Primitive p) = (primitive_number p + 1) ∷ []
+base_code (base.Named name) = named_code name
+
+abbrev pub const_number : Bool → ℕ
+const_number true = 1
+const_number false = 0
+
+-- spellings that are the same have the same bytes
+unfoldable pub code_of : Spelling → List ℕ
+code_of s = base_code s.base ++ sign_number s.sign ∷ const_number s.is_const ∷ pass_number s.pass ∷ []
+
+abbrev pub codes_of : List ℕ → List Parameter → List ℕ
+codes_of text ps = flat_map (λ (p : Parameter). code_of (spelling_of text p)) ps

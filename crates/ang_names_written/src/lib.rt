@@ -12,5 +12,7 @@ mod types;
 pub use borrowed::WrittenParameters;
 pub use role::Role;
 pub use sources::{copy_at, error_at, fault_at, name_at, text_at};
-pub use spelling::{Base, Sign, Spelling, have_same_types, have_same_types_as_host};
+pub use spelling::{
+    Base, Sign, Spelling, have_same_types, have_same_types_as_host, push_spellings,
+};
 pub use types::{is_const_handle, pass_of, type_in, written_in};

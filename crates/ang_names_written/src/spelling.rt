@@ -1,5 +1,6 @@
 //! How parameters are spelled, for functions that overload one name.
-ghost use Rattle.std.specs.Prelude.{◌≡◌};
+ghost use Rattle.std.specs.Prelude.{◌≡◌, ◌+◌, ◌++◌, OnOk};
+ghost use Rattle.ang_view.specs.Numbers.{pass_number, primitive_number};
 ghost use Rattle.ang_names_written.specs.Spellings as spec;
 
 use crate::sources::text_at;
@@ -8,6 +9,7 @@ use ang_kinds::{Param, Pass, Prim, Shape, TypeRef};
 use ang_lex::TokenKind;
 use ang_names_known::Text;
 use ang_tree::{Handle, Parameter, TypeName};
+use std::alloc::AllocError;
 
 /// What a type is named by.
 #[derive(Drop)]
@@ -200,4 +202,98 @@ pub fn have_same_types_as_host(text: &[u8], params: &[Parameter], others: &[Para
             .iter()
             .zip(others)
             .all(|(one, other)| is_same_as_host_parameter(text, one, other))
+}
+
+// ---- as bytes
+
+fn primitive_code(primitive: Prim) -> u8
+    ensures exact { result ≡ primitive_number primitive + 1 }
+{
+    match primitive {
+        Prim::I8 => 1,
+        Prim::I16 => 2,
+        Prim::I32 => 3,
+        Prim::I64 => 4,
+        Prim::U8 => 5,
+        Prim::U16 => 6,
+        Prim::U32 => 7,
+        Prim::U64 => 8,
+        Prim::Bool => 9,
+    }
+}
+
+fn sign_code(sign: Sign) -> u8
+    ensures exact { result ≡ spec.sign_number sign }
+{
+    match sign {
+        Sign::Absent => 0,
+        Sign::Handle => 1,
+        Sign::ConstHandle => 2,
+    }
+}
+
+fn const_code(is_const: bool) -> u8
+    ensures exact { result ≡ spec.const_number is_const }
+{
+    if is_const { 1 } else { 0 }
+}
+
+fn pass_code(pass: Pass) -> u8
+    ensures exact { result ≡ pass_number pass }
+{
+    match pass {
+        Pass::Value => 0,
+        Pass::RefIn => 1,
+        Pass::RefOut => 2,
+        Pass::RefInOut => 3,
+    }
+}
+
+fn push_base(code: &mut Vec<u8>, base: &Base<'_>) -> Result<(), AllocError>
+    ensures pushed { OnOk result (code.new.items ≡ code.old.items ++ spec.base_code base.now) }
+{
+    match base {
+        Base::Void => code.push(0)?,
+        Base::Primitive(primitive) => code.push(primitive_code(*primitive))?,
+        Base::Named(name) => push_name(code, name.bytes())?,
+    }
+    Ok(())
+}
+
+#[tactic(auto, using(std::proofs::Common::append_assoc))]
+fn push_name(code: &mut Vec<u8>, name: &[u8]) -> Result<(), AllocError>
+    ensures pushed { OnOk result (code.new.items ≡ code.old.items ++ spec.named_code name.now) }
+{
+    code.push(10)?;
+    code.extend_from_slice(name)?;
+    Ok(())
+}
+
+#[tactic(auto, unfolding(crate::specs::Spellings::code_of), using(std::proofs::Common::append_assoc))]
+fn push_spelling(code: &mut Vec<u8>, spelling: &Spelling<'_>) -> Result<(), AllocError>
+    ensures pushed { OnOk result (code.new.items ≡ code.old.items ++ spec.code_of spelling.now) }
+{
+    push_base(code, &spelling.base)?;
+    let sign = sign_code(spelling.sign);
+    let constant = const_code(spelling.is_const);
+    code.extend_from_slice(&[sign, constant, pass_code(spelling.pass)])?;
+    Ok(())
+}
+
+/// Puts the bytes that stand for how parameters are spelled after others. Where functions with two lists of parameters
+/// can't overload one name the bytes of both are the same.
+///
+/// `text` is the section in which they stand. The only error is want of memory.
+pub fn push_spellings(
+    code: &mut Vec<u8>,
+    text: &[u8],
+    params: &[Parameter],
+) -> Result<(), AllocError>
+    ensures pushed { OnOk result
+        (code.new.items ≡ code.old.items ++ spec.codes_of text.now params.now) }
+{
+    for parameter in params {
+        push_spelling(code, &spelling_of(text, parameter))?;
+    }
+    Ok(())
 }

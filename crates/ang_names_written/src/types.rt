@@ -199,7 +199,7 @@ fn pass_in(direction: &Option<Token>) -> Pass
     }
 }
 
-/// How an argument is passed, by what stands behind the parameter's type: `&` alone is `&inout` (the AngelScript
+/// How an argument is passed, by what stands after the parameter's type: `&` alone is `&inout` (the AngelScript
 /// manual, "Parameter references").
 pub fn pass_of(reference: &Option<Reference>) -> Pass
     ensures exact { result ≡ spec.pass_of reference.now }
@@ -210,7 +210,7 @@ pub fn pass_of(reference: &Option<Reference>) -> Pass
     }
 }
 
-/// Whether `const` stands behind `@`.
+/// Whether `const` stands after `@`.
 pub fn is_const_handle(handle: &Option<Handle>) -> bool
     ensures exact { result ≡ spec.is_const_handle handle.now }
 {

@@ -22,7 +22,7 @@ judged text tokens None (Err deep) = Err e.Memory
 unfoldable pub script_of : List ℕ → List Token → Result (List Decl) ParseError
 script_of text tokens = judged text tokens (too_deep tokens) (all_of script tokens)
 
--- No script has these tokens: not as they are, and not with others behind the first one of some rest. The error is there.
+-- No script has these tokens: not as they are, and not with others after the first one of some rest. The error is there.
 pub record IsSyntaxError (text : List ℕ) (tokens : List Token) (place : Place) (name : List ℕ) : Type 0 where
   pub rest : List Token
   pub refused : Refused SpellsScript tokens rest

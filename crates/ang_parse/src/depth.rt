@@ -13,7 +13,7 @@ const MOST_OPEN: u32 = 64;
 /// statements nest: the `;` in the head of a `for` begins the count anew.
 const MOST_OPERATORS: u32 = 256;
 
-/// How many of `(` and `{` are open behind a token.
+/// How many of `(` and `{` are open after a token.
 fn opened(brackets: u32, kind: TokenKind) -> u32
     requires room { brackets + 1 < 2 ^ 32 }
     ensures exact { result ≡ depth.opened brackets kind }
@@ -80,7 +80,7 @@ fn is_counted(kind: TokenKind) -> bool
     )
 }
 
-/// Whether operators are counted anew behind the token: `;`, `{` and `}`.
+/// Whether operators are counted anew after the token: `;`, `{` and `}`.
 fn ends_count(kind: TokenKind) -> bool
     ensures exact { result ≡ depth.ends_count kind }
 {
@@ -90,7 +90,7 @@ fn ends_count(kind: TokenKind) -> bool
     )
 }
 
-/// How many operators stand since the last `;`, `{` or `}`, behind a token.
+/// How many operators stand since the last `;`, `{` or `}`, after a token.
 fn counted(operators: u32, kind: TokenKind) -> u32
     requires room { operators + 1 < 2 ^ 32 }
     ensures exact { result ≡ depth.counted operators kind }
@@ -104,7 +104,7 @@ fn counted(operators: u32, kind: TokenKind) -> u32
     }
 }
 
-/// The place of the first token behind which too many brackets are open, or too many operators stand.
+/// The place of the first token after which too many brackets are open, or too many operators stand.
 pub(crate) fn too_deep(tokens: &[Token]) -> Option<Place>
     ensures exact { result ≡ option_map (place_at tokens.now) (depth.too_deep tokens.now) }
 {

@@ -10,7 +10,7 @@ use thiserror::Error;
 #[derive(Debug, Drop, Error)]
 pub enum ParseError {
     /// More than 64 of `(` and `{` are open, or more than 256 operators, and words that nest statements,
-    /// stand since the last `;`, `{` or `}`: at the first token behind which it is so. This is judged
+    /// stand since the last `;`, `{` or `}`: at the first token after which it is so. This is judged
     /// before the grammar.
     #[error("line {}, column {}: too deep", .0.line, .0.column)]
     TooDeep(Place),

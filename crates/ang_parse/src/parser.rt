@@ -67,7 +67,7 @@ fn declarations(
 /// # Errors
 ///
 /// `TooDeep` where more than 64 of `(` and `{` are open, or more than 256 operators, and words that
-/// nest statements, stand since the last `;`, `{` or `}`: with the place of the first token behind
+/// nest statements, stand since the last `;`, `{` or `}`: with the place of the first token after
 /// which it is so. This is judged over all the tokens, before the grammar.
 ///
 /// `Syntax` where no script has these tokens: with the place and the text of a token such that no
@@ -87,7 +87,7 @@ pub fn parse(alloc: Global, text: &[u8], tokens: &[Token]) -> Result<Script, Par
     ensures deep { MatchOption (depth.too_deep tokens.now)
         ((place : Place) → result ≢ Err (ParseError.TooDeep place))
         (λ rest. result ≡ Err (ParseError.TooDeep (place_at tokens.now rest))) }
-    // A syntax error comes only where no script has the tokens, nor others behind the one it is at.
+    // A syntax error comes only where no script has the tokens, nor others after the one it is at.
     ensures syntax { IfErr result (λ f. IfSyntax f (IsSyntaxError text.now tokens.now)) }
     // So the answer is a function of the tokens and their text, unless memory runs out.
     ensures script { IfOk result (λ s. script_of text.now tokens.now ≡ Ok (view_script s)) }

@@ -19,7 +19,7 @@ use Rattle.ang_parse_class.proofs.CompleteMembers.{name_read, left_brace_read, r
 
 -- ---- bases
 
--- a base behind a comma
+-- a base after a comma
 abbrev Follows : BaseName → Type 0
 Follows c = Is k.Comma c.separator × Is k.Name c.name
 

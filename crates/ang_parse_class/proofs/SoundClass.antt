@@ -47,7 +47,7 @@ record AreMethods (w : List Token) (ms : List tree.MethodTree) (s : List Token) 
 
 -- ---- bases
 
--- a base behind a comma
+-- a base after a comma
 abbrev Follows : BaseName → Type 0
 Follows c = Is k.Comma c.separator × Is k.Name c.name
 

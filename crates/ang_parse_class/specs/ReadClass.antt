@@ -82,7 +82,7 @@ is_class _ = false
 
 -- ---- one more of a list
 
--- a base, behind the comma
+-- a base, after the comma
 unfoldable pub another_base : List BaseName → Token → Turn (List BaseName)
 another_base bs comma = do x ← a_token is_name; pure (bs ++ base_of comma x ∷ [], true)
 
@@ -93,7 +93,7 @@ other_base_by bs _ = None
 unfoldable pub other_base : List BaseName → Turn (List BaseName)
 other_base bs = look (other_base_by bs) (ready bs)
 
--- a field, behind the comma
+-- a field, after the comma
 unfoldable pub another_field : List FieldName → Token → Turn (List FieldName)
 another_field fs comma = do x ← a_token is_name; pure (fs ++ field_of (Some comma) x ∷ [], true)
 
@@ -115,7 +115,7 @@ attribute ws = look (attribute_by ws) (ready ws)
 module _ (limit : ℕ) where
   -- ---- names and bases
 
-  -- behind `:`
+  -- after `:`
   unfoldable pub some_bases : Token → Parser (List BaseName)
   some_bases colon = do x ← a_token is_name; repeat other_base limit (base_of colon x ∷ [])
 
@@ -132,7 +132,7 @@ module _ (limit : ℕ) where
 
   -- ---- parts of members
 
-  -- fields, behind the name of the first
+  -- fields, after the name of the first
   unfoldable pub fields : MemberStart → Parser tree.MemberTree
   fields start = do fs ← repeat other_field limit (field_of None start.name ∷ []); semicolon ← a_token is_semicolon; pure (fields_made start fs semicolon)
 
@@ -140,7 +140,7 @@ module _ (limit : ℕ) where
   abbrev pub attributes : Parser (List Token)
   attributes = repeat attribute limit []
 
-  -- behind `super`
+  -- after `super`
   unfoldable pub super_called : Token → Parser (Option tree.SuperTree)
   super_called word = do left ← a_token is_left_paren; es ← args (expr limit) limit left; semicolon ← a_token is_semicolon; pure (Some (super_of word es semicolon))
 
@@ -168,7 +168,7 @@ module _ (limit : ℕ) where
   abbrev pub methods : Parser (List tree.MethodTree)
   methods = repeat other_method limit []
 
-  -- behind `interface`
+  -- after `interface`
   unfoldable pub interface : Token → Parser tree.Decl
   interface word = do h ← heading; ms ← methods; right ← a_token is_right_brace; pure (interface_made word h ms right)
 
@@ -179,18 +179,18 @@ module _ (depth limit : ℕ) where
   unfoldable pub method_end : Parser MethodEnd
   method_end = do c ← perhaps is_const; ws ← attributes limit; left ← a_token is_left_brace; b ← a_body (stmt depth limit) limit left; pure (method_end_of c ws b)
 
-  -- a method, behind the left parenthesis of its parameters
+  -- a method, after the left parenthesis of its parameters
   unfoldable pub method_of : MemberStart → Token → Parser tree.MemberTree
   method_of start left = do ps ← params limit left; e ← method_end; pure (method_made start ps e)
 
   unfoldable pub constructor_end : Parser ConstructorEnd
   constructor_end = do s ← super_call limit; ss ← statements (stmt depth limit) limit; right ← a_token is_right_brace; pure (constructor_end_of s ss right)
 
-  -- a constructor, behind the left parenthesis of its parameters
+  -- a constructor, after the left parenthesis of its parameters
   unfoldable pub constructor_of : Token → Token → Parser tree.MemberTree
   constructor_of x left = do ps ← params limit left; brace ← a_token is_left_brace; e ← constructor_end; pure (constructor_made x ps brace e)
 
-  -- Behind `access type NAME`, a left parenthesis tells a method from fields.
+  -- After `access type NAME`, a left parenthesis tells a method from fields.
   abbrev pub started_by : MemberStart → TokenKind → Choice tree.MemberTree
   started_by start k.LeftParen = Some (method_of start)
   started_by start _ = None
@@ -198,19 +198,19 @@ module _ (depth limit : ℕ) where
   unfoldable pub started : MemberStart → Parser tree.MemberTree
   started start = look (started_by start) (fields limit start)
 
-  -- behind its type
+  -- after its type
   unfoldable pub typed : Option Token → TypeName → Parser tree.MemberTree
   typed access y = do x ← a_token is_name; started (start_of access y x)
 
-  -- behind its access
+  -- after its access
   unfoldable pub accessed : Option Token → Parser tree.MemberTree
   accessed access = do y ← a_type; typed access y
 
-  -- behind the name of its type
+  -- after the name of its type
   unfoldable pub type_started : Token → Parser tree.MemberTree
   type_started x = do y ← type_named None x; typed None y
 
-  -- Behind a name, a left parenthesis tells a constructor from a member whose type the name is.
+  -- After a name, a left parenthesis tells a constructor from a member whose type the name is.
   abbrev pub named_by : Token → TokenKind → Choice tree.MemberTree
   named_by x k.LeftParen = Some (constructor_of x)
   named_by x _ = None
@@ -237,10 +237,10 @@ module _ (depth limit : ℕ) where
 
   -- ---- classes
 
-  -- behind `class`, with the word `final` where it stands in front
+  -- after `class`, with the word `final` where it stands in front
   unfoldable pub class : Option Token → Token → Parser tree.Decl
   class final word = do h ← heading limit; ms ← members; right ← a_token is_right_brace; pure (class_made final word h ms right)
 
-  -- behind `final`
+  -- after `final`
   unfoldable pub final_class : Token → Parser tree.Decl
   final_class final = do word ← a_token is_class; class (Some final) word

@@ -61,7 +61,7 @@ fn members(
     Err(ReadError::Deep)
 }
 
-/// Reads a class, behind the word `class`: its name, its bases and its members. `final_word` is the
+/// Reads a class, after the word `class`: its name, its bases and its members. `final_word` is the
 /// word `final`, where it stands in front.
 ///
 /// # Errors
@@ -96,7 +96,7 @@ pub fn class(
     Ok((Declaration::Class(class), rest))
 }
 
-/// Reads a final class, behind the word `final`: the word `class` and what stands behind it.
+/// Reads a final class, after the word `final`: the word `class` and what stands after it.
 ///
 /// # Errors
 ///

@@ -14,7 +14,7 @@ use ang_parse_read::{ReadError, a_left_brace, a_name};
 use ang_tree::BaseName;
 use std::alloc::Global;
 
-/// Reads one more base, behind a comma.
+/// Reads one more base, after a comma.
 #[tactic(auto, unfolding(crate::specs::ReadClass::another_base))]
 fn another_base(
     first: Vec<BaseName>,
@@ -67,7 +67,7 @@ fn other_bases(
     Err(ReadError::Deep)
 }
 
-/// Reads the bases, behind `:`.
+/// Reads the bases, after `:`.
 #[tactic(auto, unfolding(crate::specs::ReadClass::some_bases))]
 fn some_bases<'a>(
     alloc: Global,

@@ -97,7 +97,7 @@ fn methods(
     Err(ReadError::Deep)
 }
 
-/// Reads an interface, behind the word `interface`: its name, its bases and its methods.
+/// Reads an interface, after the word `interface`: its name, its bases and its methods.
 ///
 /// # Errors
 ///

@@ -22,7 +22,7 @@ use ang_parse_stmt::{block, statements};
 use ang_tree::{Constructor, FieldName, Fields, Member, Method, SuperCall, TypeName};
 use std::alloc::Global;
 
-/// Reads one more name of a field, behind a comma.
+/// Reads one more name of a field, after a comma.
 #[tactic(auto, unfolding(crate::specs::ReadClass::another_field))]
 fn another_field(
     first: Vec<FieldName>,
@@ -76,7 +76,7 @@ fn other_fields(
     Err(ReadError::Deep)
 }
 
-/// Reads fields, behind the name of the first.
+/// Reads fields, after the name of the first.
 #[tactic(auto, unfolding(crate::specs::ReadClass::fields))]
 fn fields(
     alloc: Global,
@@ -170,7 +170,7 @@ fn method_end(
     ))
 }
 
-/// Reads a method, behind the left parenthesis of its parameters.
+/// Reads a method, after the left parenthesis of its parameters.
 #[tactic(auto, unfolding(crate::specs::ReadClass::method_of))]
 fn method<'a>(
     alloc: Global,
@@ -203,7 +203,7 @@ fn method<'a>(
     Ok((Member::Method(method), rest))
 }
 
-/// Reads what stands behind the word `super`.
+/// Reads what stands after the word `super`.
 #[tactic(auto, unfolding(crate::specs::ReadClass::super_called))]
 fn super_called<'a>(
     alloc: Global,
@@ -269,7 +269,7 @@ fn constructor_end(
     ))
 }
 
-/// Reads a constructor, behind the left parenthesis of its parameters.
+/// Reads a constructor, after the left parenthesis of its parameters.
 #[tactic(auto, unfolding(crate::specs::ReadClass::constructor_of))]
 fn constructor<'a>(
     alloc: Global,
@@ -302,7 +302,7 @@ fn constructor<'a>(
     Ok((Member::Constructor(constructor), rest))
 }
 
-/// Reads fields or a method, behind what they begin with.
+/// Reads fields or a method, after what they begin with.
 #[tactic(auto, unfolding(crate::specs::ReadClass::started))]
 fn started(
     alloc: Global,
@@ -322,7 +322,7 @@ fn started(
     }
 }
 
-/// Reads fields or a method, behind their type.
+/// Reads fields or a method, after their type.
 #[tactic(auto, unfolding(crate::specs::ReadClass::typed))]
 fn typed(
     alloc: Global,
@@ -344,7 +344,7 @@ fn typed(
     started(alloc, start, rest, depth, limit)
 }
 
-/// Reads fields or a method, behind their access.
+/// Reads fields or a method, after their access.
 #[tactic(auto, unfolding(crate::specs::ReadClass::accessed))]
 fn accessed(
     alloc: Global,
@@ -360,7 +360,7 @@ fn accessed(
     typed(alloc, access, declared_type, rest, depth, limit)
 }
 
-/// Reads what begins with a name: a constructor, where `(` stands behind it, and else fields or a
+/// Reads what begins with a name: a constructor, where `(` stands after it, and else fields or a
 /// method.
 #[tactic(auto, unfolding(crate::specs::ReadClass::named, crate::specs::ReadClass::type_started))]
 fn named<'a>(

@@ -19,7 +19,7 @@ pub(crate) struct MemberStart {
     pub(crate) name: Token,
 }
 
-/// What stands behind a method's parameters: `[ "const" ] { "final" | "override" } block`.
+/// What stands after a method's parameters: `[ "const" ] { "final" | "override" } block`.
 #[derive(Drop)]
 pub(crate) struct MethodEnd {
     pub(crate) constant: Option<Token>,
@@ -27,7 +27,7 @@ pub(crate) struct MethodEnd {
     pub(crate) body: Block,
 }
 
-/// What stands behind a constructor's left brace: `[ "super" args ";" ] { stmt } "}"`.
+/// What stands after a constructor's left brace: `[ "super" args ";" ] { stmt } "}"`.
 #[derive(Drop)]
 pub(crate) struct ConstructorEnd {
     pub(crate) super_call: Option<SuperCall>,

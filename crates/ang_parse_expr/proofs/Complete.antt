@@ -239,7 +239,7 @@ some_args_read n left comma x es right ts w f sz is =
     passed starter_kind (r.args_by (r.expr n) n left) (r.some_args (r.expr n) n left) (listed (more comma x es) (right ∷ ts)) (starts_list comma x es (right ∷ ts) f) (no_right (r.expr n) n left)
     ∙ s.args_some (r.expr n) n left right (more comma x es) (listed (more comma x es) (right ∷ ts)) ts is (w n (right ∷ ts) f sz (ends_at_right right ts is))
 
--- behind the left parenthesis
+-- after the left parenthesis
 abbrev pub ArgsRead : Args → Type 0
 ArgsRead (arguments left es right) = (n : ℕ) (ts : List Token) → FitsArgs (arguments left es right) → size_all es < n → r.args (r.expr n) n left (listed es (right ∷ ts)) ≡ Ok (arguments left es right, ts)
 
@@ -367,6 +367,6 @@ pub expressions_complete : (comma : Option Token) (x : Tree) (es : Trees) (n : �
     → r.expressions (r.expr n) n (listed (more comma x es) ts) ≡ Ok (more comma x es, ts)
 expressions_complete comma x es = (complete_all (more comma x es)).whole
 
--- arguments, behind their left parenthesis
+-- arguments, after their left parenthesis
 pub args_read : (left : Token) (es : Trees) (right : Token) (n : ℕ) (ts : List Token) → FitsArgs (arguments left es right) → size_all es < n → r.args (r.expr n) n left (listed es (right ∷ ts)) ≡ Ok (arguments left es right, ts)
 args_read left es right = complete_args (arguments left es right)

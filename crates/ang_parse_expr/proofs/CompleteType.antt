@@ -16,7 +16,7 @@ abbrev pub is_at : TokenKind → Bool
 is_at k.At = true
 is_at _ = false
 
--- what stands behind a type without these words is no part of it
+-- what stands after a type without these words is no part of it
 pub record EndsType (ts : List Token) : Type 0 where
   pub no_handle : begins is_at ts ≡ false
   pub no_const : begins is_const ts ≡ false
@@ -42,7 +42,7 @@ pub handle_read : (h : Option Handle) (ts : List Token) → FitsHandle h → End
 handle_read None ts f e = handle_stops ts e.no_handle
 handle_read (Some h) ts f e = handle_done h.at h.constant (optional h.constant ts) ts f.0 (const_read h.constant ts f.1 e.no_const)
 
--- behind a type's name
+-- after a type's name
 pub type_named_read : (c : Option Token) (x : Token) (h : Option Handle) (ts : List Token) → FitsHandle h → EndsType ts → r.type_named c x (spelled_handle h ts) ≡ Ok (r.type_of c x h, ts)
 unfolding r.type_named
 type_named_read c x h ts f e = ap (λ v. and_then v (λ h. pure (r.type_of c x h))) (handle_read h ts f e)

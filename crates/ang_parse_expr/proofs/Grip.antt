@@ -18,7 +18,7 @@ looser true p = 1
 looser false zero = 0
 looser false (suc p) = suc (suc p)
 
--- The loosest rule that a token continues, from 1 for `?` and the assignments, or 0 where it ends each; what can stand behind a
+-- The loosest rule that a token continues, from 1 for `?` and the assignments, or 0 where it ends each; what can stand after a
 -- primary or a name alone is above all.
 abbrev pub grip_of : TokenKind → ℕ
 grip_of k.LeftParen = 14
@@ -36,7 +36,7 @@ grip (t ∷ u) = grip_of t.kind
 pub grip_is : (kind : TokenKind) (t : Token) (u : List Token) → t.kind ≡ kind → grip (t ∷ u) ≡ grip_of kind
 grip_is kind t u is = ap grip_of is
 
--- `(` and `::`, behind a name
+-- `(` and `::`, after a name
 abbrev pub opens_by : TokenKind → Bool
 opens_by k.LeftParen = true
 opens_by k.Scope = true

@@ -208,7 +208,7 @@ module _ (b z : List Token) where
         (bind (r.unary e m) (r.unary d n) _ _ unary_prefix (prefix_repeat b z (r.operation e m least) (r.operation d n least) (operation_prefix least) m n le))
         (tail_at_prefix least)
 
-    -- ---- the same, behind first tokens that are taken anyway
+    -- ---- the same, after first tokens that are taken anyway
 
     level_name_prefix : (s : Span) (p : Place) → T (λ ts. r.level e m 0 (token_of k.Name s p ∷ ts)) (λ ts. r.level d n 0 (token_of k.Name s p ∷ ts))
     unfolding r.level r.term r.unary r.post r.primary

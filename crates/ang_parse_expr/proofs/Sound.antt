@@ -36,7 +36,7 @@ pub record AreListed (w : List Token) (es : Trees) (s : List Token) : Type 0 whe
   pub text : w ≡ listed es s
   pub fits : AllFit es
 
--- arguments, behind the left parenthesis
+-- arguments, after the left parenthesis
 pub record IsArgs (left : Token) (w : List Token) (es : Args) (s : List Token) : Type 0 where
   pub text : left ∷ w ≡ spelled_args es s
   pub fits : FitsArgs es

@@ -50,7 +50,7 @@ pub record Type_read (w : List Token) (y : TypeName) (s : List Token) : Type 0 w
   pub text : w ≡ spelled_type y s
   pub fits : FitsType y
 
--- behind a type's name
+-- after a type's name
 pub type_named_reads : (n : ℕ) (c : Option Token) (x : Token) (ts : List Token) → IfWritten k.Const c → IsA type_kind x → Reads n ts (Type_read (optional c (x ∷ ts))) (r.type_named c x ts)
 unfolding r.type_named
 type_named_reads n c x ts C X =

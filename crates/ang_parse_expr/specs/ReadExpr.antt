@@ -18,7 +18,7 @@ binds least (suc p) = nat_le least (suc p)
 module _ (expr : ℕ → Parser Tree) (bound : ℕ) where
   -- ---- expressions with commas between them, and arguments
 
-  -- behind a comma
+  -- after a comma
   unfoldable pub another : Trees → Token → Turn Trees
   another es comma = do e ← expr 0; pure (added es (Some comma) e, true)
 
@@ -40,13 +40,13 @@ module _ (expr : ℕ → Parser Tree) (bound : ℕ) where
   unfoldable pub some_args : Token → Parser Args
   some_args left = do es ← expressions; right ← a_token is_right_paren; pure (arguments left es right)
 
-  -- behind the left parenthesis
+  -- after the left parenthesis
   unfoldable pub args : Token → Parser Args
   args left = look (args_by left) (some_args left)
 
   -- ---- primary
 
-  -- behind a name and `::`
+  -- after a name and `::`
   unfoldable pub scoped : Token → Token → Parser Tree
   scoped c scope = do x ← a_token is_name; left ← a_token is_left_paren; es ← args left; pure (scoped_call c scope x es)
 
@@ -87,7 +87,7 @@ module _ (expr : ℕ → Parser Tree) (bound : ℕ) where
   membered_by e dot x k.LeftParen = Some (λ left. do es ← args left; pure (method_call e dot x es))
   membered_by e dot x _ = None
 
-  -- behind the dot
+  -- after the dot
   unfoldable pub membered : Tree → Token → Parser Tree
   membered e dot = do x ← a_token is_name; look (membered_by e dot x) (pure (member e dot x))
 
@@ -109,7 +109,7 @@ module _ (expr : ℕ → Parser Tree) (bound : ℕ) where
   unfoldable pub unary : Parser Tree
   unary = look unary_by post
 
-  -- behind a binary operator
+  -- after a binary operator
   unfoldable pub operated : Tree → Token → Turn Tree
   operated l op = do r ← expr (precedence op.kind + 1); pure (binary l op r, true)
 
@@ -124,14 +124,14 @@ module _ (expr : ℕ → Parser Tree) (bound : ℕ) where
 
   -- ---- cond and assign
 
-  -- behind `?`
+  -- after `?`
   unfoldable pub branches : Parser (Tree × Token × Tree)
   branches = do l ← expr 0; colon ← a_token is_colon; r ← expr 0; pure (l, colon, r)
 
   unfoldable pub conditioned : Tree → Token → Parser Tree
   conditioned c question = do b ← branches; pure (conditional c question b.0 b.1 b.2)
 
-  -- behind an assignment operator
+  -- after an assignment operator
   unfoldable pub assigned : Tree → Token → Parser Tree
   assigned c op = do r ← expr 0; pure (assignment c op r)
 

@@ -23,7 +23,7 @@ a_handle = look handle_by (pure None)
 abbrev pub type_of : Option Token → Token → Option Handle → TypeName
 type_of constant x handle = record { constant = constant; name = x; handle = handle }
 
--- what stands behind the type's name
+-- what stands after the type's name
 unfoldable pub type_named : Option Token → Token → Parser TypeName
 type_named constant x = do h ← a_handle; pure (type_of constant x h)
 

@@ -16,7 +16,7 @@ use ang_parse_read::{ReadError, a_colon, a_greater, a_left_paren, a_less, a_name
 use ang_tree::{Argument, Arguments, Expression};
 use std::alloc::Global;
 
-/// Reads one more expression, behind a comma.
+/// Reads one more expression, after a comma.
 #[cycle(expression)]
 #[tactic(auto, unfolding(crate::specs::ReadExpr::another))]
 fn another<'a>(
@@ -102,7 +102,7 @@ pub fn expressions(
     other_expressions(alloc, first, rest, depth)
 }
 
-/// Reads the arguments behind the left parenthesis `open`, and the right one. The parenthesis `open` is
+/// Reads the arguments after the left parenthesis `open`, and the right one. The parenthesis `open` is
 /// none of `tokens`.
 ///
 /// `depth` bounds the nested calls and the turns of each loop. A number above that of `tokens` is always
@@ -141,7 +141,7 @@ pub fn arguments<'a>(
     Ok((Arguments { open, items, close }, rest))
 }
 
-/// Reads what stands behind a name and `::`.
+/// Reads what stands after a name and `::`.
 #[cycle(expression)]
 #[tactic(auto, unfolding(crate::specs::ReadExpr::scoped))]
 fn scoped<'a>(
@@ -168,7 +168,7 @@ fn scoped<'a>(
     ))
 }
 
-/// Reads what stands behind a name: it may be called.
+/// Reads what stands after a name: it may be called.
 #[cycle(expression)]
 #[tactic(auto, unfolding(crate::specs::ReadExpr::named))]
 fn named<'a>(
@@ -193,7 +193,7 @@ fn named<'a>(
     }
 }
 
-/// Reads an expression and the right parenthesis behind it.
+/// Reads an expression and the right parenthesis after it.
 #[cycle(expression)]
 #[tactic(auto, unfolding(crate::specs::ReadExpr::inside))]
 fn inside(
@@ -209,7 +209,7 @@ fn inside(
     Ok(((inner, close), rest))
 }
 
-/// Reads what stands behind the word of a primitive type.
+/// Reads what stands after the word of a primitive type.
 #[cycle(expression)]
 #[tactic(auto, unfolding(crate::specs::ReadExpr::converted))]
 fn converted<'a>(
@@ -235,7 +235,7 @@ fn converted<'a>(
     ))
 }
 
-/// Reads what stands behind the word `cast`.
+/// Reads what stands after the word `cast`.
 #[cycle(expression)]
 #[tactic(auto, unfolding(crate::specs::ReadExpr::casted))]
 fn casted<'a>(
@@ -267,7 +267,7 @@ fn casted<'a>(
     ))
 }
 
-/// Reads what stands behind a left parenthesis.
+/// Reads what stands after a left parenthesis.
 #[cycle(expression)]
 #[tactic(auto, unfolding(crate::specs::ReadExpr::grouped))]
 fn grouped<'a>(
@@ -307,7 +307,7 @@ fn primary(
     }
 }
 
-/// Reads what stands behind a dot.
+/// Reads what stands after a dot.
 #[cycle(expression)]
 #[tactic(auto, unfolding(crate::specs::ReadExpr::membered))]
 fn membered<'a>(
@@ -340,7 +340,7 @@ fn membered<'a>(
     Ok((Expression::Member { object, dot, name }, rest))
 }
 
-/// Reads one `++`, `--` or member behind an operand, where one stands.
+/// Reads one `++`, `--` or member after an operand, where one stands.
 #[cycle(expression)]
 #[tactic(auto, unfolding(crate::specs::ReadExpr::suffix))]
 fn suffix(
@@ -414,7 +414,7 @@ fn unary(
     suffixes(alloc, first, rest, depth)
 }
 
-/// Reads the right operand, behind a binary operator.
+/// Reads the right operand, after a binary operator.
 #[cycle(expression)]
 #[tactic(auto, unfolding(crate::specs::ReadExpr::operated))]
 fn operated<'a>(
@@ -494,7 +494,7 @@ fn branches(
     Ok(((then, colon, otherwise), rest))
 }
 
-/// Reads what stands behind `?`.
+/// Reads what stands after `?`.
 #[cycle(expression)]
 #[tactic(auto, unfolding(crate::specs::ReadExpr::conditioned))]
 fn conditioned<'a>(
@@ -512,7 +512,7 @@ fn conditioned<'a>(
     Ok((whole, rest))
 }
 
-/// Reads what stands behind an assignment operator.
+/// Reads what stands after an assignment operator.
 #[cycle(expression)]
 #[tactic(auto, unfolding(crate::specs::ReadExpr::assigned))]
 fn assigned<'a>(

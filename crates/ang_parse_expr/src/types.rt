@@ -22,7 +22,7 @@ pub fn handle(tokens: &[Token]) -> (Option<Handle>, &[Token])
     }
 }
 
-/// Reads what stands behind a type's name.
+/// Reads what stands after a type's name.
 #[tactic(auto, unfolding(crate::specs::ReadType::type_named))]
 pub fn type_named(constant: Option<Token>, name: Token, tokens: &[Token]) -> (TypeName, &[Token])
     ensures reads { read.type_named constant name tokens.now ≡ Ok (result.0, result.1.now) }
@@ -43,7 +43,7 @@ pub fn type_named(constant: Option<Token>, name: Token, tokens: &[Token]) -> (Ty
 ///
 /// # Errors
 ///
-/// `Syntax` where no type's name stands in front or behind a `const` there: with the tokens from that place
+/// `Syntax` where no type's name stands in front or after a `const` there: with the tokens from that place
 /// on. No other error comes.
 #[tactic(auto, unfolding(crate::specs::ReadType::a_type, ang_parse_read::specs::Tokens::a_token))]
 pub fn type_name(tokens: &[Token]) -> Result<(TypeName, &[Token]), ReadError<'_>>

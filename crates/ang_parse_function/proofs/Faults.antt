@@ -25,7 +25,7 @@ params_end l left a u L e = subst (λ o. Reads l a (IsWhole (IsParams (left ∷ 
 args_end : (l : ℕ) (left : Token) (a u : List Token) → Is k.LeftParen left → r.whole_args l left a ≡ Err (at u) → From a u
 args_end l left a u L e = subst (λ o. Reads l a (IsWhole (IsArgs left a)) o) e (whole_args_reads l l (omega arith) left L a)
 
--- an end of the first `len` tokens, with those behind them
+-- an end of the first `len` tokens, with those after them
 end_at : (ts w : List Token) (len left : ℕ) → len ≤ length ts → From (take len ts) w → left ≡ length w → w ++ drop len ts ≡ drop (len - left) ts
 end_at ts w len left le h e =
     let whole : ts ≡ h.front ++ (w ++ drop len ts) = sym (take-append-drop len ts) ∙ ap (λ v. v ++ drop len ts) h.parts ∙ append_assoc h.front w (drop len ts) in

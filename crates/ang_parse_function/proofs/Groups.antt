@@ -17,7 +17,7 @@ use Rattle.ang_parse_read.proofs.PrefixGroup.{parts}
 
 -- ---- what holds no parenthesis, or closes those that it opens
 
--- The scan for a right parenthesis passes over what is spelled, and goes on behind it.
+-- The scan for a right parenthesis passes over what is spelled, and goes on after it.
 abbrev Over : (List Token → List Token) → Type 0
 Over spell = (s : List Token) (d : ℕ) → split (spell s) d ≡ (spell (split s d).0, (split s d).1)
 
@@ -195,7 +195,7 @@ closes spell right s H R = H (right ∷ s) 0 ∙ ap (λ (p : List Token × List 
 joins : (spell : List Token → List Token) (right : Token) (s : List Token) → Over spell → Is k.RightParen right → spell (right ∷ s) ≡ spell (right ∷ []) ++ s
 joins spell right s H R = parts (spell (right ∷ s)) 0 ∙ ap (λ (p : List Token × List Token). p.0 ++ p.1) (closes spell right s H R)
 
--- what stands behind the left parenthesis
+-- what stands after the left parenthesis
 abbrev pub params_inside : Params → List Token → List Token
 params_inside ps s = optional ps.void_word (each spelled_param ps.items (ps.right ∷ s))
 

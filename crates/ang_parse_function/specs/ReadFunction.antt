@@ -19,13 +19,13 @@ use Rattle.ang_parse_variables.specs.ReadVars.{variable_of, variables_behind, va
 use Rattle.ang_parse_stmt.specs.ReadStmt.{stmt, a_body}
 use Rattle.ang_parse_params.specs.ReadParams.{params, a_params}
 
--- ---- the group behind a name: "(" .. ")"
+-- ---- the group after a name: "(" .. ")"
 
--- parameters behind the left parenthesis, and nothing behind them
+-- parameters after the left parenthesis, and nothing after them
 unfoldable pub whole_params : ℕ → Token → Parser Params
 whole_params limit left = params limit left >>= finish
 
--- arguments behind the left parenthesis, and nothing behind them
+-- arguments after the left parenthesis, and nothing after them
 unfoldable pub whole_args : ℕ → Token → Parser Args
 whole_args limit left = args (expr limit) limit left >>= finish
 
@@ -33,14 +33,14 @@ whole_args limit left = args (expr limit) limit left >>= finish
 abbrev pub Group : Type 0
 Group = Option Params × Option Args
 
--- The group behind its left parenthesis, read in both ways. Where it is neither, the fault is the one further right.
+-- The group after its left parenthesis, read in both ways. Where it is neither, the fault is the one further right.
 unfoldable pub group : ℕ → Token → Parser Group
 group limit left = both (whole_params limit left) (whole_args limit left)
 
 -- ---- global variables, by the bound of expressions and loops
 
 module _ (limit : ℕ) where
-  -- global variables of which the first has these arguments, behind them
+  -- global variables of which the first has these arguments, after them
   unfoldable pub constructed : TypeName → Token → Args → Parser Decl
   constructed y x es = do vs ← variables_behind limit y (variable_of None x (constructor es)); pure (decl.globals vs)
 
@@ -48,14 +48,14 @@ module _ (limit : ℕ) where
   perhaps_constructed y x None = refuse
   perhaps_constructed y x (Some es) = constructed y x es
 
-  -- global variables, behind the name of the first
+  -- global variables, after the name of the first
   unfoldable pub declared : TypeName → Token → Parser Decl
   declared y x = do vs ← variables_named limit y x; pure (decl.globals vs)
 
 -- ---- function and globals, by the bound of nested statements as well
 
 module _ (depth limit : ℕ) where
-  -- a function, behind the left brace
+  -- a function, after the left brace
   unfoldable pub bodied : TypeName → Token → Params → Token → Parser Decl
   bodied y x ps left = do b ← a_body (stmt depth limit) limit left; pure (decl.function y x ps b)
 
@@ -63,7 +63,7 @@ module _ (depth limit : ℕ) where
   told_by y x ps k.LeftBrace = option_map (bodied y x) ps
   told_by y x ps _ = None
 
-  -- Behind the group, a left brace wants its parameters, and anything else its arguments.
+  -- After the group, a left brace wants its parameters, and anything else its arguments.
   unfoldable pub told : TypeName → Token → Group → Parser Decl
   told y x g = look (told_by y x g.0) (perhaps_constructed limit y x g.1)
 
@@ -74,7 +74,7 @@ module _ (depth limit : ℕ) where
   named_by y x k.LeftParen = Some (grouped y x)
   named_by y x _ = None
 
-  -- behind the type and the name
+  -- after the type and the name
   unfoldable pub named : TypeName → Token → Parser Decl
   named y x = look (named_by y x) (declared limit y x)
 
@@ -87,6 +87,6 @@ module _ (depth limit : ℕ) where
 unfoldable pub origin : Parser (Token × Token × Token)
 origin = do word ← a_token is_from; text ← a_token is_text; semicolon ← a_token is_semicolon; pure (word, text, semicolon)
 
--- behind the word `import`, by the bound of loops
+-- after the word `import`, by the bound of loops
 unfoldable pub import : ℕ → Token → Parser Decl
 import limit word = do y ← a_type; x ← a_token is_name; ps ← a_params limit; o ← origin; pure (decl.import word y x ps o.0 o.1 o.2)

@@ -17,7 +17,7 @@ use ang_parse_variables::{variables_behind, variables_named};
 use ang_tree::{Arguments, Declaration, Function, Initializer, TypeName, Variable};
 use std::alloc::Global;
 
-/// Reads global variables, behind the arguments of the first, where there are any.
+/// Reads global variables, after the arguments of the first, where there are any.
 #[tactic(auto, unfolding(crate::specs::ReadFunction::constructed))]
 fn constructed(
     alloc: Global,
@@ -45,7 +45,7 @@ fn constructed(
     Ok((Declaration::Globals(variables), rest))
 }
 
-/// Reads global variables, behind the name of the first.
+/// Reads global variables, after the name of the first.
 #[tactic(auto, unfolding(crate::specs::ReadFunction::declared))]
 fn declared(
     alloc: Global,
@@ -62,7 +62,7 @@ fn declared(
     Ok((Declaration::Globals(variables), rest))
 }
 
-/// Reads what stands behind a type, a name and a group: a block, where the group is parameters, and
+/// Reads what stands after a type, a name and a group: a block, where the group is parameters, and
 /// else what follows the arguments of a variable.
 #[tactic(auto, unfolding(crate::specs::ReadFunction::told, crate::specs::ReadFunction::bodied))]
 fn told(
@@ -107,7 +107,7 @@ fn told(
     }
 }
 
-/// Reads what stands behind a type and a name.
+/// Reads what stands after a type and a name.
 #[tactic(auto, unfolding(crate::specs::ReadFunction::named, crate::specs::ReadFunction::grouped))]
 fn named(
     alloc: Global,

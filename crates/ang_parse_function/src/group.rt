@@ -1,4 +1,4 @@
-//! The group of parentheses behind a name, which may be parameters or arguments or both.
+//! The group of parentheses after a name, which may be parameters or arguments or both.
 ghost use Rattle.std.specs.Prelude.{◌≡◌, ◌+◌, ◌^◌, ◌<◌, ◌≤◌, length, take, drop, [], Ok, Err};
 ghost use Rattle.ang_lex.specs.declared.token.TokenKind.TheVariants.{LeftParen};
 ghost use Rattle.ang_parse_read.specs.Gives.{Gives};
@@ -32,7 +32,7 @@ impl Group {
     }
 }
 
-/// How many parentheses are open behind a token of this kind, where `depth` are in front of it; nothing
+/// How many parentheses are open after a token of this kind, where `depth` are in front of it; nothing
 /// where it closes one more than are open.
 fn deeper(kind: TokenKind, depth: usize) -> Option<usize>
     requires room { depth + 1 < 2 ^ 64 }
@@ -61,7 +61,7 @@ fn group_len(tokens: &[Token]) -> usize
     tokens.len()
 }
 
-/// All of the tokens as parameters, behind the left parenthesis `open`.
+/// All of the tokens as parameters, after the left parenthesis `open`.
 #[tactic(auto, unfolding(crate::specs::ReadFunction::whole_params))]
 fn whole_parameters<'a>(
     alloc: Global,
@@ -79,7 +79,7 @@ fn whole_parameters<'a>(
     Ok(found)
 }
 
-/// All of the tokens as arguments, behind the left parenthesis `open`.
+/// All of the tokens as arguments, after the left parenthesis `open`.
 #[tactic(auto, unfolding(crate::specs::ReadFunction::whole_args))]
 fn whole_arguments<'a>(
     alloc: Global,
@@ -174,7 +174,7 @@ fn without_parameters<'a>(
     }
 }
 
-/// Reads the group behind the left parenthesis `open`, in both ways.
+/// Reads the group after the left parenthesis `open`, in both ways.
 #[tactic(auto, unfolding(crate::specs::ReadFunction::group, ang_parse_read::specs::Group::both))]
 pub(crate) fn grouped<'a>(
     alloc: Global,

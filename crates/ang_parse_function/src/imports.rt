@@ -24,7 +24,7 @@ fn origin(tokens: &[Token]) -> Result<((Token, Token, Token), &[Token]), ReadErr
     Ok(((from_word, module, semicolon), rest))
 }
 
-/// Reads an import, behind the word `import`.
+/// Reads an import, after the word `import`.
 ///
 /// # Errors
 ///

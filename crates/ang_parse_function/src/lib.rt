@@ -1,7 +1,7 @@
 //! Reading functions, global variables and imports from the tokens of a script.
 //!
 //! What begins with a type and a name at the top of a script is a function or declares global
-//! variables. Where a left parenthesis follows, only the token behind its right one tells which, as in
+//! variables. Where a left parenthesis follows, only the token after its right one tells which, as in
 //! `A f(B) {` and `A f(B);`: so the group of the parentheses is read in both ways.
 //!
 //! Each reader is a function over slices that gives what the functional parser of `specs/` reads;

@@ -25,7 +25,7 @@ abbrev is_ampersand : TokenKind → Bool
 is_ampersand k.Ampersand = true
 is_ampersand _ = false
 
--- what stands behind a parameter without these is no part of it
+-- what stands after a parameter without these is no part of it
 record EndsParam (ts : List Token) : Type 0 where
   no_handle : begins is_at ts ≡ false
   no_const : begins is_const ts ≡ false
@@ -170,7 +170,7 @@ module _ (l : ℕ) (left : Token) where
       ap (λ v. and_then v (λ y. r.param_typed None y >>= r.params_behind l left)) (type_named_read None word h (spelled_reference f (optional x rest)) H (type_ends f x rest F X e))
       ∙ ap (λ v. and_then v (r.params_behind l left)) (param_typed_read None (type_of None word h) f x rest F X e)
 
-  -- Behind the word `void`, something of a parameter stands in front of the right parenthesis.
+  -- After the word `void`, something of a parameter stands in front of the right parenthesis.
   more_stands : (h : Option Handle) (f : Option Reference) (x : Option Token) (rest : List Token) → FitsHandle h → FitsReference f → IfWritten k.Name x → (h ≡ None → f ≡ None → x ≡ None → begins is_right_paren rest ≡ false)
       → begins is_right_paren (spelled_handle h (spelled_reference f (optional x rest))) ≡ false
   more_stands (Some h) f x rest H F X g = ap is_right_paren H.0
@@ -231,7 +231,7 @@ module _ (l : ℕ) (left : Token) where
       ∙ params_behind_read (r.param_of None y p.reference p.name) ps right ts f.items.0.1 f.items.1.1 f.right (omega (arith, param-length p rest))
       ∙ ap (λ c. Ok (r.params_of left None (r.param_of c y p.reference p.name ∷ ps) right, ts)) (sym first)
 
--- behind the left parenthesis
+-- after the left parenthesis
 pub params_complete : (ps : Params) (l : ℕ) (ts : List Token) → FitsParams ps → length (spelled_params ps ts) < l
     → r.params l ps.left (optional ps.void_word (each spelled_param ps.items (ps.right ∷ ts))) ≡ Ok (ps, ts)
 params_complete ps l ts f le = params_at l ps.left ps.void_word ps.items ps.right ts f (omega arith)

@@ -90,7 +90,7 @@ module _ (b z : List Token) where
     params_by_prefix left k.Void = voided_prefix left
     params_by_prefix left _ = tt
 
-    -- behind the left parenthesis
+    -- after the left parenthesis
     pub params_prefix : (left : Token) → T (r.params m left) (r.params n left)
     unfolding r.params
     params_prefix left = by_kind (r.params_by m left) (r.params_by n left) (r.some_params m left) (r.some_params n left) (params_by_prefix left) (some_params_prefix left)

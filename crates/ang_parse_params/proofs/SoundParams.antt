@@ -106,7 +106,7 @@ bare_text p s c b =
     ∙ ap (λ v. p.declared_type.name ∷ spelled_reference v (optional p.name s)) b.reference
     ∙ ap (λ v. p.declared_type.name ∷ optional v s) b.name
 
--- A lone parameter that is the word `void` has no right parenthesis behind it.
+-- A lone parameter that is the word `void` has no right parenthesis after it.
 abbrev Told : List Parameter → List Token → Type 0
 Told ps s = (p : Parameter) → ps ≡ p ∷ [] → IsBareVoid p → begins is_right_paren s ≡ false
 
@@ -240,7 +240,7 @@ module _ (n l : ℕ) (le : n ≤ l) (left : Token) (L : Is k.LeftParen left) whe
   unfolding r.params
   read_behind ts = look_or_pass_reads n Always (λ ts. IsParams (left ∷ ts)) (r.params_by l left) (r.some_params l left) params_by_reads (λ ts z h. some_params_reads ts h) ts tt
 
--- behind the left parenthesis
+-- after the left parenthesis
 pub params_reads : (n l : ℕ) → n ≤ l → (left : Token) → Is k.LeftParen left → (ts : List Token) → Reads n ts (IsParams (left ∷ ts)) (r.params l left ts)
 params_reads n l le left L ts = read_behind n l le left L ts
 

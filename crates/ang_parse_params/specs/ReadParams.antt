@@ -29,11 +29,11 @@ a_reference = look reference_by (pure None)
 abbrev pub param_of : Option Token → TypeName → Option Reference → Option Token → Parameter
 param_of comma y r x = record { comma = comma; declared_type = y; reference = r; name = x }
 
--- a parameter, behind its type
+-- a parameter, after its type
 unfoldable pub param_typed : Option Token → TypeName → Parser Parameter
 param_typed comma y = do r ← a_reference; x ← perhaps is_name; pure (param_of comma y r x)
 
--- a parameter, behind the comma in front of it, if there is one
+-- a parameter, after the comma in front of it, if there is one
 unfoldable pub param : Option Token → Parser Parameter
 param comma = do y ← a_type; param_typed comma y
 
@@ -42,7 +42,7 @@ param comma = do y ← a_type; param_typed comma y
 abbrev pub params_of : Token → Option Token → List Parameter → Token → Params
 params_of left void ps right = record { left = left; void_word = void; items = ps; right = right }
 
--- one more, behind the comma
+-- one more, after the comma
 unfoldable pub another_param : List Parameter → Token → Turn (List Parameter)
 another_param ps comma = do p ← param (Some comma); pure (ps ++ p ∷ [], true)
 
@@ -55,7 +55,7 @@ other_param ps = look (other_param_by ps) (ready ps)
 
 -- By the bound of the loop.
 module _ (limit : ℕ) where
-  -- the other parameters and the right parenthesis, behind the first of them
+  -- the other parameters and the right parenthesis, after the first of them
   unfoldable pub params_behind : Token → Parameter → Parser Params
   params_behind left p = do ps ← repeat other_param limit (p ∷ []); right ← a_token is_right_paren; pure (params_of left None ps right)
 
@@ -63,11 +63,11 @@ module _ (limit : ℕ) where
   unfoldable pub some_params : Token → Parser Params
   some_params left = do p ← param None; params_behind left p
 
-  -- the same, behind the word `void` that is the first one's type
+  -- the same, after the word `void` that is the first one's type
   unfoldable pub void_typed : Token → Token → Parser Params
   void_typed left word = do y ← type_named None word; p ← param_typed None y; params_behind left p
 
-  -- Behind the word `void`, the right parenthesis tells the empty list from a parameter of that type.
+  -- After the word `void`, the right parenthesis tells the empty list from a parameter of that type.
   abbrev pub void_by : Token → Token → TokenKind → Choice Params
   void_by left word k.RightParen = Some (λ right. pure (params_of left (Some word) [] right))
   void_by left word _ = None
@@ -80,7 +80,7 @@ module _ (limit : ℕ) where
   params_by left k.Void = Some (voided left)
   params_by left _ = None
 
-  -- behind the left parenthesis
+  -- after the left parenthesis
   unfoldable pub params : Token → Parser Params
   params left = look (params_by left) (some_params left)
 

@@ -61,7 +61,7 @@ fn reference(tokens: &[Token]) -> (Option<Reference>, &[Token])
     }
 }
 
-/// Reads what stands behind a parameter's type.
+/// Reads what stands after a parameter's type.
 #[tactic(auto, unfolding(crate::specs::ReadParams::param_typed))]
 fn parameter_typed(
     comma: Option<Token>,
@@ -83,12 +83,12 @@ fn parameter_typed(
     )
 }
 
-/// Reads a parameter, behind the comma in front of it, if there is one. That comma is read already, and
+/// Reads a parameter, after the comma in front of it, if there is one. That comma is read already, and
 /// the parameter keeps it.
 ///
 /// # Errors
 ///
-/// `Syntax` where no type's name stands in front or behind a `const` there: with the tokens from that place
+/// `Syntax` where no type's name stands in front or after a `const` there: with the tokens from that place
 /// on. No other error comes.
 #[tactic(auto, unfolding(crate::specs::ReadParams::param))]
 pub fn parameter(
@@ -111,7 +111,7 @@ fn with_parameter(first: Vec<Parameter>, next: Parameter) -> Result<Vec<Paramete
     Ok(found)
 }
 
-/// Reads one more parameter, behind a comma.
+/// Reads one more parameter, after a comma.
 #[tactic(auto, unfolding(crate::specs::ReadParams::another_param))]
 fn another_parameter(
     first: Vec<Parameter>,
@@ -164,7 +164,7 @@ fn other_parameters(
     Err(ReadError::Deep)
 }
 
-/// Reads the other parameters and the right parenthesis, behind the first of them.
+/// Reads the other parameters and the right parenthesis, after the first of them.
 #[tactic(auto, unfolding(crate::specs::ReadParams::params_behind))]
 fn parameters_behind<'a>(
     alloc: Global,
@@ -191,8 +191,8 @@ fn parameters_behind<'a>(
     ))
 }
 
-/// Reads what stands behind `(` and the word `void`: the right parenthesis, or the rest of a parameter
-/// of that type, and those behind it.
+/// Reads what stands after `(` and the word `void`: the right parenthesis, or the rest of a parameter
+/// of that type, and those after it.
 #[tactic(auto, unfolding(crate::specs::ReadParams::voided, crate::specs::ReadParams::void_typed))]
 fn voided<'a>(
     alloc: Global,
@@ -240,7 +240,7 @@ fn some_parameters<'a>(
     parameters_behind(alloc, open, first, rest, limit)
 }
 
-/// Reads the parameters behind the left parenthesis `open`, and the right one. The parenthesis `open` is
+/// Reads the parameters after the left parenthesis `open`, and the right one. The parenthesis `open` is
 /// none of `tokens`.
 ///
 /// `limit` bounds the turns of the loop over parameters. A number above that of `tokens` is always enough.

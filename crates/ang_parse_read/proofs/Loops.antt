@@ -9,7 +9,7 @@ unfolding repeat
 repeat_stops once x zero ts le h = absurd (omega arith)
 repeat_stops once x (suc j) ts le h = ap (λ v. and_then v (turned (repeat once j))) h
 
--- a turn that ends the loop behind some token
+-- a turn that ends the loop after some token
 pub repeat_ends : {A : Type 0} (once : A → Turn A) (x : A) (j : ℕ) (ts us : List Token) → 1 ≤ j → once x ts ≡ Ok ((x, false), us) → repeat once j x ts ≡ Ok (x, us)
 unfolding repeat
 repeat_ends once x zero ts us le h = absurd (omega arith)

@@ -47,7 +47,7 @@ pub chosen_reads : {A : Type 0} (n : ℕ) (ts : List Token) (t : Token) (u : Lis
 chosen_reads n ts t u Q None w h k = k
 chosen_reads n ts t u Q (Some q) w h k = h
 
--- What a kind of token chooses reads so, behind each token of that kind.
+-- What a kind of token chooses reads so, after each token of that kind.
 abbrev pub ChoiceReads : {A : Type 0} → ℕ → (List Token → Type 0) → (List Token → A → List Token → Type 0) → (TokenKind → Choice A) → Type 0
 ChoiceReads n P Q f = (kind : TokenKind) (t : Token) (u : List Token) → t.kind ≡ kind → P (t ∷ u) → IfSome (f kind) (λ q. Reads n (t ∷ u) (Q (t ∷ u)) (q t u))
 
@@ -81,7 +81,7 @@ pub look_or_pass_reads : {A : Type 0} (n : ℕ) (P : List Token → Type 0) (Q :
 look_or_pass_reads n P Q f p h k [] z = k [] z tt
 look_or_pass_reads n P Q f p h k (t ∷ u) z = passed_reads n (t ∷ u) t u (Q (t ∷ u)) (f t.kind) (p (t ∷ u)) (h t.kind t u refl z) (k (t ∷ u) z)
 
--- behind a token
+-- after a token
 pub behind : {A : Type 0} (n : ℕ) (t : Token) (u : List Token) (R Q : A → List Token → Type 0) (o : Outcome A)
     → ((x : A) (s : List Token) → R x s → Q x s) → Reads n u R o → Reads (suc n) (t ∷ u) Q o
 behind n t u R Q o w r = along n (suc n) (t ∷ u) u R Q o (From-one t u) (λ d. omega arith) w r
@@ -90,7 +90,7 @@ pub further : {A : Type 0} (n : ℕ) (ts s : List Token) (R Q : A → List Token
     → From ts s → ((x : A) (u : List Token) → R x u → Q x u) → Reads n s R o → Reads n ts Q o
 further n ts s R Q o f w r = along n n ts s R Q o f (λ d. omega (arith, From-length ts s f)) w r
 
--- A turn goes on behind at least one token, with what it has in Mid, or ends with it in End.
+-- A turn goes on after at least one token, with what it has in Mid, or ends with it in End.
 abbrev pub Turns : {A : Type 0} → (A → List Token → Type 0) → (A → List Token → Type 0) → ℕ → A × Bool → List Token → Type 0
 Turns Mid End len (x, true) s = Mid x s × (length s < len)
 Turns Mid End len (x, false) s = End x s

@@ -25,7 +25,7 @@ module _ (r z : List Token) where
     one : split (c ++ r) d ≡ (group, left ++ r)
     other : split (c ++ z) d ≡ (group, left ++ z)
 
-  -- It has all of them, and ends behind, if at all.
+  -- It has all of them, and ends after it, if at all.
   record Beyond (c : List Token) (d : ℕ) : Type 0 where
     r-in : List Token
     r-behind : List Token
@@ -78,7 +78,7 @@ filled-length : (c s : List Token) → Filled c → length s < length (c ++ s)
 filled-length [] s f = absurd f
 filled-length (k ∷ c) s f = omega (arith, length-append c s)
 
--- The group has the tokens r1 and z1, and behind it are r2 and z2.
+-- The group has the tokens r1 and z1, and after it are r2 and z2.
 module _ (r1 r2 z1 z2 : List Token) where
   further_fault : {A B : Type 0} (v u : List Token) (o : Outcome A) (w : Outcome B) → Common r1 z1 {A = A} v o (λ s. Err (at s)) ⊎ (length v ≤ length r1) → Common r1 z1 {A = B} u w (λ s. Err (at s)) ⊎ (length u ≤ length r1)
       → (b : Bool) → nat_lt (length u) (length v) ≡ b → Agree (r1 ++ r2) (z1 ++ z2) (Err (at ((if b then u else v) ++ r2))) (merged o w z2)

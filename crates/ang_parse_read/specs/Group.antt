@@ -9,7 +9,7 @@ use Rattle.ang_parse_read.specs.Read.{at, deep, Outcome, Parser}
 abbrev pub fronted : Token → List Token × List Token → List Token × List Token
 fronted t p = (t ∷ p.0, p.1)
 
--- how many parentheses are open behind a token, or nothing where it closes one more than d
+-- how many parentheses are open after a token, or nothing where it closes one more than d
 abbrev pub deeper : TokenKind → ℕ → Option ℕ
 deeper k.LeftParen d = Some (suc d)
 deeper k.RightParen zero = None
@@ -20,7 +20,7 @@ abbrev pub cut : Token → List Token → (ℕ → List Token × List Token) →
 cut t ts again None = (t ∷ [], ts)
 cut t ts again (Some d) = fronted t (again d)
 
--- The tokens up to the right parenthesis that closes one more than d, with it, and those behind it; or all of them.
+-- The tokens up to the right parenthesis that closes one more than d, with it, and those after it; or all of them.
 abbrev pub split : List Token → ℕ → List Token × List Token
 split [] d = ([], [])
 split (t ∷ ts) d = cut t ts (split ts) (deeper t.kind d)

@@ -9,7 +9,7 @@ pub data Fault : Type 0 where
   -- the bound on nested calls was too small
   deep : Fault
 
--- what was read and the tokens behind it, or why nothing was
+-- what was read and the tokens after it, or why nothing was
 abbrev pub Outcome : Type 0 → Type 0
 Outcome A = Result (A × List Token) Fault
 
@@ -39,7 +39,7 @@ out_of_depth = λ ts. Err deep
 
 -- ---- looking at the next token
 
--- What a token of some kind chooses: a reader of what stands behind it, which keeps the token.
+-- What a token of some kind chooses: a reader of what stands after it, which keeps the token.
 abbrev pub Choice : Type 0 → Type 0
 Choice A = Option (Token → Parser A)
 
@@ -51,7 +51,7 @@ abbrev pub chosen : {A : Type 0} → Choice A → Token → List Token → Outco
 chosen None t after otherwise = otherwise
 chosen (Some p) t after otherwise = p t after
 
--- What the next token's kind chooses, behind that token; or else p, at it.
+-- What the next token's kind chooses, after that token; or else p, at it.
 abbrev pub look : {A : Type 0} → (TokenKind → Choice A) → Parser A → Parser A
 look f p [] = p []
 look f p (t ∷ ts) = chosen (f t.kind) t ts (p (t ∷ ts))
@@ -75,7 +75,7 @@ abbrev pub turned : {A : Type 0} → (A → Parser A) → A × Bool → Parser A
 turned again (x, true) = again x
 turned again (x, false) = pure x
 
--- Turns of a loop, at most so many.
+-- Turns of a loop, fewer than n.
 unfoldable pub repeat : {A : Type 0} → (A → Turn A) → ℕ → A → Parser A
 repeat once zero x = out_of_depth
 repeat once (suc n) x = once x >>= turned (repeat once n)

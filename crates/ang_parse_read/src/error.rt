@@ -10,7 +10,7 @@ use std::alloc::{AllocError, AllocFailed};
 pub enum ReadError<'a> {
     /// Memory ran out.
     Memory,
-    /// The tokens from the first that cannot stand there, or none behind the last.
+    /// The tokens from the first that cannot stand there, or none after the last.
     Syntax(&'a [Token]),
     /// The bound on nested calls and on the turns of a loop was too small. It never is where the bound
     /// is above the number of tokens.

@@ -1,4 +1,4 @@
-//! Readers of single tokens. Each answers the token and the tokens behind it, or the fault at the
+//! Readers of single tokens. Each answers the token and the tokens after it, or the fault at the
 //! first token where that is of another kind. None takes memory.
 ghost use Rattle.std.specs.Prelude.{◌≡◌, Ok};
 ghost use Rattle.ang_parse_read.specs.Gives.{Gives, NeedsNoMemory};

@@ -414,7 +414,7 @@ pub statements_read : (ss : Stmts) (n l : ℕ) (right : Token) (ts : List Token)
     → length (spelled_stmts ss (right ∷ ts)) < n → length (spelled_stmts ss (right ∷ ts)) < l → r.statements (r.stmt n l) l (spelled_stmts ss (right ∷ ts)) ≡ Ok (ss, right ∷ ts)
 statements_read ss = all_read ss (complete_stmts ss)
 
--- a block, behind its left brace
+-- a block, after its left brace
 pub body_read : (left : Token) (ss : Stmts) (right : Token) (n l : ℕ) (ts : List Token) → FitsBody (body left ss right)
     → length (spelled_stmts ss (right ∷ ts)) < n → length (spelled_stmts ss (right ∷ ts)) < l → r.a_body (r.stmt n l) l left (spelled_stmts ss (right ∷ ts)) ≡ Ok (body left ss right, ts)
 body_read left ss right n l ts f a b = body_done (r.stmt n l) l left right ss (spelled_stmts ss (right ∷ ts)) ts f.2 (statements_read ss n l right ts f.1 f.2 a b)

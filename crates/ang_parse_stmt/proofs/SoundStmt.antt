@@ -36,7 +36,7 @@ pub record AreStmts (w : List Token) (ss : Stmts) (s : List Token) : Type 0 wher
   pub text : w ≡ spelled_stmts ss s
   pub fits : FitsStmts ss
 
--- a block, behind the left brace
+-- a block, after the left brace
 pub record IsBody (left : Token) (w : List Token) (b : Body) (s : List Token) : Type 0 where
   pub text : left ∷ w ≡ spelled_body b s
   pub fits : FitsBody b

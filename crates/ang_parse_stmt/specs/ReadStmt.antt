@@ -67,7 +67,7 @@ do_while_of word s e = do_while word s e.word e.condition.left e.condition.value
 abbrev pub for_of : Token → Head → Stmt → Stmt
 for_of word h s = for word h.left h.start h.condition h.semicolon h.steps h.right s
 
--- ---- behind a word
+-- ---- after a word
 
 unfoldable pub broken : Token → Parser Stmt
 broken word = do semicolon ← a_token is_semicolon; pure (break word semicolon)
@@ -101,7 +101,7 @@ module _ (limit : ℕ) where
   unfoldable pub simple : Parser Stmt
   simple = do b ← start limit; pure (simple_of b)
 
-  -- behind `return`
+  -- after `return`
   unfoldable pub returned : Token → Parser Stmt
   returned word = do e ← ended limit; pure (return word e.0 e.1)
 
@@ -117,14 +117,14 @@ module _ (stmt : Parser Stmt) (limit : ℕ) where
   unfoldable pub statements : Parser Stmts
   statements = repeat other_statement limit end
 
-  -- behind the left brace
+  -- after the left brace
   unfoldable pub a_body : Token → Parser Body
   a_body left = do ss ← statements; right ← a_token is_right_brace; pure (body left ss right)
 
   unfoldable pub guarded : Parser Guarded
   guarded = do c ← condition limit; s ← stmt; pure (guarded_of c s)
 
-  -- behind `else`
+  -- after `else`
   unfoldable pub other_branch : Token → Parser (Option Branch)
   other_branch word = do s ← stmt; pure (Some (word, s))
 
@@ -136,7 +136,7 @@ module _ (stmt : Parser Stmt) (limit : ℕ) where
   unfoldable pub otherwise : Parser (Option Branch)
   otherwise = look otherwise_by (pure None)
 
-  -- ---- behind a word
+  -- ---- after a word
 
   unfoldable pub conditional : Token → Parser Stmt
   conditional word = do g ← guarded; o ← otherwise; pure (branched word g o)

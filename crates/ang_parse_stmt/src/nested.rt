@@ -23,7 +23,7 @@ use ang_parse_variables::{ended, start};
 use ang_tree::{Argument, Block, Else, Ending, Guard, Head, Jump, Returned, Statement};
 use std::alloc::Global;
 
-/// Reads `"(" assign ")"` behind the word, `if` or `while`, which the guard keeps.
+/// Reads `"(" assign ")"` after the word, `if` or `while`, which the guard keeps.
 #[tactic(auto, unfolding(crate::specs::ReadStmt::condition))]
 #[inline(never)]
 fn guard<'a>(
@@ -117,7 +117,7 @@ fn steps(
     }
 }
 
-/// Reads the head of a `for`, behind the word, which the head keeps.
+/// Reads the head of a `for`, after the word, which the head keeps.
 #[tactic(auto, unfolding(crate::specs::ReadStmt::head))]
 #[inline(never)]
 fn head<'a>(
@@ -163,7 +163,7 @@ fn simple(
     Ok((build::simple(alloc, start)?, rest))
 }
 
-/// Reads what stands behind the word `break`.
+/// Reads what stands after the word `break`.
 #[tactic(auto, unfolding(crate::specs::ReadStmt::broken))]
 #[inline(never)]
 fn broken<'a>(
@@ -184,7 +184,7 @@ fn broken<'a>(
     Ok((Statement::Break(found), rest))
 }
 
-/// Reads what stands behind the word `continue`.
+/// Reads what stands after the word `continue`.
 #[tactic(auto, unfolding(crate::specs::ReadStmt::continued))]
 #[inline(never)]
 fn continued<'a>(
@@ -206,7 +206,7 @@ fn continued<'a>(
     Ok((Statement::Continue(found), rest))
 }
 
-/// Reads what stands behind the word `return`.
+/// Reads what stands after the word `return`.
 #[tactic(auto, unfolding(crate::specs::ReadStmt::returned))]
 #[inline(never)]
 fn returned<'a>(
@@ -278,7 +278,7 @@ pub(crate) fn statements(
     Err(ReadError::Deep)
 }
 
-/// Reads the statements of a block and the right brace, behind the left one `open`.
+/// Reads the statements of a block and the right brace, after the left one `open`.
 #[cycle(statement)]
 #[tactic(auto, unfolding(crate::specs::ReadStmt::a_body))]
 pub(crate) fn block<'a>(
@@ -319,7 +319,7 @@ fn inner_statement(
     Ok((found, rest))
 }
 
-/// Reads `"(" assign ")" stmt` behind the word, `if` or `while`, which the guard keeps.
+/// Reads `"(" assign ")" stmt` after the word, `if` or `while`, which the guard keeps.
 #[cycle(statement)]
 #[tactic(auto, unfolding(crate::specs::ReadStmt::guarded))]
 fn guarded<'a>(
@@ -364,7 +364,7 @@ fn otherwise(
     }
 }
 
-/// Reads what stands behind the word `if`.
+/// Reads what stands after the word `if`.
 #[cycle(statement)]
 #[tactic(auto, unfolding(crate::specs::ReadStmt::conditional))]
 fn conditional<'a>(
@@ -390,7 +390,7 @@ fn conditional<'a>(
     }
 }
 
-/// Reads what stands behind the word `while`.
+/// Reads what stands after the word `while`.
 #[cycle(statement)]
 #[tactic(auto, unfolding(crate::specs::ReadStmt::while_loop))]
 fn while_loop<'a>(
@@ -407,7 +407,7 @@ fn while_loop<'a>(
     Ok((build::while_loop(head, statement), rest))
 }
 
-/// Reads what stands behind the word `do`.
+/// Reads what stands after the word `do`.
 #[cycle(statement)]
 #[tactic(auto, unfolding(crate::specs::ReadStmt::do_loop))]
 fn do_loop<'a>(
@@ -425,7 +425,7 @@ fn do_loop<'a>(
     Ok((build::do_loop(body, ending), rest))
 }
 
-/// Reads what stands behind the word `for`.
+/// Reads what stands after the word `for`.
 #[cycle(statement)]
 #[tactic(auto, unfolding(crate::specs::ReadStmt::for_loop))]
 fn for_loop<'a>(
@@ -448,7 +448,7 @@ fn for_loop<'a>(
     }
 }
 
-/// Reads a block, behind its left brace.
+/// Reads a block, after its left brace.
 #[cycle(statement)]
 #[tactic(auto, unfolding(crate::specs::ReadStmt::braced))]
 fn braced<'a>(

@@ -1,6 +1,6 @@
 //! Parts of statements, between what is read and the statement that it makes, and how they are let go.
 //!
-//! A `?` behind an owned part has the part's drop written out where it stands, and the function's frame has
+//! A `?` after an owned part has the part's drop written out where it stands, and the function's frame has
 //! room for it while the statements inside are read. As a call that is never inlined, the drop takes of the
 //! stack only while it runs.
 
@@ -11,7 +11,7 @@ use ang_tree::{Guard, Head, Statement};
 pub(crate) struct Guarded {
     /// The word and the condition.
     pub(crate) head: Box<Guard>,
-    /// The statement behind them.
+    /// The statement after them.
     pub(crate) statement: Box<Statement>,
 }
 

@@ -1,4 +1,4 @@
-//! Reading statements, behind which other tokens may stand.
+//! Reading statements, after which other tokens may stand.
 //!
 //! `limit` bounds the nested calls of expressions and the turns of each loop, `depth` the nested calls
 //! of statements. One more than the number of tokens is always enough for both.
@@ -60,7 +60,7 @@ pub fn statements(
     nested::statements(alloc, tokens, depth, limit)
 }
 
-/// Reads the statements of a block and the right brace, behind the left one `open`, which is none of
+/// Reads the statements of a block and the right brace, after the left one `open`, which is none of
 /// `tokens`.
 ///
 /// `limit` bounds the nested calls of expressions and the turns of each loop, `depth` the nested calls

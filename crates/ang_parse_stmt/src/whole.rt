@@ -13,7 +13,7 @@ use ang_parse_read::ReadError;
 use ang_tree::Statement;
 use std::alloc::Global;
 
-/// What was read, where no tokens are left behind it.
+/// What was read, where no tokens are left after it.
 fn finished(found: Statement, rest: &[Token]) -> Result<Statement, ReadError<'_>>
     ensures reads { Gives (λ x. (view_stmt x, [])) result (finish (view_stmt found) rest.now) }
 {

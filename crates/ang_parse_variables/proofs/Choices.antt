@@ -11,7 +11,7 @@ module _ (r z : List Token) where
   past_agrees (Err (at s)) o' h = inr h
   past_agrees (Err deep) o' h = tt
 
-  -- two choices of one kind of token, whose readers depend on a prefix alone behind a token of that kind
+  -- two choices of one kind of token, whose readers depend on a prefix alone after a token of that kind
   abbrev pub BothAt : {A : Type 0} → TokenKind → Choice A → Choice A → Type 0
   BothAt kind None None = Unit {0}
   BothAt kind (Some p) (Some q) = (t : Token) → t.kind ≡ kind → DependsOnPrefix r z (p t) (q t)

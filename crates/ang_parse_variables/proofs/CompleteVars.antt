@@ -135,7 +135,7 @@ variables_named_read y x i vs semicolon l ts fi c f is le =
 
 -- ---- an expression is not taken for variables
 
--- a name or `@`, behind a name
+-- a name or `@`, after a name
 abbrev names_kind : TokenKind → Bool
 names_kind k.At = true
 names_kind k.Name = true

@@ -22,11 +22,11 @@ variables_of y vs semicolon = record { declared_type = y; items = vs; semicolon 
 module _ (limit : ℕ) where
   -- ---- variables
 
-  -- behind `=`
+  -- after `=`
   unfoldable pub valued : Token → Parser Init
   valued equals = do e ← expr limit 0; pure (value equals e)
 
-  -- behind the left parenthesis
+  -- after the left parenthesis
   unfoldable pub constructed : Token → Parser Init
   constructed left = do es ← args (expr limit) limit left; pure (constructor es)
 
@@ -39,11 +39,11 @@ module _ (limit : ℕ) where
   unfoldable pub init : Parser Init
   init = look init_by (pure absent)
 
-  -- a variable, behind its name
+  -- a variable, after its name
   unfoldable pub variable_named : Option Token → Token → Parser Var
   variable_named comma x = do i ← init; pure (variable_of comma x i)
 
-  -- one more, behind the comma
+  -- one more, after the comma
   unfoldable pub another_variable : List Var → Token → Turn (List Var)
   another_variable vs comma = do x ← a_token is_name; v ← variable_named (Some comma) x; pure (vs ++ v ∷ [], true)
 
@@ -54,11 +54,11 @@ module _ (limit : ℕ) where
   unfoldable pub other_variable : List Var → Turn (List Var)
   other_variable vs = look (other_variable_by vs) (ready vs)
 
-  -- variables of a type, behind the first of them
+  -- variables of a type, after the first of them
   unfoldable pub variables_behind : TypeName → Var → Parser Vars
   variables_behind y v = do vs ← repeat other_variable limit (v ∷ []); semicolon ← a_token is_semicolon; pure (variables_of y vs semicolon)
 
-  -- variables of a type, behind the name of the first
+  -- variables of a type, after the name of the first
   unfoldable pub variables_named : TypeName → Token → Parser Vars
   variables_named y x = do v ← variable_named None x; variables_behind y v
 
@@ -79,27 +79,27 @@ module _ (limit : ℕ) where
   unfoldable pub ran : Parser Start
   ran = do e ← some_ended; pure (with_expression e.0 e.1)
 
-  -- variables, behind the name of the first
+  -- variables, after the name of the first
   unfoldable pub declared : TypeName → Token → Parser Start
   declared y x = do vs ← variables_named y x; pure (with_variables vs)
 
-  -- variables, behind their type
+  -- variables, after their type
   unfoldable pub declared_of : TypeName → Parser Start
   declared_of y = do x ← a_token is_name; declared y x
 
-  -- variables, behind their type's name
+  -- variables, after their type's name
   unfoldable pub typed : Option Token → Token → Parser Start
   typed constant x = do y ← type_named constant x; declared_of y
 
-  -- variables, behind `const`
+  -- variables, after `const`
   unfoldable pub constant_typed : Token → Parser Start
   constant_typed word = do x ← a_token type_kind; typed (Some word) x
 
-  -- variables, behind the name of their type and `@`
+  -- variables, after the name of their type and `@`
   unfoldable pub handled : Token → Token → Parser Start
   handled x sign = do c ← perhaps is_const; declared_of (type_of None x (Some (handle_of sign c)))
 
-  -- Behind a name, another name or `@` tells variables from an expression. An expression is read from the first name on.
+  -- After a name, another name or `@` tells variables from an expression. An expression is read from the first name on.
   abbrev pub named_by : Token → TokenKind → Choice Start
   named_by x k.At = Some (handled x)
   named_by x k.Name = Some (declared (type_of None x None))
@@ -108,7 +108,7 @@ module _ (limit : ℕ) where
   unfoldable pub named : Token → Parser Start
   named x = look (named_by x) (λ ts. ran (x ∷ ts))
 
-  -- Behind a primitive type, `(` tells an expression from variables.
+  -- After a primitive type, `(` tells an expression from variables.
   abbrev pub primitive_by : Token → TokenKind → Choice Start
   primitive_by p k.LeftParen = Some (λ left ts. ran (p ∷ left ∷ ts))
   primitive_by p _ = None

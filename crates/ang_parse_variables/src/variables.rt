@@ -71,7 +71,7 @@ pub fn initializer(
     }
 }
 
-/// Reads what stands behind a variable's name: its initializer, if it has one. The comma in front of the
+/// Reads what stands after a variable's name: its initializer, if it has one. The comma in front of the
 /// name and the name are read already, and the variable keeps them.
 ///
 /// `limit` bounds the nested calls of expressions and the turns of each loop. A number above that of
@@ -103,7 +103,7 @@ pub fn variable_named<'a>(
     ))
 }
 
-/// Reads one more variable, behind a comma.
+/// Reads one more variable, after a comma.
 #[tactic(auto, unfolding(crate::specs::ReadVars::another_variable))]
 fn another_variable<'a>(
     alloc: Global,
@@ -162,7 +162,7 @@ fn other_variables(
     Err(ReadError::Deep)
 }
 
-/// Reads the other variables of a type and the semicolon, behind the first variable.
+/// Reads the other variables of a type and the semicolon, after the first variable.
 ///
 /// `limit` bounds the nested calls of expressions and the turns of each loop. A number above that of
 /// `tokens` is always enough.
@@ -195,7 +195,7 @@ pub fn variables_behind(
     ))
 }
 
-/// Reads the variables of a type and the semicolon, behind the name of the first.
+/// Reads the variables of a type and the semicolon, after the name of the first.
 ///
 /// `limit` bounds the nested calls of expressions and the turns of each loop. A number above that of
 /// `tokens` is always enough.
@@ -269,7 +269,7 @@ fn ran(alloc: Global, tokens: &[Token], limit: usize) -> Result<(ForStart, &[Tok
     Ok((ForStart::Expression { value, semicolon }, rest))
 }
 
-/// Reads variables, behind the name of the first.
+/// Reads variables, after the name of the first.
 #[tactic(auto, unfolding(crate::specs::ReadVars::declared))]
 fn declared(
     alloc: Global,
@@ -285,7 +285,7 @@ fn declared(
     Ok((ForStart::Variables(variables), rest))
 }
 
-/// Reads variables, behind their type.
+/// Reads variables, after their type.
 #[tactic(auto, unfolding(crate::specs::ReadVars::declared_of))]
 fn declared_of(
     alloc: Global,
@@ -300,7 +300,7 @@ fn declared_of(
     declared(alloc, declared_type, name, rest, limit)
 }
 
-/// Reads variables, behind the name of their type.
+/// Reads variables, after the name of their type.
 #[tactic(auto, unfolding(crate::specs::ReadVars::typed))]
 fn typed(
     alloc: Global,
@@ -316,7 +316,7 @@ fn typed(
     declared_of(alloc, declared_type, rest, limit)
 }
 
-/// Reads variables, behind the word `const`.
+/// Reads variables, after the word `const`.
 #[tactic(auto, unfolding(crate::specs::ReadVars::constant_typed, ang_parse_read::specs::Tokens::a_token))]
 fn constant_typed(
     alloc: Global,
@@ -335,7 +335,7 @@ fn constant_typed(
     }
 }
 
-/// Reads variables, behind the name of their type and `@`.
+/// Reads variables, after the name of their type and `@`.
 #[tactic(auto, unfolding(crate::specs::ReadVars::handled))]
 fn handled(
     alloc: Global,
@@ -358,7 +358,7 @@ fn handled(
     declared_of(alloc, declared_type, rest, limit)
 }
 
-/// Reads what begins with a name: variables, where `@` or another name stands behind it, and else an
+/// Reads what begins with a name: variables, where `@` or another name stands after it, and else an
 /// expression.
 #[tactic(auto, unfolding(crate::specs::ReadVars::named))]
 fn named<'a>(
@@ -391,7 +391,7 @@ fn named<'a>(
     }
 }
 
-/// Reads what begins with the word of a primitive type: an expression, where `(` stands behind it, and
+/// Reads what begins with the word of a primitive type: an expression, where `(` stands after it, and
 /// else variables.
 #[tactic(auto, unfolding(crate::specs::ReadVars::primitive))]
 fn primitive<'a>(

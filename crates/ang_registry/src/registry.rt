@@ -120,7 +120,7 @@ impl Registry {
     }
 
     /// Registers a method of a type, and answers its number: function `f` of the type's driver. The
-    /// declaration is `type NAME params`, with `const` behind it for a method that does not change its object.
+    /// declaration is `type NAME params`, with `const` after it for a method that does not change its object.
     ///
     /// # Errors
     ///
@@ -233,7 +233,7 @@ impl Registry {
         self.add_own(EntryKind::Global, driver, f, declared)
     }
 
-    /// Adds a blank, which no mask sees, and answers its number: what is registered behind it keeps the
+    /// Adds a blank, which no mask sees, and answers its number: what is registered after it keeps the
     /// number that it has in a list with an entry there.
     ///
     /// # Errors

@@ -12,7 +12,7 @@ use Rattle.ang_drivers.specs.Objects.{by_key}
 use Rattle.ang_drivers.proofs.Ledgers.{ArePositive, positive-empty, positive-insert, positive-remove, total-new, total-gone, total-over, get-by_key}
 use Rattle.ang_remote.specs.Ledger.{Ledger}
 
--- so many keys were made, and so many references added and released
+-- `made` keys were made, and `added` and `released` references were added and released
 pub record AreKept (m : map.FinMap nat_cmp ℕ) (made added released : ℕ) : Type 0 where
   pub sums : made + added ≡ released + total m
   pub positive : ArePositive m

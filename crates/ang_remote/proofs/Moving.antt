@@ -103,7 +103,7 @@ answer_not live said.Nothing = tt
 answer_not live (said.Fault n) = tt
 answer_not live said.Memory = tt
 
--- ---- the laws. Before is the ledger k, behind the counted asking l, and at the end m.
+-- ---- the laws. Before is the ledger k, after the counted host call l, and at the end m.
 
 module _ (n : ℕ) (k l : Keys) (w w2 u u2 : Option (List ℕ)) (asks : Asks (ledger k) true (ledger l)) where
   counts_same : (ledger l).counts ≡ (ledger k).counts
@@ -126,7 +126,7 @@ module _ (n : ℕ) (k l : Keys) (w w2 u u2 : Option (List ℕ)) (asks : Asks (le
     moves _ _ _ (s, (refl, exchanged), ap (λ v. Asking (answer_of v s)) live_same, live_same),
   )
 
-  -- an asking that is answered
+  -- a host call that is answered
   pub answered : (a : Ask) (s : Said) (r : Answer) → IsExchanged (ask_text n a) w w2 u u2 s → r ≡ answer_of (ledger l).live s
       → ((x y : Wire) (q : HostReply) → AnswerMoves x a q y → WireMoves x a q y)
       → Answered RemoteFits (at n (ledger k) w u) a r (at n (ledger l) w2 u2)
@@ -154,7 +154,7 @@ module _ (n : ℕ) (k l : Keys) (w w2 u u2 : Option (List ℕ)) (asks : Asks (le
   live_kept : (m : Keys) → ledger m ≡ ledger l → (ledger m).live ≡ (ledger k).live
   live_kept m same = ap (λ x. x.live) same ∙ live_same
 
-  -- an asking for an object
+  -- a host call for an object
   pub was_made : (f : ℕ) (args : List Value) (s : Said) (r : Made) (m : Keys) → IsExchanged (ask_text n (make f args)) w w2 u u2 s → MakesKey (ledger l) s r (ledger m)
       → WasMade RemoteFits (at n (ledger k) w u) (make f args) r (at n (ledger m) w2 u2)
   was_made f args s (made.Key q) m exchanged h = record {
@@ -192,7 +192,7 @@ module _ (n : ℕ) (k l : Keys) (w w2 u u2 : Option (List ℕ)) (asks : Asks (le
   }
   was_made f args s made.Full m exchanged h = absurd h
 
--- ---- what needs no asking
+-- ---- what needs no host call
 
 module _ (n : ℕ) (k m : Keys) (w u : Option (List ℕ)) where
   pub full_answer : (a : Ask) → Asks (ledger k) false (ledger m) → Answered RemoteFits (at n (ledger k) w u) a answer.Full (at n (ledger m) w u)

@@ -77,7 +77,7 @@ pub ends_line : (most : ℕ) (before text after : List ℕ) (old mid new : Optio
 ends_line most before text after old mid new h k begun byte r c keeping e =
     ended most before after r.bytes old new k r.plain (rw (← e) (consumes_both old mid new r.bytes (byte ∷ []) r.read c)) (rw (← e) (keeping before r.bytes r.kept))
 
--- the end of the stream, behind some bytes
+-- the end of the stream, after some bytes
 open_ended : (most : ℕ) (before after bytes : List ℕ) (old new : Option (List ℕ)) (h : Heard) → IsPlain bytes → 0 < length bytes → Consumes old new bytes → IsAtEnd new
     → IsKept most h before bytes after → IsHeard most before after old new (last_of h)
 open_ended most before after bytes old new heard.Line p some c e kept = record { body = bytes; plain = p; some = some; read = c; end = e; kept = kept }
@@ -93,7 +93,7 @@ ends_open most before after old mid new h begun is r c e =
     let all : Consumes old new r.bytes = rw (← append-nil r.bytes) (consumes_both old mid new r.bytes [] r.read c) in
     open_ended most before after r.bytes old new h r.plain (r.some is) all e r.kept
 
--- and behind none
+-- and after none
 pub ends_empty : (most : ℕ) (before after : List ℕ) (old mid new : Option (List ℕ)) (h : Heard) (begun : Bool) → begun ≡ false
     → HasRead most before after old mid h begun → Consumes mid new [] → IsAtEnd new → IsHeard most before after old new heard.End
 ends_empty most before after old mid new h begun is r c e =
@@ -102,7 +102,7 @@ ends_empty most before after old mid new h begun is r c e =
     let nothing : r.bytes ++ [] ≡ [] = append-nil r.bytes ∙ none.0 in
     (rw (← nothing) all, e, none.1)
 
--- a failure, behind some bytes or none
+-- a failure, after some bytes or none
 pub breaks : (most : ℕ) (before after : List ℕ) (old mid new : Option (List ℕ)) (h : Heard) (begun : Bool)
     → HasRead most before after old mid h begun → Consumes mid new [] → IsHeard most before after old new heard.Failed
 breaks most before after old mid new h begun r c =

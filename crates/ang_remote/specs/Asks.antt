@@ -42,7 +42,7 @@ line_text driver kind f object values =
     codes "ask " ++ decimal driver ++ codes " " ++ kind_text kind ++ codes " " ++ decimal f ++ codes " "
     ++ object_text object ++ codes " (" ++ values_text values ++ codes ")\n"
 
--- the line of each asking; the end of a key is not told
+-- the line of each host call; the end of a key is not told
 abbrev pub ask_text : ℕ → Ask → List ℕ
 ask_text driver (make f args) = line_text driver kind.Make f None args
 ask_text driver (call f object args) = line_text driver kind.Call f object args

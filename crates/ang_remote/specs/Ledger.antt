@@ -31,7 +31,7 @@ IsHeld s k = (n : ℕ) × (map.get s.counts k ≡ Some n)
 abbrev pub with_key : Live → ℕ → Live
 with_key live k = map.insert live k true
 
--- an asking is counted; false where the tally of askings is full
+-- a host call is counted; false where the tally of host calls is full
 abbrev pub Asks : Ledger → Bool → Ledger → Type 0
 Asks s true t = t ≡ record s { tally = one_asked s.tally }
 Asks s false t = (t ≡ s) × (s.tally.asked ≡ limit)

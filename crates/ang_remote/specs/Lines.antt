@@ -9,13 +9,13 @@ abbrev pub IsPlain : List ℕ → Type 0
 IsPlain [] = Unit {0}
 IsPlain (b ∷ bs) = (b ≢ 10) × IsPlain bs
 
--- A line, behind which the bytes `left` are left: it ends at its first LF, or, where there is none, with the stream.
+-- A line, after which the bytes `left` are left: it ends at its first LF, or, where there is none, with the stream.
 pub record IsLine (line : List ℕ) (left : Option (List ℕ)) : Type 0 where
   pub body : List ℕ
   pub plain : IsPlain body
   pub ended : (line ≡ body ++ 10 ∷ []) ⊎ ((line ≡ body) × (0 < length body) × IsAtEnd left)
 
--- What became of a text, behind which these bytes were to be put. It is to have no more than `most` bytes.
+-- What became of a text, after which these bytes were to be put. It is to have no more than `most` bytes.
 abbrev pub IsKept : ℕ → Heard → List ℕ → List ℕ → List ℕ → Type 0
 IsKept most heard.Line before bytes after = (after ≡ before ++ bytes) × (0 < length bytes → length after ≤ most)
 IsKept most heard.Last before bytes after = ⊥
@@ -38,7 +38,7 @@ pub record HasRead (most : ℕ) (before after : List ℕ) (old new : Option (Lis
   pub some : begun ≡ true → 0 < length bytes
   pub none : begun ≡ false → (bytes ≡ []) × (after ≡ before)
 
--- what is heard where the stream ends behind some bytes of a line
+-- what is heard where the stream ends after some bytes of a line
 abbrev pub last_of : Heard → Heard
 last_of heard.Line = heard.Last
 last_of heard.Last = heard.Last
@@ -54,14 +54,14 @@ pub record IsPassed (most : ℕ) (before after : List ℕ) (old new : Option (Li
   pub whole : IsLine line new
   pub kept : IsKept most h before line after
 
--- a line was read to its LF, and stands behind the text
+-- a line was read to its LF, and stands after the text
 pub record IsEnded (most : ℕ) (before after : List ℕ) (old new : Option (List ℕ)) : Type 0 where
   pub body : List ℕ
   pub plain : IsPlain body
   pub read : Consumes old new (body ++ 10 ∷ [])
   pub kept : IsKept most heard.Line before (body ++ 10 ∷ []) after
 
--- a line was read to the end of the stream, and stands behind the text
+-- a line was read to the end of the stream, and stands after the text
 pub record IsLast (most : ℕ) (before after : List ℕ) (old new : Option (List ℕ)) : Type 0 where
   pub body : List ℕ
   pub plain : IsPlain body
@@ -70,7 +70,7 @@ pub record IsLast (most : ℕ) (before after : List ℕ) (old new : Option (List
   pub end : IsAtEnd new
   pub kept : IsKept most heard.Line before body after
 
--- What was read in the place of a line, behind the text `before`, which is `after` then.
+-- What was read in the place of a line, after the text `before`, which is `after` then.
 abbrev pub IsHeard : ℕ → List ℕ → List ℕ → Option (List ℕ) → Option (List ℕ) → Heard → Type 0
 IsHeard most before after old new heard.Line = IsEnded most before after old new
 IsHeard most before after old new heard.Last = IsLast most before after old new

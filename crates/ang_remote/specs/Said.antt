@@ -26,7 +26,7 @@ unfoldable pub handle_of : List ℕ → Option Value
 handle_of text =
     if bytes_eq text (codes "null") then Some (value.Key None) else handle_or (key_of text) (value_of text)
 
--- `made #KEY` and `fault N`, by their word and what is behind it
+-- `made #KEY` and `fault N`, by their word and what is after it
 unfoldable pub spoken_of : List ℕ → List ℕ → Option Said
 spoken_of word rest =
     if bytes_eq word (codes "made") then option_map said.Made (key_of rest)

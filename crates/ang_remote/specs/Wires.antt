@@ -21,7 +21,7 @@ use Rattle.ang_remote.specs.declared.lines.Heard.TheVariants as heard
 use Rattle.ang_remote.specs.declared.answers.Said.{Said}
 use Rattle.ang_remote.specs.declared.answers.Said.TheVariants as said
 
--- ---- one asking over the streams
+-- ---- one host call over the streams
 
 -- a front of the text was written
 pub record HasFront (old new : Option (List ℕ)) (text : List ℕ) : Type 0 where
@@ -49,7 +49,7 @@ pub data Came : Type 0 where
 abbrev pub most_answer : ℕ
 most_answer = 64
 
--- It came: it, and nothing behind it, was read.
+-- It came: it, and nothing after it, was read.
 abbrev pub Comes : Option (List ℕ) → Option (List ℕ) → Came → Type 0
 Comes old new (Line line) = Consumes old new line × IsLine line new × (length line ≤ most_answer)
 Comes old new (Long line) = Consumes old new line × IsLine line new × (most_answer + 1 ≤ length line)
@@ -78,7 +78,7 @@ heard_as heard.Failed line = not_read
 abbrev pub IsAnswered : Option (List ℕ) → Option (List ℕ) → Said → Type 0
 IsAnswered old new s = (came : Came) × Comes old new came × (s ≡ taken_for came)
 
--- One asking of this text: it is written, and an answer is read. Or it can't be written, and nothing is read. Or there
+-- One host call of this text: it is written, and an answer is read. Or it can't be written, and nothing is read. Or there
 -- is no memory for it, and nothing is done.
 module _ (text : List ℕ) (written written_after unread unread_after : Option (List ℕ)) (s : Said) where
   abbrev pub IsAsked : Type 0
@@ -170,16 +170,16 @@ pub record AreAlike (x y : Wire) : Type 0 where
   pub written : x.written ≡ y.written
   pub unread : x.unread ≡ y.unread
 
--- Between two wires this was said to an asking.
+-- Between two wires this was said to a host call.
 abbrev pub Exchanges : Wire → Ask → Said → Wire → Type 0
 Exchanges x a s y = (y.number ≡ x.number) × IsExchanged (ask_text x.number a) x.written y.written x.unread y.unread s
 
--- an asking to which something is answered
+-- a host call to which something is answered
 abbrev pub AnswerMoves : Wire → Ask → HostReply → Wire → Type 0
 AnswerMoves x a r y =
     (s : Said) × Exchanges x a s y × (r ≡ Asking (answer_of x.live s)) × (y.live ≡ x.live)
 
--- an asking for an object
+-- a host call for an object
 abbrev pub MakingMoves : Wire → Ask → HostReply → Wire → Type 0
 MakingMoves x a r y =
     (s : Said) × (m : Made) × Exchanges x a s y × IsMaking x.live s m × (r ≡ Making m) × (y.live ≡ live_after x.live m)

@@ -17,7 +17,7 @@ pub const INPUT_ENDED: u32 = 4_294_967_282;
 /// The fault where the line is no answer.
 pub const BAD_FORM: u32 = 4_294_967_283;
 
-/// The fault where the answer is one to another kind of asking.
+/// The fault where the answer is one to another kind of host call.
 pub const OTHER_KIND: u32 = 4_294_967_284;
 
 /// The fault where a key that is live was made.
@@ -29,7 +29,7 @@ pub const NOT_LIVE: u32 = 4_294_967_286;
 /// The most bytes of an answer, with its LF.
 pub const MOST_ANSWER: usize = 64;
 
-/// What the host says to an asking, or what is taken for it where it says nothing of a right form.
+/// What the host says to a host call, or what is taken for it where it says nothing of a right form.
 #[derive(Clone, Copy, PartialEq, Eq, Debug)]
 pub enum Said {
     /// `void`.
@@ -75,7 +75,7 @@ fn handle(text: &[u8]) -> Option<Value>
     }
 }
 
-/// What a first word and the rest behind it spell.
+/// What a first word and the rest after it spell.
 #[tactic(auto, unfolding(crate::specs::Said::spoken_of))]
 fn spoken(word: &[u8], rest: &[u8]) -> Option<Said>
     ensures exact { result ≡ spoken_of word.now rest.now }

@@ -1,4 +1,4 @@
-//! One asking over a line: the ask is written, and the answer is read.
+//! One host call over a line: the ask is written, and the answer is read.
 ghost use Rattle.std.specs.Prelude.{◌≡◌};
 ghost use Rattle.ang_remote.specs.Asks.{line_text};
 ghost use Rattle.ang_remote.specs.Wires.{IsExchanged, IsAnswered, heard_as};

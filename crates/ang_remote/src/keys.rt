@@ -15,7 +15,7 @@ const LIMIT: u64 = 9_223_372_036_854_775_807;
 
 /// The references to each live key, at least one, and the tallies of a driver.
 ///
-/// Each key that is made takes an asking, so `made` never runs out before `asked`.
+/// Each key that is made takes a host call, so `made` never runs out before `asked`.
 #[derive(Drop)]
 pub struct Keys {
     live: BTreeMap<u64, u64>,
@@ -61,7 +61,7 @@ impl Keys {
         self.live.contains_key(&key)
     }
 
-    /// Counts an asking. False, with nothing done, where 2^63 - 1 are counted.
+    /// Counts a host call. False, with nothing done, where 2^63 - 1 are counted.
     pub fn ask(&mut self) -> bool
         ensures asked { Asks (ledger self.old) result (ledger self.new) }
     {
@@ -72,7 +72,7 @@ impl Keys {
         true
     }
 
-    /// Makes a key live, with one reference. The asking for it has to be counted first (`ask`).
+    /// Makes a key live, with one reference. The host call for it has to be counted first (`ask`).
     ///
     /// # Errors
     /// A growth of memory was refused.

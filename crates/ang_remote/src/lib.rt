@@ -1,4 +1,4 @@
-//! A driver whose host is another process: each asking is a line that is written, and its answer a line that is
+//! A driver whose host is another process: each host call is a line that is written, and its answer a line that is
 //! read (docs/FORMATS.md, "The conversation of asremote").
 //!
 //! `specs/` has the text of an ask (`Asks.antt`), what a line spells as an answer (`Said.antt`), what a line is

@@ -1,4 +1,4 @@
-//! Reading a line, byte by byte, so that nothing is read that stands behind it.
+//! Reading a line, byte by byte, so that nothing is read that stands after it.
 ghost use Rattle.std.specs.Prelude.{◌≡◌, [], ◌∷◌, IfOk, IfNone, IfSome, OnErr};
 ghost use Rattle.std.specs.Io.KnownBytes.{Consumes, IsAtEnd};
 ghost use Rattle.ang_remote.specs.Lines.{IsHeard, IsKeeping, last_of};
@@ -8,9 +8,9 @@ use std::io::Read;
 /// What a stream gave in the place of a line.
 #[derive(Clone, Copy, PartialEq, Eq, Debug)]
 pub enum Heard {
-    /// A line with its LF, which stands behind the text that was there.
+    /// A line with its LF, which stands after the text that was there.
     Line,
-    /// A line without an LF, behind which the stream ends, likewise.
+    /// A line without an LF, after which the stream ends, likewise.
     Last,
     /// A line that would make the text longer than it may be.
     Long,
@@ -44,7 +44,7 @@ fn read_byte<R: Read>(reader: &mut R) -> Result<Option<u8>, NotRead>
     }
 }
 
-/// Puts a byte of a line behind the text, where its other bytes were kept and the text is not longer than `most`
+/// Puts a byte of a line after the text, where its other bytes were kept and the text is not longer than `most`
 /// then.
 fn keep(kept: Heard, text: &mut Vec<u8>, byte: u8, most: usize) -> Heard
     ensures kept { IsKeeping most kept text.old.items byte result text.new.items }
@@ -61,7 +61,7 @@ fn keep(kept: Heard, text: &mut Vec<u8>, byte: u8, most: usize) -> Heard
     }
 }
 
-/// What was read, where the stream ends behind some bytes of a line.
+/// What was read, where the stream ends after some bytes of a line.
 fn last(kept: Heard) -> Heard
     ensures exact { result ≡ last_of kept }
 {
@@ -71,8 +71,8 @@ fn last(kept: Heard) -> Heard
     }
 }
 
-/// Reads one line, to its LF or to the end of the stream, and puts it behind the text, which is to have no more than
-/// `most` bytes. It is read whole in any case, if the stream does not fail, and nothing behind it is read.
+/// Reads one line, to its LF or to the end of the stream, and puts it after the text, which is to have no more than
+/// `most` bytes. It is read whole in any case, if the stream does not fail, and nothing after it is read.
 pub fn read_line<R: Read>(reader: &mut R, text: &mut Vec<u8>, most: usize) -> Heard
     ensures heard { IsHeard most text.old.items text.new.items (R.remaining reader.old)
         (R.remaining reader.new) result }

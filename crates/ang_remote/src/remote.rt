@@ -17,7 +17,7 @@ use std::io::{Read, Write};
 /// A driver whose host reads its asks from a writer, and writes its answers to a reader (docs/FORMATS.md, "The
 /// conversation of asremote").
 ///
-/// Each asking is one line that is written and one that is read. The references to live keys are kept here, so
+/// Each host call is one line that is written and one that is read. The references to live keys are kept here, so
 /// nothing is written where one is added or released. What can't be taken for an answer is a fault of one of the
 /// numbers 4294967280 to 4294967286, which hosts don't use themselves. Its core is the driver's number, the live keys,
 /// and what is known of the bytes that the writer holds and the reader has left.

@@ -78,7 +78,7 @@ test_of comparison.GreaterEqual = holds.GreaterEqual
 abbrev pub compound_of : Primitive → Operator → Primitive → Change
 compound_of ty op at = record { work = work_of op; at = at; to = ty; old = false }
 
--- `++` and `--` in the variable's type; behind the variable the value is the old one
+-- `++` and `--` in the variable's type; after the variable the value is the old one
 abbrev pub step_of : Primitive → StepKind → Change
 step_of ty kind.IncrementBefore = record { work = work.Add; at = ty; to = ty; old = false }
 step_of ty kind.DecrementBefore = record { work = work.Subtract; at = ty; to = ty; old = false }
@@ -163,7 +163,7 @@ module _ (z : Setting) (m : ℕ) where
   stored (variable.Property h) ls e = applied (perform z m (Write h.entity)) (one e)
   stored (variable.Field i) ls e = applied (perform z m (FieldSet i)) (two e this_of)
 
-  -- A value is stored into a member of an object, which comes behind it.
+  -- A value is stored into a member of an object, which comes after it.
   abbrev pub member_stored : Member → Evaluated → (List Slot → ℕ → World → Evaluated) → Evaluated
   member_stored (member.Field i) e object = applied (perform z m (FieldSet i)) (two e object)
   member_stored (member.Property h) e object = applied (perform z m (Write h.entity)) (two e object)
@@ -175,7 +175,7 @@ module _ (z : Setting) (m : ℕ) where
   changed_by (variable.Property h) ls c e = applied (perform z m (Alter h.entity c)) (one e)
   changed_by (variable.Field i) ls c e = applied (perform z m (FieldChange i c)) (two e this_of)
 
-  -- A member of an object, which comes behind the operand, is changed by it.
+  -- A member of an object, which comes after the operand, is changed by it.
   abbrev pub member_changed : Member → Change → Evaluated → (List Slot → ℕ → World → Evaluated) → Evaluated
   member_changed (member.Field i) c e object = applied (perform z m (FieldChange i c)) (two e object)
   member_changed (member.Property h) c e object = applied (perform z m (Alter h.entity c)) (two e object)
@@ -189,7 +189,7 @@ spot_of ls (variable.Global g) = spot.Global g
 spot_of ls (variable.Property h) = spot.Local 0
 spot_of ls (variable.Field i) = spot.Field (inner ls 0) i
 
--- The variables that the `&out` values move into, behind those that there are; the last one is the first.
+-- The variables that the `&out` values move into, after those that there are; the last one is the first.
 abbrev pub targets_behind : List Slot → t.Args → List Target → List Target
 targets_behind ls t.none found = found
 targets_behind ls (t.more (t.by_value ty e) args) found = targets_behind ls args found
@@ -248,7 +248,7 @@ abbrev mutual
   evaluate z m c (t.call f ty args) ls t w = called m (c (callee_of f)) (targets_of ls args) (evaluate_all z m c args [] ls t w)
   evaluate z m c (t.host_call h ty args) ls t w = applied (perform z m (Ask h.entity)) (evaluate_all z m c args [] ls t w)
 
-  -- the arguments of a call, behind those that there are; an `&out` parameter begins as 0, false or null
+  -- the arguments of a call, after those that there are; an `&out` parameter begins as 0, false or null
   pub evaluate_all : Setting → ℕ → Callees → t.Args → List Slot → List Slot → ℕ → World → Gathered
   evaluate_all z m c t.none vs ls t w = Ready vs ls t w
   evaluate_all z m c (t.more a args) vs ls t w =
@@ -282,7 +282,7 @@ discarded e = with_value e (λ v ls t w. Went ls t (give v w))
 abbrev pub branched : Evaluated → (List Slot → ℕ → World → Ran) → (List Slot → ℕ → World → Ran) → Ran
 branched e go other = with_value e (λ v ls t w. on_test v (Halted Null ls (give v w)) (other ls t w) (go ls t w))
 
--- new locals, each known behind its own initializer
+-- new locals, each known after its own initializer
 abbrev pub run_locals : Setting → ℕ → Callees → List t.Local → List Slot → ℕ → World → Ran
 run_locals z m c [] ls t w = Went ls t w
 run_locals z m c (l ∷ rest) ls t w =
@@ -365,7 +365,7 @@ begun z codes g vs t w = or_else (memory_step w) (λ w'. Raises Memory (give_all
 abbrev pub called_with : Setting → Codes → ℕ → Routine → List Slot → World → Reply
 called_with z codes budget g vs w = ticked budget (Raises Budget (give_all vs w)) (λ t. begun z codes g vs t w)
 
--- An initializer's run, with so many ticks left: its entry takes none.
+-- An initializer's run, with t ticks left: its entry takes none.
 abbrev pub initialized : Setting → Codes → ℕ → Routine → World → Reply
 initialized z codes t g w = begun z codes g [] t w
 
@@ -453,7 +453,7 @@ class_in ps m n = class_among (slice_index_or ps m nothing).classes n
 abbrev pub own_body : ℕ → List (ℕ × ℕ) → Option ℕ
 own_body s rows = option_map (λ (r : ℕ × ℕ). r.1) (find (λ (r : ℕ × ℕ). r.0 == s) rows)
 
--- The body that class c has in a slot: its own, or else that of its base class. The class and so many above it are asked.
+-- The body that class c has in a slot: its own, or else that of its base class. The class and n above it are asked.
 abbrev pub body_by : List families.Class → ℕ → ℕ → Option families.Class → Option ℕ
 body_by classes s n None = None
 body_by classes s zero (Some c) = own_body s c.chosen

@@ -1,5 +1,5 @@
 -- What a checker promises of a resolved tree (docs/MEANING.md, "What a script means"): each local is alive, each global, function, class, slot and import is
--- there, each call has an argument for each parameter, each asking is of an entity that the view has, no property that is declared `const` is written, and
+-- there, each call has an argument for each parameter, each host call is of an entity that the view has, no property that is declared `const` is written, and
 -- `break` and `continue` stand in a loop. It says nothing else of types: operations are total, a field of no object and a
 -- slot that a class has not fault.
 use Rattle.std.specs.List.{list_any}
@@ -47,7 +47,7 @@ argument_number Property n = None
 argument_number Function n = Some n
 argument_number Global n = None
 
--- a function, a factory or a method of the host that is called with so many arguments
+-- a function, a factory or a method of the host that is called with `count` arguments
 pub record IsHostCallee (V : RegistrationList) (h : HostEntity) (count : ℕ) : Type 0 where
   pub kind : EntryKind
   pub entity : IsEntity V kind h
@@ -196,7 +196,7 @@ module _ (M : Module) where
 
   -- ---- statements, where n locals are alive, in a loop or not
 
-  -- each local is known behind its own initializer
+  -- each local is known after its own initializer
   abbrev pub SoundLocals : ℕ → List t.Local → Type 0
   SoundLocals n [] = Unit {0}
   SoundLocals n (l ∷ ls) = SoundOption n l.initializer × SoundLocals (suc n) ls

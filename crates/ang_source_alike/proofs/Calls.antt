@@ -35,7 +35,7 @@ abbrev pub reply_stack : Reply → List Slot
 reply_stack (Yields x outs t v) = x ∷ outs
 reply_stack (Raises f v) = []
 
--- it gives so many `&out` values, and at most so many ticks are left
+-- it gives k values of `&out` parameters, and at most `most` ticks are left
 abbrev pub ReplyKeeps : ℕ → ℕ → Reply → Type 0
 ReplyKeeps most k (Yields x outs t v) = (length outs ≡ k) × (t ≤ most)
 ReplyKeeps most k (Raises f v) = Unit {0}
@@ -174,7 +174,7 @@ module _ (apart : Type 0) (most : ℕ) where
       (replied_same n m q.by below ls xs o q.other spots many q.keeps q.counted q.alike))))
       (λ l. inr (inl (replied_leaves m xs o ls l))) (λ l. inr (inr (replied_leaves m xs p (renamed_all r ls) l))) h
 
-  -- calls that a body makes, with so many arguments and `&out` values, in whatever worlds that are alike
+  -- calls that a body makes, with `args` arguments and `outs` values of `&out` parameters, in whatever worlds that are alike
   abbrev pub CallsGo : Setting → ℕ → Callees → Type 0
   CallsGo z m calls = (f : Callee) (args outs : ℕ) (r : Renaming) (below vs : List Slot) (t : ℕ) (v w : World) → Fits z m f args outs → length vs ≡ args → t ≤ most → IsCounted (vs ++ below) v → AlikeUpTo apart r v w
       → ReplyAlike apart most outs r below (calls f vs t v) (calls f (renamed_all r vs) t w)
@@ -247,7 +247,7 @@ module _ (apart : Type 0) (most : ℕ) where
           (eval_alike e n r (vs ++ below) ls t v w s.0 many
           (counted_as (vs ++ (ls ++ below)) (ls ++ (vs ++ below)) v (λ y. omega (arith, many_append y ls (vs ++ below), many_append y vs below, many_append y vs (ls ++ below), many_append y ls below)) p) h)
 
--- ---- at most so many ticks are at most more
+-- ---- what is at most a is at most b, where a is
 
 reply_keeps_most : (a b k : ℕ) (o : Reply) → a ≤ b → ReplyKeeps a k o → ReplyKeeps b k o
 reply_keeps_most a b k (Yields x outs t v) le h = (h.0, omega (arith, le, h.1))

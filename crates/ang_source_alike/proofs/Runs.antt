@@ -49,7 +49,7 @@ ran_world (Halted f ls v) = v
 ran_world (Broken ls t v) = v
 ran_world (Continued ls t v) = v
 
--- j locals are alive behind it, and the first n wherever it leaves; at most so many ticks are left
+-- j locals are alive after it, and the first n wherever it leaves; at most `most` ticks are left
 abbrev pub RanKeeps : ℕ → ℕ → ℕ → Ran → Type 0
 RanKeeps most n j (Went ls t v) = (length ls ≡ j) × (t ≤ most)
 RanKeeps most n j (Returned x ls t v) = (n ≤ length ls) × (t ≤ most)
@@ -452,7 +452,7 @@ module _ (apart : Type 0) (most : ℕ) where
       (subst (λ e. ReplyAlike apart most (out_count ps) m.by below (finished ps o) (finished ps e)) (sym m.same) (finished_same ps j m.by below o m.other le m.keeps m.counted m.alike)))
       (λ l. inr (inl (finished_leaves ps o l))) (λ l. inr (inr (finished_leaves ps p l))) h
 
--- ---- at most so many ticks are at most more
+-- ---- what is at most a is at most b, where a is
 
 ran_keeps_most : (a b n j : ℕ) (o : Ran) → a ≤ b → RanKeeps a n j o → RanKeeps b n j o
 ran_keeps_most a b n j (Went ls t v) le h = (h.0, omega (arith, le, h.1))

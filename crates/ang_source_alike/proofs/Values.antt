@@ -51,12 +51,12 @@ abbrev pub values_world : Gathered → World
 values_world (Ready vs ls t v) = v
 values_world (Broke f ls v) = v
 
--- n locals are alive behind it, and at most so many ticks are left
+-- n locals are alive after it, and at most `most` ticks are left
 abbrev pub ValueKeeps : ℕ → ℕ → Evaluated → Type 0
 ValueKeeps most n (Gave x ls t v) = (length ls ≡ n) × (t ≤ most)
 ValueKeeps most n (Failed f ls v) = Unit {0}
 
--- and there are so many values
+-- and there are k values
 abbrev pub ValuesKeep : ℕ → ℕ → ℕ → Gathered → Type 0
 ValuesKeep most k n (Ready vs ls t v) = (length vs ≡ k) × ((length ls ≡ n) × (t ≤ most))
 ValuesKeep most k n (Broke f ls v) = Unit {0}

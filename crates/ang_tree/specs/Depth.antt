@@ -4,7 +4,7 @@ use Rattle.ang_lex.specs.declared.token.Token.{Token}
 use Rattle.ang_lex.specs.declared.token.TokenKind.{TokenKind}
 use Rattle.ang_lex.specs.declared.token.TokenKind.TheVariants as k
 
--- How many of `(` and `{` are open behind a token. A `)` or `}` closes the last open one, of either kind, if there is one.
+-- How many of `(` and `{` are open after a token. A `)` or `}` closes the last open one, of either kind, if there is one.
 abbrev pub opened : ℕ → TokenKind → ℕ
 opened n k.LeftParen = n + 1
 opened n k.LeftBrace = n + 1
@@ -62,21 +62,21 @@ counts k.Dot = true
 counts k.At = true
 counts _ = false
 
--- `;`, `{` and `}`, behind which the count of operators begins again
+-- `;`, `{` and `}`, after which the count of operators begins again
 abbrev pub ends_count : TokenKind → Bool
 ends_count k.Semicolon = true
 ends_count k.LeftBrace = true
 ends_count k.RightBrace = true
 ends_count _ = false
 
--- How many operators stand since the last `;`, `{` or `}`, behind a token.
+-- How many operators stand since the last `;`, `{` or `}`, after a token.
 abbrev pub counted : ℕ → TokenKind → ℕ
 counted n kind = if ends_count kind then 0 else (if counts kind then n + 1 else n)
 
 abbrev pub too_many : ℕ → ℕ → Bool
 too_many parens operators = nat_lt 64 parens || nat_lt 256 operators
 
--- With so many open and so many operators before them: the tokens from the first behind which more than 64 are open, or more
+-- With `parens` open and `operators` counted before them: the tokens from the first after which more than 64 are open, or more
 -- than 256 operators stand.
 abbrev pub too_deep_from : ℕ → ℕ → List Token → Option (List Token)
 too_deep_from parens operators [] = None

@@ -7,7 +7,7 @@ use Rattle.ang_tree.specs.Kinds.{Is, IsComma, optional}
 use Rattle.ang_tree.specs.TypeNames.{spelled_type, FitsType}
 use Rattle.ang_tree.specs.Tree.{Tree, Args, Trees, spelled, spelled_args, listed, Fits, FitsArgs, AllFit}
 
--- ---- lists of items, one behind the other
+-- ---- lists of items, one after the other
 
 abbrev pub each : {A : Type 0} → (A → List Token → List Token) → List A → List Token → List Token
 each spell [] after = after
@@ -143,7 +143,7 @@ abbrev mutual
   spelled_stmts end after = after
   spelled_stmts (then s ss) after = spelled_stmt s (spelled_stmts ss after)
 
--- The statement ends with an `if` that an `else` behind it would join.
+-- The statement ends with an `if` that an `else` after it would join.
 abbrev pub open_if : Stmt → Bool
 open_if (when word left c right s) = true
 open_if (either word left c right s otherwise u) = open_if u

@@ -111,7 +111,7 @@ abbrev pub stmts : List Stmt → Stmts
 stmts [] = end
 stmts (s ∷ ss) = then s (stmts ss)
 
--- what stands behind an `if`: its word and its statement
+-- what stands after an `if`: its word and its statement
 abbrev pub Branch : Type 0
 Branch = Token × Stmt
 

@@ -47,11 +47,11 @@ pub struct Class {
     pub open: Token,
     /// The fields, methods and constructors, in the order of the text.
     pub members: Vec<Member>,
-    /// The `}` behind the members.
+    /// The `}` after the members.
     pub close: Token,
 }
 
-/// A name in the list of a class or an interface behind `:`.
+/// A name in the list of a class or an interface after `:`.
 #[derive(Clone, Copy, PartialEq, Eq, Debug)]
 pub struct BaseName {
     /// `:` in front of the first name, `,` in front of each other.
@@ -95,7 +95,7 @@ pub struct Method {
     pub name: Token,
     /// The method's parameters, with their parentheses.
     pub parameters: Parameters,
-    /// The word `const` behind the parameters, where it is written.
+    /// The word `const` after the parameters, where it is written.
     pub constant: Option<Token>,
     /// The words `final` and `override`, as often as they are written.
     pub attributes: Vec<Token>,
@@ -114,9 +114,9 @@ pub struct Constructor {
     pub open: Token,
     /// The call of the base class's constructor, where it is written.
     pub super_call: Option<SuperCall>,
-    /// The statements of the body behind that call, in the order of the text.
+    /// The statements of the body after that call, in the order of the text.
     pub statements: Vec<Statement>,
-    /// The `}` behind the body.
+    /// The `}` after the body.
     pub close: Token,
 }
 
@@ -153,7 +153,7 @@ pub struct Interface {
     pub open: Token,
     /// The methods, in the order of the text.
     pub methods: Vec<InterfaceMethod>,
-    /// The `}` behind the methods.
+    /// The `}` after the methods.
     pub close: Token,
 }
 
@@ -166,7 +166,7 @@ pub struct InterfaceMethod {
     pub name: Token,
     /// The method's parameters, with their parentheses.
     pub parameters: Parameters,
-    /// The word `const` behind the parameters, where it is written.
+    /// The word `const` after the parameters, where it is written.
     pub constant: Option<Token>,
     /// The `;` at the end.
     pub semicolon: Token,
@@ -213,7 +213,7 @@ pub struct Parameters {
     pub void_word: Option<Token>,
     /// The parameters, in the order of the text. There are none in `()` and `(void)`.
     pub items: Vec<Parameter>,
-    /// The `)` behind the list.
+    /// The `)` after the list.
     pub close: Token,
 }
 

@@ -37,13 +37,13 @@ pub enum Expression {
         less: Token,
         /// The type that is cast to.
         target: TypeName,
-        /// The `>` behind the type.
+        /// The `>` after the type.
         greater: Token,
         /// The `(` in front of the operand.
         open: Token,
         /// What is cast.
         operand: Box<Expression>,
-        /// The `)` behind the operand.
+        /// The `)` after the operand.
         close: Token,
     },
     /// A conversion to a primitive type: `PRIM "(" assign ")"`
@@ -54,7 +54,7 @@ pub enum Expression {
         open: Token,
         /// What is converted.
         operand: Box<Expression>,
-        /// The `)` behind the operand.
+        /// The `)` after the operand.
         close: Token,
     },
     /// An expression in parentheses, which mean nothing else: `"(" assign ")"`
@@ -63,14 +63,14 @@ pub enum Expression {
         open: Token,
         /// The expression between the parentheses.
         inner: Box<Expression>,
-        /// The `)` behind it.
+        /// The `)` after it.
         close: Token,
     },
-    /// An operand with `++` or `--` behind it.
+    /// An operand with `++` or `--` after it.
     Postfix {
         /// What is changed by one.
         operand: Box<Expression>,
-        /// The `++` or `--` behind it.
+        /// The `++` or `--` after it.
         operator: Token,
     },
     /// A member of an object: `post "." NAME`
@@ -97,7 +97,7 @@ pub enum Expression {
     Prefix {
         /// The operator's sign, or the word `not` for `!`.
         operator: Token,
-        /// What stands behind the operator.
+        /// What stands after the operator.
         operand: Box<Expression>,
     },
     /// Two operands with a binary operator between them. Operators group to the left.
@@ -106,7 +106,7 @@ pub enum Expression {
         left: Box<Expression>,
         /// The operator's sign, or its word: `and`, `or`, `xor`, `is` or `!is`.
         operator: Token,
-        /// The operand behind the operator.
+        /// The operand after the operator.
         right: Box<Expression>,
     },
     /// One of two expressions, by a condition: `binary "?" assign ":" assign`
@@ -141,7 +141,7 @@ pub struct Arguments {
     pub open: Token,
     /// The arguments, in the order of the text.
     pub items: Vec<Argument>,
-    /// The `)` behind the list.
+    /// The `)` after the list.
     pub close: Token,
 }
 

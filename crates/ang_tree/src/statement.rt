@@ -37,11 +37,11 @@ pub enum Statement {
         /// The statement that is repeated.
         body: Box<Statement>,
     },
-    /// A loop with its test behind: `"do" stmt "while" "(" assign ")" ";"`
+    /// A loop with its test at its end: `"do" stmt "while" "(" assign ")" ";"`
     DoWhile {
         /// The statement that is repeated.
         body: Box<Statement>,
-        /// The word in front of it, and all that stands behind.
+        /// The word in front of it, and all that stands after it.
         ending: Box<Ending>,
     },
     /// A loop with a start and steps of its own:
@@ -92,7 +92,7 @@ pub struct Guard {
     pub open: Token,
     /// The truth value that decides.
     pub condition: Expression,
-    /// The `)` behind the condition.
+    /// The `)` after the condition.
     pub close: Token,
 }
 
@@ -101,13 +101,13 @@ pub struct Guard {
 pub struct Ending {
     /// The word `do`.
     pub word: Token,
-    /// The word `while` behind the body.
+    /// The word `while` after the body.
     pub while_word: Token,
     /// The `(` in front of the condition.
     pub open: Token,
     /// The truth value that is tested after each pass.
     pub condition: Expression,
-    /// The `)` behind the condition.
+    /// The `)` after the condition.
     pub close: Token,
     /// The `;` at the end.
     pub semicolon: Token,
@@ -124,11 +124,11 @@ pub struct Head {
     pub start: ForStart,
     /// The truth value that is tested before each pass. One that is not written is true.
     pub condition: Option<Box<Expression>>,
-    /// The `;` behind the condition.
+    /// The `;` after the condition.
     pub semicolon: Token,
     /// What is evaluated after each pass, in the order of the text.
     pub steps: Vec<Argument>,
-    /// The `)` behind the steps.
+    /// The `)` after the steps.
     pub close: Token,
 }
 
@@ -140,7 +140,7 @@ pub struct Block {
     pub open: Token,
     /// The statements, in the order of the text.
     pub statements: Vec<Statement>,
-    /// The `}` behind the statements.
+    /// The `}` after the statements.
     pub close: Token,
 }
 
@@ -163,7 +163,7 @@ pub enum ForStart {
     Expression {
         /// The expression, where one is written.
         value: Option<Box<Expression>>,
-        /// The `;` behind it.
+        /// The `;` after it.
         semicolon: Token,
     },
 }
@@ -206,6 +206,6 @@ pub enum Initializer {
 pub struct Assigned {
     /// The `=`.
     pub equals: Token,
-    /// The value behind it.
+    /// The value after it.
     pub value: Expression,
 }

@@ -18,6 +18,6 @@ pub struct TypeName {
 pub struct Handle {
     /// `@`
     pub at: Token,
-    /// The word `const` behind the `@`, where it is written.
+    /// The word `const` after the `@`, where it is written.
     pub constant: Option<Token>,
 }

@@ -96,7 +96,7 @@ pub record Global : Type 0 where
   pub ty : ArgType
   pub initializer : Option Expr
 
--- Functions, with the bodies of families behind them, globals, families, the headings of methods, and those of imports, each in the
+-- Functions, with the bodies of families after them, globals, families, the headings of methods, and those of imports, each in the
 -- order of their declarations.
 pub record Program : Type 0 where
   pub functions : List Function

@@ -55,7 +55,7 @@ pub enum Callee {
 pub enum Site {
     /// A variable by its bare name.
     Named(Variable),
-    /// A member of an object, which is evaluated once. Where the site is written it is evaluated behind the value;
+    /// A member of an object, which is evaluated once. Where the site is written it is evaluated after the value;
     /// null is the fault `Null`.
     Of {
         /// The object, or a handle to it.
@@ -238,14 +238,14 @@ pub enum Expression {
         operand: Box<Expression>,
     },
     /// A new object of a script's class. Its fields are 0, false and null; then the constructor runs on it, where one
-    /// does, with the arguments, which are evaluated behind the making. Without a constructor there are none.
+    /// does, with the arguments, which are evaluated after the making. Without a constructor there are none.
     Make {
         /// The number of the class among the families.
         family: usize,
         /// The constructor's number in `Typed::functions`: the one that was chosen, or the nearest written one without
         /// parameters where the class has none.
         constructor: Option<usize>,
-        /// The arguments, in the order of the parameters behind `this`.
+        /// The arguments, in the order of the parameters after `this`.
         arguments: Vec<Argument>,
     },
     /// `site = value`, or `@site = value` of handles, both of type `ty`. The value comes first, then the site. The value

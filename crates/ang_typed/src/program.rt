@@ -8,7 +8,7 @@ use ang_types::ArgType;
 /// What the checker gives for the scripts of one build.
 #[derive(Drop)]
 pub struct Typed {
-    /// The functions, in the order of their declarations; behind them the bodies of the families, in the order of
+    /// The functions, in the order of their declarations; after them the bodies of the families, in the order of
     /// families and their members, each with `this` as its first parameter.
     pub functions: List<Function>,
     /// The global variables, in the order of their declarations, which is that of their initializers.

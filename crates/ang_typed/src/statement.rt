@@ -27,7 +27,7 @@ pub enum Statement {
     /// As `While`, but the body runs before the first test. A tick is taken before each test, after the body.
     DoWhile(Box<Loop>),
     /// A block of its own: `start`, one `Locals` or `Expression`, runs once in it; then as `While`, with the
-    /// steps behind the body of each pass. A condition that is not written is true.
+    /// steps after the body of each pass. A condition that is not written is true.
     For(Box<For>),
 }
 
@@ -76,7 +76,7 @@ pub struct Block {
     pub statements: Vec<Statement>,
 }
 
-/// A new local, which is known behind its own initializer.
+/// A new local, which is known after its own initializer.
 #[derive(Drop)]
 pub struct Local {
     /// The type of the values that it holds.

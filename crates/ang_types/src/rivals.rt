@@ -93,7 +93,7 @@ fn look_at(
     }
 }
 
-/// No rank yet, for so many arguments.
+/// No rank yet, for `n` arguments.
 fn nothing(alloc: Global, n: usize) -> Result<Vec<Option<u8>>, AllocError>
     ensures size { IfOk result (λ v. length v.items ≡ n) }
     ensures none { IfOk result (λ v. (k : ℕ) → least_at v.items k ≡ None) }

@@ -131,7 +131,7 @@ numbers_under V s name n = filter (λ k. stands_under s name (entry_at V k)) (ra
 abbrev pub numbers_at : ℕ → List ℕ → Rows EntityNo → List ℕ
 numbers_at s name rows = map (λ (e : EntityNo). e.0) (items_at s name rows)
 
--- an entry's number put in behind those that are there, where it stands in a scope
+-- an entry's number put in after those that are there, where it stands in a scope
 abbrev pub PutsEntry : Rows EntityNo → Rows EntityNo → Option Entry → ℕ → Type 0
 PutsEntry old new o number = (s : ℕ) (name : List ℕ) →
     numbers_at s name new ≡ numbers_at s name old ++ (if stands_under s name o then number ∷ [] else [])

@@ -10,19 +10,20 @@ ghost use Rattle.ang_vm_stack.specs.Stacks.{values};
 ghost use Rattle.ang_vm_stack.specs.Tables.{body_of, setting_of, texts_of};
 ghost use Rattle.ang_vm_steps.specs.Turns.{IfFaults, paused};
 ghost use Rattle.ang_vm.specs.Legs.{Fits, Led, begun, left, outcome, standing, standing_in};
-ghost use Rattle.ang_vm.specs.Crossings.{Comes, pause_by};
-ghost use Rattle.ang_vm.specs.Running.{MayRun, RunMoves, RunReaches};
+ghost use Rattle.ang_vm_body.specs.Crossings.{Comes, pause_by};
+ghost use Rattle.ang_vm_body.specs.Running.{MayRun, RunMoves};
+ghost use Rattle.ang_vm.specs.Running.{RunReaches};
 ghost use Rattle.ang_vm_steps.specs.Arms.{AreCounted};
 
 use crate::calls::enter;
-use crate::crossing::{Crossing, Interruption};
 use crate::returns::leave_body;
-use crate::turns::run_body;
 use ang_code::Frame;
 use ang_heap::Store;
 use ang_host::Driver;
 use ang_kinds::Fault;
 use ang_meaning::Slot;
+use ang_vm_body::crossing::{Crossing, Interruption};
+use ang_vm_body::turns::run_body;
 use ang_vm_fuse::body::Body;
 use ang_vm_stack::place::{Ending, Place, Standing};
 use ang_vm_stack::stop::Stop;
@@ -43,7 +44,7 @@ pub fn fail(stack: &Vec<Slot>, store: &mut Store, top: usize, fault: Fault) -> E
     Ending::Stops(fault)
 }
 
-/// The end of a run whose next body does not begin, while so many values are in use.
+/// The end of a run whose next body does not begin, while `top` values are in use.
 pub fn give_up(stack: &Vec<Slot>, store: &mut Store, top: usize, stop: Stop) -> Ending
     requires within { top ≤ length stack.now.items }
     requires ready { IsReady ⟦<dyn Driver as Driver>⟧ store.old }

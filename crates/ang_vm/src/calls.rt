@@ -11,6 +11,7 @@ ghost use Rattle.ang_vm_stack.specs.Stacks.{values};
 ghost use Rattle.ang_vm_stack.specs.Tables.{body_of, setting_of, texts_of};
 ghost use Rattle.ang_vm.specs.Legs.{Fits, begun, caller_at, misses, standing_in};
 
+use crate::callees::callee_of;
 use crate::lookups::params_and_height;
 use ang_code::Frame;
 use ang_heap::Store;
@@ -23,7 +24,6 @@ use ang_vm_stack::place::{Place, Standing};
 use ang_vm_stack::stack::peek;
 use ang_vm_stack::stop::Stop;
 use ang_vm_stack::table::{Table, body_at};
-use ang_vm_steps::calls::callee_of;
 
 /// Whether a parameter misses its object.
 #[inline(always)]
@@ -66,7 +66,7 @@ fn objects_there(by_value: bool, params: &[Passing], stack: &[Slot], top: usize)
     have_objects(params, stack, top)
 }
 
-/// Room above the values in use for so many more; none where there is no memory for it.
+/// Room above the values in use for `height` more; none where there is no memory for it.
 #[inline(always)]
 fn reserve(stack: &mut Vec<Slot>, top: usize, height: usize) -> Option<usize>
     requires within { top ≤ length stack.old.items }
@@ -85,7 +85,7 @@ fn reserve(stack: &mut Vec<Slot>, top: usize, height: usize) -> Option<usize>
     }
 }
 
-/// A body that puts so many values above its parameters at most begins, where there is memory for its frame.
+/// A body that puts `height` values above its parameters at most begins, where there is memory for its frame.
 ///
 /// # Errors
 /// `Memory` where there is none.

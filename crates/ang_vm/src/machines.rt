@@ -11,7 +11,8 @@ ghost use Rattle.ang_heap.specs.Stores.{world_of, IsReady, HasMoved};
 ghost use Rattle.ang_vm_stack.specs.Tables.{setting_of, texts_of, result_of};
 ghost use Rattle.ang_vm_ask.specs.Entities.{DriversThere};
 ghost use Rattle.ang_vm.specs.Legs.{Ends};
-ghost use Rattle.ang_vm.specs.Running.{MayRun, RunMoves, HeldAt, IsSettled};
+ghost use Rattle.ang_vm_body.specs.Running.{MayRun, RunMoves};
+ghost use Rattle.ang_vm.specs.Running.{HeldAt, IsSettled};
 ghost use Rattle.ang_vm.specs.Machines.{lent, IsLost, HasCalled, HasRun, HasInitialized, call_in, initializer_in};
 ghost use Rattle.ang_vm_ask.specs.Askings.{HasMovedOver};
 
@@ -217,7 +218,7 @@ fn take_back(machine: &mut Machine, events: &mut Vec<HostEvent>)
 /// holds has been given up, and it is not handed out.
 ///
 /// The run is one of the code's own meaning, told what it met: whether there was memory, what the drivers
-/// answered, and so on. What it asked and which host objects ended is listed behind the events, and the drivers
+/// answered, and so on. What it asked and which host objects ended is listed after the events, and the drivers
 /// follow what was added. It always ends: each turn of a loop and each call takes a tick. The events need room
 /// for the end of each live host object.
 ///

@@ -170,7 +170,7 @@ fn leave_params(
     keep_outs(params, stack, top)
 }
 
-/// `Return`: the body gives up so many locals and its parameters, and its caller goes on with the top value,
+/// `Return`: the body gives up `count` locals and its parameters, and its caller goes on with the top value,
 /// above those of the `&out` parameters.
 #[inline(always)]
 pub fn leave_body(

@@ -1,4 +1,4 @@
--- One asking, over worlds.
+-- One host call, over worlds.
 use Rattle.std.proofs.Common.{◌≡◌, ℕ, List, [], ◌∷◌, ◌++◌, true, false, cond, Option, Some, refl, sym, ap, ◌∙◌}
 use Rattle.std.specs.Prelude.{Err}
 use Rattle.ang_kinds.specs.declared.mask.EntityNo.{EntityNo}

@@ -7,3 +7,4 @@ pub mod Performing
 pub mod Live
 pub mod Fit
 pub mod Whole
+pub mod Borrowing

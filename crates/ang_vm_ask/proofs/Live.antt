@@ -13,8 +13,8 @@ use Rattle.ang_meaning.specs.declared.host.HostUse.{HostUse}
 use Rattle.ang_meaning.specs.World.{World, ScriptObjects}
 use Rattle.ang_meaning.specs.Hosts.{value_of, values_of}
 use Rattle.ang_meaning.specs.Perform.{Receiver, NoReceiver, Of, NullReceiver, receiver_of, behind_first, arguments_of}
-use Rattle.ang_meaning.specs.Counting.{Thing, names, how_many, EnoughIn, CanGive, IsCounted, counts_by}
-use Rattle.ang_meaning.proofs.Enough.{counted_enough, enough_as, rest_enough}
+use Rattle.ang_meaning.specs.Counting.{Thing, names, how_many, CanGive, EachEnoughIn, CanGiveEach, IsCounted, HasKey, counts_by}
+use Rattle.ang_meaning.proofs.Enough.{counted_enough, rest_enough, each_enough, each_fewer, each_key, each_still}
 use Rattle.ang_meaning.proofs.Handing.{many_reverse, value_handed, values_handed, receiver_handed, arguments_fewer, IsLiveReceiver}
 use Rattle.ang_vm_stack.specs.Stacks.{values}
 use Rattle.ang_vm_stack.proofs.Values.{values_length}
@@ -29,30 +29,36 @@ first_fewer : (x : Thing) (ops : List Slot) (v : Slot) → slice_get ops 0 ≡ S
 first_fewer x [] v h = absurd (let y : ⊥ = cc in y)
 first_fewer x (u ∷ ops) v h = let same : u ≡ v = cc in omega (arith, ap (names x) same)
 
-module _ (ss : List State) (os : ScriptObjects) (ops : List Slot) (enough : EnoughIn ops os (counts_by ss)) (u : HostUse) where
-  live_as : (r : Receiver) (object : Option ℕ) → object_in r ≡ Ok object → IsLiveReceiver ss ops os enough u.driver r → IsLiveOption (state_at ss u.driver) object
+module _ (ss : List State) (os : ScriptObjects) (ops : List Slot) (enough : EachEnoughIn ops os (counts_by ss)) (u : HostUse) where
+  abbrev keys : (v : Slot) → ((x : Thing) → names x v ≤ how_many x ops) → HasKey v (counts_by ss)
+  keys = each_key ops os (counts_by ss) enough
+
+  live_as : (r : Receiver) (object : Option ℕ) → object_in r ≡ Ok object → IsLiveReceiver ss ops keys u.driver r → IsLiveOption (state_at ss u.driver) object
   live_as NoReceiver object e h = let same : None ≡ object = cc in subst (IsLiveOption (state_at ss u.driver)) same tt
   live_as (Of k) object e h = let same : Some k ≡ object = cc in subst (IsLiveOption (state_at ss u.driver)) same h
   live_as NullReceiver object e h = absurd (let y : ⊥ = cc in y)
 
   pub object_live : (object : Option ℕ) → object_in (receiver_of u ops) ≡ Ok object → IsLiveOption (state_at ss u.driver) object
-  object_live object e = live_as (receiver_of u ops) object e (receiver_handed ss ops os enough u ops (λ x. omega arith))
+  object_live object e = live_as (receiver_of u ops) object e (receiver_handed ss ops keys u ops (λ x. omega arith))
 
   pub object_behind : (object : Option ℕ) → object_in (receiver_of u (behind_first ops)) ≡ Ok object → IsLiveOption (state_at ss u.driver) object
-  object_behind object e = live_as (receiver_of u (behind_first ops)) object e (receiver_handed ss ops os enough u (behind_first ops) (λ x. behind_fewer x ops))
+  object_behind object e = live_as (receiver_of u (behind_first ops)) object e (receiver_handed ss ops keys u (behind_first ops) (λ x. behind_fewer x ops))
 
   pub args_live : (args : List Slot) → args ≡ arguments_of u ops → AreLive (state_at ss u.driver) (values_of u.driver u.params args)
   args_live args e =
       subst (λ l. AreLive (state_at ss u.driver) (values_of u.driver u.params l)) (sym e)
-      (values_handed ss ops os enough u.driver u.params (arguments_of u ops) (λ x. arguments_fewer ss x u ops))
+      (values_handed ss ops keys u.driver u.params (arguments_of u ops) (λ x. arguments_fewer ss x u ops))
 
   pub first_live : (ty : HostType) (v : Slot) → slice_get ops 0 ≡ Some v → IsLiveValue (state_at ss u.driver) (value_of u.driver ty v)
-  first_live ty v e = value_handed ss ops os enough u.driver ty v (λ x. first_fewer x ops v e)
+  first_live ty v e = value_handed ss ops keys u.driver ty v (λ x. first_fewer x ops v e)
 
--- the others, without the result
+-- the others, without the result, and each on its own
 pub kept_can : (r : Result Slot Fault) (vs : List Slot) (w : World) → CanGive (with_result r vs) w → CanGive vs w
 kept_can (Ok v) vs w c = rest_enough v vs w.objects w.hosts c
 kept_can (Err f) vs w c = c
+
+pub kept_each : (r : Result Slot Fault) (vs : List Slot) (w w' : World) → ((us : List Slot) → CanGive us w → CanGive (with_result r us) w') → CanGiveEach vs w → CanGiveEach vs w'
+kept_each r vs w w' h p = each_still vs w w' (λ us c. kept_can r us w' (h us c)) p
 
 -- ---- the operands among all values
 
@@ -61,10 +67,16 @@ take_fewer x zero s = omega arith
 take_fewer x (suc n) [] = omega arith
 take_fewer x (suc n) (v ∷ s) = omega (arith, take_fewer x n s)
 
-pub operands_can : (n top : ℕ) (stack ops : List Slot) (w : World) → reverse ops ≡ take_some n (values stack top) → IsCounted (values stack top) w → CanGive ops w
+pub operands_can : (n top : ℕ) (stack ops : List Slot) (w : World) → reverse ops ≡ take_some n (values stack top) → CanGiveEach (take_some n (values stack top)) w → CanGiveEach ops w
 operands_can n top stack ops w e c =
-    let s = values stack top in
-    enough_as s ops w.objects w.hosts (λ x. let q = ap (how_many x) e in omega (arith, many_reverse x ops, q, take_fewer x n s)) (counted_enough s w c)
+    each_fewer (take_some n (values stack top)) ops w (λ x. let q = ap (how_many x) e in omega (arith, many_reverse x ops, q)) c
+
+pub some_each : (n : ℕ) (s : List Slot) (w : World) → CanGiveEach s w → CanGiveEach (take_some n s) w
+some_each n s w c = each_fewer s (take_some n s) w (λ x. take_fewer x n s) c
+
+-- where all values are counted
+pub counted_each : (s : List Slot) (w : World) → IsCounted s w → CanGiveEach s w
+counted_each s w c = each_enough s w (counted_enough s w c)
 
 pub take_length : (n : ℕ) (s : List Slot) → n ≤ length s → length (take_some n s) ≡ n
 take_length zero s h = refl

@@ -1,4 +1,4 @@
--- Operations on the host by the one asking or the two that each of them makes.
+-- Operations on the host by the one host call or the two that each of them makes.
 use Rattle.std.proofs.Common.{◌≡◌, ℕ, ◌≤◌, List, [], ◌∷◌, Bool, true, false, not, ◌&&◌, cond, length, reverse, Option, Some, None, refl, sym, ap, ◌∙◌, arith, slice_get}
 use Rattle.std.specs.Prelude.{Result, Ok, Err}
 use Rattle.std.proofs.lemmas.List.{reverse-reverse}

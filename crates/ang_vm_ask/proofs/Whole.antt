@@ -1,4 +1,4 @@
--- The whole of an operation on the host is its asking, and then what is given up behind it: for the machine's arm.
+-- The whole of an operation on the host is its host call, and then what is given up after it: for the machine's arm.
 use Rattle.std.proofs.Common.{◌≡◌, ℕ, zero, suc, ◌≤◌, List, [], ◌∷◌, true, length, refl, sym, ap, ◌∙◌, arith}
 use Rattle.std.specs.Prelude.{Result, Ok, Err}
 use Rattle.ang_kinds.specs.declared.fault.Fault.{Fault}
@@ -25,7 +25,7 @@ take_all : (vs : List Slot) → take_some (length vs) vs ≡ vs
 take_all [] = refl
 take_all (v ∷ vs) = ap (λ l. v ∷ l) (take_all vs)
 
--- what the meaning does is the asking, and then the operands are given up
+-- what the meaning does is the host call, and then the operands are given up
 pub performed : (z : Setting) (m : ℕ) (o : Operation) (vs : List Slot) (w : World) → asks_host o ≡ true → perform z m o vs w ≡ gives_up (take_some (given_count o (length vs)) vs) (asks z m o vs w)
 unfolding perform asks
 performed z m (Ask e) vs w h = ap (λ l. gives_up l (asks z m (Ask e) vs w)) (sym (take_all vs))
@@ -86,7 +86,7 @@ given_fewer (FieldSet i) n h = absurd (let y : ⊥ = cc in y)
 given_fewer (FieldChange i c) n h = absurd (let y : ⊥ = cc in y)
 given_fewer (Cast c) n h = absurd (let y : ⊥ = cc in y)
 
--- For the machine's arm, where s is the stack: the asking went well, and then so many values were given up; or it faulted.
+-- For the machine's arm, where s is the stack: the host call went well, and then n values were given up; or it faulted.
 module _ (z : Setting) (m : ℕ) (o : Operation) (n : ℕ) (s : List Slot) (is : asks_host o ≡ true) (there : n ≤ length s) (r : Result Slot Fault) (w w1 : World)
     (t : Told (λ ins. asks z m o (take_some n s) (with_inputs ins w)) (λ ins. done r (with_inputs ins w1))) where
   whole : (u : World) → perform z m o (take_some n s) u ≡ gives_up (take_some (given_count o n) s) (asks z m o (take_some n s) u)

@@ -6,7 +6,7 @@ use Rattle.ang_meaning.specs.declared.host.HostUse.{HostUse}
 use Rattle.ang_vm_stack.specs.declared.table.Table.{Table}
 use Rattle.ang_vm_stack.specs.Tables.{entity_of}
 
--- each entity that a module sees is of one of so many drivers
+-- each entity that a module sees is of one of the first `count` drivers
 pub record DriversThere (t : Table) (count : ℕ) : Type 0 where
   pub each : (m e : ℕ) (u : HostUse) → entity_of t m e ≡ Some u → u.driver < count
 

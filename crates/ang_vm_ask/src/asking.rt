@@ -1,4 +1,4 @@
-//! One asking of a driver, over the store of a run.
+//! One host call of a driver, over the store of a run.
 //!
 //! All memory is taken first: for the event, with the copies that it takes, and for the end of each object
 //! that lives or may live then. So a driver whose answer can't be listed is never asked, and giving up takes

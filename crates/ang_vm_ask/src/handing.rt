@@ -1,4 +1,4 @@
-//! The operands of an asking, as they stand on the stack.
+//! The operands of a host call, as they stand on the stack.
 ghost use Rattle.std.specs.Prelude.{◌≡◌, ◌≤◌, ◌∷◌, List, length, reverse, slice_get};
 ghost use Rattle.ang_code.specs.Machine.{take_some};
 ghost use Rattle.ang_meaning.specs.Perform.{key_at, receiver_of, behind_first as behind_first_of, arguments_of as arguments_in};
@@ -8,7 +8,7 @@ ghost use Rattle.ang_vm_ask.specs.Handing.{object_in};
 use ang_kinds::Fault;
 use ang_meaning::{HostUse, Slot};
 
-/// So many operands, which are the top values, the last one on top.
+/// The `count` top values, as operands, the last one on top.
 pub(crate) fn operands_at(stack: &[Slot], top: usize, count: usize) -> &[Slot]
     requires in_use { count ≤ top }
     requires within { top ≤ length stack.now }
@@ -68,7 +68,7 @@ pub(crate) fn object_of(host: &HostUse, places: &[Slot]) -> Result<Option<u64>, 
     }
 }
 
-/// The operands of a call behind the object of which it is asked.
+/// The operands of a call after the object of which it is asked.
 pub(crate) fn arguments_of<'a>(host: &HostUse, operands: &'a [Slot]) -> &'a [Slot]
     ensures exact { result.now ≡ arguments_in host.now operands.now }
 {

@@ -10,5 +10,5 @@ mod operation;
 mod replies;
 mod rooms;
 
-pub use fitting::{given_count, operands};
+pub use fitting::{asked_by, given_count, operands};
 pub use operation::ask;

@@ -8,7 +8,7 @@ ghost use Rattle.ang_host.specs.Laws.{IsLiveOption, IsLiveValue};
 ghost use Rattle.ang_code.specs.Machine.{take_some};
 ghost use Rattle.ang_meaning.specs.declared.operation.Operation.TheVariants.{Ask, Read, Write, Alter};
 ghost use Rattle.ang_meaning.specs.declared.host.HostType.TheVariants.{Nothing};
-ghost use Rattle.ang_meaning.specs.Counting.{CanGive, IsCounted};
+ghost use Rattle.ang_meaning.specs.Counting.{CanGive, CanGiveEach};
 ghost use Rattle.ang_meaning.specs.Hosts.{value_of, asked};
 ghost use Rattle.ang_meaning.specs.Numbers.{Changed};
 ghost use Rattle.ang_meaning.specs.Perform.{Receiver, in_place_of, altered_to, operands as operand_count};
@@ -122,7 +122,7 @@ fn perform_ask(
 ) -> Result<Slot, Fault>
     requires in_list { host.now.driver < length (members store.old.drivers) }
     requires ready { IsReady ⟦<dyn Driver as Driver>⟧ store.old }
-    requires enough { CanGive operands.now (world_of ⟦<dyn Driver as Driver>⟧ store.old) }
+    requires enough { CanGiveEach operands.now (world_of ⟦<dyn Driver as Driver>⟧ store.old) }
     ensures performed { Performed caller.now entity host.now (Ask entity) operands.now
         (world_of ⟦<dyn Driver as Driver>⟧ store.old) result
         (world_of ⟦<dyn Driver as Driver>⟧ store.new) }
@@ -152,7 +152,7 @@ fn perform_read(
 ) -> Result<Slot, Fault>
     requires in_list { host.now.driver < length (members store.old.drivers) }
     requires ready { IsReady ⟦<dyn Driver as Driver>⟧ store.old }
-    requires enough { CanGive operands.now (world_of ⟦<dyn Driver as Driver>⟧ store.old) }
+    requires enough { CanGiveEach operands.now (world_of ⟦<dyn Driver as Driver>⟧ store.old) }
     ensures performed { Performed caller.now entity host.now (Read entity) operands.now
         (world_of ⟦<dyn Driver as Driver>⟧ store.old) result
         (world_of ⟦<dyn Driver as Driver>⟧ store.new) }
@@ -180,7 +180,7 @@ fn perform_write(
 ) -> Result<Slot, Fault>
     requires in_list { host.now.driver < length (members store.old.drivers) }
     requires ready { IsReady ⟦<dyn Driver as Driver>⟧ store.old }
-    requires enough { CanGive operands.now (world_of ⟦<dyn Driver as Driver>⟧ store.old) }
+    requires enough { CanGiveEach operands.now (world_of ⟦<dyn Driver as Driver>⟧ store.old) }
     ensures performed { Performed caller.now entity host.now (Write entity) operands.now
         (world_of ⟦<dyn Driver as Driver>⟧ store.old) result
         (world_of ⟦<dyn Driver as Driver>⟧ store.new) }
@@ -214,7 +214,7 @@ fn perform_alter(
 ) -> Result<Slot, Fault>
     requires in_list { host.now.driver < length (members store.old.drivers) }
     requires ready { IsReady ⟦<dyn Driver as Driver>⟧ store.old }
-    requires enough { CanGive operands.now (world_of ⟦<dyn Driver as Driver>⟧ store.old) }
+    requires enough { CanGiveEach operands.now (world_of ⟦<dyn Driver as Driver>⟧ store.old) }
     ensures performed { Performed caller.now entity host.now (Alter entity by) operands.now
         (world_of ⟦<dyn Driver as Driver>⟧ store.old) result
         (world_of ⟦<dyn Driver as Driver>⟧ store.new) }
@@ -253,7 +253,7 @@ fn perform(
 ) -> Result<Slot, Fault>
     requires in_list { host.now.driver < length (members store.old.drivers) }
     requires ready { IsReady ⟦<dyn Driver as Driver>⟧ store.old }
-    requires enough { CanGive operands.now (world_of ⟦<dyn Driver as Driver>⟧ store.old) }
+    requires enough { CanGiveEach operands.now (world_of ⟦<dyn Driver as Driver>⟧ store.old) }
     ensures performed { (e : EntityNo) → asked_by operation ≡ Some e
         → Performed caller.now e host.now operation operands.now
         (world_of ⟦<dyn Driver as Driver>⟧ store.old) result
@@ -288,10 +288,11 @@ fn perform(
 }
 
 /// Does an operation on the host for a module, and answers its value. Its operands are the top values,
-/// `count` of them, the last one on top. They are all still held then, and `given_count` says how many of
-/// them, from the top, are to be given up behind the value; the value of a write is its operand itself.
+/// `count` of them, the last one on top. Each of them is held by some place, be it one of these or not. They
+/// are all still there then, and `given_count` says how many of them, from the top, are to be given up after
+/// the value; the value of a write is its operand itself.
 ///
-/// Each asking is listed behind the events, whatever the driver answered. The memory for its event, and room
+/// Each host call is listed after the events, whatever the driver answered. The memory for its event, and room
 /// for the end of each object that may live then, is taken before the driver is asked. A property that is
 /// altered is asked twice: it is read and then written, and between the two its value is changed by the
 /// operand. A driver is handed the operands by their declared types: numbers, the keys of its own objects, and
@@ -320,7 +321,7 @@ pub fn ask(
     requires within { top ≤ length stack.now }
     requires drivers { DriversThere table.now (length (members store.old.drivers)) }
     requires ready { IsReady ⟦<dyn Driver as Driver>⟧ store.old }
-    requires counted { IsCounted (values stack.now top)
+    requires enough { CanGiveEach (take_some count (values stack.now top))
         (world_of ⟦<dyn Driver as Driver>⟧ store.old) }
     ensures told { (nesting : ℕ) → asks_host operation ≡ true
         → is_fit (setting_of table.now nesting) home operation ≡ true

@@ -1,4 +1,4 @@
-//! The memory for an asking, all of which is taken before the driver is asked.
+//! The memory for a host call, all of which is taken before the driver is asked.
 ghost use Rattle.std.specs.Prelude.{◌≡◌, ◌+◌, ◌≤◌, [], ◌∷◌, IfOk, OnOk, vec_len, vec_capacity};
 ghost use Rattle.ang_meaning.specs.Hosts.{value_of, values_of};
 
@@ -8,7 +8,7 @@ use ang_meaning::{HostType, HostUse, Slot};
 use ang_vm_numbers::value_from;
 use std::alloc::{AllocError, Global};
 
-/// Room for so many events more, and a copy of the caller's name for one of them.
+/// Room for `more` events more, and a copy of the caller's name for one of them.
 ///
 /// # Errors
 /// There is no memory. The room that there is by then stays.
@@ -88,7 +88,7 @@ pub(crate) fn write_room(
     Ok((caller, List::from_vec(args)))
 }
 
-/// Room for the ends of so many objects.
+/// Room for the ends of `count` objects.
 pub(crate) fn room_for_ends(ends: &mut Vec<HostEvent>, count: usize) -> Result<(), AllocError>
     ensures events { ends.new.items ≡ ends.old.items }
     ensures len { vec_len ends.new ≡ vec_len ends.old }

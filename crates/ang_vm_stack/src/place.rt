@@ -29,9 +29,9 @@ pub struct Standing {
 pub enum Pause {
     /// Its next instruction calls a function.
     Enters(Place, Callee),
-    /// Its next instruction leaves it, and gives up so many locals.
+    /// Its next instruction leaves it, and gives up that number of locals.
     Returns(Place, usize),
-    /// The script faults while so many values are in use, all of which are still held.
+    /// The script faults while that number of values is in use, all of which are still held.
     Faults(usize, Fault),
     /// An instruction finds less than it takes, or no room. Code that was generated never does that.
     Lost,

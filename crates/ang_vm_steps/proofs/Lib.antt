@@ -5,8 +5,5 @@ pub mod TopValues
 pub mod Paths
 pub mod Turning
 pub mod Trading
-pub mod Receivers
 pub mod Asked
 pub mod Operands
-pub mod Borrowing
-pub mod Moving

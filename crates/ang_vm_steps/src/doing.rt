@@ -21,7 +21,7 @@ use ang_meaning::{Arithmetic, Comparison, Slot};
 use ang_vm_stack::stack::{peek, push};
 use ang_vm_stack::stop::Stop;
 
-/// The answer of an operation that takes so many operands: its value takes their place, or they stay where
+/// The answer of an operation that takes `count` operands: its value takes their place, or they stay where
 /// it faults.
 #[inline(always)]
 pub(crate) fn put_answer(

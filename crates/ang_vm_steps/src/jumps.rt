@@ -14,7 +14,7 @@ use ang_vm_stack::place::{Pause, Place};
 use ang_vm_stack::stack::peek;
 use ang_vm_stack::stop::Stop;
 
-/// The next instruction's place after one that leaves so many values in use, or why there is none.
+/// The next instruction's place after one that leaves some values in use, or why there is none.
 #[inline(always)]
 pub fn next(here: Place, went: Result<usize, Stop>) -> Result<Place, Pause>
     requires inside { here.at + 1 < 2 ^ 64 }
@@ -31,7 +31,7 @@ pub fn next(here: Place, went: Result<usize, Stop>) -> Result<Place, Pause>
     }
 }
 
-/// The place that so many instructions are passed to, in a text of `size` instructions: none behind the
+/// The place that `count` instructions are passed to, in a text of `size` instructions: none after the
 /// text's end.
 #[inline(always)]
 fn pass(here: Place, count: usize, size: usize) -> Option<usize>
@@ -45,7 +45,7 @@ fn pass(here: Place, count: usize, size: usize) -> Option<usize>
     Some(here.at + 1 + count)
 }
 
-/// `GoOn`: so many instructions are passed.
+/// `GoOn`: `count` instructions are passed.
 #[inline(always)]
 pub fn go_on(here: Place, room: usize, count: usize, size: usize) -> Result<Place, Pause>
     requires inside { here.at < size }
@@ -59,7 +59,7 @@ pub fn go_on(here: Place, room: usize, count: usize, size: usize) -> Result<Plac
     }
 }
 
-/// `SkipIfFalse`: the top value is taken, and so many instructions are passed where it is false.
+/// `SkipIfFalse`: the top value is taken, and `count` instructions are passed where it is false.
 #[inline(always)]
 pub fn skip_if_false(
     stack: &[Slot],
@@ -118,7 +118,7 @@ pub fn tick(here: Place, room: usize, size: usize) -> Result<Place, Pause>
     })
 }
 
-/// `Back`: a tick is taken, and the body goes back by so many instructions.
+/// `Back`: a tick is taken, and the body goes back by `count` instructions.
 #[inline(always)]
 pub fn go_back(here: Place, room: usize, count: usize, size: usize) -> Result<Place, Pause>
     requires in_room { here.top ≤ room }

@@ -8,8 +8,6 @@
 
 pub mod arms;
 mod asks;
-pub mod borrowed;
-pub mod calls;
 pub mod dispatch;
 mod doing;
 mod fields;

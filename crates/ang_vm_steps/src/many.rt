@@ -28,7 +28,7 @@ pub fn nothing_lives(store: &Store) -> bool
     store.live == 0 && store.heap.is_empty()
 }
 
-/// Gives up so many values from the top one by one, the top one first. It stays apart, so that the loop over a body, which
+/// Gives up `count` values from the top one by one, the top one first. It stays apart, so that the loop over a body, which
 /// comes here only where objects live, stays small.
 #[inline(never)]
 fn give_each(stack: &[Slot], store: &mut Store, top: usize, count: usize)
@@ -46,7 +46,7 @@ fn give_each(stack: &[Slot], store: &mut Store, top: usize, count: usize)
     }
 }
 
-/// Gives up so many values from the top, the top one first.
+/// Gives up `count` values from the top, the top one first.
 #[inline(always)]
 pub fn give_top(stack: &[Slot], store: &mut Store, top: usize, count: usize)
     requires in_use { count ≤ top }
@@ -75,7 +75,7 @@ pub fn give_all_in_use(stack: &[Slot], store: &mut Store, top: usize)
     give_top(stack, store, top, top);
 }
 
-/// Gives up so many values from the top one by one, the lowest of them first. It stays apart as `give_each` does.
+/// Gives up `count` values from the top one by one, the lowest of them first. It stays apart as `give_each` does.
 #[inline(never)]
 fn give_each_upwards(stack: &[Slot], store: &mut Store, top: usize, count: usize)
     requires in_use { count ≤ top }
@@ -92,7 +92,7 @@ fn give_each_upwards(stack: &[Slot], store: &mut Store, top: usize, count: usize
     }
 }
 
-/// Gives up so many values from the top, the lowest of them first.
+/// Gives up `count` values from the top, the lowest of them first.
 #[inline(always)]
 fn give_lowest_first(stack: &[Slot], store: &mut Store, top: usize, count: usize)
     requires in_use { count ≤ top }
@@ -133,7 +133,7 @@ pub fn leave(
     Ok(top - count)
 }
 
-/// `DropUnder`: so many values below the top one are given up, the lowest first.
+/// `DropUnder`: `count` values below the top one are given up, the lowest first.
 pub fn drop_under(
     stack: &mut [Slot],
     store: &mut Store,

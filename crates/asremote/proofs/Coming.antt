@@ -118,7 +118,7 @@ pub option_told : (b : ℕ) (section future : List (List ℕ)) (o : Option Sessi
 option_told b section future None a e = e
 option_told b section future (Some l) a e = told_more b section future l a e
 
--- an act has as many lines behind it as its line tells
+-- an act has as many lines after it as its line tells
 act_lines : (b : ℕ) (section : List (List ℕ)) (l : SessionLine) (a : Act) → act_of b section l ≡ Some a → section_lines l ≡ a.lines
 act_lines b section (line.Module name mask) a e = ap (λ x. x.lines) (some_inj _ a e)
 act_lines b section (line.Section name lines) a e = ap (λ x. x.lines) (section_said section name lines a e).1
@@ -219,7 +219,7 @@ module _ {V : Type 0} {P : V → Type 0} (m : Meanings P) (R : RegistrationList)
       let all : Consumes rold r2 (text ++ []) = consumes_both rold r1 r2 text [] h.read c in
       record { read = subst (λ x. Consumes rold r2 x) (append-nil text) all; here = h.here; done = h.done; count = h.count; turns = h.turns; told = h.told }
 
-  -- the session behind a command
+  -- the session after a command
   module _ (r1 w1 d1 : Option (List ℕ)) (text : List ℕ) (lines : List (List ℕ)) (number ticks : ℕ) (ok : Bool) (e : Engine V P)
       (h : HasCome m R w xs budget rold r1 wold w1 dold d1 text lines number ticks ok (world_in m e) (drivers_in e)) (list : registrations e ≡ R)
       (c line : List ℕ) (section : List (List ℕ)) (is : IsCommand c line section) (r2 : Option (List ℕ)) (read : Consumes r1 r2 c)

@@ -14,7 +14,7 @@ o >>= f = option_and_then f o
 abbrev pub is_space : ℕ → Bool
 is_space b = b == 32
 
--- the first field, which isn't empty, and what follows the space behind it
+-- the first field, which isn't empty, and what follows the space after it
 unfoldable pub field_of : List ℕ → Option (List ℕ × List ℕ)
 field_of line = do
   at ← position is_space line
@@ -28,7 +28,7 @@ last_field_of line = if length line == 0 || list_any is_space line then None els
 unfoldable pub rest_of : List ℕ → Option (List ℕ)
 rest_of line = if length line == 0 then None else Some line
 
--- the number that digits of a base write behind the number n
+-- the number that digits of a base write after the number n
 unfoldable pub numeral_of : ℕ → ℕ → List ℕ → Option ℕ
 numeral_of base n [] = Some n
 numeral_of base n (b ∷ bs) =

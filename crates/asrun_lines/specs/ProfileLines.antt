@@ -28,14 +28,14 @@ entry (line.Function driver f decl) = Function driver f decl.now
 entry (line.Global driver f decl) = Global driver f decl.now
 entry line.Blank = Blank
 
--- `NAME DRIVER`, behind the word `type`
+-- `NAME DRIVER`, after the word `type`
 unfoldable pub type_of : List ℕ → Option Entry
 type_of text = do
   name ← field_of text
   driver ← number_of name.1
   Some (HostType name.0 driver)
 
--- `TYPE F DECL`, behind the word of an entry that belongs to a type
+-- `TYPE F DECL`, after the word of an entry that belongs to a type
 unfoldable pub member_of : List ℕ → Option (List ℕ × ℕ × List ℕ)
 member_of text = do
   type_name ← field_of text
@@ -44,7 +44,7 @@ member_of text = do
   decl ← rest_of f.1
   Some (type_name.0, n, decl)
 
--- `DRIVER F DECL`, behind the word of an entry that belongs to a driver
+-- `DRIVER F DECL`, after the word of an entry that belongs to a driver
 unfoldable pub own_of : List ℕ → Option (ℕ × ℕ × List ℕ)
 own_of text = do
   driver ← field_of text
@@ -54,7 +54,7 @@ own_of text = do
   decl ← rest_of f.1
   Some (d, n, decl)
 
--- what a line says behind its first word
+-- what a line says after its first word
 unfoldable pub entry_behind : List ℕ → List ℕ → Option Entry
 entry_behind word text =
     if bytes_eq word (codes "mask") then option_map DefaultMask (mask_of text)

@@ -15,7 +15,7 @@ Reads (Ok x) spelled = spelled ≡ Some x
 Reads (Err errors.BadLine) spelled = spelled ≡ None
 Reads (Err errors.Memory) spelled = Unit {0}
 
--- `module NAME M`, behind its first word
+-- `module NAME M`, after its first word
 unfoldable pub module_of : List ℕ → Option SessionLine
 module_of text = do
   name ← field_of text

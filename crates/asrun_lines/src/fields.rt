@@ -12,7 +12,7 @@ pub fn place_of(text: &[u8], byte: u8) -> Option<usize>
     text.iter().position(|b| *b == byte)
 }
 
-/// The first field of a line, and what follows the space behind it. None where no space ends the
+/// The first field of a line, and what follows the space after it. None where no space ends the
 /// field, or it is empty.
 #[tactic(auto, unfolding(crate::specs::Fields::field_of))]
 pub fn field(line: &[u8]) -> Option<(&[u8], &[u8])>

@@ -22,7 +22,7 @@ pub fn first_line(text: &[u8]) -> Option<(&[u8], &[u8])>
     Some(text.split_at(end))
 }
 
-/// The first lines of the text, so many of them, and what follows them. None where it has fewer.
+/// The first `count` lines of the text, and what follows them. None where it has fewer.
 pub fn first_lines(text: &[u8], count: u64) -> Option<(&[u8], &[u8])>
     ensures none { IfNone result (length (lines_of text.now) < count) }
     ensures some { IfSome result (λ x. count ≤ length (lines_of text.now)) }

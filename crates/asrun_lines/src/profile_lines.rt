@@ -100,7 +100,7 @@ fn own(text: &[u8]) -> Option<(u32, u32, &[u8])>
     Some((driver, f, decl))
 }
 
-/// What a line spells behind its first word.
+/// What a line spells after its first word.
 #[tactic(auto, unfolding(crate::specs::ProfileLines::entry_behind))]
 fn line_behind<'a>(word: &[u8], text: &'a [u8]) -> Option<ProfileLine<'a>>
     ensures exact { option_map entry result ≡ entry_behind word.now text.now }

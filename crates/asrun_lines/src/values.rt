@@ -57,7 +57,7 @@ pub fn value(text: &[u8]) -> Option<Value>
     number_value(text)
 }
 
-/// What stands before and behind the first comma.
+/// What stands before and after the first comma.
 fn piece(text: &[u8]) -> Option<(&[u8], &[u8])>
     ensures none { IfNone result (slice_split is_comma text.now ≡ text.now ∷ []) }
     ensures some { IfSome result

@@ -77,7 +77,7 @@ appends_nothing (Some xs) = sym (append-nil xs)
 pub front_none : (o : Option (List ℕ)) (text : List ℕ) → HasFront o o text
 front_none o text = record { count = 0; within = omega arith; printed = appends_nothing o }
 
--- a text, and a front of one more that stands behind it
+-- a text, and a front of one more that stands after it
 abbrev front_behind : (old mid new : Option (List ℕ)) (text one tail all : List ℕ) → all ≡ text ++ (one ++ tail)
     → Appends old mid text → HasFront mid new one → HasFront old new all
 front_behind old mid new text one tail all e p q = record {

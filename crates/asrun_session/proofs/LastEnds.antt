@@ -131,7 +131,7 @@ some_end d k (x ∷ ks) h =
     one_ended k (ends_in d k (ends_of ks)) (nat_eq x.0 d) (nat_eq x.1 k) (events_of d (ends_of ks)) (some_end d k ks)
     (sym (first_is d k true (nat_eq x.0 d) (Ended x.0 x.1) (events_of d (ends_of ks))) ∙ h)
 
--- an object that is alive before and not behind it ends once, and another one never
+-- an object that is alive before and not after it ends once, and another one never
 once : (o : Option ℕ) (n rest : ℕ) (b : Bool) → n + rest ≡ alive o → is_some o ≡ b → (is_some o ≡ true → 1 ≤ n) → n ≡ cond b 1 0
 once None n rest true e t some = absurd (let x : ⊥ = cc in x)
 once None n rest false e t some = omega (arith, e)

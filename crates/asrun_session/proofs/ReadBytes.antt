@@ -27,7 +27,7 @@ through_whole (Some xs) (Some ys) text limit c e h =
     let short : length xs ≤ limit + 1 = rw (← same) (omega (arith, h)) in
     ap (λ y. Some y) (e ∙ sym (drop_all (limit + 1) xs short))
 
--- what is left of a longer one stands behind one byte above the limit
+-- what is left of a longer one stands after one byte above the limit
 pub through_above : (old new : Option (List ℕ)) (taken : List ℕ) (limit : ℕ) → Consumes old new taken → length taken ≡ limit + 1
     → IfSome old (λ bytes. new ≡ Some (drop (limit + 1) bytes))
 through_above None new taken limit c h = tt

@@ -95,7 +95,7 @@ stops_refused m R xs ys old new text budget why (Ok status) back refused front =
 stops_refused m R xs ys old new None budget why (Err stop) back refused front = tt
 stops_refused m R xs ys old new (Some s) budget why (Err stop) back refused front = inr (inl (why, refused, front, back))
 
--- a write fault then comes behind drivers that were refused
+-- a write fault then comes after drivers that were refused
 pub read_refused : {V : Type 0} {P : V → Type 0} (m : Meanings P) (R : RegistrationList) (xs : List (DynBox V Global P)) (A : Type 0)
     (why : EngineRefusal) (ended : Result Status Stop) → IsRefused m R xs why → IfErr ended (λ e. e ≡ unwritten → A ⊎ AreRefused m R xs)
 read_refused m R xs A why (Ok status) refused = tt

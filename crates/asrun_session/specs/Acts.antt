@@ -6,7 +6,7 @@ use Rattle.asrun_session.specs.declared.action.Act.{Act as Made}
 use Rattle.asrun_lines.specs.declared.session_lines.LineError.{LineError}
 use Rattle.asrun_lines.specs.declared.session_lines.LineError.TheVariants.{BadLine, Memory}
 
--- An act is as stated, and the lines behind its section follow it, unless memory ran out.
+-- An act is as stated, and the lines after its section follow it, unless memory ran out.
 abbrev pub Gives : Result Made LineError → List (List ℕ) → Option Act → Type 0
 Gives (Ok a) behind stated =
     (stated ≡ Some (record { action = a.action; lines = a.lines }))

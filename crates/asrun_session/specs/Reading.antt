@@ -20,7 +20,7 @@ abbrev pub IsTextOf : ℕ → Text → List ℕ → Type 0
 IsTextOf limit (Whole text) bytes = (text.items ≡ bytes) × (length bytes ≤ limit)
 IsTextOf limit TooLong bytes = limit < length bytes
 
--- The text was read as far as reading goes: what is left is what stands behind one byte above the
+-- The text was read as far as reading goes: what is left is what stands after one byte above the
 -- limit, and nothing of a text within it.
 abbrev pub IsReadThrough : ℕ → Option (List ℕ) → Option (List ℕ) → Type 0
 IsReadThrough limit old new = IfSome old (λ bytes. new ≡ Some (drop (limit + 1) bytes))

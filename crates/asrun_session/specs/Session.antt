@@ -10,7 +10,7 @@ use Rattle.asrun_session.specs.declared.action.Action.TheVariants as action
 use Rattle.asrun_lines.specs.declared.session_lines.SessionLine.{SessionLine}
 use Rattle.asrun_lines.specs.declared.session_lines.SessionLine.TheVariants as line
 
--- an action, and how many of the lines behind it are its section's
+-- an action, and how many of the lines after it are its section's
 pub record Act : Type 0 where
   pub action : Action
   pub lines : ℕ
@@ -18,7 +18,7 @@ pub record Act : Type 0 where
 abbrev pub command : Command → Option Act
 command c = Some (record { action = action.Command c; lines = 0 })
 
--- the first `lines` lines of those behind are a section of the module: nothing where they are too
+-- the first `lines` lines of those after are a section of the module: nothing where they are too
 -- few
 abbrev pub section_act : List (List ℕ) → List ℕ → ℕ → Option Act
 section_act behind name lines =
@@ -43,7 +43,7 @@ act_of budget behind (line.Discard name) = command (Discard name)
 act_of budget behind (line.Call name args decl) = command (Call name decl args budget)
 act_of budget behind (line.Budget ticks) = Some (record { action = action.Budget ticks; lines = 0 })
 
--- the budget of the commands behind an action
+-- the budget of the commands after an action
 abbrev pub budget_after : ℕ → Action → ℕ
 budget_after budget (action.Command c) = budget
 budget_after budget (action.Budget ticks) = ticks

@@ -24,7 +24,7 @@ pub enum Action {
 pub struct Act<'a> {
     /// The action.
     pub action: Action,
-    /// How many of the lines behind it are its section's.
+    /// How many of the lines after it are its section's.
     pub lines: u64,
     /// What follows them.
     pub rest: &'a [u8],

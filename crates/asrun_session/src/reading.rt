@@ -23,7 +23,7 @@ pub enum Text {
     TooLong,
 }
 
-/// One call of `read`, for at most `room` bytes, which go behind the text. Gives how many came.
+/// One call of `read`, for at most `room` bytes, which go after the text. Gives how many came.
 fn read_more<R: Read>(reader: &mut R, text: &mut Vec<u8>, room: usize) -> Result<usize, Stop>
     requires some { 0 < room }
     ensures taken { IfOk result (λ count. (bytes : List ℕ) × (length bytes ≡ count)

@@ -83,7 +83,7 @@ fn run_command<W: Write>(
     Ok(is_done(reply.outcome))
 }
 
-/// Does an action and prints its text. Says whether it ended in `ok`, and the budget behind it.
+/// Does an action and prints its text. Says whether it ended in `ok`, and the budget after it.
 pub fn perform<W: Write>(
     alloc: Global,
     engine: &mut Engine,

@@ -8,7 +8,7 @@ use ang_registry::RegError;
 use asrun_text::{push_number, push_text};
 use std::alloc::AllocError;
 
-/// `line N BadLine`, put behind what stands in `out`.
+/// `line N BadLine`, put after what stands in `out`.
 #[tactic(auto, using(crate::proofs::Texts::texts))]
 pub fn push_bad_line(out: &mut Vec<u8>, number: u64) -> Result<(), AllocError>
     ensures added { OnOk result (out.new.items ≡ out.old.items ++ bad_line_text (Some number)) }
@@ -33,7 +33,7 @@ fn registration_error_name(why: RegError) -> &'static str
     }
 }
 
-/// `profile LINE BadLine` or `profile LINE REFUSAL`, put behind what stands in `out`.
+/// `profile LINE BadLine` or `profile LINE REFUSAL`, put after what stands in `out`.
 #[tactic(auto, using(crate::proofs::Texts::texts), unfolding(crate::specs::Whole::profile_fault_text))]
 pub fn push_profile_fault(out: &mut Vec<u8>, fault: ProfileFault) -> Result<(), AllocError>
     ensures added { OnOk result (out.new.items ≡ out.old.items ++ profile_fault_text fault) }

@@ -295,7 +295,7 @@ pub fn session<P: Read, S: Read, W: Write>(
     ensures output { IfSome (P.remaining profile.old) (λ p. IfSome (S.remaining session.old)
         (λ s. Tells ⟦<dyn Driver as Driver>⟧ drivers.items result.drivers.items
         (W.contents out.old) (W.contents out.new) (start_of p) s budget result.outcome)) }
-    // A write fault comes only behind a profile that was read, and behind a session that was, unless the profile or the drivers were refused.
+    // A write fault comes only after a profile that was read, and after a session that was, unless the profile or the drivers were refused.
     ensures profile_read { IfErr result.outcome (λ e. e ≡ IoFault.Write
         → IsReadThrough most_profile (P.remaining profile.old) (P.remaining profile.new)) }
     ensures session_read { IfErr result.outcome (λ e. e ≡ IoFault.Write

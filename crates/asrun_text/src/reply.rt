@@ -9,7 +9,7 @@ use ang_kinds::{Denial, Error, ErrorKind, Fault, Mask, Place, Value};
 use itoa::Buffer;
 use std::alloc::AllocError;
 
-/// The bytes of a text, put behind what stands in `out`.
+/// The bytes of a text, put after what stands in `out`.
 ///
 /// # Errors
 /// A growth of memory was refused. Nothing is promised of `out` then.
@@ -19,7 +19,7 @@ pub fn push_text(out: &mut Vec<u8>, text: &str) -> Result<(), AllocError>
     out.extend_from_slice(text.as_bytes())
 }
 
-/// A number in decimal digits, put behind what stands in `out`.
+/// A number in decimal digits, put after what stands in `out`.
 ///
 /// # Errors
 /// A growth of memory was refused. Nothing is promised of `out` then.
@@ -215,7 +215,7 @@ fn push_object(out: &mut Vec<u8>, object: Option<u64>) -> Result<(), AllocError>
     }
 }
 
-/// The line of an asking, from its entity on.
+/// The line of a host call, from its entity on.
 #[tactic(auto, using(crate::proofs::Texts::texts))]
 fn push_asked(
     out: &mut Vec<u8>,
@@ -375,7 +375,7 @@ fn push_outcome(out: &mut Vec<u8>, outcome: Outcome) -> Result<(), AllocError>
     push_text(out, "\n")
 }
 
-/// The text of a reply, put behind what stands in `out`: events, errors, denials and the outcome, a
+/// The text of a reply, put after what stands in `out`: events, errors, denials and the outcome, a
 /// line for each.
 ///
 /// # Errors

@@ -9,7 +9,7 @@ use Rattle.ang_host.specs.declared.answer.HostReply.{HostReply}
 use Rattle.ang_host.specs.declared.answer.HostReply.TheVariants.{Making, Asking}
 use Rattle.ang_host.specs.State.{State, Ask, make, call, read, write, end}
 
--- no objects, and so many tickets given in so many askings
+-- no objects, and `given` tickets given in `asked` host calls
 abbrev pub tickets : ℕ → ℕ → State
 tickets given asked = record {
   counts = map.empty;

@@ -7,7 +7,7 @@ ghost use Rattle.std.specs.Prelude.{◌≡◌, ◌<◌, ◌≤◌, ◌^◌};
 use ang_host::{Answer, Driver, Made};
 use ang_kinds::Value;
 
-/// The most askings that are counted: 2^63 - 1.
+/// The most host calls that are counted: 2^63 - 1.
 const LIMIT: u64 = 9_223_372_036_854_775_807;
 
 /// The answer to what is not known here.

@@ -42,7 +42,7 @@ enum Step {
     Blanks(u32, u32),
     /// The first one is set as the mask for what is added from here on, and the second one was it.
     Mask(u32, u32),
-    /// There are so many entries.
+    /// There are that many entries.
     Length(usize),
 }
 

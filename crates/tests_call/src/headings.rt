@@ -99,7 +99,7 @@ const NOT_NAMED: [&str; 35] = [
     "import void f() from \"m\"",
 ];
 
-/// As many bytes of `void f()` and spaces as have room for an empty body behind them, and one more.
+/// As many bytes of `void f()` and spaces as have room for an empty body after them, and one more.
 const LENGTHS: [(&str, usize, Option<usize>); 2] = [
     ("the longest text", 65_533, Some(0)),
     ("a longer text", 65_534, None),

@@ -38,7 +38,7 @@ fn is_refused(alloc: Global, text: &str, want: Want) -> bool {
     }
 }
 
-/// So many functions, each on a line of its own.
+/// That number of functions, each on a line of its own.
 fn functions(alloc: Global, times: usize) -> Result<String, AllocError> {
     let mut text = String::new(alloc);
     for number in 0..times {
@@ -48,7 +48,7 @@ fn functions(alloc: Global, times: usize) -> Result<String, AllocError> {
     Ok(text)
 }
 
-/// So many globals, each on a line of its own.
+/// That number of globals, each on a line of its own.
 fn globals(alloc: Global, times: usize) -> Result<String, AllocError> {
     let mut text = String::new(alloc);
     for number in 0..times {
@@ -58,7 +58,7 @@ fn globals(alloc: Global, times: usize) -> Result<String, AllocError> {
     Ok(text)
 }
 
-/// A function with so many parameters, at least one.
+/// A function with that number of parameters, at least one.
 fn parameters(alloc: Global, times: usize) -> Result<String, AllocError> {
     let mut text = String::new(alloc);
     text.push_str("void f(int p")?;

@@ -83,13 +83,13 @@ fn narrowed(alloc: Global, ty: ArgType) -> Result<Operand, Stop> {
     convert(alloc, &objects(alloc), &word, operand)
 }
 
-/// `++` behind a variable in parentheses.
+/// `++` after a variable in parentheses.
 fn group_counted_up(alloc: Global) -> Result<Operand, Stop> {
     let inner = variable(alloc, I8, 2, false)?;
     postfix(alloc, group(at(1), inner), TokenKind::Increment)
 }
 
-/// `--` behind a variable that can't be written.
+/// `--` after a variable that can't be written.
 fn constant_counted_down(alloc: Global) -> Result<Operand, Stop> {
     let constant = variable(alloc, I8, 2, true)?;
     postfix(alloc, constant, TokenKind::Decrement)
@@ -261,7 +261,7 @@ fn a_target_is_a_variable_that_can_be_written(rt: HostRuntime) {
     assert!(rt; number == Err(Some((ErrorKind::BadConversion, 1))));
 }
 
-/// What stands in front of `is` and behind it, and what comes of it.
+/// What stands in front of `is` and after it, and what comes of it.
 const IDENTITIES: [(ArgType, ArgType, Typing); 4] = [
     (ArgType::Null, HANDLE, Ok(BOOL)),
     (CELL, OTHER, Ok(BOOL)),

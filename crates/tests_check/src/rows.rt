@@ -255,7 +255,7 @@ fn the_mask_decides_which_function_is_called(rt: HostRuntime) {
     assert!(rt; is_refused);
 }
 
-/// A function with so many locals, one a line from the second line on.
+/// A function with that number of locals, one a line from the second line on.
 fn many_locals(alloc: Global, times: usize) -> Result<String, AllocError> {
     let mut text = format!(in alloc; "void m(int p) {{\n")?;
     for number in 0..times {

@@ -1,7 +1,7 @@
 //! A session over profiles and drivers of a test's own, and what it prints.
 
 use ang_drivers::{Cell, Console, Counter};
-use ang_host::Driver;
+use ang_host::{Answer, Driver};
 use asrun_session::{SessionEnd, Status, session};
 use std::alloc::{AllocError, Global};
 
@@ -26,8 +26,49 @@ global 0 0 int64 reg
 global 0 0 const int64 limit
 ";
 
+/// A console, a counter and a cell.
+fn all_drivers(alloc: Global) -> Result<Vec<Box<dyn Driver>>, AllocError> {
+    let mut boxes: Vec<Box<dyn Driver>> = Vec::new(alloc);
+    boxes.push(Box::new(alloc, Console::new(alloc)?)?)?;
+    boxes.push(Box::new(alloc, Counter::new(alloc)?)?)?;
+    boxes.push(Box::new(alloc, Cell::new(alloc)?)?)?;
+    Ok(boxes)
+}
+
+/// What the counter answers after a session when it is asked how many references to its objects were added.
+fn added_to(drivers: &mut Vec<Box<dyn Driver>>) -> Option<Answer> {
+    match drivers.get_mut(1) {
+        Some(driver) => Some(driver.as_mut().call(2, None, &[])),
+        None => None,
+    }
+}
+
+/// How many references to its objects the counter was asked to add in a session that builds a section and does the
+/// lines after its build.
+pub fn added(alloc: Global, section: &str, lines: &str) -> Result<Option<Answer>, AllocError> {
+    let text = format!(in alloc; "module a 00000001\nsection a 1\n{section}\nbuild a\n{lines}")?;
+    let mut profile = ALL_KINDS.as_bytes();
+    let mut text = text.as_bytes();
+    let mut written: Vec<u8> = Vec::new(alloc);
+    let boxes = all_drivers(alloc)?;
+    let SessionEnd {
+        outcome: _,
+        mut drivers,
+    } = session(
+        alloc,
+        &mut profile,
+        &mut text,
+        &mut written,
+        boxes,
+        1_000_000,
+    );
+    let answer = added_to(&mut drivers);
+    drop(drivers);
+    Ok(answer)
+}
+
 /// Whether a session over a profile, with a console, a counter and a cell as its drivers, writes this and has this status,
-/// and whether every driver is idle behind it.
+/// and whether every driver is idle after it.
 pub fn writes(
     alloc: Global,
     profile: &str,
@@ -35,10 +76,7 @@ pub fn writes(
     output: &str,
     status: Status,
 ) -> Result<bool, AllocError> {
-    let mut boxes: Vec<Box<dyn Driver>> = Vec::new(alloc);
-    boxes.push(Box::new(alloc, Console::new(alloc)?)?)?;
-    boxes.push(Box::new(alloc, Counter::new(alloc)?)?)?;
-    boxes.push(Box::new(alloc, Cell::new(alloc)?)?)?;
+    let boxes = all_drivers(alloc)?;
     let mut profile = profile.as_bytes();
     let mut text = text.as_bytes();
     let mut written: Vec<u8> = Vec::new(alloc);
@@ -55,7 +93,7 @@ pub fn writes(
     Ok(idle && outcome == Ok(status) && written.as_slice() == output.as_bytes())
 }
 
-/// Whether a session that builds a section and does the lines behind its build prints this from the build on, and has this
+/// Whether a session that builds a section and does the lines after its build prints this from the build on, and has this
 /// status.
 pub fn prints(
     alloc: Global,

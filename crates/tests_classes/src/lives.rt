@@ -4,7 +4,7 @@ use crate::harness::prints;
 use asrun_session::Status;
 use std::test::Fail;
 
-/// Sections, the lines behind their build, what is printed from the build on, and the status.
+/// Sections, the lines after their build, what is printed from the build on, and the status.
 const WORKED: [(&str, &str, &str, Status); 27] = [
     (
         "class Box { Counter@ c; Box() { @c = Counter(5); } int clear() { @g = null; return c.value(); } } Box@ g = Box(); int main() { return g.clear(); }",

@@ -1,10 +1,12 @@
 //! Objects of the host in scripts: what is made, asked and ended, in which order, and what is refused.
 
-use crate::harness::{errs, prints};
+use crate::harness::{added, errs, prints};
+use ang_host::Answer;
+use ang_kinds::Value;
 use asrun_session::Status;
 use std::test::Fail;
 
-/// What calls print, and how they leave the globals: sections, the lines behind their build, and what these print.
+/// What calls print, and how they leave the globals: sections, the lines after their build, and what these print.
 const WORKED: [(&str, &str, &str, Status); 13] = [
     (
         "int p() { Counter c(5); c.step = 3; c.bump(); return c.value(); }",
@@ -97,7 +99,7 @@ fn worked_objects(rt: HostRuntime) -> Result<(), Fail> {
     Ok(())
 }
 
-/// The call behind a section's build.
+/// The call after a section's build.
 const CALL: &str = "call a () void m()\n";
 
 /// Sections whose function returns, and what its build and its call print.
@@ -145,6 +147,39 @@ fn what_ends_and_when(rt: HostRuntime) -> Result<(), Fail> {
     for (section, printed) in RETURNED {
         assert!(rt;
             prints(rt.alloc(), section, CALL, printed, Status::AllOk)?,
+            "{section}"
+        );
+    }
+    Ok(())
+}
+
+/// Sections whose function `p` uses a counter, and how many references are added meanwhile.
+const BORROWED: [(&str, u64); 5] = [
+    (
+        "int p() { Counter c(5); c.step = 3; c.bump(); return c.value(); }",
+        0,
+    ),
+    (
+        "int p() { Counter c(5); c.step += 3; return c.step + c.value(); }",
+        0,
+    ),
+    (
+        "int p() { Counter@ c; @c = Counter(5); return c.value(); }",
+        0,
+    ),
+    ("Counter c(5); int p() { return c.value(); }", 1),
+    (
+        "class K { Counter@ h; } int p() { K k; @k.h = Counter(5); return k.h.value(); }",
+        1,
+    ),
+];
+
+#[test]
+fn borrowed_receivers_are_not_counted(rt: HostRuntime) -> Result<(), Fail> {
+    for (section, count) in BORROWED {
+        let answer = added(rt.alloc(), section, "call a () int p()\n")?;
+        assert!(rt;
+            answer == Some(Answer::Gave(Value::Uint(count))),
             "{section}"
         );
     }

@@ -4,7 +4,7 @@ use crate::harness::prints;
 use asrun_session::Status;
 use std::test::Fail;
 
-/// Sections, the lines behind their build, what is printed from the build on, and the status.
+/// Sections, the lines after their build, what is printed from the build on, and the status.
 const MEANT: [(&str, &str, &str, Status); 32] = [
     (
         "class A { int f() { return 1; } } class B : A { int f() override { return A::f() + 1; } } int m() { A@ a = B(); return a.f(); }",

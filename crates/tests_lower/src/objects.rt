@@ -69,7 +69,7 @@ fn changing(alloc: Global) -> Rows {
     then(rows, give_back(alloc, read_at(alloc, field(alloc))))
 }
 
-/// A member's object comes behind the value.
+/// A member's object comes after the value.
 const CHANGING: &str = "[In, Object] { (FieldSet(2)) 1 l0; (Write(EntityNo(21))) 2 l0; \
     (FieldChange(2, Change { work: Add, at: I32, to: I32, old: false })) 3 l0; \
     (Alter(EntityNo(21), Change { work: Add, at: I32, to: I32, old: true })) 1 l0; \

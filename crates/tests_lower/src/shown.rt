@@ -2,7 +2,7 @@
 use ang_core::{Body, Expression, Statement};
 use std::alloc::{AllocError, Global};
 
-/// Operands, each behind a space.
+/// Operands, each after a space.
 #[cycle(expression)]
 fn show_operands(
     alloc: Global,
@@ -16,7 +16,7 @@ fn show_operands(
     Ok(())
 }
 
-/// An expression: what stands in parentheses is done with the operands behind it.
+/// An expression: what stands in parentheses is done with the operands after it.
 #[cycle(expression)]
 pub fn show(alloc: Global, e: &Expression, out: &mut String) -> Result<(), AllocError> {
     match e {

@@ -131,7 +131,7 @@ const LIMITS: [(Pieces, Want<'static>); 7] = [
     ),
 ];
 
-/// Adds a piece so many times.
+/// Adds a piece `times` times.
 fn add(text: &mut Vec<u8>, piece: &str, times: usize) -> Result<(), AllocError> {
     for _ in 0..times {
         text.extend_from_slice(piece.as_bytes())?;

@@ -11,7 +11,7 @@ const OTHERS: [&str; 36] = [
     "else", "while", "for", "return", "super", "auto",
 ];
 
-/// The words of a changed script: those in front of the change, what stands in its place, and those behind it.
+/// The words of a changed script: those in front of the change, what stands in its place, and those after it.
 #[derive(Clone, Copy)]
 struct Words<'a> {
     before: &'a [&'a str],
@@ -19,7 +19,7 @@ struct Words<'a> {
     behind: &'a [&'a str],
 }
 
-/// The column of the first byte behind the words and a blank, from this column on.
+/// The column of the first byte after the words and a blank, from this column on.
 fn column_behind(column: u32, words: &[&str]) -> u32 {
     let mut column = column;
     for word in words {
@@ -44,7 +44,7 @@ fn add_words(text: &mut Vec<u8>, words: &[&str]) -> Result<(), AllocError> {
     Ok(())
 }
 
-/// A script, at one of its words or behind the last, and what stands in the place of that word where `parse` answers
+/// A script, at one of its words or after the last, and what stands in the place of that word where `parse` answers
 /// otherwise than it has to.
 #[derive(Clone, Copy, Debug)]
 struct Wrong {
@@ -76,7 +76,7 @@ impl Trial {
     }
 
     /// What has to be answered from this column on, where these words stand, the words before having been read: the place
-    /// of the first that no script can have there. The second answer is the column behind the words.
+    /// of the first that no script can have there. The second answer is the column after the words.
     fn fault_in<'a>(
         &mut self,
         column: u32,
@@ -100,7 +100,7 @@ impl Trial {
         Ok((None, column))
     }
 
-    /// What has to be answered where nothing stands behind the words that were read, which end in front of this column.
+    /// What has to be answered where nothing stands after the words that were read, which end in front of this column.
     fn at_end(&self, column: u32) -> Want<'static> {
         if self.chart.is_script(&self.grammar) {
             return Want::Script;
@@ -232,7 +232,7 @@ fn first_wrong(alloc: Global, script: &str) -> Result<Option<Wrong>, AllocError>
     trial.run(&words)
 }
 
-/// What a script is made of, and its words. What stands in parentheses may be parameters or arguments; the token behind
+/// What a script is made of, and its words. What stands in parentheses may be parameters or arguments; the token after
 /// them tells which.
 const SCRIPTS: [(&str, &str); 13] = [
     (

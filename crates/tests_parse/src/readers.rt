@@ -23,7 +23,7 @@ enum Made {
     Binary,
     /// A `while` loop.
     While,
-    /// So many parameters.
+    /// That number of parameters.
     List(usize),
     /// A fault, and how many tokens stand from it on.
     Fault(usize),
@@ -83,7 +83,7 @@ const READ: [(Reader, &str, Made); 7] = [
     (Reader::Statement, "while (a) { b; }", Made::While),
     (Reader::Statement, "while (a) { b }", Made::Fault(1)),
     (Reader::Parameters, "(void, void)", Made::List(2)),
-    // no parameters begin with `(int a b`, and a comma wants a parameter behind it
+    // no parameters begin with `(int a b`, and a comma wants a parameter after it
     (Reader::Parameters, "(int a b)", Made::Fault(2)),
     (Reader::Parameters, "(int a,) {", Made::Fault(2)),
 ];

@@ -2,7 +2,7 @@
 //! not its way.
 //!
 //! It has the grammar of docs/LANGUAGE.md as a text, and keeps for each word of a script all points of
-//! the grammar at which the script can stand (Earley's way). The first word behind which there is no
+//! the grammar at which the script can stand (Earley's way). The first word after which there is no
 //! such point is the one that no script can have there.
 
 use std::alloc::{AllocError, Global};
@@ -338,7 +338,7 @@ impl Point {
     }
 }
 
-/// The points at each word of a script read so far, and at its end, one set behind the other.
+/// The points at each word of a script read so far, and at its end, one set after the other.
 #[derive(Drop)]
 pub struct Chart {
     alloc: Global,
@@ -362,7 +362,7 @@ impl Chart {
         }
     }
 
-    /// Takes the points at which every script of fewer words than so many begins.
+    /// Takes the points at which every script of fewer words than `words` begins.
     pub fn start(&mut self, grammar: &Grammar, words: usize) -> Result<(), AllocError> {
         self.added = vec![in self.alloc; 0; grammar.cells.len().wrapping_mul(words)]?;
         for cell in grammar.starts(0) {
@@ -372,7 +372,7 @@ impl Chart {
         self.close(grammar, 0)
     }
 
-    /// The number of points up to the end of so many sets.
+    /// The number of points up to the end of the first `sets` sets.
     fn end_of(&self, sets: usize) -> usize {
         match sets.checked_sub(1) {
             Some(last) => self.ends.get(last).copied().unwrap_or(0),
@@ -401,7 +401,7 @@ impl Chart {
         Ok(())
     }
 
-    /// Adds the points at which a rule begins, and the one behind it if it can be empty.
+    /// Adds the points at which a rule begins, and the one after it if it can be empty.
     fn enter(&mut self, grammar: &Grammar, rule: usize, point: Point) -> Result<(), AllocError> {
         let origin = self.ends.len();
         for cell in grammar.starts(rule) {
@@ -414,7 +414,7 @@ impl Chart {
         Ok(())
     }
 
-    /// Adds the points behind a rule, where it was called in this set.
+    /// Adds the points after a rule, where it was called in this set.
     fn leave(&mut self, grammar: &Grammar, rule: usize, origin: usize) -> Result<(), AllocError> {
         for i in self.set(origin) {
             let Some(caller) = self.points.get(i).copied() else {
@@ -444,7 +444,7 @@ impl Chart {
         Ok(())
     }
 
-    /// Adds the points behind a word, where the last set has it.
+    /// Adds the points after a word, where the last set has it.
     fn step(&mut self, grammar: &Grammar, word: usize) -> Result<(), AllocError> {
         for i in self.last() {
             let Some(point) = self.points.get(i).copied() else {
@@ -482,7 +482,7 @@ impl Chart {
         false
     }
 
-    /// Forgets all words but so many.
+    /// Forgets all words but the first `words`.
     pub fn forget(&mut self, words: usize) {
         self.ends.truncate(words.saturating_add(1));
         let end = self.end_of(self.ends.len());

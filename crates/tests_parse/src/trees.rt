@@ -40,7 +40,7 @@ enum Start {
     Constructor,
 }
 
-/// What a parameter has: a comma in front of it, `const`, `@`, `&`, a word behind `&`, a name.
+/// What a parameter has: a comma in front of it, `const`, `@`, `&`, a word after `&`, a name.
 #[derive(Clone, Copy, PartialEq, Eq)]
 struct Parts {
     comma: bool,
@@ -79,9 +79,9 @@ enum Fact {
     Starts(&'static [Start]),
     /// Whether the function's word `void` stands for no parameters, and its parameters.
     Parameters(bool, &'static [Parts]),
-    /// The function's result is a handle, it has so many parameters, and so many statements.
+    /// The function's result is a handle, how many parameters it has, and how many statements.
     Function(usize, usize),
-    /// Whether the class is `final`, how many names are behind its colon, and its members.
+    /// Whether the class is `final`, how many names are after its colon, and its members.
     Class(bool, usize, &'static [Shape]),
 }
 
@@ -391,7 +391,7 @@ const SCRIPTS: [(&str, Fact); 16] = [
         "const int a = (1), b, c((2) + 3);",
         Fact::Starts(&[Start::Value, Start::Absent, Start::Constructor]),
     ),
-    // bases are names behind a colon
+    // bases are names after a colon
     (BASES, Fact::Class(false, 2, &[])),
     // `final` stands in front of `class`
     ("final class A {}", Fact::Class(true, 0, &[])),

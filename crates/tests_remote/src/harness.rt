@@ -91,7 +91,7 @@ impl Write for Sink {
     }
 }
 
-/// An asking without objects.
+/// A host call without objects.
 #[derive(Clone, Copy)]
 pub enum Asking {
     Call,
@@ -112,7 +112,7 @@ fn asked<D: Driver>(driver: &mut D, asking: Asking) -> Answer {
 }
 
 /// What a driver of the number 3 is answered by a host of this text, and whether it wrote this and all of the text but
-/// so many bytes was read.
+/// that many bytes was read.
 pub fn answered(
     alloc: Global,
     asking: Asking,

@@ -4,7 +4,7 @@ use crate::harness::Host;
 use ang_remote::{Heard, read_line};
 use std::alloc::Global;
 
-/// What is heard of a text behind `ab`, with at most 4 bytes in all, and whether this is kept and so many bytes are left.
+/// What is heard of a text after `ab`, with at most 4 bytes in all, and whether this is kept and that many bytes are left.
 fn heard(alloc: Global, text: &str, kept: &str, unread: usize) -> Option<Heard> {
     let mut host = Host::new(text, 0);
     let Ok(mut line) = Vec::from_slice(alloc, b"ab") else {

@@ -43,7 +43,7 @@ fn is_idle<D: Driver>(driver: &D) -> bool {
     driver.idle()
 }
 
-/// A key is made again behind its end.
+/// A key is made again after its end.
 #[test]
 fn a_key_is_used_again(rt: HostRuntime) -> Result<(), AllocError> {
     let mut host = Host::new("made #9\nmade #9\n", 0);

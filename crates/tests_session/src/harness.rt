@@ -155,7 +155,7 @@ pub fn writes(
     Ok(outcome == Ok(status) && out.kept.as_slice() == output.as_bytes())
 }
 
-/// Whether a run over all kinds that builds a section and does the lines behind its build prints this from the build on,
+/// Whether a run over all kinds that builds a section and does the lines after its build prints this from the build on,
 /// and has this status. The rows have these four in this order.
 pub fn prints(
     alloc: Global,

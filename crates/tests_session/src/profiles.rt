@@ -21,7 +21,7 @@ build a
 call a () void main()
 ";
 
-/// A profile of so many functions of different names, which come behind its first line.
+/// A profile of `count` functions of different names, which come after its first line.
 fn names(alloc: Global, count: usize) -> Result<String, AllocError> {
     let mut profile = String::new(alloc);
     profile.push_str("mask 00000001\n")?;
@@ -32,7 +32,7 @@ fn names(alloc: Global, count: usize) -> Result<String, AllocError> {
     Ok(profile)
 }
 
-/// The parameters of an overload: an `int`, and behind it ten types by the bits of its number, of which 1,024 differ.
+/// The parameters of an overload: an `int`, and after it ten types by the bits of its number, of which 1,024 differ.
 fn parameters(alloc: Global, number: usize) -> Result<String, AllocError> {
     let mut text = String::new(alloc);
     text.push_str("int")?;
@@ -44,7 +44,7 @@ fn parameters(alloc: Global, number: usize) -> Result<String, AllocError> {
     Ok(text)
 }
 
-/// A profile of so many overloads of one name, which come behind its first line.
+/// A profile of `count` overloads of one name, which come after its first line.
 fn overloads(alloc: Global, count: usize) -> Result<String, AllocError> {
     let mut profile = String::new(alloc);
     profile.push_str("mask 00000001\n")?;
@@ -56,7 +56,7 @@ fn overloads(alloc: Global, count: usize) -> Result<String, AllocError> {
     Ok(profile)
 }
 
-/// Whether a profile is taken, and the session over it prints this behind its build.
+/// Whether a profile is taken, and the session over it prints this after its build.
 fn runs(alloc: Global, profile: &str, text: &str, printed: &str) -> Result<bool, AllocError> {
     let output = format!(in alloc; "ok\nok\nok\n{printed}")?;
     writes(alloc, profile, text, output.as_str(), Status::AllOk)

@@ -4,7 +4,7 @@ use ang_kinds::Prim::I64;
 use ang_vm_fuse::step::Step;
 
 /// Each from place 7 on, where 5 and 3 are in use.
-pub const KNOWN: [Row; 71] = [
+pub const KNOWN: [Row; 78] = [
     (Step::AddLocals64(1, 0), (10, 3, 5, 3, 8)),
     (Step::SubtractLocals64(1, 0), (10, 3, 5, 3, 2)),
     (Step::MultiplyLocals64(1, 0), (10, 3, 5, 3, 15)),
@@ -82,4 +82,11 @@ pub const KNOWN: [Row; 71] = [
     (Step::AddLocalToLocal32(true, 0, 1), (10, 2, 5, 8, 0)),
     (Step::AddTopToLocal32(true, 0), (9, 1, 8, 3, 0)),
     (Step::XorTopToLocalU32(true, 0), (9, 1, 6, 3, 0)),
+    (Step::MultiplyShift64(1, 0, 1), (12, 3, 5, 3, 7)),
+    (Step::AddTestGreater64(1, 0, 7, 4), (13, 2, 5, 3, 0)),
+    (Step::SubtractAddKeep64(1, 0, 1, 0), (14, 2, 5, 7, 0)),
+    (Step::MultiplyTestLessEqual32(1, 0, 1, 4), (17, 2, 5, 3, 0)),
+    (Step::RemainderTestEqual32(1, 0, 2, 4), (13, 2, 5, 3, 0)),
+    (Step::ShiftXorToLocalU32(true, 0, 1, 1), (12, 2, 5, 1, 0)),
+    (Step::XorAddToLocal64(true, 1, 1, 0), (13, 2, 11, 3, 0)),
 ];

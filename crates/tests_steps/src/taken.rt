@@ -1,10 +1,12 @@
 //! Steps: where they stand in a text, and what each does at once.
+ghost use Rattle.std.specs.Prelude.{◌<◌, ◌^◌, length};
+
 use crate::known::KNOWN;
 use ang_code::Instruction;
 use ang_code::Instruction::{
-    Back, Change as Changed, Do, Drop, Load, PushBits, Return, SkipIfFalse, Tick,
+    Back, Change as Changed, Do, Drop, Leave, Load, PushBits, Return, SkipIfFalse, Store, Tick,
 };
-use ang_kinds::Prim;
+use ang_kinds::{EntityNo, Prim};
 use ang_meaning::{Arithmetic, Callee, Change, Comparison, Operation, Slot};
 use ang_vm_fuse::fuse::fuse;
 use ang_vm_fuse::step::Step;
@@ -27,7 +29,7 @@ const LATER: Change = Change {
     old: true,
 };
 
-/// A step on a stack of four where 5 and 3 are in use, with nine ticks, which it leaves: the place behind it from place 7
+/// A step on a stack of four where 5 and 3 are in use, with nine ticks, which it leaves: the place after it from place 7
 /// on, how many values are in use then, and the first three of them.
 pub type Row = (Step, Left);
 
@@ -62,15 +64,18 @@ const TAKEN: [Row; 23] = [
 ];
 
 /// At a loop's end a tick is taken.
-const BACK: [Row; 4] = [
+const BACK: [Row; 6] = [
     (Step::ChangeBack(LATER, 1, 2, 3), (7, 2, 7, 3, 0)),
     (Step::AddBack32(true, 0, 1, 3), (7, 2, 5, 4, 0)),
     (Step::AddBack64(true, 0, 1, 3), (7, 2, 5, 4, 0)),
     (Step::AddBackU32(true, 0, 1, 3), (7, 2, 5, 4, 0)),
+    (Step::LeaveBack(1, 3), (5, 1, 5, 3, 0)),
+    (Step::LeaveBack(2, 3), (5, 0, 5, 3, 0)),
 ];
 
-/// Calls and returns are left to the run, and so is what faults, finds no value or names no instructions.
-const LEFT: [Step; 5] = [
+/// Calls, returns and host calls are left to the run, and so is what faults, finds no value or names no instructions.
+const LEFT: [Step; 6] = [
+    Step::Ask(1),
     Step::Enter(Callee::Own(0)),
     Step::Return(0),
     Step::Other,
@@ -87,7 +92,7 @@ struct After {
     third: Slot,
 }
 
-/// What a step comes to where so many of these numbers are in use.
+/// What a step comes to where `top` of these numbers are in use.
 fn taken(top: usize, numbers: [u64; 3], ticks: u64, step: Step) -> Option<After> {
     if top > 4 {
         return None;
@@ -109,7 +114,7 @@ fn taken(top: usize, numbers: [u64; 3], ticks: u64, step: Step) -> Option<After>
     })
 }
 
-/// That, with so many ticks left.
+/// That, with `ticks` ticks left.
 fn left(ticks: u64, want: Left) -> Option<After> {
     let (at, top, first, second, third) = want;
     Some(After {
@@ -123,20 +128,38 @@ fn left(ticks: u64, want: Left) -> Option<After> {
 #[test]
 fn steps_are_taken(rt: HostRuntime) {
     for (step, want) in TAKEN {
-        assert!(rt; taken(2, [5, 3, 0], 9, step) == left(9, want), "{step:?}");
+        let after = want.0;
+        assert!(rt; taken(2, [5, 3, 0], 9, step) == left(9, want), "to {after}");
     }
     for (step, want) in KNOWN {
-        assert!(rt; taken(2, [5, 3, 0], 9, step) == left(9, want), "{step:?}");
+        let after = want.0;
+        assert!(rt;
+            taken(2, [5, 3, 0], 9, step) == left(9, want),
+            "known, to {after}"
+        );
     }
     for (step, want) in BACK {
-        assert!(rt; taken(2, [5, 3, 0], 9, step) == left(8, want), "{step:?}");
-        assert!(rt; taken(2, [5, 3, 0], 0, step).is_none(), "{step:?}");
+        let after = want.0;
+        assert!(rt;
+            taken(2, [5, 3, 0], 9, step) == left(8, want),
+            "back to {after}"
+        );
+        assert!(rt;
+            taken(2, [5, 3, 0], 0, step).is_none(),
+            "no tick, back to {after}"
+        );
     }
     let tops = taken(3, [2, 9, 5], 9, Step::KeepTops(SUBTRACT, I64, 0));
     assert!(rt; tops == left(9, (10, 1, 4, 9, 5)));
+    let masked = taken(1, [5, 3, 0], 9, Step::MaskXorU32(0, 0, 4));
+    assert!(rt; masked == left(9, (12, 2, 5, 1, 0)));
+    assert!(rt;
+        taken(2, [5, 3, 0], 9, Step::MaskXorU32(1, 0, 2)).is_none(),
+        "no room"
+    );
     assert!(rt; taken(4, [2, 9, 5], 9, Step::Push(4)).is_none(), "no room");
     for step in LEFT {
-        assert!(rt; taken(2, [5, 3, 0], 9, step).is_none(), "{step:?}");
+        assert!(rt; taken(2, [5, 3, 0], 9, step).is_none());
     }
 }
 
@@ -170,12 +193,168 @@ const STEPS: [(usize, Option<Step>); 10] = [
     (12, None),
 ];
 
+/// `c.set(n + 1); c.set(3); return n;` where `set` is a method of the host
+const ASKING: &[Instruction] = &[
+    Load(0),
+    Load(2),
+    PushBits(1),
+    Do(Operation::Work(ADD, I64)),
+    Do(Operation::Ask(EntityNo(7))),
+    Drop,
+    Load(0),
+    PushBits(3),
+    Do(Operation::Ask(EntityNo(7))),
+    Drop,
+    Load(1),
+    Return(2),
+];
+
+/// A host call whose operands are pushed one after the other begins where the first of them is loaded.
+const ASKED: [(usize, Option<Step>); 6] = [
+    (0, Some(Step::Load(0))),
+    (1, Some(Step::AddConstant64(2, 1))),
+    (4, Some(Step::Other)),
+    (6, Some(Step::Ask(2))),
+    (7, Some(Step::Push(3))),
+    (10, Some(Step::Load(1))),
+];
+
+/// A change of a `uint` by `^`.
+const DIFFER: Change = Change {
+    work: Arithmetic::Xor,
+    at: Prim::U32,
+    to: Prim::U32,
+    old: false,
+};
+
+/// Two operators that stand together, and values that are given up at a loop's end, one after the other.
+const PAIRED: &[Instruction] = &[
+    Load(1),
+    Load(1),
+    Do(Operation::Work(Arithmetic::Multiply, I64)),
+    PushBits(16),
+    Do(Operation::Work(Arithmetic::ShiftSigned, I64)),
+    Load(1),
+    Load(1),
+    Do(Operation::Work(ADD, I64)),
+    PushBits(9),
+    Do(Operation::Compare(Comparison::Greater, true)),
+    SkipIfFalse(4),
+    Load(1),
+    Load(1),
+    Do(Operation::Work(SUBTRACT, I64)),
+    Load(2),
+    Do(Operation::Work(ADD, I64)),
+    Store(0),
+    Drop,
+    Load(1),
+    Load(1),
+    Do(Operation::Work(Arithmetic::Multiply, Prim::I32)),
+    Load(2),
+    Do(Operation::Compare(Comparison::LessEqual, true)),
+    SkipIfFalse(4),
+    Load(1),
+    Load(1),
+    Do(Operation::Work(Arithmetic::Remainder, Prim::I32)),
+    PushBits(0),
+    Do(Operation::Compare(Comparison::Equal, true)),
+    SkipIfFalse(4),
+    Load(1),
+    Load(1),
+    PushBits(255),
+    Do(Operation::Work(Arithmetic::And, Prim::U32)),
+    Do(Operation::Work(Arithmetic::Xor, Prim::U32)),
+    Load(1),
+    PushBits(15),
+    Do(Operation::Work(Arithmetic::ShiftRight, Prim::U32)),
+    Changed(DIFFER, 0),
+    Drop,
+    Load(1),
+    Load(1),
+    Do(Operation::Work(Arithmetic::Xor, Prim::I32)),
+    Do(Operation::Convert(I64)),
+    Changed(LATER, 0),
+    Drop,
+    Leave(2),
+    Back(9),
+    Leave(3),
+    Back(9),
+];
+
+/// Each of them is one step. Three values and more are given up alone.
+const PAIRS: [(usize, Option<Step>); 10] = [
+    (0, Some(Step::MultiplyShift64(1, 0, 16))),
+    (5, Some(Step::AddTestGreater64(1, 0, 9, 4))),
+    (11, Some(Step::SubtractAddKeep64(1, 0, 1, 0))),
+    (18, Some(Step::MultiplyTestLessEqual32(1, 0, 1, 4))),
+    (24, Some(Step::RemainderTestEqual32(1, 0, 0, 4))),
+    (30, Some(Step::MaskXorU32(1, 0, 255))),
+    (35, Some(Step::ShiftXorToLocalU32(false, 0, 1, 15))),
+    (40, Some(Step::XorAddToLocal64(true, 0, 1, 0))),
+    (46, Some(Step::LeaveBack(2, 9))),
+    (48, Some(Step::Other)),
+];
+
+/// What a step comes to where 9, 7, 5 and 3 are in use, and there is room for four values more.
+fn ends(step: Step) -> Option<After> {
+    let mut stack = [
+        Slot::Bits(9),
+        Slot::Bits(7),
+        Slot::Bits(5),
+        Slot::Bits(3),
+        Slot::Bits(0),
+        Slot::Bits(0),
+        Slot::Bits(0),
+        Slot::Bits(0),
+    ];
+    let here = Place {
+        at: 20,
+        top: 4,
+        ticks: 9,
+    };
+    let place = take(&mut stack, here, 8, &step)?;
+    Some(After {
+        place,
+        first: stack[2],
+        second: stack[3],
+        third: stack[4],
+    })
+}
+
+/// Whether two steps do the same, or are left to the run in the same way.
+fn is_same(step: Step, wanted: Step) -> bool {
+    match (step, wanted) {
+        (Step::Other, Step::Other) => true,
+        (Step::Ask(count), Step::Ask(other)) => count == other,
+        (Step::Push(number), Step::Push(other)) => number == other,
+        _ => match ends(wanted) {
+            Some(after) => ends(step) == Some(after),
+            None => false,
+        },
+    }
+}
+
+/// Whether that step stands there, or none does.
+fn stands(step: Option<Step>, wanted: Option<Step>) -> bool {
+    match (step, wanted) {
+        (Some(step), Some(wanted)) => is_same(step, wanted),
+        (None, None) => true,
+        _ => false,
+    }
+}
+
 /// The first of the places at which another step stands.
-fn first_other(alloc: Global) -> Result<Option<usize>, AllocError> {
-    let steps = fuse(alloc, COUNTING)?;
-    for (at, step) in STEPS {
-        if steps.get(at).copied() != step {
-            return Ok(Some(at));
+fn first_other(
+    alloc: Global,
+    text: &[Instruction],
+    wanted: &[(usize, Option<Step>)],
+) -> Result<Option<usize>, AllocError>
+    requires few { length text.now < 2 ^ 63 }
+{
+    let steps = fuse(alloc, text)?;
+    for (at, step) in wanted {
+        if !stands(steps.get(*at).copied(), *step) {
+            return Ok(Some(*at));
         }
     }
     Ok(None)
@@ -184,6 +363,8 @@ fn first_other(alloc: Global) -> Result<Option<usize>, AllocError> {
 /// A place inside what is done at once has a step of its own.
 #[test]
 fn each_place_has_its_step(rt: HostRuntime) -> Result<(), AllocError> {
-    assert_eq!(rt; first_other(rt.alloc())?, None);
+    assert_eq!(rt; first_other(rt.alloc(), COUNTING, &STEPS)?, None);
+    assert_eq!(rt; first_other(rt.alloc(), ASKING, &ASKED)?, None);
+    assert_eq!(rt; first_other(rt.alloc(), PAIRED, &PAIRS)?, None);
     Ok(())
 }

@@ -269,7 +269,7 @@ fn faults_have_their_places(rt: HostRuntime) {
     }
 }
 
-/// Tokens of section 7 behind a mark of the bytes' order, a comment, a CR, an LF and a tab: their first and last bytes,
+/// Tokens of section 7 after a mark of the bytes' order, a comment, a CR, an LF and a tab: their first and last bytes,
 /// their lines and columns.
 const PLACES: [(u32, u32, u32, u32); 3] = [(3, 4, 1, 4), (13, 14, 2, 2), (20, 21, 2, 9)];
 
@@ -345,7 +345,7 @@ fn the_longest_token_is_taken(rt: HostRuntime) {
     }
 }
 
-/// `before`, a byte so many times, and `behind`.
+/// `before`, a byte `count` times, and `behind`.
 fn run(
     alloc: Global,
     before: &[u8],
@@ -362,7 +362,7 @@ fn run(
     Ok(text)
 }
 
-/// What stands in front of a run of one byte and behind it, the byte, how often it stands there, and what is wanted.
+/// What stands in front of a run of one byte and after it, the byte, how often it stands there, and what is wanted.
 type Run = (&'static [u8], &'static [u8], u8, usize, Want);
 
 fn run_is_so(alloc: Global, row: Run) -> bool {
@@ -374,7 +374,7 @@ fn run_is_so(alloc: Global, row: Run) -> bool {
 }
 
 const RUNS: [Run; 10] = [
-    // a token's bytes behind `int `
+    // a token's bytes after `int `
     (b"int ", b";", b'a', 255, Want::Tokens(3)),
     (b"int ", b";", b'a', 256, Want::Fault(Why::TooLong, 1, 5)),
     (b"int ", b";", b'0', 255, Want::Tokens(3)),
@@ -426,7 +426,7 @@ fn numbers_have_types_and_values(rt: HostRuntime) {
     }
 }
 
-/// Whether a name of so many bytes is one.
+/// Whether a name of `length` bytes is one.
 fn is_long_name(alloc: Global, length: usize) -> Option<bool> {
     match &run(alloc, b"", b'a', length, b"") {
         Ok(name) => Some(is_name(name)),

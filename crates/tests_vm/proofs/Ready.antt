@@ -1,4 +1,4 @@
--- A machine of the tests may run code, before its first run and behind each that was not lost.
+-- A machine of the tests may run code, before its first run and after each that was not lost.
 use Rattle.std.proofs.Common.{◌≡◌, ◌≢◌, ◌<◌, ℕ, zero, suc, List, [], ◌∷◌, refl, sym, ap, ◌∙◌, subst, inl, inr, Bool, true, false, Option, Some, None, Result, Ok, Err, length, arith}
 use Rattle.std.proofs.lemmas.Bool.{ltb-true}
 use Rattle.std.specs.Prelude.{◌&&◌, ltb, slice_get, Vec, map as list_map}
@@ -108,7 +108,7 @@ empty_globals x (v ∷ gs) h =
       empty_globals x gs (both_right (list_all names_nothing v.items) (list_all (λ v. list_all names_nothing v.items) gs) h),
     )
 
--- ---- behind a run
+-- ---- after a run
 
 module _ (z : Setting) (code : Texts) (g : Routine) where
   end_counted : (budget : ℕ) (vs : List Slot) (w w' : World) (result : Result Slot Fault) → IsCounted vs w → HasCalled z code (λ is. call_begins z code budget g vs (with_inputs is w)) result w'

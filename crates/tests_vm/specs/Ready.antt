@@ -11,7 +11,7 @@ use Rattle.ang_heap.specs.Stores.{world_of, IsReady}
 use Rattle.ang_vm.specs.declared.machines.Machine.{Machine}
 use Rattle.ang_vm.specs.Machines.{lent}
 
--- the driver of an entity that a module sees is one of so many
+-- the driver of an entity that a module sees is one of the first `count`
 abbrev pub is_below : ℕ → Option HostUse → Bool
 is_below count None = true
 is_below count (Some u) = ltb u.driver count

@@ -1,9 +1,10 @@
 //! Runs of code, beside what they are to give and to list.
-use crate::program::table;
 use crate::runs::Turn::{Call, Faults, Gives, Initializes};
 use crate::runs::{Case, Turn, wrong_in};
 use ang_kinds::Fault;
 use std::test::Fail;
+use tests_vm_programs::list;
+use tests_vm_programs::program::table;
 
 const A: u32 = 1;
 
@@ -34,7 +35,7 @@ const TURNS: &[Turn] = list! {
     Faults(0, Fault::Null),
 };
 
-/// The runs are of one machine, one behind the other.
+/// The runs are of one machine, one after the other.
 const CASE: Case = (
     "numbers",
     0,
@@ -84,7 +85,7 @@ const HOST_OBJECTS: &[Case] = list! {
     ("a global", A, &[Gives(14, 0), Gives(15, 1), Gives(16, 0), Gives(17, 0)],
         "host a 7 2 - (1) made #0 / host a 9 2 #0 () 1 / host a 7 2 - (2) made #1 / \
         end 2 #0 / host a 12 0 - (7) void / end 2 #1"),
-    ("a global behind a fault", A, &[Faults(18, Fault::Host(9)), Gives(17, 0)],
+    ("a global after a fault", A, &[Faults(18, Fault::Host(9)), Gives(17, 0)],
         "host a 7 2 - (1) made #0 / host a 14 0 - (9) fault 9 / end 2 #0"),
     ("too deep", A, &[Faults(20, Fault::Depth)],
         "host a 7 2 - (1) made #0 / end 2 #0"),
@@ -112,7 +113,7 @@ const HOST_OBJECTS: &[Case] = list! {
 const SCRIPT_OBJECTS: &[Case] = list! {
     ("fields of a base class", C, &[Gives(2, 0)],
         "host c 7 2 - (1) made #0 / host c 7 2 - (2) made #1 / end 2 #0 / end 2 #1"),
-    ("a receiver behind its global", C, &[Initializes(8, 10, Ok(9)), Gives(9, 5)],
+    ("a receiver that outlives its global", C, &[Initializes(8, 10, Ok(9)), Gives(9, 5)],
         "host c 2 1 - (5) made #0 / host c 4 1 #0 () 5 / end 1 #0"),
     ("a half-made object", C, &[Faults(11, Fault::DivideByZero)],
         "host c 7 2 - (1) made #0 / end 2 #0"),
@@ -139,7 +140,7 @@ const SCRIPT_OBJECTS: &[Case] = list! {
         "host c 7 2 - (1) made #0 / end 2 #0"),
     ("no method", C, &[Faults(22, Fault::Unbound)],
         "host c 7 2 - (1) made #0 / end 2 #0"),
-    ("a global behind a fault", C, &[Gives(23, 0), Faults(24, Fault::DivideByZero), Gives(26, 0)],
+    ("a global after a fault", C, &[Gives(23, 0), Faults(24, Fault::DivideByZero), Gives(26, 0)],
         "host c 7 2 - (1) made #0 / host c 7 2 - (2) made #1 / host c 9 2 #0 () 1 / \
         end 2 #1 / end 2 #0"),
     ("a field stored again", C, &[Gives(27, 0)],

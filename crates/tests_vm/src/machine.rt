@@ -12,7 +12,6 @@ ghost use Rattle.ang_vm.specs.Machines.{lent};
 ghost use Rattle.ang_vm_ask.specs.Entities.{DriversThere};
 ghost use Rattle.tests_vm.specs.Ready.{is_below, names_nothing, MayBegin};
 
-use crate::program::first_globals;
 use ang_drivers::{Cell, Console, Counter};
 use ang_heap::{Globals, Heap, Store};
 use ang_host::{Driver, Drivers, HostEvent};
@@ -21,8 +20,9 @@ use ang_meaning::{HostUse, Routine, Slot};
 use ang_vm::{Machine, run, run_initializer};
 use ang_vm_stack::table::{ModuleCode, Table};
 use std::alloc::{AllocError, Global};
+use tests_vm_programs::program::first_globals;
 
-/// Whether an entity's driver is one of so many.
+/// Whether an entity's driver is one of the first `count`.
 fn has_driver(entity: &Option<HostUse>, count: usize) -> bool
     ensures exact { result ≡ is_below count entity.now }
 {
@@ -48,7 +48,7 @@ fn have_drivers(table: &Table, count: usize) -> bool
         .all(|module| has_drivers(module, count))
 }
 
-/// Whether the driver of each entity of a table is one of so many.
+/// Whether the driver of each entity of a table is one of the first `count`.
 fn drivers_are_there(table: &Table, count: usize) -> bool
     ensures there { IsTrue result → DriversThere table.now count }
 {

@@ -1,10 +1,9 @@
-//! Runs on one machine, one behind the other: what each gives, what the host was asked, and what lives then.
+//! Runs on one machine, one after the other: what each gives, what the host was asked, and what lives then.
 ghost use Rattle.std.specs.Prelude.{◌≡◌, ◌≢◌, Err};
 ghost use Rattle.ang_kinds.specs.declared.fault.Fault.TheVariants.{Null as NullFault};
 ghost use Rattle.tests_vm.specs.Ready.{MayBegin};
 ghost use Rattle.tests_vm.specs.declared.runs.Verdict as Verdict;
 
-use crate::listed::{first_other, live_behind};
 use crate::machine::{call, end, initialize, with_drivers};
 use ang_host::{Driver, HostEvent};
 use ang_kinds::Fault;
@@ -12,6 +11,7 @@ use ang_meaning::Routine;
 use ang_vm::Machine;
 use ang_vm_stack::table::Table;
 use std::alloc::{AllocError, Global};
+use tests_vm_programs::listed::{first_other, live_after};
 
 /// A run of a body with a budget, and what it gives.
 #[derive(Clone, Copy)]
@@ -26,7 +26,7 @@ pub enum Turn {
     Initializes(u32, u64, Result<u64, Fault>),
 }
 
-/// Its name, the module's number, turns on a new machine, and all that is listed then. Behind the last turn no global
+/// Its name, the module's number, turns on a new machine, and all that is listed then. After the last turn no global
 /// holds an object.
 pub type Case = (&'static str, u32, &'static [Turn], &'static str);
 
@@ -35,11 +35,11 @@ pub type Case = (&'static str, u32, &'static [Turn], &'static str);
 pub enum Wrong {
     /// The turn of that number gives something else.
     Turn(usize),
-    /// Behind that turn other objects live than the events say.
+    /// After that turn other objects live than the events say.
     Level(usize),
     /// From that byte on something else is listed.
     Listed(usize),
-    /// Behind the last turn something lives.
+    /// After the last turn something lives.
     Left,
     /// There is no machine.
     Machine,
@@ -145,7 +145,7 @@ fn live_of(machine: &Machine, driver: u32, events: &[HostEvent]) -> Option<usize
     if driver as usize >= machine.store.drivers.len() {
         return None;
     }
-    let live = live_behind(events, driver)?;
+    let live = live_after(events, driver)?;
     (machine.store.drivers.idle(driver) == (live == 0)).then_some(live)
 }
 
@@ -192,7 +192,7 @@ fn is_left(machine: &Machine) -> bool {
     machine.store.live > 0 || !machine.store.heap.is_empty()
 }
 
-/// What is wrong with a case: with its turns, with what lives behind them, or with what is listed. With each growth
+/// What is wrong with a case: with its turns, with what lives after them, or with what is listed. With each growth
 /// of memory refused in turn, a run may find none, and the next one does; nothing is said of what is listed then.
 pub fn wrong_in(alloc: Global, table: &Table, case: &Case) -> Result<Option<Wrong>, AllocError> {
     let Some(mut machine) = with_drivers(alloc)? else {

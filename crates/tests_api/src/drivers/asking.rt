@@ -1,9 +1,9 @@
-//! Askings without objects, as rows of a test: what they ask for is no part of the row's proof.
+//! Host calls without objects, as rows of a test: what they ask for is no part of the row's proof.
 
 use ang_host::{Answer, Driver, Made};
 use ang_kinds::Value;
 
-/// An asking of the function or property of that number.
+/// A host call of the function or property of that number.
 #[derive(Clone, Copy)]
 pub enum Asking {
     /// A call without arguments.
@@ -71,7 +71,7 @@ fn answer<D: Driver>(driver: &mut D, asking: &Asking) -> Option<Answer> {
     reached(driver, asking)
 }
 
-/// The place of the first asking that is answered otherwise.
+/// The place of the first host call that is answered otherwise.
 pub fn first_wrong<D: Driver>(driver: &mut D, rows: &[(Asking, Answer)]) -> Option<usize> {
     for (at, (asking, want)) in rows.iter().enumerate() {
         if answer(driver, asking) != Some(*want) {
@@ -81,7 +81,7 @@ pub fn first_wrong<D: Driver>(driver: &mut D, rows: &[(Asking, Answer)]) -> Opti
     None
 }
 
-/// An asking for a new object from the factory of that number.
+/// A host call for a new object from the factory of that number.
 #[derive(Clone, Copy)]
 pub enum Making {
     Bare(u32),

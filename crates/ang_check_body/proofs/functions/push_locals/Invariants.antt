@@ -4,5 +4,5 @@ use Rattle.ang_check_body.proofs.functions.push_locals.Given as goal
 
 abbrev pub invariant-loop-param : goal.invariant-loop-param
 invariant-loop-param l =
-    l.initial.locals.items ++ list_map parameter_local l.params
-    ≡ l.locals.items ++ list_map parameter_local (drop l.param-index l.params)
+    l.initial.locals ++ list_map parameter_local l.params
+    ≡ l.locals ++ list_map parameter_local (drop l.param-index l.params)

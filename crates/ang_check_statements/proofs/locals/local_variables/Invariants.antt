@@ -7,8 +7,8 @@ use Rattle.ang_check_statements.proofs.locals.local_variables.Given as goal
 
 abbrev pub invariant-loop-variable : goal.invariant-loop-variable
 invariant-loop-variable l = record {
-  left : each_local l.frame l.start l.initial.locals.items l.variables.declared_type l.ty (list_map view_var l.variables.items.items)
+  left : each_local l.frame l.start l.initial.locals l.variables.declared_type l.ty (list_map view_var l.variables.items.items)
       ≡ locals_behind (list_map view_local l.found.items)
-      (each_local l.frame l.start l.locals.items l.variables.declared_type l.ty (list_map view_var (drop l.variable-index l.variables.items.items)));
-  kept : Keeps l.initial.locals.items l.locals.items;
+      (each_local l.frame l.start l.locals l.variables.declared_type l.ty (list_map view_var (drop l.variable-index l.variables.items.items)));
+  kept : Keeps l.initial.locals l.locals;
 }

@@ -61,10 +61,10 @@ jumped f loop start ps w word x s y r e g h k =
 
 pub statements-loop-item-preserved : goal.statements-loop-item-preserved
 statements-loop-item-preserved t c =
-    let turn = statements_turn c.args.frame.now c.args.in_loop c.args.start c.loop-item.locals.items c.statement.new.locals.items _
+    let turn = statements_turn c.args.frame.now c.args.in_loop c.args.start c.loop-item.locals c.statement.new.locals _
     (list_map typed.view_stmt c.loop-item.found.items) (typed.view_stmt c.in_ok-typed.typed) c.args.written.now c.loop-item.item-index c.item-item.result
     c.loop-item.invariant.left c.loop-item-test.true c.item-item.is c.in_ok-typed.ensures.exact in
-    let rest = stmts_typing c.args.frame.now c.args.in_loop c.args.start c.statement.new.locals.items
+    let rest = stmts_typing c.args.frame.now c.args.in_loop c.args.start c.statement.new.locals
     (trees.view_stmts (drop (c.loop-item.item-index + 1) c.args.written.now)) in
     record {
       left = turn ∙ ap (λ (xs : List tree.Stmt). stmts_behind xs rest) (sym c.in_ok-found.ensures.exact);
@@ -73,7 +73,7 @@ statements-loop-item-preserved t c =
 
 pub statements-returns-clause-exact : goal.statements-returns-clause-exact
 statements-returns-clause-exact t c =
-    let whole = statements_end c.args.frame.now c.args.in_loop c.args.start c.loop-item.locals.items _
+    let whole = statements_end c.args.frame.now c.args.in_loop c.args.start c.loop-item.locals _
     (list_map typed.view_stmt c.loop-item.found.items) c.args.written.now c.loop-item.item-index c.loop-item.invariant.left c.loop-item-test.false in
     whole ∙ ap (λ (ss : tree.Stmts). Ok ss)
     (sym (blocks.fold-roll-Block tree.Stmt tree.Stmts tree.Stmt tree.Stmt typed.Repeated
@@ -81,7 +81,7 @@ statements-returns-clause-exact t c =
 
 pub statement-returns-in-Break : goal.statement-returns-in-Break
 statement-returns-in-Break t c =
-    let ps = c.args.locals.now.items in
+    let ps = c.args.locals.now in
     let x = c.in-Break.found in
     let same : c.deref-in-Break.result.now ≡ x.value = search rules in
     let given : GivesOrHalts typed.view_stmt c.jump.result (jump c.args.in_loop x.value.word (typed.view_stmt to.Break)) =
@@ -94,7 +94,7 @@ statement-returns-in-Break t c =
 
 pub statement-returns-in-Continue : goal.statement-returns-in-Continue
 statement-returns-in-Continue t c =
-    let ps = c.args.locals.now.items in
+    let ps = c.args.locals.now in
     let x = c.in-Continue.found in
     let same : c.deref-in-Continue.result.now ≡ x.value = search rules in
     let given : GivesOrHalts typed.view_stmt c.jump-in-Continue.result (jump c.args.in_loop x.value.word (typed.view_stmt to.Continue)) =

@@ -7,8 +7,8 @@ use Rattle.ang_check_statements.proofs.statements.+statement.Given as goal
 
 abbrev pub invariant-statements-loop-item : goal.invariant-statements-loop-item
 invariant-statements-loop-item l = record {
-  left : stmts_typing l.frame l.in_loop l.start l.initial.locals.items (trees.view_stmts l.written)
+  left : stmts_typing l.frame l.in_loop l.start l.initial.locals (trees.view_stmts l.written)
       ≡ stmts_behind (list_map view_stmt l.found.items)
-      (stmts_typing l.frame l.in_loop l.start l.locals.items (trees.view_stmts (drop l.item-index l.written)));
-  kept : Keeps l.initial.locals.items l.locals.items;
+      (stmts_typing l.frame l.in_loop l.start l.locals (trees.view_stmts (drop l.item-index l.written)));
+  kept : Keeps l.initial.locals l.locals;
 }

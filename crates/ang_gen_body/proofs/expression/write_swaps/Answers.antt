@@ -5,9 +5,9 @@ use Rattle.ang_gen_body.proofs.expression.write_swaps.Goals as goal
 
 pub loop-target-preserved : goal.loop-target-preserved
 loop-target-preserved c =
-    swaps_turn_at c.args.base c.loop-target.under c.in_ok-under.under c.loop-target.target-index c.args.targets.now _ c.loop-target.text c.put.new.self
+    swaps_turn_at c.args.base c.loop-target.under c.in_ok-next.next c.loop-target.target-index c.args.targets.now _ c.loop-target.text c.put.new.self
     (swaps_code 1 c.args.base c.args.targets.now ++ c.args.text.now) c.loop-target-test.true c.loop-target.invariant
-    (c.in_ok-put.ensures.before ∙ ap (λ j. j ∷ c.loop-target.text) c.in_ok-instruction.ensures.exact) c.in_ok-under.ensures.exact
+    (c.in_ok-put.ensures.before ∙ ap (λ j. j ∷ c.loop-target.text) c.in_ok-instruction.ensures.exact) c.in_ok-next.ensures.exact
 
 pub returns : goal.returns
 returns c =

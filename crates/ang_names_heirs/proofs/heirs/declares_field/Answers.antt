@@ -1,6 +1,5 @@
 use Rattle.std.specs.Prelude.{bytes_eq, slice_get}
 use Rattle.std.specs.List.{list_any}
-use Rattle.std.proofs.Common.{ap, ◌∙◌}
 use Rattle.ang_names_known.specs.declared.names.Field.{Field}
 use Rattle.ang_names_known.specs.Lookup.{fields_in}
 use Rattle.ang_names_heirs.specs.Rows.{field_row, is_at}
@@ -12,10 +11,9 @@ returns c =
     let name = c.args.name.now in
     let fields = c.fields_of-fields.result.now in
     let row = c.field_row.result.now in
-    let given = c.has_field_at.ensures.exact ∙ ap (λ b. list_any (λ n. is_at (λ (x : Field). bytes_eq x.name b) (slice_get fields n)) row) c.bytes.ensures.same in
     record {
       exact = looked_up fields_in (field_row name) (λ xs at. list_any (λ n. is_at (λ (x : Field). bytes_eq x.name name) (slice_get xs n)) at)
           (λ xs. list_any (λ (x : Field). bytes_eq x.name name) xs) (λ xs. field_in_row xs name)
           c.args.families.now c.families.result.now c.args.number fields row c.has_field_at.result
-          c.families.ensures.same c.fields_of-fields.ensures.exact c.field_row.ensures.exact given;
+          c.families.ensures.same c.fields_of-fields.ensures.exact c.field_row.ensures.exact c.has_field_at.ensures.exact;
     }

@@ -1,6 +1,5 @@
 use Rattle.std.specs.Prelude.{bytes_eq, slice_get}
 use Rattle.std.specs.List.{list_any}
-use Rattle.std.proofs.Common.{ap, ◌∙◌}
 use Rattle.ang_names_known.specs.declared.names.Method.{Method}
 use Rattle.ang_names_heirs.specs.ByNumber.{methods_in}
 use Rattle.ang_names_heirs.specs.Rows.{is_at, method_row}
@@ -12,10 +11,9 @@ returns c =
     let name = c.args.name.now in
     let methods = c.methods_of-methods.result.now in
     let row = c.method_row.result.now in
-    let given = c.has_method_at.ensures.exact ∙ ap (λ b. list_any (λ n. is_at (λ (x : Method). bytes_eq x.function.name b) (slice_get methods n)) row) c.bytes.ensures.same in
     record {
       exact = looked_up methods_in (method_row name) (λ ms at. list_any (λ n. is_at (λ (x : Method). bytes_eq x.function.name name) (slice_get ms n)) at)
           (λ ms. list_any (λ (x : Method). bytes_eq x.function.name name) ms) (λ ms. method_in_row ms name)
           c.args.families.now c.families.result.now c.args.number methods row c.has_method_at.result
-          c.families.ensures.same c.methods_of-methods.ensures.exact c.method_row.ensures.exact given;
+          c.families.ensures.same c.methods_of-methods.ensures.exact c.method_row.ensures.exact c.has_method_at.ensures.exact;
     }

@@ -1,4 +1,4 @@
-use Rattle.ang_names_resolved.specs.Resolved.{is_base}
+use Rattle.ang_names_tables.specs.Hierarchy.{is_base}
 use Rattle.ang_names_resolved.proofs.families.base_of.Goals as goal
 
 pub returns : goal.returns

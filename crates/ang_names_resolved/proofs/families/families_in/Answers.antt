@@ -1,6 +1,6 @@
 use Rattle.std.specs.Prelude.{[], ◌∷◌, ◌++◌}
 use Rattle.std.proofs.Common.{ap, ◌∙◌}
-use Rattle.ang_names_resolved.specs.Resolved.{signatures_of}
+use Rattle.ang_names_tables.specs.Headings.{signatures_of}
 use Rattle.ang_names_resolved.proofs.Numbered.{body_of_next, next_families}
 use Rattle.ang_names_resolved.proofs.families.families_in.Goals as goal
 

@@ -1,7 +1,8 @@
 use Rattle.std.proofs.Common.{◌≡◌, ◌+◌, [], length, take}
 use Rattle.std.specs.List.{flat_map}
 use Rattle.ang_names_known.specs.Items.{each_after}
-use Rattle.ang_names_resolved.specs.Resolved.{body_members, families_after, signatures_of}
+use Rattle.ang_names_tables.specs.Headings.{signatures_of}
+use Rattle.ang_names_resolved.specs.Resolved.{body_members, families_after}
 use Rattle.ang_names_resolved.proofs.families.families_in.Given as goal
 
 abbrev pub invariant-loop-number : goal.invariant-loop-number

@@ -3,7 +3,8 @@ use Rattle.std.proofs.Common.{rules, ap, ◌∙◌}
 use Rattle.ang_names_known.specs.Items.{each_after}
 use Rattle.ang_names_heritage.specs.Graphs.{above, order_of, reach_of}
 use Rattle.ang_names_listed.specs.Declarations.{family_name}
-use Rattle.ang_names_resolved.specs.Resolved.{fields_after, first_below, gives_members, holds, is_base, is_parent, methods_after}
+use Rattle.ang_names_tables.specs.Hierarchy.{holds, is_base, is_parent}
+use Rattle.ang_names_resolved.specs.Resolved.{fields_after, first_below, gives_members, methods_after}
 use Rattle.ang_names_resolved.proofs.families.family_with.Goals as goal
 
 pub returns : goal.returns

@@ -1,6 +1,6 @@
 use Rattle.std.proofs.Common.{◌≡◌, ◌+◌, length, drop}
 use Rattle.ang_names_known.specs.Spaces.{Space}
-use Rattle.ang_names_resolved.specs.Resolved.{field_types_at}
+use Rattle.ang_names_tables.specs.Hierarchy.{field_types_at}
 use Rattle.ang_names_resolved.proofs.families.field_counts.Given as goal
 
 abbrev pub invariant-loop-place : goal.invariant-loop-place

@@ -2,7 +2,8 @@ use Rattle.std.proofs.Common.{◌≡◌, ◌+◌, [], length, take}
 use Rattle.std.specs.List.{filter_map}
 use Rattle.ang_names_known.specs.Items.{each_after}
 use Rattle.ang_names_listed.specs.declared.listed.Member.{Member}
-use Rattle.ang_names_resolved.specs.Resolved.{field_type, fields_after}
+use Rattle.ang_names_tables.specs.Hierarchy.{field_type}
+use Rattle.ang_names_resolved.specs.Resolved.{fields_after}
 use Rattle.ang_names_resolved.proofs.members.fields_of.Given as goal
 
 abbrev pub invariant-loop-member : goal.invariant-loop-member

@@ -1,7 +1,7 @@
 use Rattle.std.specs.Prelude.{◌≡◌}
 use Rattle.std.proofs.Common.{rules}
 use Rattle.ang_names_listed.specs.declared.listed.MemberKind.TheVariants as member
-use Rattle.ang_names_resolved.specs.Resolved.{heading_of}
+use Rattle.ang_names_tables.specs.Headings.{heading_of}
 use Rattle.ang_names_resolved.proofs.Numbered.{one_method}
 use Rattle.ang_names_resolved.proofs.members.push_method.Goals as goal
 
@@ -15,5 +15,5 @@ returns-in_ok-push-in-Method c =
     record {
       pushed =
           one_method E c.args.signatures.now d m c.args.body c.in-Method.result c.in-Method.params c.in-Method.attributes m.kind c.in_ok-function-in-Method.function
-          c.method_with.result c.args.found.now.items c.push.new.self.items kind heading c.method_with.ensures.exact c.in_ok-push-in-Method.ensures.items;
+          c.in_ok-method-in-Method.method c.args.found.now.items c.push.new.self.items kind heading c.in_ok-method-in-Method.ensures.exact c.in_ok-push-in-Method.ensures.items;
     }

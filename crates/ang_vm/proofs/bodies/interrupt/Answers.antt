@@ -6,7 +6,7 @@ use Rattle.ang_heap.specs.Stores.{world_of}
 use Rattle.ang_heap.proofs.Storing.{moves_none}
 use Rattle.ang_vm_stack.specs.Stacks.{values}
 use Rattle.ang_vm_steps.specs.Turns.{IfFaults, paused}
-use Rattle.ang_vm.specs.Crossings.{pause_by}
+use Rattle.ang_vm_body.specs.Crossings.{pause_by}
 use Rattle.ang_vm.proofs.bodies.interrupt.Goals as goal
 
 pub fail-requires : goal.fail-requires

@@ -6,10 +6,10 @@ use Rattle.std.specs.Prelude.{reverse}
 use Rattle.ang_heap.specs.Stores.{world_of}
 use Rattle.ang_vm_stack.specs.Stacks.{values}
 use Rattle.ang_vm.specs.Legs.{standing_in}
-use Rattle.ang_vm.specs.Crossings.{pause_of, pause_by}
+use Rattle.ang_vm_body.specs.Crossings.{pause_of, pause_by}
 use Rattle.ang_vm.proofs.Counting.{enters_counted, returns_counted, interrupted_held}
 use Rattle.ang_vm.proofs.Going.{pauses_at}
-use Rattle.ang_vm.proofs.Moving.{moved_by, moved_then}
+use Rattle.ang_vm_body.proofs.Moving.{moved_by, moved_then}
 use Rattle.ang_vm.proofs.Running.{entered, not_entered, left_led, halted, fits_at}
 use Rattle.ang_vm.proofs.bodies.leg.Goals as goal
 

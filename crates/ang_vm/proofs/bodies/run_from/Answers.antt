@@ -4,7 +4,7 @@ use Rattle.ang_vm_stack.specs.Tables.{body_of, setting_of, texts_of}
 use Rattle.ang_vm_steps.proofs.Paths.{reach_same, reach_then, lead_reach}
 use Rattle.ang_vm.proofs.Counting.{leg_counted}
 use Rattle.ang_vm.proofs.Going.{none_there, lost_nowhere}
-use Rattle.ang_vm.proofs.Moving.{moved_none, moved_then, may_go_on}
+use Rattle.ang_vm_body.proofs.Moving.{moved_none, moved_then, may_go_on}
 use Rattle.ang_vm.proofs.Running.{leg_lighter}
 use Rattle.ang_vm.proofs.bodies.run_from.Goals as goal
 

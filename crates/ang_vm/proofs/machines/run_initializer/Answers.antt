@@ -1,13 +1,13 @@
-use Rattle.std.proofs.Common.{[], refl, sym, subst, ap, ◌∙◌}
-use Rattle.std.specs.Prelude.{length, reverse}
+use Rattle.std.proofs.Common.{[], sym, subst, ap, ◌∙◌}
+use Rattle.std.specs.Prelude.{length}
 use Rattle.ang_host.specs.Boxes.{members}
 use Rattle.ang_meaning.specs.World.{with_inputs}
-use Rattle.ang_code.specs.Machine.{call_begins, initializer_begins}
+use Rattle.ang_code.specs.Machine.{initializer_begins}
 use Rattle.ang_heap.specs.Stores.{world_of, IsReady, StoreMoves}
 use Rattle.ang_vm_stack.specs.Tables.{setting_of, texts_of}
 use Rattle.ang_meaning.specs.Counting.{IsCounted}
 use Rattle.ang_vm.specs.Machines.{lent, IsLost, HasInitialized}
-use Rattle.ang_vm.specs.Running.{MayRun, RunMoves}
+use Rattle.ang_vm_body.specs.Running.{MayRun, RunMoves}
 use Rattle.ang_vm.proofs.machines.run_initializer.Goals as goal
 
 pub initializer_told-ended-requires : goal.initializer_told-ended-requires

@@ -15,7 +15,7 @@ returns-in_default-entity_at-clause-told g c = λ nesting is fit count.
 
 pub perform-requires-clause-enough : goal.perform-requires-clause-enough
 perform-requires-clause-enough g c =
-    operands_can c.args.count c.args.top c.args.stack.now c.operands_at-operands.result.now (world_of (λ v. (g.dyn-1.0.entry v).1) c.args.store.now) c.operands_at-operands.ensures.exact c.requires.counted
+    operands_can c.args.count c.args.top c.args.stack.now c.operands_at-operands.result.now (world_of (λ v. (g.dyn-1.0.entry v).1) c.args.store.now) c.operands_at-operands.ensures.exact c.requires.enough
 
 pub returns-clause-told : goal.returns-clause-told
 returns-clause-told g c = λ nesting is fit count.

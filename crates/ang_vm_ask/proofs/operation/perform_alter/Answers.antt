@@ -1,4 +1,4 @@
-use Rattle.std.proofs.Common.{sym, ap, subst, ◌∙◌}
+use Rattle.std.proofs.Common.{[], sym, ap, subst, ◌∙◌}
 use Rattle.ang_host.specs.Boxes.{members}
 use Rattle.ang_host.specs.Members.{states_of}
 use Rattle.ang_heap.specs.Heaps.{objects_of}
@@ -7,11 +7,11 @@ use Rattle.ang_meaning.specs.Perform.{receiver_of}
 use Rattle.ang_vm_ask.specs.Handing.{object_in}
 use Rattle.ang_meaning.specs.Counting.{CanGive}
 use Rattle.ang_meaning.specs.Perform.{change_of}
-use Rattle.ang_meaning.proofs.Enough.{first_enough}
+use Rattle.ang_meaning.proofs.Enough.{each_none}
 use Rattle.ang_vm_ask.specs.Replies.{with_result}
 use Rattle.ang_vm_ask.proofs.Performing.{alter_performed, alter_nobody, alter_other, alter_none, alter_read, alter_unread}
 use Rattle.ang_vm_ask.proofs.Moved.{unasked, asked_then}
-use Rattle.ang_vm_ask.proofs.Live.{object_behind, kept_can}
+use Rattle.ang_vm_ask.proofs.Live.{object_behind, kept_each}
 use Rattle.ang_vm_ask.proofs.operation.perform_alter.Goals as goal
 
 pub returns-in_default : goal.returns-in_default
@@ -34,11 +34,11 @@ read-requires-clause-object_live g c = object_behind (states_of (λ v. (g.dyn-1.
 pub put_changed-requires-clause-object_live : goal.put_changed-requires-clause-object_live
 put_changed-requires-clause-object_live g c =
     object_behind (states_of (λ v. (g.dyn-1.0.entry v).1) (members c.read.new.store.drivers)) (objects_of c.read.new.store.heap) c.args.operands.now
-    (kept_can c.read.result c.args.operands.now (world_of (λ v. (g.dyn-1.0.entry v).1) c.read.new.store) (c.read.ensures.enough c.args.operands.now c.requires.enough)) c.args.host.now c.in-Ok.object (ap (λ l. object_in (receiver_of c.args.host.now l)) (sym c.behind_first.ensures.exact) ∙ sym c.in-Ok.ensures.exact)
+    (kept_each c.read.result c.args.operands.now (world_of (λ v. (g.dyn-1.0.entry v).1) c.args.store.now) (world_of (λ v. (g.dyn-1.0.entry v).1) c.read.new.store) c.read.ensures.enough c.requires.enough) c.args.host.now c.in-Ok.object (ap (λ l. object_in (receiver_of c.args.host.now l)) (sym c.behind_first.ensures.exact) ∙ sym c.in-Ok.ensures.exact)
 
 pub put_changed-requires-clause-held : goal.put_changed-requires-clause-held
 put_changed-requires-clause-held g c =
-    first_enough c.in-Ok-read.old c.args.operands.now _ _ (subst (λ r. CanGive (with_result r c.args.operands.now) (world_of (λ v. (g.dyn-1.0.entry v).1) c.read.new.store)) c.in-Ok-read.is (c.read.ensures.enough c.args.operands.now c.requires.enough))
+    subst (λ r. CanGive (with_result r []) (world_of (λ v. (g.dyn-1.0.entry v).1) c.read.new.store)) c.in-Ok-read.is (c.read.ensures.enough [] (each_none c.args.operands.now (world_of (λ v. (g.dyn-1.0.entry v).1) c.args.store.now) c.requires.enough))
 
 pub returns-in-Ok-read-clause-performed : goal.returns-in-Ok-read-clause-performed
 returns-in-Ok-read-clause-performed g c =

@@ -1,5 +1,6 @@
 use Rattle.std.proofs.Common.{[], ◌∙◌, arith}
 use Rattle.ang_meaning.proofs.Enough.{counted_enough}
+use Rattle.ang_vm_ask.proofs.Live.{some_each, counted_each}
 use Rattle.ang_heap.specs.Stores.{world_of}
 use Rattle.ang_heap.proofs.Storing.{moves_join}
 use Rattle.ang_vm_stack.specs.Stacks.{values}
@@ -8,6 +9,12 @@ use Rattle.ang_vm_stack.proofs.Values.{values_length}
 use Rattle.ang_vm_steps.proofs.Asked.{asked_well, asked_badly}
 use Rattle.ang_vm_steps.proofs.Turning.{same_count}
 use Rattle.ang_vm_steps.proofs.asks.perform_on_host.Goals as goal
+
+pub ask-requires-clause-enough : goal.ask-requires-clause-enough
+ask-requires-clause-enough g c =
+    let s = values c.args.stack.now c.args.top in
+    let w = world_of (λ v. (g.dyn-1.0.entry v).1) c.args.store.now in
+    some_each c.args.count s w (counted_each s w c.requires.counted)
 
 pub give_top-requires : goal.give_top-requires
 give_top-requires g c =

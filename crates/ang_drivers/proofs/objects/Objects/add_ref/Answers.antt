@@ -1,38 +1,27 @@
-use Rattle.std.proofs.Common.{refl, ap, arith}
+use Rattle.std.proofs.Common.{arith}
+use Rattle.ang_host.specs.State.{count_at}
 use Rattle.ang_drivers.specs.declared.objects.Counted.{Counted}
 use Rattle.ang_drivers.specs.Objects.{by_key}
-use Rattle.ang_drivers.proofs.Ledgers.{is_held, read_at, by_key-replaced, by_key-inserted, counted-added, count-bound}
+use Rattle.ang_drivers.proofs.Ledgers.{is_held, stands, counted-added, count-bound}
 use Rattle.ang_drivers.proofs.objects.Objects.add_ref.Goals as goal
 
-pub object_at-count-requires : goal.object_at-count-requires
-object_at-count-requires g c = record {
-  held = is_held (λ (o : Counted g.row.T.Denot). o.count) _ _ c.requires.held.0 c.requires.held.1;
-}
+pub count_up-requires-clause-held : goal.count_up-requires-clause-held
+count_up-requires-clause-held g c = is_held (λ (o : Counted g.row.T.Denot). o.count) _ _ c.requires.held.0 c.requires.held.1
 
-pub overflow_add-count : goal.overflow_add-count
-overflow_add-count g c =
+pub count_up-requires-clause-room : goal.count_up-requires-clause-room
+count_up-requires-clause-room g c =
     let s = c.args.self.now in
-    let bound = count-bound (by_key (λ (o : Counted g.row.T.Denot). o.count) s.live.entries) c.args.key c.object_at-count.result.count s.made s.added s.released
-    (read_at (λ (o : Counted g.row.T.Denot). o.count) _ _ _ c.object_at-count.ensures.exact) (record { sums = s.sums; positive = s.positive; unused = s.unused }) in
-    omega (arith, bound, s.makings, s.few_asked, s.few_added, c.if-self-eq-LIMIT.false)
+    let counts = by_key (λ (o : Counted g.row.T.Denot). o.count) s.live.entries in
+    let n = count_at counts c.args.key in
+    let there = stands counts c.args.key c.requires.held.0 c.requires.held.1 in
+    let bound = count-bound counts c.args.key n s.made s.added s.released there (record { sums = s.sums; positive = s.positive; unused = s.unused }) in
+    omega (arith, bound, s.makings, s.few_asked, s.few_added)
 
 pub invariant_of-self : goal.invariant_of-self
 invariant_of-self g c =
     let s = c.args.self.now in
-    let new = counted-added (by_key (λ (o : Counted g.row.T.Denot). o.count) s.live.entries) _ c.args.key c.object_at-count.result.count s.made s.added s.released
-    (read_at (λ (o : Counted g.row.T.Denot). o.count) _ _ _ c.object_at-count.ensures.exact)
-    (by_key-inserted (λ (o : Counted g.row.T.Denot). o.count) _ _ _ _ c.replace.ensures.replaced)
-    (record { sums = s.sums; positive = s.positive; unused = s.unused }) in
+    let counts = by_key (λ (o : Counted g.row.T.Denot). o.count) s.live.entries in
+    let n = count_at counts c.args.key in
+    let there = stands counts c.args.key c.requires.held.0 c.requires.held.1 in
+    let new = counted-added counts _ c.args.key n s.made s.added s.released there c.count_up.ensures.counts (record { sums = s.sums; positive = s.positive; unused = s.unused }) in
     record { sums = new.sums; positive = new.positive; unused = new.unused; makings = s.makings; few_asked = s.few_asked; few_added = omega (arith, s.few_added, c.if-self-eq-LIMIT.false) }
-
-pub returns : goal.returns
-returns g c = record {
-  added = (
-    c.object_at-count.result.count,
-    read_at (λ (o : Counted g.row.T.Denot). o.count) _ _ _ c.object_at-count.ensures.exact,
-    by_key-inserted (λ (o : Counted g.row.T.Denot). o.count) _ _ _ _ c.replace.ensures.replaced,
-    ap (λ m. record { next = c.args.self.now.made; values = m })
-        (by_key-replaced (λ (o : Counted g.row.T.Denot). o.value) _ _ _ _ (read_at (λ (o : Counted g.row.T.Denot). o.value) _ _ _ c.object_at-count.ensures.exact) c.replace.ensures.replaced),
-    refl,
-  );
-}

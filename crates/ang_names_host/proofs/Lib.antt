@@ -1,0 +1,4 @@
+pub mod Adding
+pub mod AddingProperties
+pub mod SoFar
+pub mod Among

@@ -1,5 +1,0 @@
-use Rattle.ang_names_known.proofs.Adding.{types_of_added, types_of_seen_with}
-use Rattle.ang_names_known.proofs.laws.types_stay.Goals as goal
-
-pub returns : goal.returns
-returns c = record { seen = types_of_seen_with; own = types_of_added }

@@ -1,0 +1,13 @@
+pub mod Moving
+pub mod Counting
+pub mod Stepping
+pub mod Coming
+pub mod Weighing
+pub mod BorrowedFields
+pub mod MovedValues
+pub mod MovedGlobals
+pub mod MovedFields
+pub mod BorrowedOperands
+pub mod OperandPaths
+pub mod OperandLists
+pub mod Loading

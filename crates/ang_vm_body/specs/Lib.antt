@@ -1,0 +1,5 @@
+pub mod Along
+pub mod Operands
+pub mod Loads
+pub mod Crossings
+pub mod Running
