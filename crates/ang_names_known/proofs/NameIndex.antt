@@ -12,7 +12,7 @@ use Rattle.ang_names_known.specs.declared.names.Names.{Names}
 use Rattle.ang_names_known.specs.declared.names.ScriptFunction.{ScriptFunction}
 use Rattle.ang_names_known.specs.declared.names.ScriptGlobal.{ScriptGlobal}
 use Rattle.ang_names_known.specs.Lookup.{functions_named, named_from}
-use Rattle.ang_names_known.specs.NameIndex.{IndexesKinds, PutsAll, PutsKinds, families_names, first_place, function_names, global_names, places_from, places_of}
+use Rattle.ang_names_known.specs.NameIndex.{IndexesKinds, IndexesNames, PutsAll, PutsKinds, families_names, first_place, function_names, global_names, places_from, places_of}
 
 -- ---- a name more
 
@@ -66,6 +66,9 @@ kinds_indexed N empty first second rows e one more last =
           ∙ ap (λ xs. xs ++ places_of (families_names N.families) name)
           (more 4 name ∙ append-nil _ ∙ append-nil _ ∙ append-nil _ ∙ one 4 name ∙ append-nil _ ∙ start 4 name);
     }
+
+pub families_indexed : (names : List (List ℕ)) (empty rows : Rows ℕ) → empty ≡ [] → PutsAll empty rows 4 names → IndexesNames names rows
+families_indexed names empty rows e one = λ name. one 4 name ∙ ap (λ xs. xs ++ places_of names name) (ap (items_at 4 name) e)
 
 -- ---- what is looked for
 
@@ -122,6 +125,17 @@ first_within n (x ∷ xs) name = by (bytes_eq x name) (first_within (n + 1) xs n
     by false later =
         let up : (n + 1) + length xs ≡ n + suc (length xs) = omega arith in
         subst (λ k. IfSome (first_place (places_from (n + 1) xs name)) (λ c. c < k)) up later
+
+pub name_is : (names : List (List ℕ)) (name places : List ℕ) (r : Option ℕ) → r ≡ first_place places → places ≡ places_of names name
+    → r ≡ position (bytes_eq name) names
+name_is names name places r is e = is ∙ ap first_place e ∙ name_first name names
+
+pub name_within : (names : List (List ℕ)) (name places : List ℕ) (r : Option ℕ) → r ≡ first_place places → places ≡ places_of names name
+    → IfSome r (λ c. c < length names)
+name_within names name places r is e =
+    let first : 0 + length names ≡ length names = omega arith in
+    subst (λ o. IfSome o (λ c. c < length names)) (sym (is ∙ ap first_place e))
+    (subst (λ k. IfSome (first_place (places_of names name)) (λ c. c < k)) first (first_within 0 names name))
 
 length_names : (fs : List Family) → 0 + length (families_names fs) ≡ length fs
 length_names fs = let first : 0 + length (families_names fs) ≡ length (families_names fs) = omega arith in first ∙ length-map (λ (f : Family). f.name) fs

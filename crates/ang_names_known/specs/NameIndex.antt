@@ -52,6 +52,10 @@ pub record IndexesKinds (N : Names) (rows : Rows ℕ) : Type 0 where
   pub in_globals : (name : List ℕ) → items_at 3 name rows ≡ places_of (global_names N.globals) name
   pub in_families : (name : List ℕ) → items_at 4 name rows ≡ places_of (families_names N.families) name
 
+-- the rows have some names of classes and interfaces in scope 4
+abbrev pub IndexesNames : List (List ℕ) → Rows ℕ → Type 0
+IndexesNames names rows = (name : List ℕ) → items_at 4 name rows ≡ places_of names name
+
 -- ---- members of families
 
 -- the names of the fields that a family declares itself, in order of declaration

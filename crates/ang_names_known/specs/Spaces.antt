@@ -18,7 +18,7 @@ pub record Space : Type 0 where
   pub families : List (List ℕ)
 
 abbrev pub family_names : FamilyNames → List (List ℕ)
-family_names (listing.Listed names) = names.items
+family_names (listing.Listed names) = names
 family_names (listing.Known names) = map (λ (f : Family). f.name) names.now.families
 
 -- the number of the first family as a type, which is above those of all entries

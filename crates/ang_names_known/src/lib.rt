@@ -10,6 +10,7 @@ mod family_types;
 mod functions;
 mod indexed;
 mod lineage;
+mod listed;
 mod lookup;
 mod members;
 mod methods;

@@ -116,6 +116,21 @@ pub(crate) fn places_by_kind(alloc: Global, names: &Names) -> Result<Index<u32>,
     Ok(index)
 }
 
+/// The places of the names of classes and interfaces, in their scope alone.
+///
+/// The only error is want of memory.
+#[tactic(auto, using(crate::proofs::NameIndex::families_indexed))]
+pub(crate) fn places_of_families(
+    alloc: Global,
+    names: &[Text<'_>],
+) -> Result<Index<u32>, AllocError>
+    ensures exact { IfOk result (λ rows. spec.IndexesNames names.now rows) }
+{
+    let mut index = Index::new(alloc);
+    push_all(alloc, &mut index, FAMILIES, names)?;
+    Ok(index)
+}
+
 fn field_texts<'a>(alloc: Global, fields: &'a [Field]) -> Result<Vec<Text<'a>>, AllocError>
     ensures exact { IfOk result (λ texts. texts.items ≡ map (λ x. x.name) fields.now) }
 {

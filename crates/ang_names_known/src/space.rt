@@ -1,5 +1,5 @@
 //! The object types that a name can mean.
-ghost use Rattle.std.specs.Prelude.{◌≡◌, ◌≤◌, ◌<◌, length, bytes_eq, map, IfSome};
+ghost use Rattle.std.specs.Prelude.{◌≡◌, ◌≤◌, ◌<◌, length, bytes_eq, map, IfOk, IfSome};
 ghost use Rattle.std.specs.List.{position};
 ghost use Rattle.ang_view.specs.Types.{type_named};
 ghost use Rattle.ang_names_known.specs.Spaces as spaces;
@@ -7,8 +7,10 @@ ghost use Rattle.ang_names_known.specs.Spaces as spaces;
 use crate::borrowed::Text;
 use crate::family_types::family_type;
 use crate::indexed::IndexedNames;
+use crate::listed::ListedNames;
 use ang_kinds::EntityNo;
 use ang_view::View;
+use std::alloc::{AllocError, Global};
 use std::marker::Model;
 
 /// What a name means as a type.
@@ -32,7 +34,7 @@ pub fn type_number(view: &View, name: &[u8]) -> Option<u32>
 #[derive(Drop)]
 enum FamilyNames<'a> {
     /// Of families that are only listed so far.
-    Listed(Vec<Text<'a>>),
+    Listed(ListedNames<'a>),
     /// Of known ones.
     Known(&'a IndexedNames),
 }
@@ -56,16 +58,20 @@ impl<'a> Model for Space<'a> {
 }
 
 impl<'a> Space<'a> {
-    /// The types of a view, and the families of these names, in the order of their numbers. It takes no memory.
-    pub fn new(view: &'a View, families: Vec<Text<'a>>) -> Space<'a>
+    /// The types of a view, and the families of these names, in the order of their numbers.
+    ///
+    /// The only error is want of memory.
+    pub fn new(
+        alloc: Global,
+        view: &'a View,
+        families: Vec<Text<'a>>,
+    ) -> Result<Space<'a>, AllocError>
         requires few { length families.items ≤ 256 }
-        ensures view { result.view ≡ view.now }
-        ensures families { result.families ≡ families.entry.items }
+        ensures view { IfOk result (λ space. space.view ≡ view.now) }
+        ensures families { IfOk result (λ space. space.families ≡ families.entry.items) }
     {
-        Space {
-            view,
-            families: FamilyNames::Listed(families),
-        }
+        let families = FamilyNames::Listed(ListedNames::new(alloc, families)?);
+        Ok(Space { view, families })
     }
 
     /// The types of a view and of names. It takes no memory.
@@ -109,11 +115,11 @@ impl<'a> Space<'a> {
     }
 }
 
-fn listed_as(names: &[Text<'_>], name: &[u8]) -> Option<usize>
+fn listed_as(names: &ListedNames<'_>, name: &[u8]) -> Option<usize>
     ensures exact { result ≡ position (bytes_eq name.now) names.now }
     ensures within { IfSome result (λ c. c < length names.now) }
 {
-    names.iter().position(|family| name == family.bytes())
+    names.number_of(name)
 }
 
 fn known_as(names: &IndexedNames, name: &[u8]) -> Option<usize>

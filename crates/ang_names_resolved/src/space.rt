@@ -49,5 +49,5 @@ pub fn space_of<'a>(
     ensures exact { IfOk result (λ space. space ≡ spec.space_of_declared view.now all.now) }
 {
     let names = family_names(alloc, all)?;
-    Ok(Space::new(view, names))
+    Space::new(alloc, view, names)
 }
