@@ -79,25 +79,27 @@ fn ancestors_of(
     order_of(alloc, parents, families.len(), number)
 }
 
-/// Itself and the families from which it has methods, the nearest first.
+/// Itself and the families from which it has methods, the nearest first: of a class its chain.
 fn order_in(
     alloc: Global,
-    space: &Space<'_>,
     families: &[Declaring<'_, '_>],
-    known: &Tables,
+    parents: &[bool],
     is_class: bool,
     number: usize,
+    chain: Vec<usize>,
 ) -> Result<Vec<usize>, AllocError>
     requires few { length families.now ≤ 256 }
     requires there { number < length families.now }
-    requires known { tables.AreTables space.now families.now known.now }
+    requires parents { Shows parents.now (length families.now) (hierarchy.is_parent families.now) }
+    requires chain { chain.items
+        ≡ graphs.order_of (hierarchy.is_base families.now) (length families.now) number }
     ensures exact { IfOk result (λ places. places.items ≡ graphs.order_of
         (spec.gives_members families.now is_class) (length families.now) number) }
 {
     if is_class {
-        chain_of(alloc, families, &known.bases, number)
+        Ok(chain)
     } else {
-        ancestors_of(alloc, families, &known.parents, number)
+        ancestors_of(alloc, families, parents, number)
     }
 }
 
@@ -143,21 +145,18 @@ fn field_counts(families: &[Declaring<'_, '_>], places: &[usize]) -> Result<usiz
     Ok(count)
 }
 
-/// How many fields the base classes of a class have.
+/// How many fields the base classes of a class have, by its chain.
 fn inherited_fields(
-    alloc: Global,
     families: &[Declaring<'_, '_>],
-    bases: &[bool],
+    chain: &[usize],
     number: usize,
 ) -> Result<usize, AllocError>
-    requires few { length families.now ≤ 256 }
-    requires there { number < length families.now }
-    requires bases { Shows bases.now (length families.now) (hierarchy.is_base families.now) }
+    requires chain { chain.now
+        ≡ graphs.order_of (hierarchy.is_base families.now) (length families.now) number }
     ensures exact { (E : spaces.Space) → IfOk result
         (λ count. count ≡ spec.inherited_fields E families.now number) }
 {
-    let chain = chain_of(alloc, families, bases, number)?;
-    field_counts(families, after_first(&chain))
+    field_counts(families, after_first(chain))
 }
 
 /// The class or interface of this number, the first of whose bodies has the number `first`.
@@ -177,10 +176,11 @@ fn family_with(
         (headings.signatures_of space.now families.now) number first family.now) }
 {
     let is_class = family.shape().is_class;
-    let inherited = inherited_fields(alloc, families, &known.bases, number)?;
+    let chain = chain_of(alloc, families, &known.bases, number)?;
+    let inherited = inherited_fields(families, &chain, number)?;
     let name = copy_at(alloc, family.text(), &family.name())?;
     let above = all_above(alloc, families, &known.above, number)?;
-    let order = order_in(alloc, space, families, known, is_class, number)?;
+    let order = order_in(alloc, families, &known.parents, is_class, number, chain)?;
     let fields = fields_of(alloc, space, family, inherited)?;
     let methods = methods_of(alloc, space, &known.signatures, family, first)?;
     let constructors = constructors_of(alloc, space, family, first)?;
