@@ -1,12 +1,12 @@
 //! Bases and members of classes and interfaces that can't stand where they stand, and too many members.
-ghost use Rattle.std.specs.Prelude.{◌≡◌, [], true, false, not, bytes_eq, IfOk};
+ghost use Rattle.std.specs.Prelude.{◌≡◌, ◌||◌, [], Some, true, false, not, bytes_eq, IfOk};
 ghost use Rattle.std.specs.List.{list_any};
 ghost use Rattle.std.specs.Option.{option_or};
 ghost use Rattle.ang_names_written.specs.Sources.{text_of};
 ghost use Rattle.ang_names.specs.Before as earlier;
 ghost use Rattle.ang_names.specs.Refusals as spec;
 
-use crate::before::Before;
+use crate::before::{Before, callable_key};
 use crate::families::base_named;
 use crate::headings::{parameter_list_refusal, refusal_if, type_refusal_of};
 use ang_kinds::ErrorKind;
@@ -72,11 +72,63 @@ fn clashes_with_one(before: &Before<'_, '_, '_>, row: &[usize], member: &Member<
         .any(|number| clashes_with_earlier(before, *number, member))
 }
 
-fn is_duplicate(before: &Before<'_, '_, '_>, member: &Member<'_>) -> bool
+/// Whether a member clashes with one of the earlier ones of these numbers, or of those.
+fn clashes_with_either(
+    before: &Before<'_, '_, '_>,
+    fields: &[usize],
+    callables: &[usize],
+    member: &Member<'_>,
+) -> bool
+    ensures exact { result ≡ (list_any (earlier.clashes_at before.now member.now) fields.now
+        || list_any (earlier.clashes_at before.now member.now) callables.now) }
+{
+    clashes_with_one(before, fields, member) || clashes_with_one(before, callables, member)
+}
+
+/// Whether a method or a constructor with these parameters clashes with an earlier member: with a field, or with one of the
+/// same parameters.
+fn is_callable_taken(
+    alloc: Global,
+    before: &Before<'_, '_, '_>,
+    member: &Member<'_>,
+    params: &[Parameter],
+) -> Result<bool, AllocError>
+    requires params { earlier.params_in member.now.kind ≡ Some params.now }
+    ensures exact { IfOk result (λ taken. taken
+        ≡ list_any (spec.clashes_with_member before.now.text member.now) before.now.items) }
+{
+    let text = before.text();
+    let key = callable_key(alloc, text, member, params)?;
+    let fields = before.keyed(text_at(text, &member.name));
+    let callables = before.keyed(key.as_slice());
+    Ok(clashes_with_either(before, fields, callables, member))
+}
+
+/// Whether a field clashes with an earlier member, which has its name.
+fn is_field_taken(before: &Before<'_, '_, '_>, member: &Member<'_>) -> bool
     ensures exact { result
         ≡ list_any (spec.clashes_with_member before.now.text member.now) before.now.items }
 {
     clashes_with_one(before, before.row(member), member)
+}
+
+fn is_duplicate(
+    alloc: Global,
+    before: &Before<'_, '_, '_>,
+    member: &Member<'_>,
+) -> Result<bool, AllocError>
+    ensures exact { IfOk result (λ taken. taken
+        ≡ list_any (spec.clashes_with_member before.now.text member.now) before.now.items) }
+{
+    match &member.kind {
+        MemberKind::Field(_) => Ok(is_field_taken(before, member)),
+        MemberKind::Method(_, params, _) => {
+            is_callable_taken(alloc, before, member, params.items())
+        }
+        MemberKind::Constructor(params) => {
+            is_callable_taken(alloc, before, member, params.items())
+        }
+    }
 }
 
 fn duplicate(
@@ -87,7 +139,7 @@ fn duplicate(
     ensures exact { IfOk result
         (λ r. r ≡ spec.duplicate before.now.text before.now.items member.now) }
 {
-    let is_refused = is_duplicate(before, member);
+    let is_refused = is_duplicate(alloc, before, member)?;
     refusal_if(
         alloc,
         is_refused,
@@ -179,7 +231,7 @@ fn members_refusal(
         if refused.is_some() {
             return Ok(refused);
         }
-        before.grow(alloc, &members[..i + 1], member)?;
+        before = before.grown(alloc, &members[..i + 1], member)?;
     }
     Ok(None)
 }
