@@ -11,8 +11,9 @@ use Rattle.ang_view.proofs.Lists.{and_gives}
 use Rattle.ang_names_known.specs.declared.names.ScriptFunction.{ScriptFunction}
 use Rattle.ang_names_known.specs.declared.names.ScriptParameter.{ScriptParameter}
 use Rattle.ang_names_known.specs.Lookup.{same_parameter, same_parameters, same_type, same_written}
+use Rattle.ang_names_written.specs.Spellings.{const_number}
 use Rattle.ang_names_tables.specs.Headings.{same_signature}
-use Rattle.ang_names_tables.specs.Keys.{const_number, method_key, object_code, parameter_code, parameters_code, type_code}
+use Rattle.ang_names_tables.specs.Keys.{method_key, object_code, parameter_code, parameters_code, type_code}
 
 same_number : (a b : ℕ) → (a == b) ≡ true → a ≡ b
 same_number a b h = search arith
@@ -43,7 +44,7 @@ types_alike type.Null (type.Object m d) h = cc
 types_alike type.Null (type.Handle m d) h = cc
 types_alike (type.Plain p) type.Void h = cc
 types_alike (type.Plain p) type.Null h = cc
-types_alike (type.Plain p) (type.Plain q) h = ap (λ n. (n + 2) ∷ []) (same_number (primitive_number p) (primitive_number q) h)
+types_alike (type.Plain p) (type.Plain q) h = ap (λ n. (n + 1) ∷ []) (same_number (primitive_number p) (primitive_number q) h)
 types_alike (type.Plain p) (type.Object m d) h = cc
 types_alike (type.Plain p) (type.Handle m d) h = cc
 types_alike (type.Object n c) type.Void h = cc

@@ -1,46 +1,13 @@
 //! Bytes that methods of one signature share, so that these are found by them.
 ghost use Rattle.std.specs.Int.{to_le_bytes, w32};
-ghost use Rattle.std.specs.Prelude.{◌≡◌, ◌+◌, ◌++◌, IfOk, OnOk};
-ghost use Rattle.ang_view.specs.Numbers.{pass_number, primitive_number};
+ghost use Rattle.std.specs.Prelude.{◌≡◌, ◌++◌, IfOk, OnOk};
 ghost use Rattle.ang_names_tables.specs.Keys as spec;
 
-use ang_kinds::{Pass, Prim};
+use ang_kinds::Pass;
 use ang_names_known::{ScriptFunction, ScriptParameter, Written};
+use ang_names_written::{const_code, pass_code, primitive_code};
 use ang_types::ArgType;
 use std::alloc::{AllocError, Global};
-
-fn primitive_code(primitive: Prim) -> u8
-    ensures exact { result ≡ primitive_number primitive + 2 }
-{
-    match primitive {
-        Prim::I8 => 2,
-        Prim::I16 => 3,
-        Prim::I32 => 4,
-        Prim::I64 => 5,
-        Prim::U8 => 6,
-        Prim::U16 => 7,
-        Prim::U32 => 8,
-        Prim::U64 => 9,
-        Prim::Bool => 10,
-    }
-}
-
-fn const_code(is_const: bool) -> u8
-    ensures exact { result ≡ spec.const_number is_const }
-{
-    if is_const { 1 } else { 0 }
-}
-
-fn pass_code(pass: Pass) -> u8
-    ensures exact { result ≡ pass_number pass }
-{
-    match pass {
-        Pass::Value => 0,
-        Pass::RefIn => 1,
-        Pass::RefOut => 2,
-        Pass::RefInOut => 3,
-    }
-}
 
 /// Puts the bytes of the type of an object or a handle after others; `kind` tells which of both it is.
 #[tactic(auto, using(std::proofs::Common::append_assoc))]
@@ -59,7 +26,7 @@ fn push_type(code: &mut Vec<u8>, ty: ArgType) -> Result<(), AllocError>
 {
     match ty {
         ArgType::Void => code.push(0)?,
-        ArgType::Null => code.push(1)?,
+        ArgType::Null => code.push(10)?,
         ArgType::Plain(primitive) => code.push(primitive_code(primitive))?,
         ArgType::Object { number, read_only } => push_object(code, 11, number, read_only)?,
         ArgType::Handle { number, read_only } => push_object(code, 12, number, read_only)?,

@@ -4,12 +4,14 @@
 #![tactic(auto)]
 
 mod borrowed;
+mod encoding;
 mod role;
 mod sources;
 mod spelling;
 mod types;
 
 pub use borrowed::WrittenParameters;
+pub use encoding::{const_code, pass_code, primitive_code};
 pub use role::Role;
 pub use sources::{copy_at, error_at, fault_at, name_at, text_at};
 pub use spelling::{

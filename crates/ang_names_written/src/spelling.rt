@@ -1,8 +1,8 @@
 //! How parameters are spelled, for functions that overload one name.
-ghost use Rattle.std.specs.Prelude.{◌≡◌, ◌+◌, ◌++◌, OnOk};
-ghost use Rattle.ang_view.specs.Numbers.{pass_number, primitive_number};
+ghost use Rattle.std.specs.Prelude.{◌≡◌, ◌++◌, OnOk};
 ghost use Rattle.ang_names_written.specs.Spellings as spec;
 
+use crate::encoding::{const_code, pass_code, primitive_code};
 use crate::sources::text_at;
 use crate::types::pass_of;
 use ang_kinds::{Param, Pass, Prim, Shape, TypeRef};
@@ -206,22 +206,6 @@ pub fn have_same_types_as_host(text: &[u8], params: &[Parameter], others: &[Para
 
 // ---- as bytes
 
-fn primitive_code(primitive: Prim) -> u8
-    ensures exact { result ≡ primitive_number primitive + 1 }
-{
-    match primitive {
-        Prim::I8 => 1,
-        Prim::I16 => 2,
-        Prim::I32 => 3,
-        Prim::I64 => 4,
-        Prim::U8 => 5,
-        Prim::U16 => 6,
-        Prim::U32 => 7,
-        Prim::U64 => 8,
-        Prim::Bool => 9,
-    }
-}
-
 fn sign_code(sign: Sign) -> u8
     ensures exact { result ≡ spec.sign_number sign }
 {
@@ -229,23 +213,6 @@ fn sign_code(sign: Sign) -> u8
         Sign::Absent => 0,
         Sign::Handle => 1,
         Sign::ConstHandle => 2,
-    }
-}
-
-fn const_code(is_const: bool) -> u8
-    ensures exact { result ≡ spec.const_number is_const }
-{
-    if is_const { 1 } else { 0 }
-}
-
-fn pass_code(pass: Pass) -> u8
-    ensures exact { result ≡ pass_number pass }
-{
-    match pass {
-        Pass::Value => 0,
-        Pass::RefIn => 1,
-        Pass::RefOut => 2,
-        Pass::RefInOut => 3,
     }
 }
 
