@@ -1,8 +1,7 @@
 -- The declarations before one, found by name and counted by kind.
-use Rattle.std.specs.Prelude.{ℕ, ◌≡◌, ◌+◌, Bool, false, if◌then◌else◌, List, [], ◌∷◌, ◌++◌, Option, Some, None, bytes_eq, map, count_by, length, slice_get}
+use Rattle.std.specs.Prelude.{ℕ, ◌≡◌, ◌+◌, Bool, false, ◌&&◌, if◌then◌else◌, is_some, List, [], ◌∷◌, ◌++◌, Option, Some, None, bytes_eq, count_by, length, slice_get}
 use Rattle.ang_tree.specs.declared.declaration.Parameter.{Parameter}
 use Rattle.ang_index.specs.Rows.{Rows, items_at}
-use Rattle.ang_names_known.specs.NameIndex.{places_of}
 use Rattle.ang_names_listed.specs.declared.earlier.Counts.{Counts}
 use Rattle.ang_names_listed.specs.declared.listed.Declared.{Declared}
 use Rattle.ang_names_listed.specs.declared.listed.Part.{Part}
@@ -30,26 +29,41 @@ key_with d (Some ps) = function_key d ps
 abbrev pub key_of : Declared → List ℕ
 key_of d = key_with d (params_of d.part)
 
--- the numbers of those of a name, rising
+abbrev pub numbers_from : ℕ → (Declared → Bool) → List Declared → List ℕ
+numbers_from n p [] = []
+numbers_from n p (d ∷ ds) = if p d then n ∷ numbers_from (n + 1) p ds else numbers_from (n + 1) p ds
+
+-- the numbers of those that pass, rising
+abbrev pub numbers_of : (Declared → Bool) → List Declared → List ℕ
+numbers_of p ds = numbers_from 0 p ds
+
+-- it is a function or an import of this name
+abbrev pub is_function_named : List ℕ → Declared → Bool
+is_function_named name d = is_some (params_of d.part) && bytes_eq (declared_name d) name
+
+abbrev pub is_keyed : List ℕ → Declared → Bool
+is_keyed key d = bytes_eq (key_of d) key
+
+-- the numbers of the functions and imports of a name, rising
 unfoldable pub named : List Declared → List ℕ → List ℕ
-named ds name = places_of (map declared_name ds) name
+named ds name = numbers_of (is_function_named name) ds
 
 -- the numbers of those of a key, rising
 unfoldable pub keyed : List Declared → List ℕ → List ℕ
-keyed ds key = places_of (map key_of ds) key
+keyed ds key = numbers_of (is_keyed key) ds
 
--- the rows have the places of each name, in scope 0, and those of each key, in scope 1
+-- the rows have the places of the functions of each name, in scope 0, and those of each key, in scope 1
 pub record HasPlaces (ds : List Declared) (rows : Rows ℕ) : Type 0 where
   pub names : (name : List ℕ) → items_at 0 name rows ≡ named ds name
   pub keys : (key : List ℕ) → items_at 1 key rows ≡ keyed ds key
 
-abbrev pub put_at : List ℕ → List ℕ → ℕ → List ℕ → List ℕ
-put_at own key n places = if bytes_eq own key then places ++ n ∷ [] else places
+abbrev pub put_if : Bool → ℕ → List ℕ → List ℕ
+put_if b n places = if b then places ++ n ∷ [] else places
 
--- the number of a declaration is put in, under its name and under its key
+-- the number of a declaration is put in, of a function under its name, and of each under its key
 pub record PutsPlaces (old new : Rows ℕ) (d : Declared) (n : ℕ) : Type 0 where
-  pub under_name : (name : List ℕ) → items_at 0 name new ≡ put_at (declared_name d) name n (items_at 0 name old)
-  pub under_key : (key : List ℕ) → items_at 1 key new ≡ put_at (key_of d) key n (items_at 1 key old)
+  pub under_name : (name : List ℕ) → items_at 0 name new ≡ put_if (is_function_named name d) n (items_at 0 name old)
+  pub under_key : (key : List ℕ) → items_at 1 key new ≡ put_if (is_keyed key d) n (items_at 1 key old)
 
 -- the declaration can't stand beside the one that may stand there
 abbrev pub clashes_with : Declared → Option Declared → Bool

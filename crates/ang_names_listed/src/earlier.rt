@@ -1,5 +1,5 @@
 //! The declarations before one, found by name, so that no look-up goes through all of them.
-ghost use Rattle.std.specs.Prelude.{◌≡◌, ◌<◌, ◌-◌, ◌^◌, ◌++◌, IfOk, OnOk};
+ghost use Rattle.std.specs.Prelude.{◌≡◌, ◌<◌, ◌-◌, ◌^◌, ◌++◌, IfOk, None, OnOk, Some};
 ghost use Rattle.ang_names_listed.specs.Declarations as declarations;
 ghost use Rattle.ang_names_listed.specs.Earlier as spec;
 
@@ -10,7 +10,7 @@ use ang_tree::Parameter;
 use std::alloc::{AllocError, Global};
 use std::marker::Model;
 
-/// The scope of all names.
+/// The scope of the names of functions and imports.
 const NAMES: u64 = 0;
 
 /// The scope of all keys: of functions and imports their names with how their parameters are spelled, of all others
@@ -30,8 +30,8 @@ pub struct Counts {
     pub globals: usize,
 }
 
-/// The declarations before one, which contracts see as the list of them. Beside them stand their
-/// numbers by name and by key, and how many there are of each kind.
+/// The declarations before one, which contracts see as the list of them. Beside them stand the numbers of
+/// functions and imports by name, those of all by key, and how many there are of each kind.
 #[derive(Drop)]
 pub struct Earlier<'l, 'a> {
     items: &'l [Declared<'a>],
@@ -73,25 +73,6 @@ pub fn function_key(
     Ok(key)
 }
 
-/// The key of what is no function.
-fn name_key(alloc: Global, declared: &Declared<'_>) -> Result<Vec<u8>, AllocError>
-    ensures exact { IfOk result (λ key. key.items ≡ declarations.declared_name declared.now) }
-{
-    Ok(Vec::from_slice(alloc, declared_name(declared))?)
-}
-
-/// The key of a declaration.
-fn key_of(alloc: Global, declared: &Declared<'_>) -> Result<Vec<u8>, AllocError>
-    ensures exact { IfOk result (λ key. key.items ≡ spec.key_of declared.now) }
-{
-    match &declared.part {
-        Part::Function(_, params) => function_key(alloc, declared, params.items()),
-        Part::Import(_, params) => function_key(alloc, declared, params.items()),
-        Part::Family(_) => name_key(alloc, declared),
-        Part::Global(_) => name_key(alloc, declared),
-    }
-}
-
 /// With one declaration more.
 fn counted(counts: Counts, part: &Part<'_>) -> Counts
     requires families { counts.families < 2 ^ 64 - 1 }
@@ -120,8 +101,38 @@ fn counted(counts: Counts, part: &Part<'_>) -> Counts
     }
 }
 
-/// Puts the number of a declaration in, under its name and under its key.
-#[tactic(auto, using(crate::proofs::Among::both_put))]
+/// Puts the number of a function or an import in, under its name and under its key.
+#[tactic(auto, using(crate::proofs::Among::function_put))]
+fn push_function(
+    alloc: Global,
+    places: &mut Index<usize>,
+    declared: &Declared<'_>,
+    params: &[Parameter],
+    number: usize,
+) -> Result<(), AllocError>
+    requires params { spec.params_of declared.now.part ≡ Some params.now }
+    ensures pushed { OnOk result (spec.PutsPlaces places.old places.new declared.now number) }
+{
+    let key = function_key(alloc, declared, params)?;
+    places.push(alloc, NAMES, declared_name(declared), number)?;
+    places.push(alloc, KEYS, key.as_slice(), number)
+}
+
+/// Puts the number of what is no function in, under its name as its key.
+#[tactic(auto, using(crate::proofs::Among::other_put))]
+fn push_other(
+    alloc: Global,
+    places: &mut Index<usize>,
+    declared: &Declared<'_>,
+    number: usize,
+) -> Result<(), AllocError>
+    requires other { spec.params_of declared.now.part ≡ None }
+    ensures pushed { OnOk result (spec.PutsPlaces places.old places.new declared.now number) }
+{
+    places.push(alloc, KEYS, declared_name(declared), number)
+}
+
+/// Puts the number of a declaration in.
 fn push_places(
     alloc: Global,
     places: &mut Index<usize>,
@@ -130,9 +141,14 @@ fn push_places(
 ) -> Result<(), AllocError>
     ensures pushed { OnOk result (spec.PutsPlaces places.old places.new declared.now number) }
 {
-    let key = key_of(alloc, declared)?;
-    places.push(alloc, NAMES, declared_name(declared), number)?;
-    places.push(alloc, KEYS, key.as_slice(), number)
+    match &declared.part {
+        Part::Function(_, params) => {
+            push_function(alloc, places, declared, params.items(), number)
+        }
+        Part::Import(_, params) => push_function(alloc, places, declared, params.items(), number),
+        Part::Family(_) => push_other(alloc, places, declared, number),
+        Part::Global(_) => push_other(alloc, places, declared, number),
+    }
 }
 
 impl<'l, 'a> Earlier<'l, 'a> {
@@ -170,7 +186,7 @@ impl<'l, 'a> Earlier<'l, 'a> {
         self.counts
     }
 
-    /// The numbers of those of this name. It takes no memory.
+    /// The numbers of the functions and imports of this name. It takes no memory.
     pub fn named(&self, name: &[u8]) -> &[usize]
         ensures exact { result.now ≡ spec.named self.now name.now }
     {

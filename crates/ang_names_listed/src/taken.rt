@@ -178,8 +178,10 @@ fn is_function_taken(
 fn is_name_taken(before: &Earlier<'_, '_>, declared: &Declared<'_>) -> bool
     ensures exact { result ≡ list_any (spec.clashes declared.now) before.now }
 {
-    let named = before.named(declared_name(declared));
-    clashes_with_one(before.items(), named, declared)
+    let name = declared_name(declared);
+    let others = before.keyed(name);
+    let functions = before.named(name);
+    clashes_with_either(before.items(), others, functions, declared)
 }
 
 /// Whether a declaration clashes with an earlier one.
