@@ -17,8 +17,9 @@ returns c =
     let is_class : c.shape.result.now.is_class ≡ d.shape.is_class = search rules in
     let base : c.base_of.result ≡ first_below (is_base ds c.args.number) (length ds) = search rules in
     let over : c.from_vec.result ≡ above (is_parent ds) (length ds) c.args.number = search rules in
-    let order : c.from_vec-2.result ≡ order_of (gives_members ds d.shape.is_class) (length ds) c.args.number = search rules in
-    let rank : c.rank_of.result ≡ reach_of (holds E ds) (length ds) c.args.number = search rules in
+    let order : c.from_vec-2.result ≡ order_of (gives_members ds d.shape.is_class) (length ds) c.args.number =
+    c.from_vec-2.ensures.same ∙ c.in_ok-order.ensures.exact ∙ ap (λ b. order_of (gives_members ds b) (length ds) c.args.number) is_class in
+    let rank : c.rank_of.result ≡ reach_of (holds E ds) (length ds) c.args.number = c.rank_of.ensures.exact in
     let fields = c.in_ok-fields.ensures.exact ∙ ap (λ n. each_after (fields_after E d n) [] d.shape.members) (c.in_ok-inherited.ensures.exact E) in
     let methods = c.in_ok-methods.ensures.exact ∙ ap (λ all. each_after (methods_after E all d c.args.first) [] d.shape.members) c.requires.known.signatures in
     let constructors = c.in_ok-constructors.ensures.exact in
