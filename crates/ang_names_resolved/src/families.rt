@@ -15,7 +15,7 @@ use ang_kinds::List;
 use ang_names_heritage::{above_of, after_first, first_of, order_of, reach_of};
 use ang_names_known::{Family, Space};
 use ang_names_listed::Declaring;
-use ang_names_tables::{Tables, field_count};
+use ang_names_tables::{Tables, chain_of, field_count};
 use ang_names_written::copy_at;
 use std::alloc::{AllocError, Global};
 
@@ -47,22 +47,6 @@ fn all_above(
     above_of(alloc, above, families.len(), number)
 }
 
-/// Itself and the base classes of a class or an interface, the nearest first, by the table of base classes.
-fn chain_of(
-    alloc: Global,
-    families: &[Declaring<'_, '_>],
-    bases: &[bool],
-    number: usize,
-) -> Result<Vec<usize>, AllocError>
-    requires few { length families.now ≤ 256 }
-    requires there { number < length families.now }
-    requires bases { Shows bases.now (length families.now) (hierarchy.is_base families.now) }
-    ensures exact { IfOk result (λ places. places.items
-        ≡ graphs.order_of (hierarchy.is_base families.now) (length families.now) number) }
-{
-    order_of(alloc, bases, families.len(), number)
-}
-
 /// Itself and all that stands above one, the nearest first, by the table of bases.
 fn ancestors_of(
     alloc: Global,
@@ -86,18 +70,18 @@ fn order_in(
     parents: &[bool],
     is_class: bool,
     number: usize,
-    chain: Vec<usize>,
+    chain: &[usize],
 ) -> Result<Vec<usize>, AllocError>
     requires few { length families.now ≤ 256 }
     requires there { number < length families.now }
     requires parents { Shows parents.now (length families.now) (hierarchy.is_parent families.now) }
-    requires chain { chain.items
+    requires chain { chain.now
         ≡ graphs.order_of (hierarchy.is_base families.now) (length families.now) number }
     ensures exact { IfOk result (λ places. places.items ≡ graphs.order_of
         (spec.gives_members families.now is_class) (length families.now) number) }
 {
     if is_class {
-        Ok(chain)
+        Ok(Vec::from_slice(alloc, chain)?)
     } else {
         ancestors_of(alloc, families, parents, number)
     }
@@ -176,8 +160,8 @@ fn family_with(
         (headings.signatures_of space.now families.now) number first family.now) }
 {
     let is_class = family.shape().is_class;
-    let chain = chain_of(alloc, families, &known.bases, number)?;
-    let inherited = inherited_fields(families, &chain, number)?;
+    let chain = chain_of(families, &known.chains, number);
+    let inherited = inherited_fields(families, chain, number)?;
     let name = copy_at(alloc, family.text(), &family.name())?;
     let above = all_above(alloc, families, &known.above, number)?;
     let order = order_in(alloc, families, &known.parents, is_class, number, chain)?;

@@ -1,6 +1,6 @@
 -- What stands above what, and what reaches what, as tables over the numbers of classes and interfaces.
-use Rattle.std.specs.Prelude.{ℕ, ◌≡◌, ◌==◌, List, [], Bool, true, false, length, filter, Option, Some, None, slice_get}
-use Rattle.std.specs.List.{filter_map, list_any}
+use Rattle.std.specs.Prelude.{ℕ, ◌≡◌, ◌==◌, List, [], Bool, true, false, length, map, filter, Option, Some, None, slice_get}
+use Rattle.std.specs.List.{filter_map, list_any, range_with_len}
 use Rattle.ang_names_heritage.specs.Graphs.{leads, order_of}
 use Rattle.ang_names_heritage.specs.Tables.{Shows}
 use Rattle.ang_lex.specs.declared.token.Token.{Token}
@@ -48,11 +48,20 @@ holds_itself E ds i d = list_any (λ k. k == d) (held_of E (slice_get ds i))
 abbrev pub carries : Space → List Declaring → ℕ → ℕ → Bool
 carries E ds i d = list_any (λ k. holds_itself E ds k d) (order_of (is_base ds) (length ds) i)
 
--- The tables of the families of a build: what each one's bases are, and of these the class; what stands above each, and what
+-- family by family as far as n, itself and its base classes, the nearest first
+abbrev pub chains_below : List Declaring → ℕ → List (List ℕ)
+chains_below ds n = map (λ i. order_of (is_base ds) (length ds) i) (range_with_len 0 n)
+
+-- the chains of all
+abbrev pub chains_of : List Declaring → List (List ℕ)
+chains_of ds = chains_below ds (length ds)
+
+-- The tables of the families of a build: what each one's bases are, and of these the class; the chains; what stands above each, and what
 -- each reaches; and the methods of all.
 pub record AreTables (E : Space) (ds : List Declaring) (t : Tables) : Type 0 where
   pub parents : Shows t.parents.items (length ds) (is_parent ds)
   pub bases : Shows t.bases.items (length ds) (is_base ds)
+  pub chains : t.chains.items ≡ chains_of ds
   pub above : Shows t.above.items (length ds) (leads (is_parent ds) (length ds))
   pub reach : Shows t.reach.items (length ds) (leads (holds E ds) (length ds))
   pub signatures : t.signatures ≡ signatures_of E ds

@@ -2,6 +2,7 @@
 //! stands above each class or interface and of what it reaches (docs/LANGUAGE.md, "Names of a build").
 #![tactic(auto)]
 
+mod chains;
 mod headings;
 mod held;
 mod keys;
@@ -10,6 +11,7 @@ mod signatures;
 mod slots;
 mod tables;
 
+pub use chains::chain_of;
 pub use headings::{function_with, heading_of, maker_of, parameter_role, parameters_of};
 pub use held::{field_count, field_type};
 pub use placed::Placed;

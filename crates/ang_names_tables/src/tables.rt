@@ -6,10 +6,12 @@ ghost use Rattle.ang_names_heritage.specs.Graphs.{leads};
 ghost use Rattle.ang_names_tables.specs.Hierarchy as spec;
 ghost use Rattle.ang_names_tables.specs.Tables as tables;
 
+use crate::chains::{chain_of, chains_of};
 use crate::held::held_places;
 use crate::placed::Placed;
 use crate::slots::{Signatures, signatures_of};
-use ang_names_heritage::{closed, order_of, push_joined_row, push_row, push_spread_row};
+use ang_kinds::List;
+use ang_names_heritage::{closed, push_joined_row, push_row, push_spread_row};
 use ang_names_known::Space;
 use ang_names_listed::Declaring;
 use ang_names_written::text_at;
@@ -23,6 +25,8 @@ pub struct Tables {
     pub parents: Vec<bool>,
     /// Of these the classes.
     pub bases: Vec<bool>,
+    /// Itself and its base classes, the nearest first, of each.
+    pub chains: Vec<List<usize>>,
     /// All that stands above one.
     pub above: Vec<bool>,
     /// All that one reaches through what its fields can hold.
@@ -135,27 +139,24 @@ fn held_of(
     Ok(table)
 }
 
-/// Puts the next row after: the handles among all fields of one class, those of its base classes included.
+/// Puts the next row after: the handles among all fields of one class, those of its base classes included, by its chain.
 fn push_carried(
-    alloc: Global,
     table: &mut Vec<bool>,
     families: &[Declaring<'_, '_>],
-    bases: &[bool],
+    chain: &[usize],
     held: &[bool],
     number: usize,
 ) -> Result<(), AllocError>
     requires few { length families.now ≤ 256 }
-    requires there { number < length families.now }
-    requires bases { Shows bases.now (length families.now) (spec.is_base families.now) }
+    requires chain { chain.now
+        ≡ graphs.order_of (spec.is_base families.now) (length families.now) number }
     requires held { length held.now ≡ length families.now * length families.now }
     ensures pushed { OnOk result (table.new.items ≡ table.old.items ++ row_below
         (is_reached held.now (length families.now)
         (graphs.order_of (spec.is_base families.now) (length families.now) number))
         (length families.now)) }
 {
-    let n = families.len();
-    let order = order_of(alloc, bases, n, number)?;
-    push_joined_row(table, held, n, &order)
+    push_joined_row(table, held, families.len(), chain)
 }
 
 /// The table of the handles among all fields of each one.
@@ -163,17 +164,18 @@ fn carried_of(
     alloc: Global,
     space: &Space<'_>,
     families: &[Declaring<'_, '_>],
-    bases: &[bool],
+    chains: &[List<usize>],
 ) -> Result<Vec<bool>, AllocError>
     requires few { length families.now ≤ 256 }
-    requires bases { Shows bases.now (length families.now) (spec.is_base families.now) }
+    requires chains { chains.now ≡ tables.chains_of families.now }
     ensures exact { IfOk result (λ table.
         Shows table.items (length families.now) (tables.carries space.now families.now)) }
 {
     let held = held_of(alloc, space, families)?;
     let mut table = Vec::new(alloc);
     for number in 0..families.len() {
-        push_carried(alloc, &mut table, families, bases, &held, number)?;
+        let chain = chain_of(families, chains, number);
+        push_carried(&mut table, families, chain, &held, number)?;
     }
     Ok(table)
 }
@@ -207,17 +209,17 @@ fn reach_of(
     alloc: Global,
     space: &Space<'_>,
     families: &[Declaring<'_, '_>],
-    bases: &[bool],
+    chains: &[List<usize>],
     above: &[bool],
 ) -> Result<Vec<bool>, AllocError>
     requires few { length families.now ≤ 256 }
-    requires bases { Shows bases.now (length families.now) (spec.is_base families.now) }
+    requires chains { chains.now ≡ tables.chains_of families.now }
     requires above { Shows above.now (length families.now)
         (leads (spec.is_parent families.now) (length families.now)) }
     ensures exact { IfOk result (λ table. Shows table.items (length families.now)
         (leads (spec.holds space.now families.now) (length families.now))) }
 {
-    let carried = carried_of(alloc, space, families, bases)?;
+    let carried = carried_of(alloc, space, families, chains)?;
     let holding = holding_of(alloc, space, families, &carried, above)?;
     closed(alloc, &holding, families.len())
 }
@@ -250,12 +252,14 @@ pub fn tables_of(
     let placed = Placed::new(alloc, families)?;
     let parents = parents_of(alloc, &placed)?;
     let bases = bases_of(alloc, &placed)?;
+    let chains = chains_of(alloc, families, &bases)?;
     let above = above_of(alloc, families, &parents)?;
-    let reach = reach_of(alloc, space, families, &bases, &above)?;
+    let reach = reach_of(alloc, space, families, &chains, &above)?;
     let signatures = signatures_of(alloc, space, families)?;
     Ok(Tables {
         parents,
         bases,
+        chains,
         above,
         reach,
         signatures,
