@@ -50,7 +50,7 @@ one_counted a b c e (part.Function y ps) = alike _ _ _ _ _ _ _ _ (none a) refl (
 one_counted a b c e (part.Import y ps) = alike _ _ _ _ _ _ _ _ (none a) (none b) refl (none e)
 one_counted a b c e (part.Global y) = alike _ _ _ _ _ _ _ _ (none a) (none b) (none c) refl
 
-pushed_counts : (ds : List Declared) (d : Declared) → counts_of (ds ++ d ∷ []) ≡ counted (counts_of ds) d.part
+pub pushed_counts : (ds : List Declared) (d : Declared) → counts_of (ds ++ d ∷ []) ≡ counted (counts_of ds) d.part
 pushed_counts ds d =
     alike _ _ _ _ _ _ _ _ (more_families ds d) (more (λ (x : Declared). declares_function x.part) ds d)
     (more (λ (x : Declared). declares_import x.part) ds d) (more (λ (x : Declared). declares_global x.part) ds d)

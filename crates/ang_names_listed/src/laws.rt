@@ -5,9 +5,12 @@ ghost use Rattle.ang_names_listed.specs.declared.listed.Declared.{Declared};
 ghost use Rattle.ang_names_listed.specs.Declarations.{families_of};
 ghost use Rattle.ang_names_listed.specs.Taken.{name_refusals};
 
-/// Where no name is refused there are few enough classes and interfaces for a table of what stands above each.
-#[tactic(auto, using(crate::proofs::Few::names_are_few))]
+/// Where no name is refused there are few enough classes and interfaces for a table of what stands above each (`few`), and few
+/// enough declarations for each to have a place of 32 bits: 256 of these, 4,096 functions, 256 imports and 4,096 globals (`all`).
+#[tactic(auto, using(crate::proofs::Few::names_are_few, crate::proofs::Few::all_are_few))]
 pub fn names_are_few()
     ensures few { (V : RegistrationList) (all : List Declared) →
         name_refusals V all ≡ [] → length (families_of all) ≤ 256 }
+    ensures all { (V : RegistrationList) (all : List Declared) →
+        name_refusals V all ≡ [] → length all ≤ 8704 }
 {}
