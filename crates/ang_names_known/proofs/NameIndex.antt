@@ -1,5 +1,5 @@
 -- The places of names in an index, and what is looked for by them.
-use Rattle.std.proofs.Common.{inl, inr, ◌≡◌, ℕ, zero, suc, ◌+◌, ◌<◌, ◌==◌, Bool, true, false, cond, ◌&&◌, ◌||◌, not, List, [], ◌∷◌, ◌++◌, map, drop, get_or, length, Option, Some, None, refl, sym, ap, subst, ◌∙◌, arith, position, bytes_eq}
+use Rattle.std.proofs.Common.{inl, inr, ◌≡◌, ℕ, zero, suc, ◌+◌, ◌<◌, ◌^◌, ◌==◌, Bool, true, false, cond, ◌&&◌, ◌||◌, not, List, [], ◌∷◌, ◌++◌, map, drop, get_or, length, Option, Some, None, refl, sym, ap, subst, ◌∙◌, arith, position, bytes_eq}
 use Rattle.std.specs.Prelude.{IfSome}
 use Rattle.std.specs.List.{list_any, position_from}
 use Rattle.std.specs.Cmp.Lexicographic.{nat_list_eq_equiv}
@@ -12,7 +12,7 @@ use Rattle.ang_names_known.specs.declared.names.Names.{Names}
 use Rattle.ang_names_known.specs.declared.names.ScriptFunction.{ScriptFunction}
 use Rattle.ang_names_known.specs.declared.names.ScriptGlobal.{ScriptGlobal}
 use Rattle.ang_names_known.specs.Lookup.{functions_named, named_from}
-use Rattle.ang_names_known.specs.NameIndex.{IndexesKinds, PutsAll, PutsKinds, families_names, first_place, function_names, global_names, places_from, places_of}
+use Rattle.ang_names_known.specs.NameIndex.{AreFew, IndexesKinds, PutsAll, PutsKinds, families_names, first_place, function_names, global_names, places_from, places_of}
 
 -- ---- a name more
 
@@ -41,6 +41,17 @@ place_more scope s n name own all first old new lt is puts so_far =
 pub places_end : (b : Bool) (name xs : List ℕ) (n : ℕ) (left : List (List ℕ)) → left ≡ [] → xs ++ cond b (places_from n left name) [] ≡ xs
 places_end true name xs n left e = ap (λ l. xs ++ places_from n l name) e ∙ append-nil xs
 places_end false name xs n left e = append-nil xs
+
+-- ---- how many
+
+pub few_functions : (fs : List ScriptFunction) (names : List (List ℕ)) → length fs < 2 ^ 32 → names ≡ function_names fs → length names < 2 ^ 32
+few_functions fs names few e = subst (λ n. n < 2 ^ 32) (sym (ap length e ∙ length-map (λ (f : ScriptFunction). f.name) fs)) few
+
+pub few_globals : (gs : List ScriptGlobal) (names : List (List ℕ)) → length gs < 2 ^ 32 → names ≡ global_names gs → length names < 2 ^ 32
+few_globals gs names few e = subst (λ n. n < 2 ^ 32) (sym (ap length e ∙ length-map (λ (g : ScriptGlobal). g.name) gs)) few
+
+pub few_families : (fs : List Family) (names : List (List ℕ)) → length fs < 2 ^ 32 → names ≡ families_names fs → length names < 2 ^ 32
+few_families fs names few e = subst (λ n. n < 2 ^ 32) (sym (ap length e ∙ length-map (λ (f : Family). f.name) fs)) few
 
 -- ---- all kinds
 

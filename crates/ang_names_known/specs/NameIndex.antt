@@ -1,5 +1,5 @@
 -- The names of a build's scripts as an index keeps them: of each kind the places of each name, rising.
-use Rattle.std.specs.Prelude.{ℕ, ◌≡◌, ◌+◌, ◌==◌, if◌then◌else◌, List, [], ◌∷◌, ◌++◌, map, Option, Some, None, bytes_eq, slice_get}
+use Rattle.std.specs.Prelude.{ℕ, ◌≡◌, ◌+◌, ◌<◌, ◌^◌, ◌==◌, if◌then◌else◌, List, [], ◌∷◌, ◌++◌, map, length, Option, Some, None, bytes_eq, slice_get}
 use Rattle.ang_index.specs.Rows.{Rows, items_at}
 use Rattle.ang_names_known.specs.declared.names.Family.{Family}
 use Rattle.ang_names_known.specs.declared.names.Field.{Field}
@@ -39,6 +39,14 @@ PutsKinds old new N = (s : ℕ) (name : List ℕ) →
     ≡ ((items_at s name old ++ (if 1 == s then places_of (function_names N.functions) name else []))
     ++ (if 2 == s then places_of (function_names N.imports) name else []))
     ++ (if 3 == s then places_of (global_names N.globals) name else [])
+
+-- of each kind there are few enough for each place to have 32 bits
+pub record AreFew (N : Names) : Type 0 where
+  pub declared : length N.declared < 2 ^ 32
+  pub functions : length N.functions < 2 ^ 32
+  pub imports : length N.imports < 2 ^ 32
+  pub globals : length N.globals < 2 ^ 32
+  pub families : length N.families < 2 ^ 32
 
 abbrev pub first_place : List ℕ → Option ℕ
 first_place [] = None

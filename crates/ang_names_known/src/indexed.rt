@@ -22,8 +22,8 @@ use std::marker::Model;
 pub struct IndexedNames {
     lists: Names,
     kinds: Index<u32>,
-    fields: Index<u32>,
-    methods: Index<u32>,
+    fields: Index<usize>,
+    methods: Index<usize>,
 }
 
 impl Model for IndexedNames {
@@ -40,12 +40,13 @@ impl Model for IndexedNames {
 impl IndexedNames {
     ghost use Rattle.std.specs.Prelude.{◌≡◌, ◌<◌, IfOk, IfSome, bytes_eq, length, map};
     ghost use Rattle.std.specs.List.{position};
-    ghost use Rattle.ang_names_known.specs.NameIndex.{places_of};
+    ghost use Rattle.ang_names_known.specs.NameIndex.{AreFew, places_of};
 
-    /// These names, with the places of each.
+    /// These names, with the places of each, which have 32 bits.
     ///
     /// The only error is want of memory.
     pub fn new(alloc: Global, lists: Names) -> Result<IndexedNames, AllocError>
+        requires few { AreFew lists }
         ensures same { IfOk result (λ names. names ≡ lists) }
     {
         let kinds = places_by_kind(alloc, &lists)?;

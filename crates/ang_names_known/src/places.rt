@@ -1,5 +1,5 @@
 //! The places of names, as they are indexed.
-ghost use Rattle.std.specs.Prelude.{◌≡◌, IfOk, OnOk, map};
+ghost use Rattle.std.specs.Prelude.{◌≡◌, ◌<◌, ◌^◌, IfOk, OnOk, length, map};
 ghost use Rattle.ang_names_known.specs.NameIndex as spec;
 
 use crate::borrowed::Text;
@@ -18,16 +18,6 @@ pub(crate) const IMPORTS: u64 = 2;
 pub(crate) const GLOBALS: u64 = 3;
 /// The scope of the names of classes and interfaces.
 pub(crate) const FAMILIES: u64 = 4;
-
-/// A place as an index keeps it. There is no memory for more names than it can tell apart.
-fn place_of(number: usize) -> Result<u32, AllocError>
-    ensures exact { IfOk result (λ place. place ≡ number) }
-{
-    if number > u32::MAX as usize {
-        return Err(AllocError);
-    }
-    Ok(number as u32)
-}
 
 fn declared_texts<'a>(alloc: Global, names: &'a [List<u8>]) -> Result<Vec<Text<'a>>, AllocError>
     ensures exact { IfOk result (λ texts. texts.items ≡ names.now) }
@@ -79,17 +69,19 @@ fn push_all(
     scope: u64,
     names: &[Text<'_>],
 ) -> Result<(), AllocError>
+    requires few { length names.now < 2 ^ 32 }
     ensures pushed { OnOk result (spec.PutsAll index.old index.new scope names.now) }
 {
     for (number, name) in names.iter().enumerate() {
-        let place = place_of(number)?;
-        index.push(alloc, scope, name.bytes(), place)?;
+        index.push(alloc, scope, name.bytes(), number as u32)?;
     }
     Ok(())
 }
 
 /// The names of the functions, the imports and the globals, each in its scope.
+#[tactic(auto, using(crate::proofs::NameIndex::few_functions, crate::proofs::NameIndex::few_globals))]
 fn push_variables(alloc: Global, index: &mut Index<u32>, names: &Names) -> Result<(), AllocError>
+    requires few { spec.AreFew names.now }
     ensures pushed { OnOk result (spec.PutsKinds index.old index.new names.now) }
 {
     let functions = function_texts(alloc, names.functions.as_slice())?;
@@ -103,8 +95,9 @@ fn push_variables(alloc: Global, index: &mut Index<u32>, names: &Names) -> Resul
 /// The places of all names, by kind.
 ///
 /// The only error is want of memory.
-#[tactic(auto, using(crate::proofs::NameIndex::kinds_indexed))]
+#[tactic(auto, using(crate::proofs::NameIndex::kinds_indexed, crate::proofs::NameIndex::few_families))]
 pub(crate) fn places_by_kind(alloc: Global, names: &Names) -> Result<Index<u32>, AllocError>
+    requires few { spec.AreFew names.now }
     ensures exact { IfOk result (λ rows. spec.IndexesKinds names.now rows) }
 {
     let mut index = Index::new(alloc);
@@ -136,16 +129,34 @@ fn method_texts<'a>(alloc: Global, methods: &'a [Method]) -> Result<Vec<Text<'a>
     Ok(texts)
 }
 
+/// Puts the places of the names of some members in, under the number of their family.
+fn push_members(
+    alloc: Global,
+    index: &mut Index<usize>,
+    family: u64,
+    names: &[Text<'_>],
+) -> Result<(), AllocError>
+    ensures pushed { OnOk result (spec.PutsAll index.old index.new family names.now) }
+{
+    for (number, name) in names.iter().enumerate() {
+        index.push(alloc, family, name.bytes(), number)?;
+    }
+    Ok(())
+}
+
 /// The places of all fields' names, each family's in the scope of its number.
 ///
 /// The only error is want of memory.
-pub(crate) fn places_of_fields(alloc: Global, families: &[Family]) -> Result<Index<u32>, AllocError>
+pub(crate) fn places_of_fields(
+    alloc: Global,
+    families: &[Family],
+) -> Result<Index<usize>, AllocError>
     ensures exact { IfOk result (λ rows. spec.IndexesFields families.now rows) }
 {
     let mut index = Index::new(alloc);
     for (number, family) in families.iter().enumerate() {
         let names = field_texts(alloc, family.fields.as_slice())?;
-        push_all(alloc, &mut index, number as u64, names.as_slice())?;
+        push_members(alloc, &mut index, number as u64, names.as_slice())?;
     }
     Ok(index)
 }
@@ -156,15 +167,22 @@ pub(crate) fn places_of_fields(alloc: Global, families: &[Family]) -> Result<Ind
 pub(crate) fn places_of_methods(
     alloc: Global,
     families: &[Family],
-) -> Result<Index<u32>, AllocError>
+) -> Result<Index<usize>, AllocError>
     ensures exact { IfOk result (λ rows. spec.IndexesMethods families.now rows) }
 {
     let mut index = Index::new(alloc);
     for (number, family) in families.iter().enumerate() {
         let names = method_texts(alloc, family.methods.as_slice())?;
-        push_all(alloc, &mut index, number as u64, names.as_slice())?;
+        push_members(alloc, &mut index, number as u64, names.as_slice())?;
     }
     Ok(index)
+}
+
+/// The first of some places of members.
+pub(crate) fn first_member(places: &[usize]) -> Option<usize>
+    ensures exact { result ≡ spec.first_place places.now }
+{
+    places.first().copied()
 }
 
 /// The first of some places.

@@ -15,8 +15,8 @@ loop-number-preserved c k name =
     let inside : n < length fs = omega arith in
     let old : List ℕ = items_at k name c.loop-number.index in
     let all : c.as_slice-in-loop-number.result.now ≡ method_names (Some c.index-families-number.result) = c.as_slice-in-loop-number.ensures.value ∙ c.in_ok-names.ensures.exact ∙ ap (λ xs. map (λ (m : Method). m.function.name) xs) c.as_slice.ensures.same in
-    let puts = c.in_ok-push_all.ensures.pushed k name ∙ ap (λ (xs : List (List ℕ)). old ++ cond (n == k) (places_of xs name) []) all in
-    family_more method_names refl fs n k c.index-families-number.result name old (items_at k name c.push_all.new.index) inside c.index-families-number.is puts (c.loop-number.invariant k name)
+    let puts = c.in_ok-push_members.ensures.pushed k name ∙ ap (λ (xs : List (List ℕ)). old ++ cond (n == k) (places_of xs name) []) all in
+    family_more method_names refl fs n k c.index-families-number.result name old (items_at k name c.push_members.new.index) inside c.index-families-number.is puts (c.loop-number.invariant k name)
 
 pub returns : goal.returns
 returns c =
