@@ -1,5 +1,5 @@
 -- What asks nothing has no rows, and where a refused declaration asks there are few families.
-use Rattle.std.specs.Prelude.{ℕ, suc, ◌≡◌, ◌≢◌, ◌≤◌, Bool, true, false, ◌||◌, ◌++◌, Contains, List, [], ◌∷◌, length, flat_map, is_some, IsSome, Option, Some, None}
+use Rattle.std.specs.Prelude.{ℕ, suc, ◌≡◌, ◌≢◌, ◌≤◌, ◌<◌, ◌^◌, Bool, true, false, ◌||◌, ◌++◌, Contains, List, [], ◌∷◌, length, flat_map, is_some, IsSome, Option, Some, None}
 use Rattle.std.proofs.Common.{arith, refl, sym, ap, ◌∙◌}
 use Rattle.ang_types.specs.declared.asks.Asks.{Asks}
 use Rattle.ang_types.specs.declared.asks.Refused.{Refused}
@@ -11,7 +11,7 @@ use Rattle.ang_names_listed.specs.Declarations.{declarations_of, families_of}
 use Rattle.ang_names_written.specs.Sources.{Source}
 use Rattle.ang_names.specs.Phases.{errors_in, refusals_of}
 use Rattle.ang_names_resolved.specs.Resolved.{names_of}
-use Rattle.ang_names.proofs.Few.{asked_families}
+use Rattle.ang_names.proofs.Few.{asked_families, asked_places}
 use Rattle.ang_check_bodies.specs.Bodies.{body_refusals}
 use Rattle.ang_check_uses.specs.Uses.{Scope}
 use Rattle.ang_check_denials.specs.Denials.{rows_asked, rows_for}
@@ -46,6 +46,12 @@ pub few_where_asked : (V : RegistrationList) (ss : List Source) (rs : List Refus
 few_where_asked V ss rs e h =
     let q = one_asks (refusals_of V ss) (sym (ap some_ask e) ∙ h) in
     asked_families V ss q.0 q.1 q.2
+
+pub places_where_asked : (V : RegistrationList) (ss : List Source) (rs : List Refused) → rs ≡ refusals_of V ss → some_ask rs ≡ true
+    → length (declarations_of ss) < 2 ^ 32
+places_where_asked V ss rs e h =
+    let q = one_asks (refusals_of V ss) (sym (ap some_ask e) ∙ h) in
+    asked_places V ss q.0 q.1 q.2
 
 -- ---- what is refused, by what was answered
 

@@ -49,7 +49,7 @@ fn rows_over(
 }
 
 /// The rows of what is refused of declarations.
-#[tactic(auto, using(crate::proofs::Asking::no_rows, crate::proofs::Asking::few_where_asked, ang_names::proofs::Few::are_families))]
+#[tactic(auto, using(crate::proofs::Asking::no_rows, crate::proofs::Asking::few_where_asked, crate::proofs::Asking::places_where_asked, ang_names::proofs::Few::are_families))]
 fn rows_of_phases(
     alloc: Global,
     masked: &Masked<'_>,

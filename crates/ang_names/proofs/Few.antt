@@ -1,6 +1,6 @@
 -- The families of names are few, and what stands above each is among them.
-use Rattle.std.specs.Prelude.{ℕ, zero, suc, ◌≡◌, ◌≢◌, ◌≤◌, ◌<◌, ◌⊎◌, Bool, true, false, if◌then◌else◌, All, Contains, List, [], ◌∷◌, ◌++◌, length, slice_index_or, Some, None, IsSome, is_some, option_to_list}
-use Rattle.std.proofs.Common.{arith, refl, sym, subst, ap, inl, inr, ◌∙◌, length-append}
+use Rattle.std.specs.Prelude.{ℕ, zero, suc, ◌≡◌, ◌≢◌, ◌≤◌, ◌<◌, ◌^◌, ◌⊎◌, Bool, true, false, if◌then◌else◌, All, Contains, List, [], ◌∷◌, ◌++◌, length, slice_index_or, Some, None, IsSome, is_some, option_to_list}
+use Rattle.std.proofs.Common.{arith, refl, sym, subst, ap, inl, inr, ◌∙◌}
 use Rattle.ang_kinds.specs.declared.error.Error.{Error}
 use Rattle.std.proofs.lemmas.List.Elements.{All-append}
 use Rattle.ang_types.specs.declared.asks.Refused.{Refused}
@@ -19,15 +19,10 @@ use Rattle.ang_names.specs.Phases as phase
 use Rattle.ang_names.specs.Phases.{all_phases, errors_in, first_refusals, refusals_of}
 use Rattle.ang_names_tables.specs.Headings.{signatures_of}
 use Rattle.ang_names_tables.specs.Hierarchy.{is_parent}
+use Rattle.ang_names_resolved.proofs.Counts as counted
 use Rattle.ang_names_resolved.specs.Resolved.{families_after, families_in, functions_in, names_of, space_of_declared}
 
 module _ {A B : Type 0} (f : List A → A → List B) where
-  -- where each item gives one there are as many
-  as_many : ((before : List A) (x : A) → length (f before x) ≡ 1) → (before xs : List A) → length (each_after f before xs) ≡ length xs
-  as_many one before [] = refl
-  as_many one before (x ∷ xs) =
-      omega (arith, length-append (f before x) (each_after f (before ++ x ∷ []) xs), one before x, as_many one (before ++ x ∷ []) xs)
-
   -- what holds of all that each item gives
   holds_of_all : (P : B → Type 0) → ((before : List A) (x : A) → All P (f before x)) → (before xs : List A) → All P (each_after f before xs)
   holds_of_all P h before [] = λ k d lt. absurd (omega (arith, lt))
@@ -54,8 +49,7 @@ module _ (E : Space) (ds : List Declared) where
   made = families_after E (families_of ds) (signatures_of E (families_of ds)) (length (functions_in E ds))
 
   pub family_number : length (families_in E ds) ≡ length (families_of ds)
-  unfolding families_in
-  family_number = as_many made (λ before d. refl) [] (families_of ds)
+  family_number = counted.family_number E ds
 
   one_above : (n : ℕ) → length (families_of ds) ≡ n → (before : List Declaring) (d : Declaring) (k : ℕ) (x : Family) → k < length (made before d)
       → All (λ j. j < n) (slice_index_or (made before d) k x).above
@@ -98,6 +92,16 @@ accepted_few V ss e =
 
 pub accepted_families : (V : RegistrationList) (ss : List Source) → refusals_of V ss ≡ [] → AreFamilies (names_of V (declarations_of ss)).families
 accepted_families V ss e = are_families V (declarations_of ss) (accepted_few V ss e)
+
+pub accepted_declarations : (V : RegistrationList) (ss : List Source) → refusals_of V ss ≡ [] → length (declarations_of ss) ≤ 8704
+unfolding refusals_of name_refusals
+accepted_declarations V ss e =
+    let names : name_refusals V (declarations_of ss) ≡ [] = first_empty (name_refusals V (declarations_of ss)) _ e in
+    listed.all_are_few V (declarations_of ss) names
+
+-- each declaration has a place of 32 bits
+pub accepted_places : (V : RegistrationList) (ss : List Source) → refusals_of V ss ≡ [] → length (declarations_of ss) < 2 ^ 32
+accepted_places V ss e = let few = accepted_declarations V ss e in omega (arith, few)
 
 -- where something is refused there is an error
 pub some_errors : (rs : List Refused) → rs ≢ [] → errors_in rs ≢ []
@@ -144,4 +148,13 @@ asked_families V ss r c asks =
     elim (either_list (name_refusals V ds) (later_phases V ds)) [
       | inl e ↦ absurd (silent_in (name_refusals V ds) r (names_silent V ds) (subst (λ rs. Contains rs r) e c) asks)
       | inr free ↦ listed.names_are_few V ds free.0
+    ]
+
+pub asked_places : (V : RegistrationList) (ss : List Source) (r : Refused) → Contains (refusals_of V ss) r → IsSome r.asks → length (declarations_of ss) < 2 ^ 32
+unfolding refusals_of name_refusals
+asked_places V ss r c asks =
+    let ds = declarations_of ss in
+    elim (either_list (name_refusals V ds) (later_phases V ds)) [
+      | inl e ↦ absurd (silent_in (name_refusals V ds) r (names_silent V ds) (subst (λ rs. Contains rs r) e c) asks)
+      | inr free ↦ let few : length ds ≤ 8704 = listed.all_are_few V ds free.0 in omega (arith, few)
     ]

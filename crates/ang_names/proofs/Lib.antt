@@ -1,4 +1,5 @@
 pub mod Few
+pub mod Limits
 pub mod Named
 pub mod Numbered
 pub mod Ranks

@@ -1,5 +1,5 @@
 //! What a build declares, or why it declares nothing.
-ghost use Rattle.std.specs.Prelude.{◌≡◌, ◌≢◌, ◌≤◌, [], length, IfOk, IfErr, OnOk, map as list_map};
+ghost use Rattle.std.specs.Prelude.{◌≡◌, ◌≢◌, ◌≤◌, ◌<◌, ◌^◌, [], length, IfOk, IfErr, OnOk, map as list_map};
 ghost use Rattle.ang_names_listed.specs.Declarations as listed;
 ghost use Rattle.ang_names_listed.specs.Declarations.{families_of};
 ghost use Rattle.ang_names_written.specs.Sources.{source_of};
@@ -73,7 +73,8 @@ pub fn declare<'a>(alloc: Global, view: &'a View, scripts: &'a [Script]) -> Resu
 }
 
 /// The names of all declarations, whatever is refused of them: denials ask over these. There are few enough classes and
-/// interfaces wherever a refused declaration asks for a name (`laws::few_families`).
+/// interfaces, and few enough declarations for places of 32 bits, wherever a refused declaration asks for a name
+/// (`laws::few_families`, `laws::few_places`).
 ///
 /// The only error is want of memory.
 pub fn names_over<'a>(
@@ -83,6 +84,7 @@ pub fn names_over<'a>(
 ) -> Result<Names, AllocError>
     requires few { length (families_of
         (listed.declarations_of (list_map source_of scripts.now))) ≤ 256 }
+    requires places { length (listed.declarations_of (list_map source_of scripts.now)) < 2 ^ 32 }
     ensures exact { IfOk result (λ names. names
         ≡ resolved.names_of view.now (listed.declarations_of (list_map source_of scripts.now))) }
 {

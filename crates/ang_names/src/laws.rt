@@ -1,5 +1,6 @@
 //! Laws of the definitions, each the contract of a function that does nothing.
-ghost use Rattle.std.specs.Prelude.{ℕ, ◌≡◌, ◌≤◌, ◌<◌, true, false, List, [], length, Contains, IsSome, Some};
+ghost use Rattle.std.specs.Prelude.{ℕ, ◌≡◌, ◌≤◌, ◌<◌, ◌^◌, true, false, List, [], length, Contains, IsSome, Some};
+ghost use Rattle.std.specs.List.{flat_map};
 ghost use Rattle.ang_types.specs.declared.asks.Refused.{Refused};
 ghost use Rattle.ang_view.specs.Registration.{RegistrationList};
 ghost use Rattle.ang_names_known.specs.declared.names.Family.{Family};
@@ -9,7 +10,7 @@ ghost use Rattle.ang_names_listed.specs.declared.listed.Declared.{Declared};
 ghost use Rattle.ang_names_listed.specs.Declarations.{declarations_of, families_of};
 ghost use Rattle.ang_names.specs.Phases.{refusals_of};
 ghost use Rattle.ang_names.specs.Ranks.{can_hold, family_at, is_own_ancestor, reaches_itself};
-ghost use Rattle.ang_names_resolved.specs.Resolved.{names_of};
+ghost use Rattle.ang_names_resolved.specs.Resolved.{body_members, names_of};
 
 /// The families of a build are few enough for each to have a number as a type, and what stands above one is among them: where
 /// there are 256 at most (`few`), and so where nothing is refused (`accepted`). A refusal that asks for a name comes from a
@@ -22,6 +23,29 @@ pub fn few_families()
     ensures asked { (V : RegistrationList) (ss : List Source) (r : Refused) →
         Contains (refusals_of V ss) r → IsSome r.asks →
         length (families_of (declarations_of ss)) ≤ 256 }
+{}
+
+/// There are few enough declarations for each to have a place of 32 bits where nothing is refused of them (`accepted`), and where
+/// a refusal asks for a name (`asked`).
+#[tactic(auto, using(crate::proofs::Few::accepted_places, crate::proofs::Few::asked_places))]
+pub fn few_places()
+    ensures accepted { (V : RegistrationList) (ss : List Source) →
+        refusals_of V ss ≡ [] → length (declarations_of ss) < 2 ^ 32 }
+    ensures asked { (V : RegistrationList) (ss : List Source) (r : Refused) →
+        Contains (refusals_of V ss) r → IsSome r.asks →
+        length (declarations_of ss) < 2 ^ 32 }
+{}
+
+/// Where nothing is refused there are few members, few bodies of methods and constructors, and few methods, of all classes and
+/// interfaces together: 256 of 256 each.
+#[tactic(auto, using(crate::proofs::Limits::accepted_members, crate::proofs::Limits::accepted_bodies, crate::proofs::Limits::accepted_methods))]
+pub fn few_members()
+    ensures members { (V : RegistrationList) (ss : List Source) → refusals_of V ss ≡ [] →
+        length (flat_map (λ d. d.shape.members) (families_of (declarations_of ss))) ≤ 65536 }
+    ensures bodies { (V : RegistrationList) (ss : List Source) → refusals_of V ss ≡ [] →
+        length (flat_map body_members (families_of (declarations_of ss))) ≤ 65536 }
+    ensures methods { (V : RegistrationList) (ss : List Source) → refusals_of V ss ≡ [] →
+        length (flat_map (λ f. f.methods) (names_of V (declarations_of ss)).families) ≤ 65536 }
 {}
 
 /// Where nothing is refused, no class or interface stands above itself, none reaches itself through what its fields can hold, and

@@ -1,5 +1,5 @@
 //! The names of declarations, with what their types mean.
-ghost use Rattle.std.specs.Prelude.{◌≡◌, ◌≤◌, length, map as list_map, IfOk};
+ghost use Rattle.std.specs.Prelude.{◌≡◌, ◌≤◌, ◌<◌, ◌^◌, length, map as list_map, IfOk};
 ghost use Rattle.std.specs.List.{filter_map};
 ghost use Rattle.ang_names_known.specs.Spaces as spaces;
 ghost use Rattle.ang_names_listed.specs.Declarations.{declared_name};
@@ -217,13 +217,14 @@ pub fn families_among(
 /// All names of the declarations, each kind in order.
 ///
 /// The only error is want of memory.
-#[tactic(auto, unfolding(crate::specs::Resolved::names_of))]
+#[tactic(auto, unfolding(crate::specs::Resolved::names_of), using(crate::proofs::Counts::few_names))]
 pub fn names_of<'a>(
     alloc: Global,
     view: &'a View,
     all: &[Declared<'a>],
 ) -> Result<Names, AllocError>
     requires few { length (listed.families_of all.now) ≤ 256 }
+    requires places { length all.now < 2 ^ 32 }
     ensures exact { IfOk result (λ names. names ≡ spec.names_of view.now all.now) }
 {
     let space = space_of(alloc, view, all)?;
