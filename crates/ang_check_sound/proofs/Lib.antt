@@ -22,4 +22,5 @@ pub mod Numbers
 pub mod Standing
 pub mod Built
 pub mod Program
+pub mod Few
 pub mod Soundness

@@ -434,7 +434,7 @@ module _ (V : RegistrationList) (names : Names) (sources : List Source) (p : t.P
       ap (λ (o : Option NumberedBody). unwrap_or (option_map (λ (c : NumberedBody). c.1) o) []) b.1 ∙ sym b.3.2 ∙ ap (λ (g : t.Function). g.parameters) same
 
 -- how many bodies the names have
-total_is : (V : RegistrationList) (sources : List Source) → length (bodies_of (names_of V (declarations_of sources))) ≡ total_of sources
+pub total_is : (V : RegistrationList) (sources : List Source) → length (bodies_of (names_of V (declarations_of sources))) ≡ total_of sources
 unfolding names_of families_in
 total_is V sources =
     let ds = declarations_of sources in

@@ -9,12 +9,13 @@ ghost use Rattle.ang_names_known.specs.declared.names.Names.{Names};
 ghost use Rattle.ang_names_known.specs.Spaces.{first_family};
 ghost use Rattle.ang_names_listed.specs.Declarations.{declarations_of};
 ghost use Rattle.ang_names_resolved.specs.Resolved.{names_of};
+ghost use Rattle.ang_names.specs.Phases.{refusals_of};
 ghost use Rattle.ang_check_context.specs.declared.scope.LocalVariable.{LocalVariable};
 ghost use Rattle.ang_check_context.specs.declared.scope.Within.{Within};
 ghost use Rattle.ang_check_context.specs.Scope.{BodyContext};
 ghost use Rattle.ang_check_typing.specs.Typing.{typing_of};
 ghost use Rattle.ang_check_bodies.specs.Bodies.{context_in, parts_of, judgements, body_refusals, program_of};
-ghost use Rattle.ang_source.specs.Sound.{Sound, SoundProgram};
+ghost use Rattle.ang_source.specs.Sound.{IsFew, Sound, SoundProgram};
 ghost use Rattle.ang_check_sound.specs.Views.{Entitled};
 ghost use Rattle.ang_check_sound.specs.Checked.{module_in, HasNames};
 ghost use Rattle.ang_check_sound.specs.Parts.{IsPartOf};
@@ -34,6 +35,15 @@ pub fn program_is_sound()
         → length V ≤ first_family
         → names ≡ names_of V (declarations_of sources)
         → body_refusals V names sources ≡ [] → SoundProgram V (program_of V names sources) }
+{}
+
+/// What it has is counted in 32 bits where its declarations are accepted too: of these there are few.
+#[tactic(auto, using(crate::proofs::Few::program_is_few))]
+pub fn program_is_few()
+    ensures few { (V : RegistrationList) (names : Names) (sources : List Source)
+        → names ≡ names_of V (declarations_of sources)
+        → refusals_of V sources ≡ []
+        → body_refusals V names sources ≡ [] → IsFew (program_of V names sources) }
 {}
 
 /// Its functions and globals are those of the names, each at its number, with the parameters, results and types

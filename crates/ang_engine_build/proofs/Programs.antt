@@ -5,7 +5,7 @@ use Rattle.ang_kinds.specs.declared.error.Error.{Error}
 use Rattle.ang_view.specs.Registration.{RegistrationList}
 use Rattle.ang_view.specs.Values.{TakesValues}
 use Rattle.ang_types.specs.declared.asks.Refused.{Refused}
-use Rattle.ang_source.specs.Sound.{SoundProgram}
+use Rattle.ang_source.specs.Sound.{IsFew, SoundProgram}
 use Rattle.ang_names_known.specs.declared.names.Family.{Family}
 use Rattle.ang_names_known.specs.Items.{list_or}
 use Rattle.ang_names_known.specs.Spaces.{AreFamilies}
@@ -19,6 +19,7 @@ use Rattle.ang_names.proofs.Ranks.{ranks}
 use Rattle.ang_check_bodies.specs.Bodies.{body_refusals, program_of}
 use Rattle.ang_check.specs.Denials.{script_refusals}
 use Rattle.ang_check_sound.specs.Checked.{HasNames}
+use Rattle.ang_check_sound.proofs.Few.{program_is_few}
 use Rattle.ang_check_sound.proofs.Program.{has_names}
 use Rattle.ang_check_sound.proofs.Soundness.{program_is_sound}
 use Rattle.ang_engine_build.specs.Script.{sources_of}
@@ -60,6 +61,12 @@ sound_scripts V ss r values few h =
     let sound : SoundProgram V (program_of V names ss) = program_is_sound V names ss values few refl h.accepted in
     subst (λ (q : Resolved). SoundProgram V q.tree) h.is sound
 
+counted_scripts : (V : RegistrationList) (ss : List Source) (r : Resolved) → IsResolution V ss r → IsFew r.tree
+counted_scripts V ss r h =
+    let names = names_of V (declarations_of ss) in
+    let few : IsFew (program_of V names ss) = program_is_few V names ss refl h.declared h.accepted in
+    subst (λ (q : Resolved). IsFew q.tree) h.is few
+
 named_scripts : (V : RegistrationList) (ss : List Source) (r : Resolved) → IsResolution V ss r → HasNames V r.names ss r.tree
 named_scripts V ss r h =
     subst (λ (q : Resolved). HasNames V q.names ss q.tree) h.is (has_names V (names_of V (declarations_of ss)) ss refl h.accepted)
@@ -80,6 +87,10 @@ sound_read : (V : RegistrationList) (read : Result (List Source) Error) (r : Res
 sound_read V (Ok ss) r values few is = sound_scripts V ss r values few (scripts_resolve V ss r is)
 sound_read V (Err e) r values few is = cc
 
+counted_read : (V : RegistrationList) (read : Result (List Source) Error) (r : Resolved) → after_reading V read ≡ Compiled r → IsFew r.tree
+counted_read V (Ok ss) r is = counted_scripts V ss r (scripts_resolve V ss r is)
+counted_read V (Err e) r is = cc
+
 named_read : (V : RegistrationList) (sections : List (List ℕ)) (read : Result (List Source) Error) (r : Resolved) → sources_of 0 sections ≡ read
     → after_reading V read ≡ Compiled r → HasNamesOf V sections r
 named_read V sections (Ok ss) r same is = record { sources = ss; are_read = same; names = named_scripts V ss r (scripts_resolve V ss r is) }
@@ -93,6 +104,10 @@ few_read V (Err e) r is = cc
 pub program-sound : (V : RegistrationList) (sections : List (List ℕ)) (r : Resolved) → TakesValues V → length V ≤ 1024
     → build_of V sections ≡ Compiled r → SoundProgram V r.tree
 program-sound V sections r values few is = sound_read V (sources_of 0 sections) r values few is
+
+-- what the tree has is counted in 32 bits
+pub program-few : (V : RegistrationList) (sections : List (List ℕ)) (r : Resolved) → build_of V sections ≡ Compiled r → IsFew r.tree
+program-few V sections r is = counted_read V (sources_of 0 sections) r is
 
 -- the functions and globals of the tree are those of the names
 pub program-named : (V : RegistrationList) (sections : List (List ℕ)) (r : Resolved) → build_of V sections ≡ Compiled r → HasNamesOf V sections r

@@ -2,7 +2,7 @@
 ghost use Rattle.std.specs.Prelude.{◌≡◌, ℕ, ◌≤◌, ◌<◌, true, List, length, Ok, Some, slice_get};
 ghost use Rattle.ang_view.specs.Registration.{RegistrationList};
 ghost use Rattle.ang_view.specs.Values.{TakesValues};
-ghost use Rattle.ang_source.specs.Sound.{SoundProgram};
+ghost use Rattle.ang_source.specs.Sound.{IsFew, SoundProgram};
 ghost use Rattle.ang_names_known.specs.declared.names.Family.{Family};
 ghost use Rattle.ang_names_known.specs.Spaces.{AreFamilies};
 ghost use Rattle.ang_names_written.specs.Sources.{Source};
@@ -21,6 +21,14 @@ pub fn programs_are_sound()
         → length V ≤ 1024
         → build_of V sections ≡ Compiled r
         → SoundProgram V r.tree }
+{}
+
+/// What its tree has is counted in 32 bits: its functions and initializers, the methods by slot, its imports and its classes.
+#[tactic(auto, using(crate::proofs::Programs::program_few))]
+pub fn programs_are_few()
+    ensures few { (V : RegistrationList) (sections : List (List ℕ)) (r : Resolved)
+        → build_of V sections ≡ Compiled r
+        → IsFew r.tree }
 {}
 
 /// The functions and globals of its tree are those of its names, each at its number, with the parameters,

@@ -3,7 +3,7 @@
 -- `break` and `continue` stand in a loop. It says nothing else of types: operations are total, a field of no object and a
 -- slot that a class has not fault.
 use Rattle.std.specs.List.{list_any}
-use Rattle.std.specs.Prelude.{◌≡◌, ◌≢◌, ℕ, suc, ◌+◌, ◌<◌, ◌==◌, Bool, true, false, IsTrue, List, [], ◌∷◌, length, map, Option, Some, None, IfSome, slice_get}
+use Rattle.std.specs.Prelude.{◌≡◌, ◌≢◌, ℕ, suc, ◌+◌, ◌<◌, ◌^◌, ◌==◌, Bool, true, false, IsTrue, List, [], ◌∷◌, length, map, Option, Some, None, IfSome, slice_get}
 use Rattle.ang_kinds.specs.declared.types.Pass.{Pass}
 use Rattle.ang_kinds.specs.declared.types.Pass.TheVariants.{RefOut}
 use Rattle.ang_view.specs.declared.entry.Entry.{Entry}
@@ -255,6 +255,14 @@ module _ (M : Module) where
   abbrev pub SoundClasses : List Class → Type 0
   SoundClasses [] = Unit {0}
   SoundClasses (c ∷ cs) = SoundClass c × SoundClasses cs
+
+-- What a module has is counted in 32 bits, as code numbers it: its bodies, which are its functions and its initializers, the methods by slot, its imports
+-- and its classes.
+pub record IsFew (p : t.Program) : Type 0 where
+  pub bodies : length p.functions + length p.globals < 2 ^ 32
+  pub methods : length p.methods < 2 ^ 32
+  pub imports : length p.imports < 2 ^ 32
+  pub classes : length p.classes < 2 ^ 32
 
 -- the resolved tree of a module, over its view of the host
 pub record SoundProgram (V : RegistrationList) (p : t.Program) : Type 0 where
