@@ -1,11 +1,12 @@
 -- Where nothing is refused each class and interface has few members, so there are few bodies.
-use Rattle.std.specs.Prelude.{ℕ, ◌≡◌, ◌≤◌, ◌+◌, ◌*◌, Bool, true, false, List, [], ◌∷◌, ◌++◌, length, Option, Some, None, option_to_list}
+use Rattle.std.specs.Prelude.{ℕ, ◌≡◌, ◌≤◌, ◌+◌, ◌*◌, nat_lt, Bool, true, false, List, [], ◌∷◌, ◌++◌, length, Option, Some, None, option_to_list}
 use Rattle.std.specs.List.{cons_option, flat_map}
 use Rattle.std.specs.Option.{option_or}
 use Rattle.std.proofs.Common.{arith, refl, length-append}
 use Rattle.std.proofs.lemmas.Bool.{ltb-false}
 use Rattle.std.proofs.lemmas.List.Sums.{count_by-le-length, length-filter}
 use Rattle.ang_kinds.specs.declared.error.ErrorKind.{ErrorKind}
+use Rattle.ang_kinds.specs.declared.error.ErrorKind.TheVariants as kind
 use Rattle.ang_lex.specs.declared.token.Token.{Token}
 use Rattle.ang_types.specs.declared.asks.Refused.{Refused}
 use Rattle.ang_view.specs.Registration.{RegistrationList}
@@ -57,7 +58,7 @@ module _ (E : Space) (fs : List Declaring) where
   one_family : (d : Declared) (p : Part) (rest : List Declaring) → part_refusal E fs d p ≡ None → length (members_in rest) ≤ 256 * length rest
       → length (members_in (cons_option (declaring_by d p) rest)) ≤ 256 * length (cons_option (declaring_by d p) rest)
   one_family d (part.Family s) rest e h =
-      let own : length s.members ≤ 256 = ltb-false 256 (length s.members) (not_over _ _ _ _ (first_none (member_limit d s) _ e)) in
+      let own : length s.members ≤ 256 = ltb-false 256 (length s.members) (not_over (nat_lt 256 (length s.members)) kind.Limit d.text d.name (first_none (member_limit d s) _ e)) in
       let both = length-append s.members (members_in rest) in
       omega (arith, own, both, h)
   one_family d (part.Function y ps) rest e h = h

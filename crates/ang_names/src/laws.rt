@@ -27,7 +27,6 @@ pub fn few_families()
 
 /// There are few enough declarations for each to have a place of 32 bits where nothing is refused of them (`accepted`), and where
 /// a refusal asks for a name (`asked`).
-#[tactic(auto, using(crate::proofs::Few::accepted_places, crate::proofs::Few::asked_places))]
 pub fn few_places()
     ensures accepted { (V : RegistrationList) (ss : List Source) →
         refusals_of V ss ≡ [] → length (declarations_of ss) < 2 ^ 32 }
@@ -38,7 +37,6 @@ pub fn few_places()
 
 /// Where nothing is refused there are few members, few bodies of methods and constructors, and few methods, of all classes and
 /// interfaces together: 256 of 256 each.
-#[tactic(auto, using(crate::proofs::Limits::accepted_members, crate::proofs::Limits::accepted_bodies, crate::proofs::Limits::accepted_methods))]
 pub fn few_members()
     ensures members { (V : RegistrationList) (ss : List Source) → refusals_of V ss ≡ [] →
         length (flat_map (λ d. d.shape.members) (families_of (declarations_of ss))) ≤ 65536 }
