@@ -67,14 +67,14 @@ few_in V sources p accepted has methods imports classes =
       classes = omega (arith, classes, (accepted_families V sources accepted).few);
     }
 
+own_program : (V : RegistrationList) (sources : List Source) → refusals_of V sources ≡ [] → body_refusals V (names_of V (declarations_of sources)) sources ≡ []
+    → IsFew (program_of V (names_of V (declarations_of sources)) sources)
+unfolding program_of
+own_program V sources accepted none =
+    let names = names_of V (declarations_of sources) in
+    few_in V sources (program_of V names sources) accepted (has_names V names sources refl none) refl refl (classes_counted names.families [] names.families)
+
 pub program_is_few : (V : RegistrationList) (names : Names) (sources : List Source) → names ≡ names_of V (declarations_of sources) → refusals_of V sources ≡ []
     → body_refusals V names sources ≡ [] → IsFew (program_of V names sources)
 program_is_few V names sources e accepted none =
-    subst (λ (n : Names). body_refusals V n sources ≡ [] → IsFew (program_of V n sources)) (sym e) (own V sources accepted) none
-  where
-    own : (V : RegistrationList) (sources : List Source) → refusals_of V sources ≡ [] → body_refusals V (names_of V (declarations_of sources)) sources ≡ []
-        → IsFew (program_of V (names_of V (declarations_of sources)) sources)
-    unfolding program_of
-    own V sources accepted none =
-        let names = names_of V (declarations_of sources) in
-        few_in V sources (program_of V names sources) accepted (has_names V names sources refl none) refl refl (classes_counted names.families [] names.families)
+    subst (λ (n : Names). body_refusals V n sources ≡ [] → IsFew (program_of V n sources)) (sym e) (own_program V sources accepted) none
