@@ -1,5 +1,5 @@
 -- What the resolved tree of scripts without errors has is counted in 32 bits.
-use Rattle.std.specs.Prelude.{◌≡◌, ℕ, ◌+◌, ◌≤◌, ◌^◌, List, [], ◌∷◌, ◌++◌, length, map}
+use Rattle.std.specs.Prelude.{◌≡◌, ℕ, suc, ◌+◌, ◌≤◌, List, [], ◌∷◌, ◌++◌, length, map}
 use Rattle.std.specs.List.{flat_map, range_with_len}
 use Rattle.std.proofs.Common.{refl, ap, sym, subst, ◌∙◌, arith, length-append}
 use Rattle.std.proofs.lemmas.List.{length-map}
@@ -34,7 +34,7 @@ headings_counted before (f ∷ fs) =
 
 classes_counted : (all before fs : List Family) → length (each_after (λ (front : List Family) (f : Family). typed_class all (length front) f ∷ []) before fs) ≡ length fs
 classes_counted all before [] = refl
-classes_counted all before (f ∷ fs) = ap (λ n. n + 1) (classes_counted all (before ++ f ∷ []) fs)
+classes_counted all before (f ∷ fs) = ap suc (classes_counted all (before ++ f ∷ []) fs)
 
 module _ (V : RegistrationList) (names : Names) (sources : List Source) (p : t.Program) (has : HasNames V names sources p) where
   functions_counted : length p.functions ≡ length names.functions + length (bodies_of names)

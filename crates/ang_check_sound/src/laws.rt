@@ -38,7 +38,6 @@ pub fn program_is_sound()
 {}
 
 /// What it has is counted in 32 bits where its declarations are accepted too: of these there are few.
-#[tactic(auto, using(crate::proofs::Few::program_is_few))]
 pub fn program_is_few()
     ensures few { (V : RegistrationList) (names : Names) (sources : List Source)
         → names ≡ names_of V (declarations_of sources)
