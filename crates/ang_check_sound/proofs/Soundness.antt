@@ -22,6 +22,7 @@ use Rattle.ang_names_known.specs.Items.{each_after}
 use Rattle.ang_names_known.specs.Spaces.{first_family}
 use Rattle.ang_names_written.specs.Sources.{Source}
 use Rattle.ang_names_listed.specs.Declarations.{declarations_of}
+use Rattle.ang_names.specs.Phases.{refusals_of}
 use Rattle.ang_names_resolved.specs.Resolved.{names_of}
 use Rattle.ang_check_operand.specs.Refusals.{Typing}
 use Rattle.ang_check_context.specs.declared.scope.Within.{Within}
@@ -33,6 +34,7 @@ use Rattle.ang_check_sound.specs.Built.{IsBuiltContext}
 use Rattle.ang_check_sound.proofs.Bodies.{function_sound, global_sound, method_sound, constructor_sound}
 use Rattle.ang_check_sound.proofs.Built.{families_built, context_built}
 use Rattle.ang_check_sound.proofs.Classes.{all_below, all_classes_sound}
+use Rattle.ang_check_sound.proofs.Few.{program_is_few}
 use Rattle.ang_check_sound.proofs.Program.{none_behind, J, has_names}
 
 -- ---- what the parts give
@@ -160,12 +162,13 @@ sound_over V names sources values few e none =
     }
 
 pub program_is_sound : (V : RegistrationList) (names : Names) (sources : List Source) → TakesValues V → length V ≤ first_family
-    → names ≡ names_of V (declarations_of sources) → body_refusals V names sources ≡ [] → SoundProgram V (program_of V names sources)
-program_is_sound V names sources values few e none =
+    → names ≡ names_of V (declarations_of sources) → refusals_of V sources ≡ [] → body_refusals V names sources ≡ [] → SoundProgram V (program_of V names sources)
+program_is_sound V names sources values few e accepted none =
     let p = program_of V names sources in
     let same = same_module V names sources (has_names V names sources e none) in
     let sound = sound_over V names sources values few e none in
     record {
+      few = program_is_few V names sources e accepted none;
       functions = subst (λ (N : Module). SoundFunctions N p.functions) same sound.functions;
       globals = subst (λ (N : Module). SoundGlobals N p.globals) same sound.globals;
       classes = subst (λ (N : Module). SoundClasses N p.classes) same sound.classes;

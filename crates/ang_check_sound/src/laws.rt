@@ -25,7 +25,8 @@ ghost use Rattle.ang_check_sound.specs.Built.{IsBuiltContext, HasThis};
 /// locals are alive, its functions and globals are there, each call has an argument for each parameter, and what
 /// it asks the host for is an entity of the view, of the kind that is asked: a function, a factory or a method
 /// that is called, or a property, which is not written where it is declared `const`. Its classes, methods and
-/// imports are there, and the body that a class has in a slot takes what the methods of the slot take. What a
+/// imports are there, and the body that a class has in a slot takes what the methods of the slot take. What it has is
+/// counted in 32 bits, since the declarations are accepted. What a
 /// registry shows takes values alone, in at most 1,024 entries (`Registry::seen`): no host type has the number of a
 /// class.
 #[tactic(auto, using(crate::proofs::Soundness::program_is_sound))]
@@ -34,6 +35,7 @@ pub fn program_is_sound()
         → TakesValues V
         → length V ≤ first_family
         → names ≡ names_of V (declarations_of sources)
+        → refusals_of V sources ≡ []
         → body_refusals V names sources ≡ [] → SoundProgram V (program_of V names sources) }
 {}
 

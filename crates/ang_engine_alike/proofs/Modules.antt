@@ -1,5 +1,5 @@
 -- What the modules of an engine keep: each program is what some sections are built to, and imports lead where they may.
-use Rattle.std.proofs.Common.{inl, inr, ◌≡◌, ◌≢◌, ◌≤◌, ◌+◌, ℕ, zero, suc, List, [], ◌∷◌, ◌++◌, length, refl, sym, ap, ◌∙◌, subst, Option, Some, None, map}
+use Rattle.std.proofs.Common.{inl, inr, ◌≡◌, ◌≢◌, ◌≤◌, ◌+◌, ℕ, zero, suc, List, [], ◌∷◌, ◌++◌, length, refl, sym, ap, ◌∙◌, subst, arith, Option, Some, None, map}
 use Rattle.std.specs.Prelude.{◌⊎◌, Bool, true, false, ◌==◌, option_map, is_none, position, slice_get, slice_set, slice_index_or, if◌then◌else◌}
 use Rattle.std.specs.Option.{option_flatten}
 use Rattle.std.proofs.lemmas.Bool.{eqb-true, eqb-false}
@@ -145,7 +145,12 @@ program_sound : (p : Program) → IsProgram p → SoundProgram p.view p.tree
 program_sound p h = program-sound p.view h.sections (record { names = p.names; tree = p.tree }) h.values h.few h.built
 
 nothing_sound : SoundProgram [] nothing
-nothing_sound = record { functions = tt; globals = tt; classes = tt }
+nothing_sound = record {
+  few = record { bodies = omega arith; methods = omega arith; imports = omega arith; classes = omega arith };
+  functions = tt;
+  globals = tt;
+  classes = tt;
+}
 
 built_sound : (name : List ℕ) (o : Option Program) → IsBuilt o → SoundProgram (built_of name o).view (built_of name o).tree
 built_sound name None h = nothing_sound

@@ -58,7 +58,7 @@ scripts_resolve V ss r is =
 sound_scripts : (V : RegistrationList) (ss : List Source) (r : Resolved) → TakesValues V → length V ≤ 1024 → IsResolution V ss r → SoundProgram V r.tree
 sound_scripts V ss r values few h =
     let names = names_of V (declarations_of ss) in
-    let sound : SoundProgram V (program_of V names ss) = program_is_sound V names ss values few refl h.accepted in
+    let sound : SoundProgram V (program_of V names ss) = program_is_sound V names ss values few refl h.declared h.accepted in
     subst (λ (q : Resolved). SoundProgram V q.tree) h.is sound
 
 counted_scripts : (V : RegistrationList) (ss : List Source) (r : Resolved) → IsResolution V ss r → IsFew r.tree

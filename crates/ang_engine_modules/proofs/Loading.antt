@@ -13,7 +13,7 @@ use Rattle.ang_typed.specs.declared.program.Heading.{Heading}
 use Rattle.ang_typed.specs.Typed as tree
 use Rattle.ang_typed.specs.View.{view_typed}
 use Rattle.ang_source.specs.Meaning.{nothing, heading_among, initializers_from, passings_of, passings_in, results_in, routine}
-use Rattle.ang_source.specs.Sound.{SoundProgram}
+use Rattle.ang_source.specs.Sound.{IsFew, SoundProgram}
 use Rattle.ang_gen.specs.Compiled.{IsCompiled}
 use Rattle.ang_vm_stack.specs.declared.table.Table.{Table}
 use Rattle.ang_vm_stack.specs.declared.table.ModuleCode.{ModuleCode}
@@ -33,6 +33,9 @@ use Rattle.ang_engine_modules.proofs.Bodies.{gives_as}
 none_compiled : IsCompiled nothing []
 none_compiled = record { bodies = []; lowered = refl; code = tt }
 
+none_few : IsFew nothing
+none_few = record { bodies = omega arith; methods = omega arith; imports = omega arith; classes = omega arith }
+
 pub blank : (m : ℕ) (c : ModuleCode) → c.name.items ≡ [] → c.bodies.items ≡ [] → c.imports.items ≡ [] → c.entities.items ≡ [] → c.classes.items ≡ [] → c.slots.items ≡ []
     → IsCodeOf m (Some c) unbuilt
 blank m c name bodies imports entities classes slots =
@@ -48,7 +51,7 @@ blank m c name bodies imports entities classes slots =
       links = ap (list_map (λ y. y.bound)) imports;
       classes = ap (list_map class_of) classes;
       slots = ap (list_map (λ y. y.items)) slots;
-      sound = record { functions = tt; globals = tt; classes = tt };
+      sound = record { few = none_few; functions = tt; globals = tt; classes = tt };
     }
 
 pub coded : (m : ℕ) (c : ModuleCode) (b : LoadedModule) (codes : List RoutineCode)
@@ -89,7 +92,7 @@ no_places m = record {
   links = refl;
   classes = refl;
   slots = refl;
-  sound = record { functions = tt; globals = tt; classes = tt };
+  sound = record { few = none_few; functions = tt; globals = tt; classes = tt };
 }
 
 -- so of whatever holds of the code in each place and its module

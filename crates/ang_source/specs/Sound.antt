@@ -1,6 +1,6 @@
 -- What a checker promises of a resolved tree (docs/MEANING.md, "What a script means"): each local is alive, each global, function, class, slot and import is
 -- there, each call has an argument for each parameter, each host call is of an entity that the view has, no property that is declared `const` is written, and
--- `break` and `continue` stand in a loop. It says nothing else of types: operations are total, a field of no object and a
+-- `break` and `continue` stand in a loop; and what the tree has is counted in 32 bits. It says nothing else of types: operations are total, a field of no object and a
 -- slot that a class has not fault.
 use Rattle.std.specs.List.{list_any}
 use Rattle.std.specs.Prelude.{◌≡◌, ◌≢◌, ℕ, suc, ◌+◌, ◌<◌, ◌^◌, ◌==◌, Bool, true, false, IsTrue, List, [], ◌∷◌, length, map, Option, Some, None, IfSome, slice_get}
@@ -266,6 +266,7 @@ pub record IsFew (p : t.Program) : Type 0 where
 
 -- the resolved tree of a module, over its view of the host
 pub record SoundProgram (V : RegistrationList) (p : t.Program) : Type 0 where
+  pub few : IsFew p
   pub functions : SoundFunctions (module_of V p) p.functions
   pub globals : SoundGlobals (module_of V p) p.globals
   pub classes : SoundClasses (module_of V p) p.classes
