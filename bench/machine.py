@@ -1,9 +1,10 @@
 #!/usr/bin/env python3
 """Runs the scripts of bench/scripts in the program, and in the original engine where its program is given, and prints a line for
 each: the ticks of the run, how many ticks a second the program makes, the seconds of both, and the original's seconds divided by
-the program's. Above 1 the program is faster. The last line has the geometric mean of the ratios. Then it does the same with those
-of bench/classes, which have classes of their own, and with those of bench/objects, which use objects of the host; the program lists
-and prints what these ask of it, which is in its seconds.
+the program's. Above 1 the program is faster. After several lines comes the geometric mean of the ratios. Then it does the same with
+those of bench/classes, which have classes of their own, with those of bench/objects, which use objects of the host, and with those
+of bench/imports, which import functions of other modules. The program lists and prints what is asked of the host's objects, which
+is in its seconds.
 
     python3 bench/machine.py ASRUN [--original MACHINE] [--modes plain,bare,counted] [--rounds N] [--check] [SCRIPT ...]
 
@@ -29,6 +30,7 @@ from pathlib import Path
 from processes import run_session, write
 
 HEAD = re.compile(r"// ticks (\d+)\n// answer (-?\d+)\n(?:// events (\d+)\n)?")
+IMPORT = re.compile(r'^import (.+) from "(\w+)";$', re.MULTILINE)
 PROFILE = """mask 00000001
 function 0 0 void print(int64)
 type Counter 1
@@ -37,7 +39,7 @@ method Counter 0 void bump()
 method Counter 1 int value() const
 """
 EVENTS = ("host ", "end ")
-FOLDERS = ["scripts", "classes", "objects"]
+FOLDERS = ["scripts", "classes", "objects", "imports"]
 MOST_TICKS = 2147483647
 CALL = "call bench () int64 main()\n"
 MODES = ["plain", "bare", "counted"]
@@ -73,11 +75,28 @@ def script_at(path):
     return Script(path.stem, path, text, int(head[1]), int(head[2]), int(head[3] or 0))
 
 
+def module(name, text):
+    """The commands that make a module of a text."""
+    return ["module %s 00000001\n" % name, "section %s %d\n%s" % (name, text.count("\n"), text), "build %s\n" % name]
+
+
+def exporters(script):
+    """The text of each module that a script imports from, by name: files of the folder `exporters` beside the script."""
+    folder = script.path.parent / "exporters"
+    return {name: (folder / (name + ".as")).read_text() for _, name in IMPORT.findall(script.text)}
+
+
+def bindings(script):
+    """The commands that bind a script's imports."""
+    imports = enumerate(IMPORT.findall(script.text))
+    return ["bind bench %d %s %s\n" % (index, name, declaration) for index, (declaration, name) in imports]
+
+
 def building(script):
-    """The commands that build a script, and the lines that they print."""
-    lines = script.text.count("\n")
-    commands = "module bench 00000001\nsection bench %d\n%sbuild bench\n" % (lines, script.text)
-    return commands, ["ok"] * 3
+    """The commands that build a script and what it imports from, and the lines that they print."""
+    commands = [command for name, text in exporters(script).items() for command in module(name, text)]
+    commands += module("bench", script.text) + bindings(script)
+    return "".join(commands), ["ok"] * len(commands)
 
 
 def called(script, budget, outcome):
@@ -192,7 +211,7 @@ def measure_all(scripts, program, original, modes, rounds):
 
     heading(modes)
     all_figures, refused = each_of(scripts, measure)
-    if all_figures and modes:
+    if len(all_figures) > 1 and modes:
         last_line(all_figures, modes)
     return refused
 

@@ -2,6 +2,8 @@
 //
 //     machine SCRIPT ANSWER TURNS [MODE]
 //
+// A module that SCRIPT imports from is built of the file of its name in the folder `exporters` beside SCRIPT.
+//
 // Prints the seconds of processor time of the quickest of TURNS runs; the build is no part of them. Ends with status 1 where the
 // script does not build, does not run to its end, or gives another number than ANSWER.
 //
@@ -17,6 +19,7 @@
 #include <cstdio>
 #include <cstdlib>
 #include <ctime>
+#include <filesystem>
 #include <limits>
 #include <stdexcept>
 #include <string>
@@ -92,15 +95,39 @@ void register_counter(asIScriptEngine *engine) {
     well(engine->RegisterObjectMethod("Counter", "int value() const", asFUNCTION(value_of), asCALL_CDECL_OBJFIRST));
 }
 
-/// The engine with a module in which the script is built.
+asIScriptModule *built_module(asIScriptEngine *engine, const char *name, const std::filesystem::path &path) {
+    const std::string text = text_of(path.string());
+    asIScriptModule *module = engine->GetModule(name, asGM_ALWAYS_CREATE);
+    require(module->AddScriptSection(name, text.data(), text.size()) >= 0, "the section is refused");
+    require(module->Build() >= 0, path.string() + " does not build");
+    return module;
+}
+
+/// The module of that name, built if it isn't yet.
+asIScriptModule *exporter(asIScriptEngine *engine, const char *name, const std::filesystem::path &folder) {
+    asIScriptModule *module = engine->GetModule(name, asGM_ONLY_IF_EXISTS);
+    return module != nullptr ? module : built_module(engine, name, folder / (std::string(name) + ".as"));
+}
+
+/// Binds each import of a module to the function of its declaration in the module that it names.
+void bind_imports(asIScriptEngine *engine, asIScriptModule *module, const std::filesystem::path &folder) {
+    for (asUINT index = 0; index < module->GetImportedFunctionCount(); index++) {
+        const std::string declaration = module->GetImportedFunctionDeclaration(index);
+        asIScriptModule *other = exporter(engine, module->GetImportedFunctionSourceModule(index), folder);
+        asIScriptFunction *function = other->GetFunctionByDecl(declaration.c_str());
+        require(function != nullptr, "there is no function to import: " + declaration);
+        require(module->BindImportedFunction(index, function) >= 0, "the import is not bound: " + declaration);
+    }
+}
+
+/// `main` of the script, built in a module of the engine whose imports are bound.
 asIScriptFunction *built_main(asIScriptEngine *engine, const Request &request) {
-    const std::string text = text_of(request.path);
+    const std::filesystem::path path = request.path;
     engine->SetMessageCallback(asFUNCTION(show_message), nullptr, asCALL_CDECL);
     engine->SetEngineProperty(asEP_BUILD_WITHOUT_LINE_CUES, request.mode == Mode::Bare);
     register_counter(engine);
-    asIScriptModule *module = engine->GetModule("bench", asGM_ALWAYS_CREATE);
-    require(module->AddScriptSection("bench", text.data(), text.size()) >= 0, "the section is refused");
-    require(module->Build() >= 0, "the script does not build");
+    asIScriptModule *module = built_module(engine, "bench", path);
+    bind_imports(engine, module, path.parent_path() / "exporters");
     asIScriptFunction *main = module->GetFunctionByDecl("int64 main()");
     require(main != nullptr, "there is no int64 main()");
     return main;
