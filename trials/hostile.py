@@ -493,7 +493,7 @@ ANY = "ok|refused BuildErrors (Limit|Duplicate)"
 # What takes most memory: calls inside one another, each with a conversion of its argument.
 WORST = "g(" * 62 + "x" + ")" * 62 + ";"
 WORST_HEAD = "int8 x;int8 g(int64 n){return n;}void f(){"
-MOST_BYTES = 400  # of memory for a byte of source, but for inherited fields: docs/SECURITY.md has it
+MOST_BYTES = 450  # of memory for a byte of source, but for inherited fields: docs/SECURITY.md has it
 PARAMETERS = ",".join(["int"] * 32)
 
 # The section, and the most bytes of memory for each of its bytes.

@@ -61,7 +61,7 @@ fn pop_numbered(list: &mut Vec<LocalVariable<'_>>, numbers: &mut Index<usize>)
     }
 }
 
-/// Takes the locals from this number on away, the last one first.
+/// Takes away the locals from number `left` on, the last one first.
 fn cut(list: &mut Vec<LocalVariable<'_>>, numbers: &mut Index<usize>, left: usize)
     requires numbered { AreNumbered list.old.items numbers.old }
     ensures cut { list.new.items ≡ take left list.old.items }
@@ -134,7 +134,8 @@ impl<'a> Locals<'a> {
         push_numbered(alloc, &mut self.list, &mut self.numbers, local)
     }
 
-    /// Only so many of the outermost stay alive. Its time goes by how many end, and it takes no memory.
+    /// The `left` outermost stay alive, and the others end; where there are no more than `left`, all stay.
+    /// Its time goes by how many end, and it takes no memory.
     pub fn truncate(&mut self, left: usize)
         ensures cut { self.new ≡ take left self.old }
     {
@@ -156,7 +157,7 @@ impl<'a> Locals<'a> {
         last_of(self.numbers.find(LOCALS, name))
     }
 
-    /// Whether one of those from this number on has the name. It takes no memory.
+    /// Whether one of those from number `start` on has the name. It takes no memory.
     #[tactic(auto, using(crate::proofs::NumberedLocals::any_none, crate::proofs::NumberedLocals::any_some))]
     pub fn has_from(&self, start: usize, name: &[u8]) -> bool
         ensures exact { result ≡ list_any (λ p. bytes_eq p.name name.now) (drop start self.now) }

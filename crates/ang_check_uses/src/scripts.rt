@@ -61,13 +61,13 @@ fn push_numbered(
     found: &mut Callables,
     declared: Declared,
     functions: &[ScriptFunction],
-    numbers: &[u32],
+    numbers: &[usize],
 ) -> Result<(), AllocError>
     ensures pushed { OnOk result (found.new ≡ found.old ++
         flat_map (spec.callable_at (kinds.function_in declared) functions.now) numbers.now) }
 {
     for number in numbers {
-        let callable = script_callable(alloc, declared, functions, *number as usize)?;
+        let callable = script_callable(alloc, declared, functions, *number)?;
         push_callable(found, callable)?;
     }
     Ok(())

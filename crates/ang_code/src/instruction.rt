@@ -39,7 +39,7 @@ pub enum Instruction {
         /// The integer type.
         to: Option<Prim>,
         /// The place of the value that moves.
-        under: u32,
+        under: usize,
         /// The place of the variable.
         with: usize,
     },
@@ -48,9 +48,9 @@ pub enum Instruction {
         /// The integer type.
         to: Option<Prim>,
         /// The place of the value that moves.
-        under: u32,
+        under: usize,
         /// The global's number.
-        global: u32,
+        global: usize,
     },
     /// The same with a field of the object at the place `object`, where it is there and the field may take
     /// the value; else nothing changes.
@@ -58,11 +58,11 @@ pub enum Instruction {
         /// The integer type.
         to: Option<Prim>,
         /// The place of the value that moves.
-        under: u32,
+        under: usize,
         /// The object's place.
-        object: u32,
+        object: usize,
         /// The field's number.
-        field: u32,
+        field: usize,
     },
     /// Gives up that number of values below the top one, the lowest first.
     DropUnder(usize),
@@ -71,8 +71,8 @@ pub enum Instruction {
     Return(usize),
 }
 
-/// An instruction has at most 16 bytes.
-const _: () = prove!(std::mem::size_of::<Instruction>() <= 16);
+/// An instruction has at most 32 bytes.
+const _: () = prove!(std::mem::size_of::<Instruction>() <= 32);
 
 /// Where a caller goes on.
 #[derive(Clone, Copy, PartialEq, Eq, Debug)]

@@ -35,9 +35,10 @@ enum CellCall {
 
 /// A driver whose objects hold a number in 32 bits (docs/EMBEDDING.md).
 ///
-/// - `make` 0 takes one `Int` in 32 bits, the value; `make` 1 takes a key and an `Int`, and adds the
-///   `Int` to the value of that key's object, wrapping at 32 bits.
-/// - `call` 0 of an object answers its value; `call` 1 takes one `Int` in 32 bits and sets it.
+/// - `make` 0 takes one `Int` in 32 bits, the value of the new object. `make` 1 takes a key and an `Int`; the
+///   new object's value is that of the key's object plus the `Int`, wrapped to 32 bits.
+/// - `call` 0 of an object answers its value, an `Int`. `call` 1 of an object takes one `Int` in 32 bits, and
+///   sets the value to it.
 /// - `call` 2 without an object takes a key or null, and answers it.
 ///
 /// Anything else is `Fault(1)`. Keys rise from 0 and are not used again. Its core is the next key, and

@@ -13,9 +13,9 @@ const OVERFLOW: u32 = 2;
 
 /// A driver without objects (docs/EMBEDDING.md).
 ///
-/// - `call` 0 notes its arguments, whatever they are, and answers `Void`; or want of memory.
+/// - `call` 0 notes its arguments, whatever they are, and answers `Void`, or notes none and answers `Memory`.
 /// - `call` 1 takes two `Int` and answers their sum, or `Fault(2)` where it does not fit into 64 bits.
-/// - `call` 2 takes one `Uint` below 2^32 and answers that fault.
+/// - `call` 2 takes one `Uint` below 2^32 and answers the fault of that number.
 /// - `read` and `write` 0 are a register that holds an `Int`, at first 0.
 ///
 /// Anything else is `Fault(1)`, and so is every `make`. Its core is the register, and then what it

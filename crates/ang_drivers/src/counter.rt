@@ -32,7 +32,8 @@ enum CounterCall {
 ///
 /// - `make` 0 takes nothing and makes an object of the value 0; `make` 1 takes one `Int` in 32 bits,
 ///   the value. The step is 1.
-/// - `call` 0 of an object adds its step to its value, wrapping at 32 bits; `call` 1 answers the value.
+/// - `call` 0 of an object adds its step to its value, wrapping at 32 bits. `call` 1 of an object answers its
+///   value, an `Int`.
 /// - `call` 2 without an object answers how many references were added so far, as a `Uint`.
 /// - `read` and `write` 0 of an object are its step, an `Int` in 32 bits.
 ///

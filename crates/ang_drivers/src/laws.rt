@@ -1,4 +1,4 @@
-//! Laws of the definitions, each the contract of a function that does nothing.
+//! Laws of the definitions, each the contract of a function that does nothing. No program calls them.
 ghost use Rattle.std.specs.Prelude.{ℤ, ◌≡◌};
 ghost use Rattle.ang_kinds.specs.declared.value.Value.{Value};
 ghost use Rattle.ang_drivers.specs.declared.counter.Count.{Count};

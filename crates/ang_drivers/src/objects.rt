@@ -142,7 +142,7 @@ impl<T: Copy> Objects<T> {
         if count_down(&mut self.live, key) {
             return false;
         }
-        self.live.remove(&key);
+        take_out(&mut self.live, key);
         true
     }
 }
@@ -207,4 +207,16 @@ fn count_down<T: Copy>(live: &mut BTreeMap<u64, Counted<T>>, key: u64) -> bool
         }
         None => unreachable!(),
     }
+}
+
+// Takes the object of a key out. It stands apart, so that what releases another reference than the last
+// stays small.
+#[inline(never)]
+fn take_out<T: Copy>(live: &mut BTreeMap<u64, Counted<T>>, key: u64)
+    ensures counts { by_key (λ c. c.count) live.new.entries
+        ≡ map.remove (by_key (λ c. c.count) live.old.entries) key }
+    ensures values { by_key (λ c. c.value) live.new.entries
+        ≡ map.remove (by_key (λ c. c.value) live.old.entries) key }
+{
+    live.remove(&key);
 }

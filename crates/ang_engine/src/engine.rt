@@ -37,7 +37,8 @@ use std::alloc::{AllocError, Global};
 /// Modules of scripts over one registration list and the drivers that answer for it
 /// (docs/EMBEDDING.md).
 ///
-/// An engine can't be dropped: `discard` ends it, and gives the drivers back.
+/// The compiler refuses a program that lets an engine go out of scope: `discard` ends it, and gives the
+/// drivers back.
 pub struct Engine {
     alloc: Global,
     registry: Registry,
@@ -101,7 +102,7 @@ impl Engine {
     ghost use Rattle.ang_engine.specs.Outcomes.{IfRefusedAtOnce, IsCalled, IsDiscarded, calling, discarding, reply_to_call, reply_to_discard};
     ghost use Rattle.ang_engine.specs.Engines.{registrations, world_in, drivers_in};
 
-    /// An engine without modules.
+    /// An engine without modules. Each driver has to be idle, as those of `Drivers::new` are.
     ///
     /// # Errors
     /// Gives back the registry and the drivers as they were, with `NoDriver` where an entry names a
@@ -143,15 +144,18 @@ impl Engine {
         }
     }
 
-    /// Does one command, and answers how it ended. It returns when the command has ended: a run is
-    /// within its budget, and can't be interrupted. After a refusal or a fault the engine takes the
+    /// Does one command, and answers how it ended. It returns when the command has ended, and can't be
+    /// interrupted. A run takes at most its budget of ticks; what a build does before its initializers has
+    /// no budget, and a driver takes what time it takes. After a refusal or a fault the engine takes the
     /// next command.
     ///
-    /// The reply and the modules after it are those of the source meaning, where each build sees
-    /// what the module's mask meets, told what the drivers answered and whether there was memory.
-    /// Each host call is of an entity that its caller saw when it was built, and the drivers follow
-    /// the events. After a refusal other than `BuildMemory`, `BuildErrors` and `InitFailed` they
-    /// are as they were.
+    /// The reply, and the modules after it, are those that docs/MEANING.md gives for the command, what the
+    /// drivers answered, and which requests for memory were refused. A build sees the entries that
+    /// `Registry::seen` gives for its module's mask. Each host call is of an entry that the calling module
+    /// saw when it was built. The drivers were asked what the events list, in that order, and each has moved
+    /// by its `fits`. After a refusal other than `BuildMemory`, `BuildErrors` and `InitFailed` the drivers
+    /// are unchanged. After one of these three the module's old globals have been given up, and so objects
+    /// may have ended.
     pub fn apply(&mut self, command: Command) -> Reply
         requires sound { IsSound ⟦<dyn Driver as Driver>⟧ self.old }
         ensures takes { Takes (registrations self.old) (world_in ⟦<dyn Driver as Driver>⟧ self.old)
@@ -386,7 +390,8 @@ impl Engine {
 
     /// Ends the engine, and gives its drivers back in their order, with no object of theirs alive:
     /// another engine can have them. The globals of its modules are given up, those of the module
-    /// last made first. It takes no memory, asks no driver anything, and always succeeds.
+    /// last made first; no reply lists the objects that end so. It takes no memory, makes no host call,
+    /// and always succeeds.
     pub fn discard(self) -> Vec<Box<dyn Driver>>
         requires sound { IsSound ⟦<dyn Driver as Driver>⟧ self }
         ensures ended { (roles : List Role)

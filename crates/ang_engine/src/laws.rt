@@ -1,8 +1,10 @@
-//! What holds of every engine's world.
+//! Laws of the definitions that the contracts of `Engine` speak of, each the contract of a function that does
+//! nothing. They state a theorem for readers, and no program calls them.
 ghost use Rattle.ang_engine.specs.Ending.{GivingListsEnds, EndingListsEnds};
 
-/// Where a value is given up, the ends of host objects are listed and nothing else: no driver is
-/// asked anything. So it is where an engine ends.
+/// Where a value is given up, the ends of host objects are listed and nothing else: no host call is made. The
+/// same holds of all that is listed where an engine ends, which is what the drivers follow in
+/// `Engine::discard`.
 #[tactic(auto, using(crate::proofs::GlobalsEnd::giving_lists_ends, crate::proofs::GlobalsEnd::ending_lists_ends))]
 pub fn ends_alone()
     ensures giving { GivingListsEnds }

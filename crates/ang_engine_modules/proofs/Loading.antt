@@ -35,36 +35,32 @@ none_compiled = record { bodies = []; lowered = refl; code = tt }
 
 pub blank : (m : ℕ) (c : ModuleCode) → c.name.items ≡ [] → c.bodies.items ≡ [] → c.imports.items ≡ [] → c.entities.items ≡ [] → c.classes.items ≡ [] → c.slots.items ≡ []
     → IsCodeOf m (Some c) unbuilt
-blank m c name bodies imports entities classes slots =
-    let none : length c.bodies.items ≡ 0 = ap length bodies in
-    record {
-      name = name;
-      entities = entities;
-      passings = ap (list_map (λ b. b.params.items)) bodies;
-      results = ap (list_map (λ b. b.result)) bodies;
-      compiled = subst (IsCompiled nothing) (sym bodies) none_compiled;
-      few = omega (arith, none);
-      imports = ap (list_map (λ y. y.params.items)) imports;
-      links = ap (list_map (λ y. y.bound)) imports;
-      classes = ap (list_map class_of) classes;
-      slots = ap (list_map (λ y. y.items)) slots;
-      sound = record { functions = tt; globals = tt; classes = tt };
-    }
+blank m c name bodies imports entities classes slots = record {
+  name = name;
+  entities = entities;
+  passings = ap (list_map (λ b. b.params.items)) bodies;
+  results = ap (list_map (λ b. b.result)) bodies;
+  compiled = subst (IsCompiled nothing) (sym bodies) none_compiled;
+  imports = ap (list_map (λ y. y.params.items)) imports;
+  links = ap (list_map (λ y. y.bound)) imports;
+  classes = ap (list_map class_of) classes;
+  slots = ap (list_map (λ y. y.items)) slots;
+  sound = record { functions = tt; globals = tt; classes = tt };
+}
 
 pub coded : (m : ℕ) (c : ModuleCode) (b : LoadedModule) (codes : List RoutineCode)
-    → c.name.items ≡ b.name → c.bodies.items ≡ codes → length c.bodies.items < 2 ^ 32
+    → c.name.items ≡ b.name → c.bodies.items ≡ codes
     → list_map (λ y. y.params.items) c.imports.items ≡ headings_in b.tree.imports → list_map (λ y. y.bound) c.imports.items ≡ list_map (λ h. None) b.tree.imports
     → c.entities.items ≡ uses_of b.view
     → list_map class_of c.classes.items ≡ classes_from m b.tree.classes 0 b.tree.classes → list_map (λ y. y.items) c.slots.items ≡ headings_in b.tree.methods
     → list_map (λ x. x.params.items) codes ≡ passings_in (view_typed b.tree) → list_map (λ x. x.result) codes ≡ results_in (view_typed b.tree) → IsCompiled (view_typed b.tree) codes → SoundProgram b.view (view_typed b.tree)
     → b.links ≡ list_map (λ h. None) b.tree.imports → IsCodeOf m (Some c) (module_of (Some b))
-coded m c b codes name bodies few imports bound entities classes slots params results compiled sound unbound = record {
+coded m c b codes name bodies imports bound entities classes slots params results compiled sound unbound = record {
   name = name;
   entities = entities;
   passings = ap (list_map (λ x. x.params.items)) bodies ∙ params;
   results = ap (list_map (λ x. x.result)) bodies ∙ results;
   compiled = subst (IsCompiled (view_typed b.tree)) (sym bodies) compiled;
-  few = few;
   imports = imports;
   links = bound ∙ sym unbound;
   classes = classes;
@@ -84,7 +80,6 @@ no_places m = record {
   passings = refl;
   results = refl;
   compiled = none_compiled;
-  few = omega arith;
   imports = refl;
   links = refl;
   classes = refl;
@@ -360,7 +355,6 @@ code_relinked m c d x ks ls h r same = record {
   passings = ap (list_map (λ b. b.params.items)) r.bodies ∙ h.passings;
   results = ap (list_map (λ b. b.result)) r.bodies ∙ h.results;
   compiled = subst (IsCompiled x.tree) (sym r.bodies) h.compiled;
-  few = subst (λ l. length l < 2 ^ 32) (sym r.bodies) h.few;
   imports = r.params ∙ h.imports;
   links = r.bound ∙ same;
   classes = ap (list_map class_of) r.classes ∙ h.classes;
@@ -491,13 +485,6 @@ module _ (t : Table) (ms : List Module) (is : IsTableOf t ms) (m : ℕ) where
       routines_counted m (length p.functions) (initializers_from 0 p.globals)
       ∙ ap (λ n. routines_at m n (length (initializers_from 0 p.globals))) (sym functions)
       ∙ ap (routines_at m first) count
-
-  -- the number of a function has 32 bits
-  pub small_number : (n count : ℕ) → TakesSoMany ms m n count → n < 2 ^ 32
-  small_number n count takes =
-      let within : n < length p.functions = slice_get_within p.functions n takes.function takes.at in
-      let few = (is.each m).few in
-      omega (arith, within, counted, few)
 
   -- the code of a function has the type of its value
   pub typed : (n count : ℕ) → TakesSoMany ms m n count → result_of t (routine m n) ≡ result_at ms m n

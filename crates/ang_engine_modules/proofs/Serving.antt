@@ -23,18 +23,12 @@ use Rattle.ang_engine_modules.specs.Executed.{call_of, initialization_of}
 use Rattle.ang_engine_modules.specs.Loaded.{modules_of, codes_of, IsCodeOf, IsTableOf, IsLoaded}
 use Rattle.ang_engine_modules.specs.Started.{HasEnded, HasAnswered, HasBegun}
 use Rattle.ang_engine_modules.proofs.Askable.{drivers_there, roles_are}
-use Rattle.ang_engine_modules.proofs.Loading.{small_number, numbered, loaded_same, loaded_pushed}
+use Rattle.ang_engine_modules.proofs.Loading.{numbered, loaded_same, loaded_pushed}
 use Rattle.ang_engine_modules.proofs.Running.{has_called}
 
 module _ (t : Table) (xs now : List (Option LoadedModule)) (is : IsLoaded t xs) (same : xs ≡ now) where
   table_is : IsTableOf t (modules_of now)
   table_is = subst (λ l. IsTableOf t (modules_of l)) same is.holds
-
-  pub small : (m n count : ℕ) → TakesSoMany (modules_of now) m n count → n < 2 ^ 32
-  small m n count takes = small_number t (modules_of now) table_is m n count takes
-
-  pub few_bodies : (m : ℕ) → length (codes_of (code_at t m)) < 2 ^ 32
-  few_bodies m = (table_is.each m).few
 
   pub there : (count : ℕ) → AreDriversThere (modules_of now) count → DriversThere t count
   there count drivers = record { each = drivers_there t (modules_of now) table_is count drivers }
@@ -52,14 +46,6 @@ module _ (t : Table) (xs now : List (Option LoadedModule)) (is : IsLoaded t xs) 
       → HasEnded (modules_of now) (initialization_of (modules_of now) budget m) before result after
   initializers_ended budget m first end before after result functions bodies begun =
       begun (modules_of now) table_is (numbered t (modules_of now) table_is m first end functions bodies)
-
--- the number of a function to which an import can be bound has 32 bits
-pub small_link : (t : Table) (xs now : List (Option LoadedModule)) → IsLoaded t xs → xs ≡ now → (m i : ℕ) (g : Routine) → LinkFits (modules_of now) m i g → g.number < 2 ^ 32
-small_link t xs now is same m i g fits =
-    let code = (table_is t xs now is same).each g.home in
-    let codes = codes_of (code_at t g.home) in
-    let within : g.number < length (passings_in (module_at (modules_of now) g.home).tree) = slice_get_within (passings_in (module_at (modules_of now) g.home).tree) g.number fits.params fits.function in
-    omega (arith, within, ap length code.passings, length-map codes (λ b. b.params.items), code.few)
 
 pub fits_still : (xs now : List (Option LoadedModule)) → xs ≡ now → (m i : ℕ) (f : Routine) → LinkFits (modules_of now) m i f → (g : Routine) → Some f ≡ Some g → LinkFits (modules_of xs) m i g
 fits_still xs now same m i f fits g e =

@@ -62,15 +62,13 @@ abbrev pub codes_of : Option ModuleCode → List RoutineCode
 codes_of c = list_in (λ y. y.bodies.items) c
 
 -- Code in the place m of a table is that of a module: its name, its view, what its tree declares,
--- and what its tree is compiled to, no more bodies than a number of 32 bits counts; the tree is sound
--- over the view.
+-- and what its tree is compiled to; the tree is sound over the view.
 pub record IsCodeOf (m : ℕ) (c : Option ModuleCode) (x : Module) : Type 0 where
   pub name : list_in (λ y. y.name.items) c ≡ x.name
   pub entities : list_in (λ y. y.entities.items) c ≡ uses_of x.view
   pub passings : list_map (λ b. b.params.items) (codes_of c) ≡ passings_in x.tree
   pub results : list_map (λ b. b.result) (codes_of c) ≡ results_in x.tree
   pub compiled : IsCompiled x.tree (codes_of c)
-  pub few : length (codes_of c) < 2 ^ 32
   pub imports :
       list_map (λ y. y.params.items) (list_in (λ y. y.imports.items) c) ≡ headings_in x.tree.imports
   pub links : list_map (λ y. y.bound) (list_in (λ y. y.imports.items) c) ≡ x.links

@@ -5,7 +5,6 @@ ghost use Rattle.ang_engine_modules.specs.Loaded as spec;
 ghost use Rattle.ang_engine_modules.specs.Trees.{own_methods, methods_by, script_class, classes_from};
 
 use ang_kinds::List;
-use ang_lower_expr::narrow_number;
 use ang_meaning as meaning;
 use ang_meaning::{Routine, ValueKind};
 use ang_typed::Class;
@@ -32,24 +31,13 @@ fn kinds_of(alloc: Global, fields: &[ArgType]) -> Result<Vec<ValueKind>, AllocEr
     fields.iter().map(|ty| kind_of(*ty)).collect(alloc)
 }
 
-/// One more number at the end.
-fn add_number(number: usize, found: &mut Vec<u32>) -> Result<(), AllocError>
-    ensures added { OnOk result (found.new.items ≡ found.old.items ++ number ∷ []) }
-{
-    let number = narrow_number(number)?;
-    found.push(number)?;
-    Ok(())
-}
-
 /// The numbers of a class and of those above it.
-fn numbers_of(alloc: Global, number: usize, above: &[usize]) -> Result<Vec<u32>, AllocError>
+fn numbers_of(alloc: Global, number: usize, above: &[usize]) -> Result<Vec<usize>, AllocError>
     ensures exact { IfOk result (λ found. found.items ≡ number ∷ above.now) }
 {
     let mut found = Vec::new(alloc);
-    add_number(number, &mut found)?;
-    for other in above {
-        add_number(*other, &mut found)?;
-    }
+    found.push(number)?;
+    found.extend_from_slice(above)?;
     Ok(found)
 }
 
@@ -57,12 +45,11 @@ fn numbers_of(alloc: Global, number: usize, above: &[usize]) -> Result<Vec<u32>,
 fn class_in(alloc: Global, number: usize, class: &Class) -> Result<meaning::Class, AllocError>
     ensures exact { IfOk result (λ c. c ≡ class_in number class.now) }
 {
-    let rank = narrow_number(class.rank)?;
     let fields = kinds_of(alloc, class.fields.as_slice())?;
     let under = numbers_of(alloc, number, class.above.as_slice())?;
     Ok(meaning::Class {
-        number: narrow_number(number)?,
-        rank,
+        number,
+        rank: class.rank,
         fields: List::from_vec(fields),
         under: List::from_vec(under),
     })
@@ -77,10 +64,14 @@ fn add_methods(
     ensures added { OnOk result (found.new.items ≡ found.old.items ++ own_methods home rows.now) }
 {
     for row in rows {
-        let slot = narrow_number(row.0)?;
-        let number = narrow_number(row.1)?;
-        let function = Routine { home, number };
-        found.push(Method { slot, function })?;
+        let function = Routine {
+            home,
+            number: row.1,
+        };
+        found.push(Method {
+            slot: row.0,
+            function,
+        })?;
     }
     Ok(())
 }
@@ -135,8 +126,7 @@ fn class_code(
 /// The code of all classes of a module, by number.
 ///
 /// # Errors
-/// Want of memory. It is also answered where a number has more than 32 bits, as none of a
-/// checked module has.
+/// Want of memory.
 pub fn classes_of(alloc: Global, home: u32, classes: &[Class]) -> Result<Vec<ClassCode>, AllocError>
     ensures exact { IfOk result (λ codes.
         list_map spec.class_of codes.items ≡ classes_from home classes.now 0 classes.now) }

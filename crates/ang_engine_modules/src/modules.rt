@@ -142,8 +142,7 @@ impl Modules {
     /// tree, and makes the machine's code of it.
     ///
     /// # Errors
-    /// Want of memory. It is also answered where a number of a body, a function, a global or a
-    /// class has more than 32 bits, which no checked module has.
+    /// Want of memory.
     pub fn load(&mut self, alloc: Global, home: u32, loaded: LoadedModule) -> Result<(), AllocError>
         requires sound { SoundProgram loaded.view (view_typed loaded.tree) }
         requires unbound { loaded.links ≡ list_map (λ h. None) loaded.tree.imports }
@@ -188,7 +187,7 @@ impl Modules {
         let codes = &mut self.table.modules;
         let function = Routine {
             home: exporter,
-            number: number as u32,
+            number,
         };
         bind_import(alloc, codes, &mut self.loaded, home, index, Some(function));
     }
@@ -312,10 +311,7 @@ impl Modules {
             ≡ length (members machine.old.store.drivers) }
     {
         let table = &self.table;
-        let entry = Routine {
-            home,
-            number: number as u32,
-        };
+        let entry = Routine { home, number };
         run(table, machine, entry, args, budget, events)
     }
 }

@@ -43,7 +43,6 @@ pub fn run_initializers(
     requires ready { IsReady ⟦<dyn Driver as Driver>⟧ (lent machine.old events.old) }
     requires counted { IsCounted []
         (world_of ⟦<dyn Driver as Driver>⟧ (lent machine.old events.old)) }
-    requires few { end < 2 ^ 32 }
     ensures begun { HasBegun table.now budget home first end
         (world_of ⟦<dyn Driver as Driver>⟧ (lent machine.old events.old)) (completed result)
         (world_of ⟦<dyn Driver as Driver>⟧ (lent machine.new events.new)) }
@@ -57,10 +56,7 @@ pub fn run_initializers(
     let mut ticks = budget;
     let mut number = first;
     while number < end {
-        let entry = Routine {
-            home,
-            number: number as u32,
-        };
+        let entry = Routine { home, number };
         ticks = run_initializer(table, machine, entry, ticks, events)?;
         number += 1;
     }

@@ -8,7 +8,6 @@ use crate::entities::uses_of;
 use ang_code::RoutineCode;
 use ang_gen::Code;
 use ang_lower::passings;
-use ang_lower_expr::narrow_number;
 use ang_meaning::Passing;
 use ang_typed::{Heading, Typed};
 use ang_view::View;
@@ -89,8 +88,7 @@ fn imports_of(alloc: Global, headings: &[Heading]) -> Result<Vec<Import>, AllocE
 /// its tree declares.
 ///
 /// # Errors
-/// Want of memory. It is also answered where a number of a body or a class has more than 32 bits,
-/// as none of a checked module has.
+/// Want of memory.
 pub fn code_of(
     alloc: Global,
     home: u32,
@@ -101,7 +99,6 @@ pub fn code_of(
 ) -> Result<ModuleCode, AllocError>
     ensures name { IfOk result (λ m. m.name.items ≡ name.now) }
     ensures bodies { IfOk result (λ m. m.bodies.items ≡ code) }
-    ensures few { IfOk result (λ m. length m.bodies.items < 2 ^ 32) }
     ensures imports { IfOk result
         (λ m. list_map (λ y. y.params.items) m.imports.items ≡ headings_in tree.now.imports) }
     ensures bound { IfOk result
@@ -113,7 +110,6 @@ pub fn code_of(
         (λ m. list_map (λ y. y.items) m.slots.items ≡ headings_in tree.now.methods) }
 {
     let codes = code.into_bodies();
-    narrow_number(codes.len())?;
     let name = Vec::from_slice(alloc, name)?;
     let entities = uses_of(alloc, view)?;
     let imports = imports_of(alloc, tree.imports.as_slice())?;

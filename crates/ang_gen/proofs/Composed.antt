@@ -1,5 +1,5 @@
 -- Compiled modules behave as their sources: a code is that of its body, which means what its source means.
-use Rattle.std.proofs.Common.{◌≡◌, ◌≢◌, ℕ, zero, suc, ◌+◌, List, [], ◌∷◌, length, Some, None, refl, sym, ap, ◌∙◌, subst, map}
+use Rattle.std.proofs.Common.{◌≡◌, ◌≢◌, ℕ, zero, suc, ◌+◌, ◌<◌, ◌^◌, List, [], ◌∷◌, length, Some, None, refl, sym, ap, ◌∙◌, subst, map}
 use Rattle.std.specs.Prelude.{Bool, true, false, ◌==◌, slice_get}
 use Rattle.std.specs.List.{AllZip}
 use Rattle.std.proofs.lemmas.Bool.{eqb-true, eqb-false}
@@ -110,6 +110,11 @@ module _ (z : Setting) (V : ℕ → RegistrationList) (program : ℕ → tree.Pr
         let here : BelowBody (length ps + a.code.height) (length ps) (bodies g) =
         subst (λ s. BelowBody (length ps + a.code.height) (length ps) s) (sym (ap statement_in a.body_at)) own in
         subst (λ h. BelowBody (length ps + h) (length ps) (bodies g)) (sym (x.texts.height g.number a.code a.code_at)) here;
+    counted = λ g ps known.
+        let x = ms g.home in
+        let a = code_of g ps known in
+        let own : length ps + a.code.height < 2 ^ 64 = subst (λ l. length l + a.code.height < 2 ^ 64) a.params a.is.counted in
+        subst (λ h. length ps + h < 2 ^ 64) (sym (x.texts.height g.number a.code a.code_at)) own;
   }
 
   are_sound : AreSound z bodies

@@ -28,8 +28,7 @@ pub use code::Code;
 /// means what the tree means: each run of it ends as its source does.
 ///
 /// # Errors
-/// Want of memory. It is also answered where a number of a function or a global has more than 32 bits, which no
-/// checked module has, and where a frame would have 2^32 values or more, for which it has no room.
+/// Want of memory.
 pub fn generate(alloc: Global, program: &Typed) -> Result<Code, AllocError>
     requires sound { (V : RegistrationList) × SoundProgram V (view_typed program.now) }
     ensures means { IfOk result (λ code. MeansProgram (view_typed program.now) code) }

@@ -1,5 +1,5 @@
 -- The code of statements, loops and bodies does what they do.
-use Rattle.std.proofs.Common.{◌≡◌, ℕ, zero, suc, ◌+◌, ◌-◌, ◌<◌, ◌≤◌, List, [], ◌∷◌, ◌++◌, length, Some, refl, sym, ap, ◌∙◌, subst, arith, append-nil, length-append}
+use Rattle.std.proofs.Common.{◌≡◌, ℕ, zero, suc, ◌+◌, ◌-◌, ◌<◌, ◌≤◌, ◌^◌, List, [], ◌∷◌, ◌++◌, length, Some, refl, sym, ap, ◌∙◌, subst, arith, append-nil, length-append}
 use Rattle.std.specs.Prelude.{true, false}
 use Rattle.ang_kinds.specs.declared.fault.Fault.TheVariants.{Null as NullFault, Budget, Memory}
 use Rattle.ang_meaning.specs.declared.slot.Slot.{Slot}
@@ -43,7 +43,7 @@ pub record LoopStands (z : Setting) (code : Texts) (r : Running) (q h : ℕ) (e 
   pub sound_step : SoundStatement z r.of.home false n step
   pub low_step : BelowStatement h n step
 
-module _ (z : Setting) (code : Texts) (r : Running) (ps : List Passing) (ps_is : params_of z r.of ≡ ps) (h : ℕ) (room_is : r.room ≡ length r.below + h) (links : LinksFit z) (body : Calls) (passes : Passes) (fuel : ℕ)
+module _ (z : Setting) (code : Texts) (r : Running) (ps : List Passing) (ps_is : params_of z r.of ≡ ps) (h : ℕ) (room_is : r.room ≡ length r.below + h) (counted : h < 2 ^ 64) (links : LinksFit z) (body : Calls) (passes : Passes) (fuel : ℕ)
     (bodies_go : (g : Routine) (qs : List Passing) (vs s : List Slot) (fr2 : List Frame) (t : ℕ) (w : World) → length fr2 ≡ suc (length r.callers) → z.params g ≡ Some qs → length qs ≡ length vs → t < fuel → ReplyGoes z code (At g 0 (length (vs ++ s) + code.height g) (vs ++ s) fr2 t w) fr2 s (out_count qs) t (body g vs t w))
     (passes_go : (y : Exits) (n : ℕ) (e : Expression) (s step : Statement) (pc : ℕ) (ls : List Slot) (t : ℕ) (w : World) → length ls ≡ n → LoopStands z code r (length ps) h e s step pc n → t < fuel → RunGoes z code r ps (at r (pc + 1) (ls ++ r.below) t w) (pc + length (loop_code (length ps) n e s step)) y n n t (passes e s step ls t w)) where
   abbrev calls : Callee → List Slot → ℕ → World → Reply
@@ -56,7 +56,7 @@ module _ (z : Setting) (code : Texts) (r : Running) (ps : List Passing) (ps_is :
   expr_runs e pc n ls t w n_is has ok low le =
       let none : n ≡ 0 + length ls = omega (arith, n_is) in
       subst (λ m. EvalGoes z code r (at r pc (ls ++ r.below) t w) (pc + length (expr_code 0 e)) [] m t (eval z r.of.home calls e ls t w)) n_is
-      (eval_runs z code r h room_is links body fuel bodies_go e pc [] ls t w has (subst (λ m. Sound z r.of.home m e) (sym n_is) ok) (subst (λ m. Below h m e) none low) le)
+      (eval_runs z code r h room_is counted links body fuel bodies_go e pc [] ls t w has (subst (λ m. Sound z r.of.home m e) (sym n_is) ok) (subst (λ m. Below h m e) none low) le)
 
   -- the rest of a loop's pass, from the body's first instruction
   turn_runs : (y : Exits) (n : ℕ) (e : Expression) (s step : Statement) (pc : ℕ) (ls : List Slot) (t : ℕ) (w : World) (inside : Ran) (steps_of : List Slot → ℕ → World → Ran) → LoopStands z code r q h e s step pc n → t ≤ fuel →
@@ -298,10 +298,10 @@ module _ (z : Setting) (code : Texts) (r : Running) (ps : List Passing) (ps_is :
 module _ (z : Setting) (bodies : Bodies) (code : Texts) (sound : AreSound z bodies) (is_code : IsCode z bodies code) where
   record Follows (n : ℕ) : Type 0 where
     bodies_go : (g : Routine) (ps : List Passing) (vs s : List Slot) (fr : List Frame) (t : ℕ) (w : World) → z.params g ≡ Some ps → length ps ≡ length vs → t < n → ReplyGoes z code (At g 0 (length (vs ++ s) + code.height g) (vs ++ s) fr t w) fr s (out_count ps) t (body_at z bodies n (length fr) g vs t w)
-    passes_go : (r : Running) (ps : List Passing) (h : ℕ) (y : Exits) (n1 : ℕ) (e : Expression) (s step : Statement) (pc : ℕ) (ls : List Slot) (t : ℕ) (w : World) → params_of z r.of ≡ ps → r.room ≡ length r.below + h → length ls ≡ n1 → LoopStands z code r (length ps) h e s step pc n1 → t < n → RunGoes z code r ps (at r (pc + 1) (ls ++ r.below) t w) (pc + length (loop_code (length ps) n1 e s step)) y n1 n1 t (pass_at z bodies n (length r.callers) r.of.home e s step ls t w)
+    passes_go : (r : Running) (ps : List Passing) (h : ℕ) (y : Exits) (n1 : ℕ) (e : Expression) (s step : Statement) (pc : ℕ) (ls : List Slot) (t : ℕ) (w : World) → params_of z r.of ≡ ps → r.room ≡ length r.below + h → h < 2 ^ 64 → length ls ≡ n1 → LoopStands z code r (length ps) h e s step pc n1 → t < n → RunGoes z code r ps (at r (pc + 1) (ls ++ r.below) t w) (pc + length (loop_code (length ps) n1 e s step)) y n1 n1 t (pass_at z bodies n (length r.callers) r.of.home e s step ls t w)
 
   follows : (n : ℕ) → Follows n
-  follows zero = record { bodies_go = λ g ps vs s fr t w known count lt. absurd (omega arith); passes_go = λ r ps h y n1 e s step pc ls t w ps_is room_is n_is st lt. absurd (omega arith) }
+  follows zero = record { bodies_go = λ g ps vs s fr t w known count lt. absurd (omega arith); passes_go = λ r ps h y n1 e s step pc ls t w ps_is room_is counted n_is st lt. absurd (omega arith) }
   follows (suc n) =
       let under = follows n in
       let deeper = λ (r : Running) (g : Routine) (qs : List Passing) (vs s : List Slot) (fr2 : List Frame) (t : ℕ) (w : World) (e : length fr2 ≡ suc (length r.callers)) (known : z.params g ≡ Some qs) (count : length qs ≡ length vs) (lt : t < n).
@@ -314,10 +314,11 @@ module _ (z : Setting) (bodies : Bodies) (code : Texts) (sound : AreSound z bodi
             let room_is : r.room ≡ length s + h = omega (arith, length-append vs s, count) in
             let body = body_at z bodies n (suc (length fr)) in
             let passes = pass_at z bodies n (length fr) g.home in
-            let p = body_runs z code r ps ps_is h room_is sound.links body passes n (deeper r) (λ y n1 e s2 step pc ls t2 w2 n_is st lt2. under.passes_go r ps h y n1 e s2 step pc ls t2 w2 ps_is room_is n_is st lt2) (bodies g) vs t w (sym count) (is_code.text g ps known) (sound.each g ps known) (is_code.room g ps known) (omega arith) in
+            let counted = is_code.counted g ps known in
+            let p = body_runs z code r ps ps_is h room_is counted sound.links body passes n (deeper r) (λ y n1 e s2 step pc ls t2 w2 n_is st lt2. under.passes_go r ps h y n1 e s2 step pc ls t2 w2 ps_is room_is counted n_is st lt2) (bodies g) vs t w (sym count) (is_code.text g ps known) (sound.each g ps known) (is_code.room g ps known) (omega arith) in
             subst (λ qs. ReplyGoes z code (At g 0 (length (vs ++ s) + code.height g) (vs ++ s) fr t w) fr s (out_count ps) t (finished qs (run z g.home (enter z body (length fr) g.home) passes (bodies g) vs t w))) (sym ps_is) p;
-        passes_go = λ r ps h y n1 e s step pc ls t w ps_is room_is n_is st lt.
-            pass_runs z code r ps ps_is h room_is sound.links (body_at z bodies n (suc (length r.callers))) (pass_at z bodies n (length r.callers) r.of.home) n (deeper r) (λ y2 n2 e2 s2 step2 pc2 ls2 t2 w2 n2_is st2 lt2. under.passes_go r ps h y2 n2 e2 s2 step2 pc2 ls2 t2 w2 ps_is room_is n2_is st2 lt2) y n1 e s step pc ls t w n_is st (omega arith);
+        passes_go = λ r ps h y n1 e s step pc ls t w ps_is room_is counted n_is st lt.
+            pass_runs z code r ps ps_is h room_is counted sound.links (body_at z bodies n (suc (length r.callers))) (pass_at z bodies n (length r.callers) r.of.home) n (deeper r) (λ y2 n2 e2 s2 step2 pc2 ls2 t2 w2 n2_is st2 lt2. under.passes_go r ps h y2 n2 e2 s2 step2 pc2 ls2 t2 w2 ps_is room_is counted n2_is st2 lt2) y n1 e s step pc ls t w n_is st (omega arith);
       }
 
   reply_ends : (start : Config) (t k : ℕ) (o : Reply) → ReplyGoes z code start [] [] k t o → Comes z code start (Over (outcome_of o))

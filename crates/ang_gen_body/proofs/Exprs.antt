@@ -1,5 +1,5 @@
 -- The code of an expression does what the expression does.
-use Rattle.std.proofs.Common.{◌≡◌, ℕ, zero, suc, ◌+◌, ◌<◌, ◌≤◌, List, [], ◌∷◌, ◌++◌, length, Some, refl, sym, ap, ◌∙◌, subst, arith, append_assoc, length-append}
+use Rattle.std.proofs.Common.{◌≡◌, ℕ, zero, suc, ◌+◌, ◌<◌, ◌≤◌, ◌^◌, List, [], ◌∷◌, ◌++◌, length, Some, refl, sym, ap, ◌∙◌, subst, arith, append_assoc, length-append}
 use Rattle.std.specs.Prelude.{Bool, true, false, cond, slice_get}
 use Rattle.ang_kinds.specs.declared.fault.Fault.TheVariants.{Null as NullFault, Budget, Depth, Memory, Tally}
 use Rattle.ang_meaning.specs.declared.slot.Slot.{Slot}
@@ -24,10 +24,11 @@ use Rattle.ang_code.specs.declared.instruction.Frame.{Frame}
 use Rattle.ang_code.specs.declared.instruction.Instruction.TheVariants.{PushBits, PushNull, Load, Store, Change, Do, SkipIfFalse, GoOn, Enter}
 use Rattle.ang_code.specs.Machine.{Texts, Config, At, Over, Faulted, fault, roomy, did, changed_into, begins, found_enters, take_some}
 use Rattle.ang_code.proofs.Steps.{HasAt, has_front, has_back, Comes, here, comes_on, comes_to, one_step, then_step, roomy_on, within_on, enough_on, fitting_on}
-use Rattle.ang_gen_body.specs.Code.{if_code, outs_code, expr_code, args_code}
+use Rattle.ang_gen_body.specs.Code.{place_above, if_code, outs_code, expr_code, args_code}
 use Rattle.ang_gen_body.specs.Heights.{Below, BelowArgs}
 use Rattle.ang_gen_body.proofs.Stacks.{give_two, take_front, drop_front, local_under, set_under, length_set, objects_front}
 use Rattle.ang_gen_body.proofs.Relate.{Running, at, EvalGoes, ArgsGo, ReplyGoes}
+use Rattle.ang_gen_body.proofs.Counted.{placed, beneath}
 use Rattle.ang_gen_body.proofs.Outs.{outs_go}
 use Rattle.ang_gen_body.proofs.Leads.{target_front, leads}
 
@@ -113,7 +114,7 @@ module _ (z : Setting) (code : Texts) (r : Running) where
   then_args start pc pc' vs s n m t (Failed x ls w) go q k = comes_to z code start _ _ q (ap (λ y. Over (Faulted x y)) (give_two vs s (ls ++ r.below) w))
   then_args start pc pc' vs s n m t (Gave v ls t' w) go q k = after_args start _ pc' s n (length ls) m t t' (go v ls t' w) q.0 q.1 q.2 (k v ls t' w q.1 q.2)
 
-  module _ (h : ℕ) (room_is : r.room ≡ length r.below + h) where
+  module _ (h : ℕ) (room_is : r.room ≡ length r.below + h) (counted : h < 2 ^ 64) where
     -- one more value fits
     fits : (s ls : List Slot) → length s + length ls < h → length (s ++ (ls ++ r.below)) < r.room
     fits s ls lt = omega (arith, room_is, length-append s (ls ++ r.below), length-append ls r.below)
@@ -146,7 +147,7 @@ module _ (z : Setting) (code : Texts) (r : Running) where
         let same : length outs ≡ length xs = q.2 ∙ e in
         let holds_all : length (outs ++ rest) < r.room = omega (arith, room_is, same, length-append outs rest, length-append s (ls ++ r.below), length-append ls r.below) in
         let p = comes_to z code start _ (at r pc (v ∷ (outs ++ rest)) t' w) q.0 (roomy_on r.room (outs ++ rest) _ holds_all) in
-        after_eval start start (pc + length (outs_code (length s) xs)) s (length ls) (length ls) t t' (with_outs v (settled r.of.home xs outs ls w) t') (here z code start) refl q.1 (outs_go z code r xs start pc t' v outs s ls w has ok same p)
+        after_eval start start (pc + length (outs_code (length s) xs)) s (length ls) (length ls) t t' (with_outs v (settled r.of.home xs outs ls w) t') (here z code start) refl q.1 (outs_go z code r xs start pc t' v outs s ls w has ok (omega (arith, lt, counted)) same p)
     reply_goes start pc xs s ls t k (Raises x w) has ok e lt q = q
 
     module _ (links : LinksFit z) (body : Calls) (fuel : ℕ)
@@ -206,24 +207,29 @@ module _ (z : Setting) (code : Texts) (r : Running) where
         eval_runs Nothing pc s ls t w has ok low le = (comes_to z code _ _ _ (one_step z code r.of pc r.room (s ++ (ls ++ r.below)) r.callers t w PushNull has.0) (roomy_on r.room (s ++ (ls ++ r.below)) _ (fits s ls low)), refl, omega arith)
         eval_runs (Local i) pc s ls t w has ok low le =
             let stack = s ++ (ls ++ r.below) in
-            let d = length s + i in
+            let d = place_above (length s) i in
+            let d_is : d ≡ length s + i = placed (length s) i (omega (arith, ok, low, counted)) in
             let go = λ (v : Slot). or_else (hold v w) (λ w'. fault Tally stack w') (λ w'. at r (pc + 1) (v ∷ stack) t w') in
             let p = one_step z code r.of pc r.room stack r.callers t w (Load d) has.0 in
-            let p' = comes_to z code _ _ _ p (within_on d stack (roomy r.room stack (go (local_at stack d))) (local_there i d s ls ok refl) ∙ roomy_on r.room stack (go (local_at stack d)) (fits s ls low) ∙ ap go (local_under s ls r.below i d ok refl)) in
+            let p' = comes_to z code _ _ _ p (within_on d stack (roomy r.room stack (go (local_at stack d))) (local_there i d s ls ok d_is) ∙ roomy_on r.room stack (go (local_at stack d)) (fits s ls low) ∙ ap go (local_under s ls r.below i d ok d_is)) in
             load_goes _ pc s ls t (local_at ls i) (hold (local_at ls i) w) p'
         eval_runs (Assign' i p e) pc s ls t w has ok low le =
             let ce = expr_code (length s) e in
-            let i' = Store (length s + i) in
+            let d = place_above (length s) i in
+            let d_is : d ≡ length s + i = placed (length s) i (omega (arith, ok.0, beneath h (length s + length ls) e low, counted)) in
+            let i' = Store d in
             let len : pc + length ce + 1 ≡ pc + length (ce ++ i' ∷ []) = omega (arith, length-append ce (i' ∷ [])) in
             eval_ends _ _ _ s (length ls) t _ len
-            (assign_goes _ (pc + length ce) i (length s + i) s (length ls) t (eval z r.of.home calls e ls t w) (has_back (code.text r.of) pc ce _ has).0 ok.0 refl
+            (assign_goes _ (pc + length ce) i d s (length ls) t (eval z r.of.home calls e ls t w) (has_back (code.text r.of) pc ce _ has).0 ok.0 d_is
             (eval_runs e pc s ls t w (has_front (code.text r.of) pc ce _ has) ok.1 low le))
         eval_runs (Change' i by p e) pc s ls t w has ok low le =
             let ce = expr_code (length s) e in
-            let i' = Change by (length s + i) in
+            let d = place_above (length s) i in
+            let d_is : d ≡ length s + i = placed (length s) i (omega (arith, ok.0, beneath h (length s + length ls) e low, counted)) in
+            let i' = Change by d in
             let len : pc + length ce + 1 ≡ pc + length (ce ++ i' ∷ []) = omega (arith, length-append ce (i' ∷ [])) in
             eval_ends _ _ _ s (length ls) t _ len
-            (alter_goes _ (pc + length ce) i (length s + i) by s (length ls) t (eval z r.of.home calls e ls t w) (has_back (code.text r.of) pc ce _ has).0 ok.0 refl
+            (alter_goes _ (pc + length ce) i d by s (length ls) t (eval z r.of.home calls e ls t w) (has_back (code.text r.of) pc ce _ has).0 ok.0 d_is
             (eval_runs e pc s ls t w (has_front (code.text r.of) pc ce _ has) ok.1 low le))
         eval_runs (Apply' o shape args) pc s ls t w has ok low le =
             let ca = args_code (length s) args in

@@ -12,3 +12,4 @@ pub mod Shapes
 pub mod Arms
 pub mod Turns
 pub mod Rising
+pub mod Counted

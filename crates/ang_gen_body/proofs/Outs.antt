@@ -1,5 +1,5 @@
 -- The values of `&out` parameters move into their targets.
-use Rattle.std.proofs.Common.{◌≡◌, ℕ, suc, ◌+◌, ◌<◌, ◌≤◌, List, [], ◌∷◌, ◌++◌, length, Option, Some, refl, sym, ap, ◌∙◌, subst, arith, append_assoc, length-append}
+use Rattle.std.proofs.Common.{◌≡◌, ℕ, suc, ◌+◌, ◌<◌, ◌≤◌, ◌^◌, List, [], ◌∷◌, ◌++◌, length, Option, Some, refl, sym, ap, ◌∙◌, subst, arith, append_assoc, length-append}
 use Rattle.std.specs.Prelude.{slice_get}
 use Rattle.ang_kinds.specs.declared.primitive.Primitive.{Primitive}
 use Rattle.ang_meaning.specs.declared.slot.Slot.{Slot}
@@ -14,9 +14,10 @@ use Rattle.ang_core.specs.Sound.{IsSpot, AreSpots}
 use Rattle.ang_code.specs.declared.instruction.Instruction.TheVariants.{Swap, SwapGlobal, SwapField, DropUnder}
 use Rattle.ang_code.specs.Machine.{Texts, Config, At, take_some, within}
 use Rattle.ang_code.proofs.Steps.{HasAt, has_front, has_back, Comes, comes_to, then_step, within_on, enough_on}
-use Rattle.ang_gen_body.specs.Code.{swap_at, swaps_code, outs_code}
+use Rattle.ang_gen_body.specs.Code.{place_above, swap_at, swaps_code, outs_code}
 use Rattle.ang_gen_body.proofs.Stacks.{local_seam, set_seam, local_under, set_under, length_set, take_front, drop_front, none_long}
 use Rattle.ang_gen_body.proofs.Relate.{Running, at, EvalGoes}
+use Rattle.ang_gen_body.proofs.Counted.{placed}
 
 flat : (pre : List Slot) (y : Slot) (olds s q : List Slot) → pre ++ (y ∷ (olds ++ (s ++ q))) ≡ (pre ++ (y ∷ (olds ++ s))) ++ q
 flat pre y olds s q = sym (append_assoc pre (y ∷ (olds ++ s)) q ∙ ap (λ l. pre ++ (y ∷ l)) (append_assoc olds s q))
@@ -30,10 +31,11 @@ SettledGoes z code r start pc' pre s n k t q = Comes z code start (at r pc' (pre
 
 module _ (z : Setting) (code : Texts) (r : Running) where
   -- one value that lies below pre changes places with its target
-  swap_by : (to : Option Primitive) (sp : Spot) (start : Config) (pc u base n k t : ℕ) (o : Slot) (pre s : List Slot) (q : Settled) → slice_get (code.text r.of) pc ≡ Some (swap_at to u base sp) → IsSpot n sp → u ≡ length pre → base ≡ length pre + 1 + k + length s → SettledGoes z code r start pc (pre ++ (o ∷ [])) s n k t q →
+  swap_by : (to : Option Primitive) (sp : Spot) (start : Config) (pc u base n k t : ℕ) (o : Slot) (pre s : List Slot) (q : Settled) → slice_get (code.text r.of) pc ≡ Some (swap_at to u base sp) → IsSpot n sp → base + n < 2 ^ 64 → u ≡ length pre → base ≡ length pre + 1 + k + length s → SettledGoes z code r start pc (pre ++ (o ∷ [])) s n k t q →
       SettledGoes z code r start (pc + 1) pre s n (suc k) t (record { olds = (trade r.of.home sp (brought to o) q.locals q.world).old ∷ q.olds; locals = (trade r.of.home sp (brought to o) q.locals q.world).locals; world = (trade r.of.home sp (brought to o) q.locals q.world).world })
-  swap_by to (spot.Local i) start pc u base n k t o pre s q has ok eu eb p =
-      let d = base + i in
+  swap_by to (spot.Local i) start pc u base n k t o pre s q has ok few eu eb p =
+      let d = place_above base i in
+      let d_is : d ≡ base + i = placed base i (omega (arith, ok, few)) in
       let ls = q.locals in
       let v = brought to o in
       let rest = q.olds ++ (s ++ (ls ++ r.below)) in
@@ -44,11 +46,11 @@ module _ (z : Setting) (code : Texts) (r : Running) where
       let long2 = length-append q.olds (s ++ (ls ++ r.below)) in
       let long3 = length-append s (ls ++ r.below) in
       let long4 = length-append ls r.below in
-      let deep : d < length stack = omega (arith, long1, long2, long3, long4, p.1, p.2) in
+      let deep : d < length stack = omega (arith, d_is, long1, long2, long3, long4, p.1, p.2) in
       let under_in : u < length stack = omega (arith, long1) in
       let inside : i < length ls = omega (arith, p.1) in
       let at_u : local_at stack u ≡ o = ap (λ j. local_at stack j) eu ∙ local_seam pre o rest in
-      let far : (y : Slot) → d ≡ length (pre ++ (y ∷ (q.olds ++ s))) + i = λ y. omega (arith, length-append pre (y ∷ (q.olds ++ s)), length-append q.olds s, p.2) in
+      let far : (y : Slot) → d ≡ length (pre ++ (y ∷ (q.olds ++ s))) + i = λ y. omega (arith, d_is, length-append pre (y ∷ (q.olds ++ s)), length-append q.olds s, p.2) in
       let at_d : local_at stack d ≡ old = ap (λ l. local_at l d) (flat pre o q.olds s (ls ++ r.below)) ∙ local_under (pre ++ (o ∷ (q.olds ++ s))) ls r.below i d inside (far o) in
       let set_u : local_set stack u old ≡ pre ++ (old ∷ rest) = ap (λ j. local_set stack j old) eu ∙ set_seam pre o rest old in
       let set_d : local_set (pre ++ (old ∷ rest)) d v ≡ pre ++ (old ∷ (q.olds ++ (s ++ (local_set ls i v ++ r.below)))) =
@@ -64,7 +66,7 @@ module _ (z : Setting) (code : Texts) (r : Running) where
         length_set ls i v ∙ p.1,
         ap suc p.2,
       )
-  swap_by to (spot.Global g) start pc u base n k t o pre s q has ok eu eb p =
+  swap_by to (spot.Global g) start pc u base n k t o pre s q has ok few eu eb p =
       let ls = q.locals in
       let m = r.of.home in
       let v = brought to o in
@@ -83,8 +85,9 @@ module _ (z : Setting) (code : Texts) (r : Running) where
         p.1,
         ap suc p.2,
       )
-  swap_by to (spot.Field x i) start pc u base n k t o pre s q has ok eu eb p =
-      let d = base + x in
+  swap_by to (spot.Field x i) start pc u base n k t o pre s q has ok few eu eb p =
+      let d = place_above base x in
+      let d_is : d ≡ base + x = placed base x (omega (arith, ok, few)) in
       let ls = q.locals in
       let v = brought to o in
       let rest = q.olds ++ (s ++ (ls ++ r.below)) in
@@ -95,11 +98,11 @@ module _ (z : Setting) (code : Texts) (r : Running) where
       let long2 = length-append q.olds (s ++ (ls ++ r.below)) in
       let long3 = length-append s (ls ++ r.below) in
       let long4 = length-append ls r.below in
-      let deep : d < length stack = omega (arith, long1, long2, long3, long4, p.1, p.2) in
+      let deep : d < length stack = omega (arith, d_is, long1, long2, long3, long4, p.1, p.2) in
       let under_in : u < length stack = omega (arith, long1) in
       let inside : x < length ls = omega (arith, p.1) in
       let at_u : local_at stack u ≡ o = ap (λ j. local_at stack j) eu ∙ local_seam pre o rest in
-      let far : d ≡ length (pre ++ (o ∷ (q.olds ++ s))) + x = omega (arith, length-append pre (o ∷ (q.olds ++ s)), length-append q.olds s, p.2) in
+      let far : d ≡ length (pre ++ (o ∷ (q.olds ++ s))) + x = omega (arith, d_is, length-append pre (o ∷ (q.olds ++ s)), length-append q.olds s, p.2) in
       let at_d : local_at stack d ≡ object = ap (λ l. local_at l d) (flat pre o q.olds s (ls ++ r.below)) ∙ local_under (pre ++ (o ∷ (q.olds ++ s))) ls r.below x d inside far in
       let old = member_or i object v q.world in
       let set_u : local_set stack u old ≡ pre ++ (old ∷ rest) = ap (λ j. local_set stack j old) eu ∙ set_seam pre o rest old in
@@ -114,17 +117,17 @@ module _ (z : Setting) (code : Texts) (r : Running) where
       )
 
   -- all of them, the deepest first
-  swaps_go : (xs : List Target) (start : Config) (pc u base t : ℕ) (pre outs s ls : List Slot) (w : World) → HasAt (code.text r.of) pc (swaps_code u base xs) → AreSpots (length ls) xs → length outs ≡ length xs → u ≡ length pre → base ≡ length pre + length xs + length s → Comes z code start (at r pc (pre ++ (outs ++ (s ++ (ls ++ r.below)))) t w) →
+  swaps_go : (xs : List Target) (start : Config) (pc u base t : ℕ) (pre outs s ls : List Slot) (w : World) → HasAt (code.text r.of) pc (swaps_code u base xs) → AreSpots (length ls) xs → base + length ls < 2 ^ 64 → length outs ≡ length xs → u ≡ length pre → base ≡ length pre + length xs + length s → Comes z code start (at r pc (pre ++ (outs ++ (s ++ (ls ++ r.below)))) t w) →
       SettledGoes z code r start (pc + length (swaps_code u base xs)) pre s (length ls) (length xs) t (settled r.of.home xs outs ls w)
-  swaps_go [] start pc u base t pre [] s ls w has ok e eu eb p = (comes_to z code start _ _ p (let same : pc ≡ pc + 0 = omega arith in ap (λ j. at r j (pre ++ (s ++ (ls ++ r.below))) t w) same), refl, refl)
-  swaps_go [] start pc u base t pre (o ∷ outs) s ls w has ok e eu eb p = absurd (omega arith)
-  swaps_go (x ∷ xs) start pc u base t pre [] s ls w has ok e eu eb p = absurd (omega arith)
-  swaps_go (x ∷ xs) start pc u base t pre (o ∷ outs) s ls w has ok e eu eb p =
+  swaps_go [] start pc u base t pre [] s ls w has ok few e eu eb p = (comes_to z code start _ _ p (let same : pc ≡ pc + 0 = omega arith in ap (λ j. at r j (pre ++ (s ++ (ls ++ r.below))) t w) same), refl, refl)
+  swaps_go [] start pc u base t pre (o ∷ outs) s ls w has ok few e eu eb p = absurd (omega arith)
+  swaps_go (x ∷ xs) start pc u base t pre [] s ls w has ok few e eu eb p = absurd (omega arith)
+  swaps_go (x ∷ xs) start pc u base t pre (o ∷ outs) s ls w has ok few e eu eb p =
       let inner = swaps_code (suc u) base xs in
       let long = length-append pre (o ∷ []) in
       let p0 = comes_to z code start _ _ p (ap (λ l. at r pc l t w) (one_more pre o (outs ++ (s ++ (ls ++ r.below))))) in
-      let q = swaps_go xs start pc (suc u) base t (pre ++ (o ∷ [])) outs s ls w (has_front (code.text r.of) pc inner _ has) ok.1 (omega arith) (omega (arith, long)) (omega (arith, long)) p0 in
-      let done = swap_by x.to x.spot start (pc + length inner) u base (length ls) (length xs) t o pre s (settled r.of.home xs outs ls w) (has_back (code.text r.of) pc inner _ has).0 ok.0 eu (omega arith) q in
+      let q = swaps_go xs start pc (suc u) base t (pre ++ (o ∷ [])) outs s ls w (has_front (code.text r.of) pc inner _ has) ok.1 few (omega arith) (omega (arith, long)) (omega (arith, long)) p0 in
+      let done = swap_by x.to x.spot start (pc + length inner) u base (length ls) (length xs) t o pre s (settled r.of.home xs outs ls w) (has_back (code.text r.of) pc inner _ has).0 ok.0 few eu (omega arith) q in
       let len : pc + length inner + 1 ≡ pc + length (inner ++ swap_at x.to u base x.spot ∷ []) = omega (arith, length-append inner (swap_at x.to u base x.spot ∷ [])) in
       subst (λ j. SettledGoes z code r start j pre s (length ls) (suc (length xs)) t (settled r.of.home (x ∷ xs) (o ∷ outs) ls w)) len done
 
@@ -145,9 +148,9 @@ module _ (z : Setting) (code : Texts) (r : Running) where
         omega arith,
       )
 
-  pub outs_go : (xs : List Target) (start : Config) (pc t : ℕ) (v : Slot) (outs s ls : List Slot) (w : World) → HasAt (code.text r.of) pc (outs_code (length s) xs) → AreSpots (length ls) xs → length outs ≡ length xs → Comes z code start (at r pc (v ∷ (outs ++ (s ++ (ls ++ r.below)))) t w) →
+  pub outs_go : (xs : List Target) (start : Config) (pc t : ℕ) (v : Slot) (outs s ls : List Slot) (w : World) → HasAt (code.text r.of) pc (outs_code (length s) xs) → AreSpots (length ls) xs → 1 + length xs + length s + length ls < 2 ^ 64 → length outs ≡ length xs → Comes z code start (at r pc (v ∷ (outs ++ (s ++ (ls ++ r.below)))) t w) →
       EvalGoes z code r start (pc + length (outs_code (length s) xs)) s (length ls) t (with_outs v (settled r.of.home xs outs ls w) t)
-  outs_go [] start pc t v outs s ls w has ok e p =
+  outs_go [] start pc t v outs s ls w has ok few e p =
       let none = none_long outs e in (
         comes_to z code start _ _ p
             (ap (λ l. at r pc (v ∷ (l ++ (s ++ (ls ++ r.below)))) t w) none
@@ -155,10 +158,10 @@ module _ (z : Setting) (code : Texts) (r : Running) where
         refl,
         omega arith,
       )
-  outs_go (x ∷ xs) start pc t v outs s ls w has ok e p =
+  outs_go (x ∷ xs) start pc t v outs s ls w has ok few e p =
       let k = length (x ∷ xs) in
       let swaps = swaps_code 1 (1 + k + length s) (x ∷ xs) in
-      let q = swaps_go (x ∷ xs) start pc 1 (1 + k + length s) t (v ∷ []) outs s ls w (has_front (code.text r.of) pc swaps _ has) ok e refl (omega arith) p in
+      let q = swaps_go (x ∷ xs) start pc 1 (1 + k + length s) t (v ∷ []) outs s ls w (has_front (code.text r.of) pc swaps _ has) ok few e refl (omega arith) p in
       let done = dropped_goes start (pc + length swaps) (length ls) k t v s (settled r.of.home (x ∷ xs) outs ls w) (has_back (code.text r.of) pc swaps _ has).0 q in
       let len : pc + length swaps + 1 ≡ pc + length (swaps ++ DropUnder k ∷ []) = omega (arith, length-append swaps (DropUnder k ∷ [])) in
       subst (λ j. EvalGoes z code r start j s (length ls) t (with_outs v (settled r.of.home (x ∷ xs) outs ls w) t)) len done

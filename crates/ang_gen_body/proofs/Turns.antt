@@ -87,7 +87,7 @@ pub declared_end : (i count : ℕ) (xs : List Statement) → length xs ≤ i →
 declared_end i count xs h so_far =
     let none : declared_in (drop i xs) ≡ 0 = ap (λ l. declared_in l) (drop_of_length-le xs h) in omega arith
 
-declared_front : (a b : List Statement) → declared_in (a ++ b) ≡ declared_in b + declared_in a
+pub declared_front : (a b : List Statement) → declared_in (a ++ b) ≡ declared_in b + declared_in a
 declared_front [] b = omega arith
 declared_front (s ∷ a) b = omega (arith, declared_front a b)
 

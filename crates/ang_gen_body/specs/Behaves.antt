@@ -1,5 +1,5 @@
 -- The code does what the bodies do.
-use Rattle.std.specs.Prelude.{◌≡◌, ℕ, ◌+◌, List, [], length, Some}
+use Rattle.std.specs.Prelude.{◌≡◌, ℕ, ◌+◌, ◌<◌, ◌^◌, List, [], length, Some}
 use Rattle.ang_meaning.specs.declared.slot.Slot.{Slot}
 use Rattle.ang_meaning.specs.declared.routine.Routine.{Routine}
 use Rattle.ang_meaning.specs.declared.routine.Passing.{Passing}
@@ -16,10 +16,11 @@ abbrev pub outcome_of : Reply → Outcome
 outcome_of (Yields v outs t w) = Finished v t (give_all outs w)
 outcome_of (Raises x w) = Faulted x w
 
--- each body's text is its code, with room for all that it puts on the stack
+-- each body's text is its code, with room for all that it puts on the stack, in a frame that is counted in 64 bits
 pub record IsCode (z : Setting) (bodies : Bodies) (code : Texts) : Type 0 where
   pub text : (g : Routine) (ps : List Passing) → z.params g ≡ Some ps → code.text g ≡ body_code (length ps) (bodies g)
   pub room : (g : Routine) (ps : List Passing) → z.params g ≡ Some ps → BelowBody (length ps + code.height g) (length ps) (bodies g)
+  pub counted : (g : Routine) (ps : List Passing) → z.params g ≡ Some ps → length ps + code.height g < 2 ^ 64
 
 -- For every function, budget, arguments and world, and for every initializer, some number of steps leads exactly to the end that the body's meaning has.
 pub record Behaves (z : Setting) (bodies : Bodies) (code : Texts) : Type 0 where

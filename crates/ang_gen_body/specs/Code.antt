@@ -1,5 +1,5 @@
 -- The instructions of a body of the core tree.
-use Rattle.std.specs.Prelude.{ℕ, zero, suc, ◌+◌, ◌-◌, List, [], ◌∷◌, ◌++◌, length, Option}
+use Rattle.std.specs.Prelude.{ℕ, zero, suc, ◌+◌, ◌-◌, ◌^◌, ◌%◌, List, [], ◌∷◌, ◌++◌, length, Option}
 use Rattle.ang_kinds.specs.declared.primitive.Primitive.{Primitive}
 use Rattle.ang_meaning.specs.declared.routine.Spot.{Spot}
 use Rattle.ang_meaning.specs.declared.routine.Spot.TheVariants as spot
@@ -11,6 +11,10 @@ use Rattle.ang_core.specs.declared.tree.Statement.TheVariants.{Skip, Evaluate, D
 use Rattle.ang_core.specs.Sound.{declared, row_declared}
 use Rattle.ang_code.specs.declared.instruction.Instruction.{Instruction}
 use Rattle.ang_code.specs.declared.instruction.Instruction.TheVariants.{PushBits, PushNull, Load, Store, Change, Do, Drop, Leave, SkipIfFalse, GoOn, Tick, Back, Enter, Swap, SwapGlobal, SwapField, DropUnder, Return}
+
+-- The place of local i where d values stand above the locals, in 64 bits. The frame of a sound body is counted in 64 bits, and so are its places.
+unfoldable pub place_above : ℕ → ℕ → ℕ
+place_above d i = (d + i) % 2 ^ 64
 
 -- a choice of values: the test, the first side with a jump past the second, and the second side
 abbrev pub if_code : List Instruction → List Instruction → List Instruction → List Instruction
@@ -32,9 +36,9 @@ while_code test body step =
 
 -- An `&out` value at the place u moves into its target, where the locals begin at the place base.
 abbrev pub swap_at : Option Primitive → ℕ → ℕ → Spot → Instruction
-swap_at to u base (spot.Local i) = Swap to u (base + i)
+swap_at to u base (spot.Local i) = Swap to u (place_above base i)
 swap_at to u base (spot.Global g) = SwapGlobal to u g
-swap_at to u base (spot.Field o i) = SwapField to u (base + o) i
+swap_at to u base (spot.Field o i) = SwapField to u (place_above base o) i
 
 -- the first target first; the list has the last one first, and its value lies at the place u
 abbrev pub swaps_code : ℕ → ℕ → List Target → List Instruction
@@ -51,9 +55,9 @@ abbrev mutual
   pub expr_code : ℕ → Expression → List Instruction
   expr_code d (Number n) = PushBits n ∷ []
   expr_code d Nothing = PushNull ∷ []
-  expr_code d (Local i) = Load (d + i) ∷ []
-  expr_code d (Assign' i p e) = expr_code d e ++ Store (d + i) ∷ []
-  expr_code d (Change' i by p e) = expr_code d e ++ Change by (d + i) ∷ []
+  expr_code d (Local i) = Load (place_above d i) ∷ []
+  expr_code d (Assign' i p e) = expr_code d e ++ Store (place_above d i) ∷ []
+  expr_code d (Change' i by p e) = expr_code d e ++ Change by (place_above d i) ∷ []
   expr_code d (Apply' o shape args) = args_code d args ++ Do o ∷ []
   expr_code d (Call' f shape args outs) = args_code d args ++ (Enter f ∷ outs_code d outs.items)
   expr_code d (Choose' p a q b s c) = if_code (expr_code d a) (expr_code d b) (expr_code d c)

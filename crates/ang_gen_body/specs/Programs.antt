@@ -1,5 +1,5 @@
 -- The code of bodies, and the texts of several modules.
-use Rattle.std.specs.Prelude.{◌≡◌, ℕ, ◌+◌, ◌≤◌, List, [], length, Option, Some, None, slice_get}
+use Rattle.std.specs.Prelude.{◌≡◌, ℕ, ◌+◌, ◌<◌, ◌≤◌, ◌^◌, List, [], length, Option, Some, None, slice_get}
 use Rattle.std.specs.declared.vec.Vec.{Vec}
 use Rattle.std.specs.declared.alloc.Global.{Global}
 use Rattle.ang_meaning.specs.declared.routine.Routine.{Routine}
@@ -20,12 +20,13 @@ pub record IsHeight (height : ℕ) (b : Body) : Type 0 where
   pub enough : BelowBody (parameter_count b + height) (parameter_count b) b.statement
   pub least : (h : ℕ) → BelowBody (parameter_count b + h) (parameter_count b) b.statement → height ≤ h
 
--- the code of one body
+-- the code of one body, whose frame is counted in 64 bits
 pub record IsBodyCode (b : Body) (code : RoutineCode) : Type 0 where
   pub params : code.params.items ≡ b.params.items
   pub result : code.result ≡ b.result
   pub text : code.text.items ≡ body_code (parameter_count b) b.statement
   pub height : IsHeight code.height b
+  pub counted : parameter_count b + code.height < 2 ^ 64
 
 -- a routine among those of all modules
 abbrev pub items_in : {A : Type 0} → Option (Vec A Global) → List A

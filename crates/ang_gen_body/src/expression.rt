@@ -1,9 +1,10 @@
 //! The code of expressions, written from its end.
-ghost use Rattle.std.specs.Prelude.{◌≡◌, ◌+◌, ◌++◌, IfOk, OnOk};
+ghost use Rattle.std.specs.Prelude.{◌≡◌, ◌+◌, ◌<◌, ◌^◌, ◌++◌, length, OnOk};
 ghost use Rattle.ang_gen_body.specs.Code.{expr_code, outs_code, swap_at, swaps_code};
+ghost use Rattle.ang_gen_body.specs.Peaks.{peak, list_peak};
 ghost use Rattle.ang_gen_body.specs.Rows.{list_code};
 
-use crate::room::grown;
+use crate::room::place_above;
 use crate::text::Text;
 use ang_code::Instruction;
 use ang_core::Expression;
@@ -12,32 +13,26 @@ use std::alloc::AllocError;
 
 // The value of an `&out` parameter at the place `under` moves into its target, where the locals begin at
 // the place `base`.
-fn swap(target: &Target, under: u32, base: usize) -> Result<Instruction, AllocError>
-    ensures exact { IfOk result (λ i. i ≡ swap_at target.now.to under base target.now.spot) }
+fn swap(target: &Target, under: usize, base: usize) -> Instruction
+    ensures exact { result ≡ swap_at target.now.to under base target.now.spot }
 {
     match target.spot {
-        Spot::Local(i) => {
-            let with = grown(base, i)?;
-            Ok(Instruction::Swap {
-                to: target.to,
-                under,
-                with,
-            })
-        }
-        Spot::Global(global) => Ok(Instruction::SwapGlobal {
+        Spot::Local(i) => Instruction::Swap {
+            to: target.to,
+            under,
+            with: place_above(base, i),
+        },
+        Spot::Global(global) => Instruction::SwapGlobal {
             to: target.to,
             under,
             global,
-        }),
-        Spot::Field { object, field } => {
-            let place = grown(base, object)?;
-            Ok(Instruction::SwapField {
-                to: target.to,
-                under,
-                object: place as u32,
-                field,
-            })
-        }
+        },
+        Spot::Field { object, field } => Instruction::SwapField {
+            to: target.to,
+            under,
+            object: place_above(base, object),
+            field,
+        },
     }
 }
 
@@ -45,25 +40,23 @@ fn swap(target: &Target, under: u32, base: usize) -> Result<Instruction, AllocEr
 fn write_swaps(text: &mut Text, base: usize, targets: &[Target]) -> Result<(), AllocError>
     ensures code { OnOk result (text.new ≡ swaps_code 1 base targets.now ++ text.old) }
 {
-    let mut under: u32 = 1;
+    let mut under = 1;
     for target in targets {
-        let instruction = swap(target, under, base)?;
-        text.put(instruction)?;
-        let next = grown(under as usize, 1)?;
-        under = next as u32;
+        text.put(swap(target, under, base))?;
+        under += 1;
     }
     Ok(())
 }
 
 // What follows a call's entry: the values of its `&out` parameters move into their targets.
 fn write_outs(text: &mut Text, above: usize, targets: &[Target]) -> Result<(), AllocError>
+    requires room { 1 + length targets.now + above < 2 ^ 64 }
     ensures code { OnOk result (text.new ≡ outs_code above targets.now ++ text.old) }
 {
     if targets.is_empty() {
         return Ok(());
     }
-    let count = grown(1, targets.len())?;
-    let base = grown(count, above)?;
+    let base = 1 + targets.len() + above;
     text.put(Instruction::DropUnder(targets.len()))?;
     write_swaps(text, base, targets)
 }
@@ -71,23 +64,19 @@ fn write_outs(text: &mut Text, above: usize, targets: &[Target]) -> Result<(), A
 /// Writes the code of an expression, where `above` values stand on the stack above the locals.
 #[cycle(expression)]
 pub fn write_expression(text: &mut Text, above: usize, e: &Expression) -> Result<(), AllocError>
+    requires room { peak above e.now < 2 ^ 64 }
     ensures code { OnOk result (text.new ≡ expr_code above e.now ++ text.old) }
 {
     match e {
         Expression::Number(n) => text.put(Instruction::PushBits(*n)),
         Expression::Null => text.put(Instruction::PushNull),
-        Expression::Local(i) => {
-            let place = grown(above, *i)?;
-            text.put(Instruction::Load(place))
-        }
+        Expression::Local(i) => text.put(Instruction::Load(place_above(above, *i))),
         Expression::Assign(i, value) => {
-            let place = grown(above, *i)?;
-            text.put(Instruction::Store(place))?;
+            text.put(Instruction::Store(place_above(above, *i)))?;
             write_expression(text, above, value)
         }
         Expression::Change(i, change, value) => {
-            let place = grown(above, *i)?;
-            text.put(Instruction::Change(*change, place))?;
+            text.put(Instruction::Change(*change, place_above(above, *i)))?;
             write_expression(text, above, value)
         }
         Expression::Apply(operation, operands) => {
@@ -115,9 +104,10 @@ pub fn write_expression(text: &mut Text, above: usize, e: &Expression) -> Result
 // Operands in their order, each above the values of those before it.
 #[cycle(expression)]
 fn write_operands(text: &mut Text, above: usize, operands: &[Expression]) -> Result<(), AllocError>
+    requires room { list_peak above operands.now < 2 ^ 64 }
     ensures code { OnOk result (text.new ≡ list_code above operands.now ++ text.old) }
 {
-    let mut next = grown(above, operands.len())?;
+    let mut next = above + operands.len();
     for e in operands.iter().rev() {
         next -= 1;
         write_expression(text, next, e)?;

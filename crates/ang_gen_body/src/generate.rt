@@ -1,23 +1,24 @@
 //! The code of whole bodies and of modules.
-ghost use Rattle.std.specs.Prelude.{◌≡◌, ◌+◌, length, IfOk};
+ghost use Rattle.std.specs.Prelude.{◌≡◌, ◌<◌, ◌^◌, [], IfOk, IfSome};
 ghost use Rattle.std.specs.List.{AllZip};
 ghost use Rattle.ang_gen_body.specs.Code.{body_code};
-ghost use Rattle.ang_gen_body.specs.Peaks.{body_peak};
+ghost use Rattle.ang_gen_body.specs.Peaks.{statement_peak, body_peak};
 ghost use Rattle.ang_gen_body.specs.Programs.{IsBodyCode};
 
 use crate::height::statement_peak;
-use crate::room::grown;
+use crate::room::higher;
 use crate::statement::{Exits, declared_by, write_statement};
 use crate::text::Text;
 use ang_code::{Instruction, RoutineCode};
 use ang_core::{Body, Statement};
 use std::alloc::{AllocError, Global};
 
-// The instructions of a whole body with `params` parameters.
-fn body_text(alloc: Global, params: usize, s: &Statement) -> Result<Vec<Instruction>, AllocError>
-    ensures exact { IfOk result (λ text. text.items ≡ body_code params s.now) }
+// The instructions of a whole body with `params` parameters, into a text that is empty so far.
+fn body_text(mut text: Text, params: usize, s: &Statement) -> Result<Vec<Instruction>, AllocError>
+    requires empty { text ≡ [] }
+    requires room { statement_peak params s.now < 2 ^ 64 }
+    ensures exact { IfOk result (λ code. code.items ≡ body_code params s.now) }
 {
-    let mut text = Text::new(alloc);
     text.put(Instruction::Return(declared_by(s)))?;
     text.put(Instruction::PushBits(0))?;
     let end = text.len();
@@ -32,13 +33,26 @@ fn body_text(alloc: Global, params: usize, s: &Statement) -> Result<Vec<Instruct
 }
 
 // The greatest number of values in the frame of a whole body with `params` parameters.
-fn frame_peak(params: usize, s: &Statement) -> Result<usize, AllocError>
-    ensures exact { IfOk result (λ n. n ≡ body_peak params s.now) }
+fn frame_peak(params: usize, s: &Statement) -> Option<usize>
+    ensures exact { IfSome result (λ n. n ≡ body_peak params s.now) }
 {
-    let locals = grown(declared_by(s), params)?;
-    let end = grown(locals, 1)?;
+    let locals = higher(declared_by(s), params)?;
+    let end = higher(locals, 1)?;
     let inside = statement_peak(params, s)?;
-    Ok(inside.max(end))
+    Some(inside.max(end))
+}
+
+// The same, and an empty text. Each value above the parameters is put there by an instruction, so the text
+// begins with room for as many instructions: where the frame can't be counted, that room is refused.
+fn frame_of(alloc: Global, params: usize, s: &Statement) -> Result<(usize, Text), AllocError>
+    ensures peak { IfOk result (λ found. found.0 ≡ body_peak params s.now) }
+    ensures counted { IfOk result (λ found. found.0 < 2 ^ 64) }
+    ensures empty { IfOk result (λ found. found.1 ≡ []) }
+{
+    let peak = frame_peak(params, s);
+    let room = peak.unwrap_or(usize::MAX);
+    let text = Text::with_room(alloc, room)?;
+    Ok((room, text))
 }
 
 /// Generates the code of one body: its instructions, how its parameters take their arguments, the primitive
@@ -47,8 +61,8 @@ fn generate_body(alloc: Global, body: &Body) -> Result<RoutineCode, AllocError>
     ensures code { IfOk result (λ code. IsBodyCode body.now code) }
 {
     let count = body.params.len();
-    let text = body_text(alloc, count, &body.statement)?;
-    let peak = frame_peak(count, &body.statement)?;
+    let (peak, text) = frame_of(alloc, count, &body.statement)?;
+    let text = body_text(text, count, &body.statement)?;
     let params = body.params.clone()?;
     Ok(RoutineCode {
         params,
@@ -63,8 +77,7 @@ fn generate_body(alloc: Global, body: &Body) -> Result<RoutineCode, AllocError>
 /// the parameters within which it always stays.
 ///
 /// # Errors
-/// Want of memory. A frame has room for fewer than 2^32 values: a body that would have more is refused for it
-/// too.
+/// Want of memory.
 pub fn generate_module(alloc: Global, bodies: &[Body]) -> Result<Vec<RoutineCode>, AllocError>
     ensures codes { IfOk result (λ codes. AllZip IsBodyCode bodies.now codes.items) }
 {

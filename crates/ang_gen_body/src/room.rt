@@ -1,22 +1,19 @@
 //! The room of a frame.
-ghost use Rattle.std.specs.Prelude.{◌≡◌, ◌+◌, ◌<◌, ◌^◌, IfOk};
+ghost use Rattle.std.specs.Prelude.{◌≡◌, ◌+◌, IfSome};
+ghost use Rattle.ang_gen_body.specs.Code.{place_above};
 
-use std::alloc::AllocError;
-
-/// A frame has room for fewer values than this: instructions have 32 bits for a place.
-const ROOM: usize = 0x1_0000_0000;
-
-/// The height of a frame, or the number of a place in it, when it grows by that many values.
-///
-/// # Errors
-/// Want of memory: the frame has no room for them. It is the one place where the generator answers it though
-/// no allocation was refused.
-pub fn grown(height: usize, by: usize) -> Result<usize, AllocError>
-    ensures exact { IfOk result (λ n. n ≡ height + by) }
-    ensures within { IfOk result (λ n. n < 2 ^ 32) }
+/// The height of a frame when it grows by that many values, where it can be counted.
+pub fn higher(height: usize, by: usize) -> Option<usize>
+    ensures exact { IfSome result (λ n. n ≡ height + by) }
 {
-    if height < ROOM && by < ROOM - height {
-        return Ok(height + by);
-    }
-    Err(AllocError)
+    height.checked_add(by)
+}
+
+/// The place of a local where `above` values stand above the locals. In a sound body no sum wraps: its frame
+/// was counted.
+#[tactic(auto, unfolding(crate::specs::Code::place_above))]
+pub fn place_above(above: usize, local: usize) -> usize
+    ensures exact { result ≡ place_above above local }
+{
+    above.wrapping_add(local)
 }

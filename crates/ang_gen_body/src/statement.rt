@@ -1,13 +1,13 @@
 //! The code of statements, written from its end.
-ghost use Rattle.std.specs.Prelude.{◌≡◌, ◌+◌, ◌-◌, ◌≤◌, ◌<◌, List, [], ◌∷◌, ◌++◌, length, IfOk, OnOk};
+ghost use Rattle.std.specs.Prelude.{◌≡◌, ◌+◌, ◌-◌, ◌≤◌, ◌<◌, ◌^◌, List, [], ◌∷◌, ◌++◌, length, OnOk};
 ghost use Rattle.ang_code.specs.declared.instruction.Instruction.{Instruction};
 ghost use Rattle.ang_code.specs.declared.instruction.Instruction.TheVariants.{Back as BackBy, GoOn as GoOnBy, SkipIfFalse as SkipBy};
 ghost use Rattle.ang_core.specs.Sound.{declared};
 ghost use Rattle.ang_gen_body.specs.Code.{expr_code, past_code, leave_code, block_code, stmt_code, while_code};
+ghost use Rattle.ang_gen_body.specs.Peaks.{peak, statement_peak, statements_peak};
 ghost use Rattle.ang_gen_body.specs.Rows.{statements_code, declared_in};
 
 use crate::expression::write_expression;
-use crate::room::grown;
 use crate::text::Text;
 use ang_code::Instruction;
 use ang_core::{Expression, Statement};
@@ -79,6 +79,7 @@ fn write_past(text: &mut Text, n: usize) -> Result<(), AllocError>
 
 // A test, which passes what was written since the mark where it is false.
 fn write_test(text: &mut Text, mark: usize, test: &Expression) -> Result<(), AllocError>
+    requires room { peak 0 test.now < 2 ^ 64 }
     requires mark { mark ≤ length text.old }
     ensures code { OnOk result (text.new ≡ expr_code 0 test.now
         ++ (SkipBy (length text.old - mark) ∷ text.old)) }
@@ -91,6 +92,7 @@ fn write_test(text: &mut Text, mark: usize, test: &Expression) -> Result<(), All
 // The beginning of a loop whose body and step are written, in front of its jump back, which has `behind`
 // instructions after it.
 fn begin_loop(text: &mut Text, behind: usize, test: &Expression) -> Result<(), AllocError>
+    requires room { peak 0 test.now < 2 ^ 64 }
     requires behind { behind < length text.old }
     ensures code { (body step rest : List Instruction) →
         text.old ≡ body ++ (step ++ BackBy 0 ∷ rest) → length rest ≡ behind
@@ -106,6 +108,7 @@ fn begin_loop(text: &mut Text, behind: usize, test: &Expression) -> Result<(), A
 
 // The same of a loop without a step that goes to its body first.
 fn begin_at_body(text: &mut Text, behind: usize, test: &Expression) -> Result<(), AllocError>
+    requires room { peak 0 test.now < 2 ^ 64 }
     requires behind { behind < length text.old }
     ensures code { (body rest : List Instruction) → text.old ≡ body ++ BackBy 0 ∷ rest →
         length rest ≡ behind
@@ -137,6 +140,7 @@ fn write_block(
     locals: usize,
     s: &Statement,
 ) -> Result<(), AllocError>
+    requires room { statement_peak locals s.now < 2 ^ 64 }
     requires params { exits.params ≤ locals }
     requires alive { exits.alive ≤ locals }
     requires exit { exits.exit ≤ length text.old }
@@ -158,6 +162,7 @@ fn write_step(
     locals: usize,
     s: &Statement,
 ) -> Result<(), AllocError>
+    requires room { statement_peak locals s.now < 2 ^ 64 }
     requires within { params ≤ locals }
     ensures code { OnOk result (text.new ≡ block_code (stmt_code params locals 0 0 0 s.now)
         (declared s.now) ++ text.old) }
@@ -182,6 +187,7 @@ fn write_body(
     behind: usize,
     s: &Statement,
 ) -> Result<(), AllocError>
+    requires room { statement_peak locals s.now < 2 ^ 64 }
     requires params { params ≤ locals }
     requires behind { behind ≤ length text.old }
     ensures code { OnOk result (text.new ≡ block_code (stmt_code params locals locals
@@ -206,6 +212,7 @@ fn write_row(
     locals: usize,
     row: &[Statement],
 ) -> Result<(), AllocError>
+    requires room { statements_peak locals row.now < 2 ^ 64 }
     requires params { exits.params ≤ locals }
     requires alive { exits.alive ≤ locals }
     requires exit { exits.exit ≤ length text.old }
@@ -213,7 +220,7 @@ fn write_row(
     ensures code { OnOk result (text.new ≡ statements_code exits.params locals exits.alive
         (length text.old - exits.exit) (length text.old - exits.again) row.now ++ text.old) }
 {
-    let mut here = grown(declared_by_all(row), locals)?;
+    let mut here = declared_by_all(row) + locals;
     for s in row.iter().rev() {
         here -= declared_by(s);
         write_statement(text, exits, here, s)?;
@@ -229,6 +236,7 @@ pub fn write_statement(
     locals: usize,
     s: &Statement,
 ) -> Result<(), AllocError>
+    requires room { statement_peak locals s.now < 2 ^ 64 }
     requires params { exits.params ≤ locals }
     requires alive { exits.alive ≤ locals }
     requires exit { exits.exit ≤ length text.old }

@@ -1,7 +1,7 @@
 //! Instructions, written from the last one to the first.
 //!
 //! So the distance of a forward jump is known when it is written.
-ghost use Rattle.std.specs.Prelude.{◌≡◌, ◌<◌, List, ◌∷◌, ◌++◌, [], length, OnOk, OnErr};
+ghost use Rattle.std.specs.Prelude.{◌≡◌, ◌<◌, ◌^◌, List, ◌∷◌, ◌++◌, [], length, IfOk, OnOk, OnErr};
 ghost use Rattle.ang_code.specs.declared.instruction.Instruction.{Instruction};
 ghost use Rattle.ang_code.specs.declared.instruction.Instruction.TheVariants.{Back};
 
@@ -25,13 +25,16 @@ impl Model for Text {
 }
 
 impl Text {
-    /// The text that is empty so far.
-    pub fn new(alloc: Global) -> Text
-        ensures empty { result ≡ [] }
+    /// The text that is empty so far, with room for that many instructions.
+    ///
+    /// # Errors
+    /// Want of memory: there is no room for them.
+    pub fn with_room(alloc: Global, room: usize) -> Result<Text, AllocError>
+        ensures empty { IfOk result (λ text. text ≡ []) }
+        ensures room { IfOk result (λ text. room < 2 ^ 63) }
     {
-        Text {
-            reversed: Vec::new(alloc),
-        }
+        let reversed = Vec::with_capacity(alloc, room)?;
+        Ok(Text { reversed })
     }
 
     /// How many instructions it has.

@@ -13,7 +13,8 @@ pub struct Globals {
 
 impl Globals {
     /// The value of a global, and `other` where there is none.
-    pub fn get_or(&self, home: u32, number: u32, other: Slot) -> Slot
+    #[inline(always)]
+    pub fn get_or(&self, home: u32, number: usize, other: Slot) -> Slot
         ensures exact { result
             ≡ slice_index_or (slice_index_or (values_in self.now) home []) number other }
     {
@@ -21,7 +22,8 @@ impl Globals {
     }
 
     /// Puts a value into a global, where there is one.
-    pub fn put(&mut self, home: u32, number: u32, value: Slot)
+    #[inline(always)]
+    pub fn put(&mut self, home: u32, number: usize, value: Slot)
         ensures put { values_in self.new
             ≡ slice_set (values_in self.old) home
             (slice_set (slice_index_or (values_in self.old) home []) number value) }
@@ -34,6 +36,7 @@ impl Globals {
 }
 
 /// The globals of a module, none where there is no such module.
+#[inline(always)]
 fn values_of(globals: &Globals, home: u32) -> &[Slot]
     ensures exact { result.now ≡ slice_index_or (values_in globals.now) home [] }
 {
@@ -44,20 +47,21 @@ fn values_of(globals: &Globals, home: u32) -> &[Slot]
 }
 
 /// The value of that number, and `other` where there is none.
-fn value_or(values: &[Slot], number: u32, other: Slot) -> Slot
+#[inline(always)]
+fn value_or(values: &[Slot], number: usize, other: Slot) -> Slot
     ensures exact { result ≡ slice_index_or values.now number other }
 {
-    match values.get(number as usize) {
+    match values.get(number) {
         Some(value) => *value,
         None => other,
     }
 }
 
 /// Puts a value in the place of that number, where there is one.
-fn put_at(values: &mut Vec<Slot>, number: u32, value: Slot)
+#[inline(always)]
+fn put_at(values: &mut Vec<Slot>, number: usize, value: Slot)
     ensures put { values.new.items ≡ slice_set values.old.items number value }
 {
-    let number = number as usize;
     if number < values.len() {
         values[number] = value;
     }

@@ -21,9 +21,9 @@ use std::alloc::Global;
 #[derive(Drop)]
 pub struct ScriptObject {
     /// Its class's number in the module that made it.
-    pub class: u32,
+    pub class: usize,
     /// Its class's rank: a field holds objects of a lower one only.
-    pub rank: u32,
+    pub rank: usize,
     /// How many places hold it.
     pub count: u64,
     /// Its fields, those of the base class first, in order of declaration.
@@ -103,7 +103,13 @@ impl Heap {
             → PartsMove ⟦<dyn Driver as Driver>⟧ roles (members drivers.old) events.old.items
             (members drivers.new) events.new.items }
     {
-        give_up(&mut self.records, drivers, events, value);
+        match value {
+            Slot::Host(driver, named) => match named {
+                Some(key) => release(drivers, events, driver, key),
+                None => {}
+            },
+            _ => give_up(&mut self.records, drivers, events, value),
+        }
     }
 }
 

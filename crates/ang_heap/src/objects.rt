@@ -38,7 +38,7 @@ impl Heap {
     }
 
     /// The class of an object, where there is one of that number.
-    pub fn class(&self, number: usize) -> Option<u32>
+    pub fn class(&self, number: usize) -> Option<usize>
         ensures exact { result ≡ class_of_record (map.get (objects_of self.now) number) }
     {
         match self.records.get(number) {
@@ -48,7 +48,7 @@ impl Heap {
     }
 
     /// The rank of an object, where there is one of that number.
-    pub fn rank(&self, number: usize) -> Option<u32>
+    pub fn rank(&self, number: usize) -> Option<usize>
         ensures exact { result ≡ rank_of_record (map.get (objects_of self.now) number) }
     {
         match self.records.get(number) {
@@ -58,7 +58,8 @@ impl Heap {
     }
 
     /// A field of an object, and `other` where there is no such field.
-    pub fn field(&self, number: usize, index: u32, other: Slot) -> Slot
+    #[inline(always)]
+    pub fn field(&self, number: usize, index: usize, other: Slot) -> Slot
         ensures exact { result ≡ field_of (map.get (objects_of self.now) number) index other }
     {
         match self.records.get(number) {
@@ -71,7 +72,8 @@ impl Heap {
     /// where there is none, the value itself. Only a script object of a lower rank than the object should
     /// be stored: else objects could hold one another in a circle, and would never be given up. That is no
     /// condition of this function, which does the same with any value.
-    pub fn set_field(&mut self, number: usize, index: u32, value: Slot) -> Slot
+    #[inline(always)]
+    pub fn set_field(&mut self, number: usize, index: usize, value: Slot) -> Slot
         ensures old { result ≡ field_of (map.get (objects_of self.old) number) index value }
         ensures put { objects_of self.new
             ≡ with_field number (map.get (objects_of self.old) number) index value
@@ -121,27 +123,29 @@ fn insert(records: &mut Slab<ScriptObject>, object: ScriptObject) -> Result<usiz
 }
 
 /// The value at an index, and `other` where there is none.
-fn value_or(values: &[Slot], index: u32, other: Slot) -> Slot
+#[inline(always)]
+fn value_or(values: &[Slot], index: usize, other: Slot) -> Slot
     ensures exact { result ≡ slice_index_or values.now index other }
 {
-    match values.get(index as usize) {
+    match values.get(index) {
         Some(value) => *value,
         None => other,
     }
 }
 
 /// Stores a value into a field, where there is such a field.
-fn put_field(object: &mut ScriptObject, index: u32, value: Slot)
+#[inline(always)]
+fn put_field(object: &mut ScriptObject, index: usize, value: Slot)
     ensures put { record_of object.new
         ≡ record (record_of object.old) { fields = slice_set object.old.fields.items index value } }
 {
-    let index = index as usize;
     if index < object.fields.len() {
         object.fields[index] = value;
     }
 }
 
-fn store(records: &mut Slab<ScriptObject>, number: usize, index: u32, value: Slot)
+#[inline(always)]
+fn store(records: &mut Slab<ScriptObject>, number: usize, index: usize, value: Slot)
     ensures stored { (o : ScriptObject) → slab_get records.old number ≡ Some o
         → (p : ScriptObject) × (records.new ≡ with_value records.old number p)
         × (record_of p ≡ record (record_of o) { fields = slice_set o.fields.items index value }) }

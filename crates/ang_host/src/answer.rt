@@ -2,36 +2,45 @@
 use ang_kinds::Value;
 
 /// What a driver answers where it is asked to make an object.
+///
+/// Each answer but `Key` ends the run with a fault: `Nothing` with `NoObject`, `Fault(n)` with `Host(n)`,
+/// `Memory` with `Memory`, and `Full` with `Tally`.
 #[derive(Clone, Copy, PartialEq, Eq, Debug)]
 pub enum Made {
     /// The key of a new object, which was not live and is now, with one reference.
     Key(u64),
     /// No object was made.
     Nothing,
-    /// A fault of the driver's own.
+    /// A fault of the driver's own, by the driver's number for it.
     Fault(u32),
-    /// Want of memory.
+    /// A growth of memory was refused.
     Memory,
-    /// A tally is full: nothing was done.
+    /// A tally is full, at 2^63 - 1: nothing was done.
     Full,
 }
 
 /// What a driver answers to a call, a read or a write.
 ///
-/// An entry wants `Void` where it is a `void` function and where a property is written, and else `Gave`: of an
-/// `Int` for a signed type, of a `Uint` for an unsigned one, of a `Bool` for `bool`, in the type's range.
-/// Anything else ends the script with the fault `BadAnswer`.
+/// What is wanted is told by the entry's declaration. A `void` function or method wants `Void`, and so does a
+/// property that is written. All others want `Gave`: of an `Int` for a signed type and of a `Uint` for an
+/// unsigned one, in the type's range; of a `Bool` for `bool`; and of a `Key` for a handle, where `Key(None)`
+/// is null.
+///
+/// A value where `Void` is wanted, `Void` where a value is wanted, and a value of another kind or outside the
+/// type's range end the run with the fault `BadAnswer`. `Fault(n)` ends it with the fault `Host(n)`, `Memory`
+/// with `Memory`, and `Full` with `Tally`.
 #[derive(Clone, Copy, PartialEq, Eq, Debug)]
 pub enum Answer {
     /// It is done, and there is no value.
     Void,
-    /// It is done, with this value. A key in it is live.
+    /// It is done, with this value. A key in it is live, and comes without a reference: the engine adds one
+    /// where it keeps the key.
     Gave(Value),
-    /// A fault of the driver's own.
+    /// A fault of the driver's own, by the driver's number for it.
     Fault(u32),
-    /// Want of memory.
+    /// A growth of memory was refused.
     Memory,
-    /// A tally is full: nothing was done.
+    /// A tally is full, at 2^63 - 1: nothing was done.
     Full,
 }
 

@@ -10,7 +10,7 @@ use crate::one;
 use ang_kinds::Value;
 use thiserror::Error;
 
-/// At most 64 drivers, which calls name by their place in the list, from 0.
+/// At most 64 drivers, which registered entries name by their place in the list, from 0.
 ///
 /// A list of drivers can't be dropped: `into_boxes` gives the drivers back.
 pub struct Drivers {
@@ -24,7 +24,7 @@ pub enum DriversError {
     /// There are more than 64 drivers.
     #[error("there are more than 64 drivers")]
     TooMany,
-    /// There are at most 64, and one has a live key.
+    /// There are at most 64 drivers, and one of them has a live key.
     #[error("a driver is in use")]
     Busy,
 }
@@ -84,7 +84,7 @@ impl Drivers {
         boxes
     }
 
-    /// `Driver::idle` of the driver of that number.
+    /// `Driver::idle` of the driver of that number, which has to be below `len`.
     pub fn idle(&self, driver: u32) -> bool
         requires in_list { driver < length (members self.now) }
         ensures law { IsIdleTest
@@ -94,7 +94,7 @@ impl Drivers {
         one::idle_at(&self.boxes[driver as usize])
     }
 
-    /// `Driver::make` of the driver of that number. The others stay as they are.
+    /// `Driver::make` of the driver of that number, which has to be below `len`. The others stay as they are.
     pub fn make(&mut self, driver: u32, f: u32, args: &[Value]) -> Made
         requires in_list { driver < length (members self.old) }
         requires args_live { AreLive
@@ -107,7 +107,7 @@ impl Drivers {
         one::make_at(b, f, args)
     }
 
-    /// `Driver::call` of the driver of that number. The others stay as they are.
+    /// `Driver::call` of the driver of that number, which has to be below `len`. The others stay as they are.
     pub fn call(&mut self, driver: u32, f: u32, object: Option<u64>, args: &[Value]) -> Answer
         requires in_list { driver < length (members self.old) }
         requires object_live { IsLiveOption
@@ -123,7 +123,7 @@ impl Drivers {
         one::call_at(b, f, object, args)
     }
 
-    /// `Driver::read` of the driver of that number. The others stay as they are.
+    /// `Driver::read` of the driver of that number, which has to be below `len`. The others stay as they are.
     pub fn read(&mut self, driver: u32, f: u32, object: Option<u64>) -> Answer
         requires in_list { driver < length (members self.old) }
         requires object_live { IsLiveOption
@@ -136,7 +136,8 @@ impl Drivers {
         one::read_at(b, f, object)
     }
 
-    /// `Driver::write` of the driver of that number. The others stay as they are.
+    /// `Driver::write` of the driver of that number, which has to be below `len`. The others stay as they
+    /// are.
     pub fn write(&mut self, driver: u32, f: u32, object: Option<u64>, value: Value) -> Answer
         requires in_list { driver < length (members self.old) }
         requires object_live { IsLiveOption
@@ -152,8 +153,8 @@ impl Drivers {
         one::write_at(b, f, object, value)
     }
 
-    /// `Driver::add_ref` of the driver of that number. The others stay as they are.
-    /// It takes no memory.
+    /// `Driver::add_ref` of the driver of that number, which has to be below `len`: false where a tally was
+    /// full. The others stay as they are. It takes no memory.
     pub fn add_ref(&mut self, driver: u32, key: u64) -> bool
         requires in_list { driver < length (members self.old) }
         requires key_live { IsLive
@@ -166,8 +167,8 @@ impl Drivers {
         one::add_ref_at(b, key)
     }
 
-    /// `Driver::release` of the driver of that number. The others stay as they are.
-    /// It takes no memory.
+    /// `Driver::release` of the driver of that number, which has to be below `len`: true where it was the
+    /// last reference. The others stay as they are. It takes no memory.
     pub fn release(&mut self, driver: u32, key: u64) -> bool
         requires in_list { driver < length (members self.old) }
         requires key_live { IsLive

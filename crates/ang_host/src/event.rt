@@ -2,14 +2,14 @@
 use crate::answer::HostReply;
 use ang_kinds::{EntityNo, List, Value};
 
-/// One thing that happened between the engine and a driver, in the order in which it happened.
+/// One host call, or the end of an object. A reply lists those of its command in order.
 #[derive(Drop, Debug)]
 pub enum HostEvent {
-    /// A driver was asked, whatever it answered.
+    /// A driver was asked by `make`, `call`, `read` or `write`, whatever it answered.
     Called {
         /// The name of the module whose script asked.
         caller: List<u8>,
-        /// The registered entity: a factory, function, method or property.
+        /// The number of the registered entry: a factory, function, method or property.
         entity: EntityNo,
         /// The driver's number in the list, from 0.
         driver: u32,
@@ -29,8 +29,8 @@ pub enum HostEvent {
     },
 }
 
-/// What asking a registered entity means: which method of its driver, with which function number.
-/// A property is written where there is an argument, and else read.
+/// By which method of its driver a registered entry is asked, and with which number `f`. A property's host
+/// call is `write` where it has an argument, and else `read`.
 #[derive(Clone, Copy, PartialEq, Eq, Debug)]
 pub enum Role {
     /// A factory: `make`.

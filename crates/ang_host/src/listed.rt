@@ -1,8 +1,8 @@
 //! Host calls and releases of drivers that are listed as events.
 //!
-//! The place of the event is reserved before, so listing it takes no memory. Each of them says what
-//! the one driver did, and that the list of drivers follows the event: the answer in it is the
-//! driver's own.
+//! The engine calls these functions, and hosts call none of them. The caller has reserved room for the event,
+//! so listing it takes no memory. Each function says what the one driver did, and that the list of drivers
+//! follows the event: the answer in it is the driver's own.
 ghost use Rattle.std.specs.Prelude.{◌≡◌, ◌+◌, ◌<◌, ◌++◌, ◌∷◌, [], List, None, length, vec_len, vec_capacity};
 ghost use Rattle.ang_host.specs.declared.event.HostEvent.TheVariants.{Called};
 ghost use Rattle.ang_host.specs.declared.event.Role.{Role};
@@ -20,8 +20,8 @@ use crate::drivers::Drivers;
 use crate::event::HostEvent;
 use ang_kinds::{EntityNo, List, Value};
 
-/// Asks the driver for a new object, for the factory `entity` of the function number `f`, and lists
-/// the event, whatever the answer.
+/// Asks the driver to make an object by its function `f`, which is registered as the factory `entity`, and
+/// lists the event, whatever the answer. The caller has reserved room for the event.
 pub fn make_listed(
     drivers: &mut Drivers,
     events: &mut Vec<HostEvent>,
@@ -58,8 +58,8 @@ pub fn make_listed(
     answer
 }
 
-/// Calls the driver, for the function or method `entity` of the function number `f`, and lists the
-/// event, whatever the answer.
+/// Calls the driver's function `f`, which is registered as the function or method `entity`, and lists the
+/// event, whatever the answer. The caller has reserved room for the event.
 pub fn call_listed(
     drivers: &mut Drivers,
     events: &mut Vec<HostEvent>,
@@ -100,8 +100,8 @@ pub fn call_listed(
     answer
 }
 
-/// Reads the property `entity` of the function number `f`, and lists the event, whatever the answer.
-/// `args` is the empty list, which the event takes.
+/// Reads the driver's property `f`, which is registered as `entity`, and lists the event, whatever the
+/// answer. The caller has reserved room for the event. `args` has to be empty: it becomes the event's.
 pub fn read_listed(
     drivers: &mut Drivers,
     events: &mut Vec<HostEvent>,
@@ -140,8 +140,9 @@ pub fn read_listed(
     answer
 }
 
-/// Writes the property `entity` of the function number `f`, and lists the event, whatever the answer.
-/// `args` has the new value alone, and the event takes it.
+/// Writes the driver's property `f`, which is registered as `entity`, and lists the event, whatever the
+/// answer. The caller has reserved room for the event. `args` has to be the new value alone: it becomes the
+/// event's.
 pub fn write_listed(
     drivers: &mut Drivers,
     events: &mut Vec<HostEvent>,
@@ -185,7 +186,8 @@ pub fn write_listed(
     answer
 }
 
-/// Releases one reference to the key, tells whether it was the last, and then lists its end.
+/// Releases one reference to the key, and tells whether it was the last: then it lists the key's end. The
+/// caller has reserved room for the event.
 pub fn release_listed(
     drivers: &mut Drivers,
     events: &mut Vec<HostEvent>,

@@ -1,4 +1,4 @@
-//! One call on one driver: behind a `&mut dyn`, and in its box.
+//! Calls of one driver: each `.._in` through a `&dyn Driver` or `&mut dyn Driver`, each `.._at` in its box.
 ghost use Rattle.std.specs.Prelude.{◌≡◌};
 ghost use Rattle.ang_host.specs.State.{make, call, read, write, end};
 ghost use Rattle.ang_host.specs.Laws.{IsLive, IsLiveOption, IsLiveValue, AreLive, Answered, WasMade, WasAdded, WasReleased, IsIdleTest};
@@ -32,8 +32,8 @@ fn make_in(d: &mut dyn Driver, f: u32, args: &[Value]) -> Made
     d.make(f, args)
 }
 
-/// Asks the driver in this box for a new object from the factory of the function number `f`. All keys in `args`
-/// have to be live.
+/// Asks the driver in this box for a new object, from the factory that was registered with the number `f`.
+/// All keys in `args` have to be live.
 pub fn make_at(b: &mut Box<dyn Driver>, f: u32, args: &[Value]) -> Made
     requires args_live { AreLive (state_in ⟦<dyn Driver as Driver>⟧ b.old) args.now }
     ensures law { WasMade (fits_in ⟦<dyn Driver as Driver>⟧ b.old)
@@ -56,8 +56,8 @@ fn call_in(d: &mut dyn Driver, f: u32, object: Option<u64>, args: &[Value]) -> A
     d.call(f, object, args)
 }
 
-/// Calls the function of the number `f` of the driver in this box, as a method where there is an object. All keys
-/// that are handed in have to be live.
+/// Calls the function of the number `f` of the driver in this box, as a method where there is an object. All
+/// keys that are handed in have to be live.
 pub fn call_at(b: &mut Box<dyn Driver>, f: u32, object: Option<u64>, args: &[Value]) -> Answer
     requires object_live { IsLiveOption (state_in ⟦<dyn Driver as Driver>⟧ b.old) object }
     requires args_live { AreLive (state_in ⟦<dyn Driver as Driver>⟧ b.old) args.now }
@@ -80,8 +80,8 @@ fn read_in(d: &mut dyn Driver, f: u32, object: Option<u64>) -> Answer
     d.read(f, object)
 }
 
-/// Reads the property of the number `f` of the driver in this box, of the object where there is one, whose key has
-/// to be live.
+/// Reads the property of the number `f` of the driver in this box, of the object where there is one, whose
+/// key has to be live.
 pub fn read_at(b: &mut Box<dyn Driver>, f: u32, object: Option<u64>) -> Answer
     requires object_live { IsLiveOption (state_in ⟦<dyn Driver as Driver>⟧ b.old) object }
     ensures law { Answered (fits_in ⟦<dyn Driver as Driver>⟧ b.old)
@@ -104,8 +104,8 @@ fn write_in(d: &mut dyn Driver, f: u32, object: Option<u64>, value: Value) -> An
     d.write(f, object, value)
 }
 
-/// Writes the property of the number `f` of the driver in this box, of the object where there is one. All keys that
-/// are handed in have to be live.
+/// Writes the property of the number `f` of the driver in this box, of the object where there is one. All
+/// keys that are handed in have to be live.
 pub fn write_at(b: &mut Box<dyn Driver>, f: u32, object: Option<u64>, value: Value) -> Answer
     requires object_live { IsLiveOption (state_in ⟦<dyn Driver as Driver>⟧ b.old) object }
     requires value_live { IsLiveValue (state_in ⟦<dyn Driver as Driver>⟧ b.old) value }
@@ -127,8 +127,8 @@ fn add_ref_in(d: &mut dyn Driver, key: u64) -> bool
     d.add_ref(key)
 }
 
-/// Adds a reference to a live key of the driver in this box. False, with nothing done, only where a tally is full.
-/// It takes no memory.
+/// Adds a reference to a live key of the driver in this box, and answers as `Driver::add_ref`. It takes no
+/// memory.
 pub fn add_ref_at(b: &mut Box<dyn Driver>, key: u64) -> bool
     requires key_live { IsLive (state_in ⟦<dyn Driver as Driver>⟧ b.old) key }
     ensures law { WasAdded (state_in ⟦<dyn Driver as Driver>⟧ b.old) key result
@@ -149,8 +149,8 @@ fn release_in(d: &mut dyn Driver, key: u64) -> bool
     d.release(key)
 }
 
-/// Releases a reference to a live key of the driver in this box, and tells whether it was the last: then the key is
-/// no longer live. It always succeeds and takes no memory.
+/// Releases a reference to a live key of the driver in this box, and tells whether it was the last: then the
+/// key is no longer live. It always succeeds and takes no memory.
 pub fn release_at(b: &mut Box<dyn Driver>, key: u64) -> bool
     requires key_live { IsLive (state_in ⟦<dyn Driver as Driver>⟧ b.old) key }
     ensures law { WasReleased (fits_in ⟦<dyn Driver as Driver>⟧ b.old)

@@ -1,5 +1,5 @@
 //! The bodies of a module.
-ghost use Rattle.std.specs.Prelude.{◌≡◌, ◌+◌, ◌++◌, ◌∷◌, [], None, suc, reverse, IfOk, OnOk, map as list_map};
+ghost use Rattle.std.specs.Prelude.{◌≡◌, ◌+◌, ◌++◌, ◌∷◌, [], None, suc, length, reverse, IfOk, OnOk, map as list_map};
 ghost use Rattle.ang_typed.specs.View.{view_block, view_expr, view_function, view_global, view_typed};
 ghost use Rattle.ang_source.specs.Meaning.{referred, passing_of, passings_of, passings_in, primitive_of, results_in, of_global};
 ghost use Rattle.ang_lower.specs.Plain.{plain_body, plain_stmt};
@@ -70,13 +70,21 @@ fn primitive_of(ty: ArgType) -> Option<Prim>
     }
 }
 
+/// A byte for each parameter, as the lowering of statements has one for each local that is alive.
+fn bytes_for(alloc: Global, parameters: &[Parameter]) -> Result<Vec<u8>, AllocError>
+    ensures count { IfOk result (λ v. length v.items ≡ length parameters.now) }
+{
+    parameters.iter().map(|_| 0).collect(alloc)
+}
+
 fn function_body(alloc: Global, function: &Function) -> Result<Body, AllocError>
     ensures exact { IfOk result (λ b. plain_body b
         ≡ spec.lowered_function (view_function function.now)) }
 {
     let parameters = function.parameters.as_slice();
     let params = passings(alloc, parameters)?;
-    let statement = lower_block(alloc, parameters.len(), &function.body)?;
+    let mut alive = bytes_for(alloc, parameters)?;
+    let statement = lower_block(alloc, &mut alive, &function.body)?;
     Ok(Body {
         params,
         result: primitive_of(function.result),
@@ -170,7 +178,7 @@ fn bodies_of(alloc: Global, program: &Typed) -> Result<Vec<Body>, AllocError>
 /// which they then mean too ([`crate::laws::everywhere_same`]), and they keep what the generator wants of them.
 ///
 /// # Errors
-/// Want of memory. It is also answered where a number has more than 32 bits, which no checked module has.
+/// Want of memory.
 pub fn lower(alloc: Global, program: &Typed) -> Result<Vec<Body>, AllocError>
     ensures exact { IfOk result (λ bodies. list_map plain_body bodies.items
         ≡ spec.lowered_module (view_typed program.now)) }

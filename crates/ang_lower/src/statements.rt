@@ -1,5 +1,5 @@
 //! The core trees of statements.
-ghost use Rattle.std.specs.Prelude.{◌≡◌, ◌+◌, ◌++◌, ◌∷◌, [], suc, length, IfOk, OnOk, true, map as list_map};
+ghost use Rattle.std.specs.Prelude.{◌≡◌, ◌≤◌, ◌+◌, ◌++◌, ◌∷◌, [], suc, length, IfOk, OnOk, true, map as list_map};
 ghost use Rattle.ang_typed.specs.View.{view_block, view_choice, view_expr, view_for, view_local, view_loop, view_option, view_stmt, view_stmts};
 ghost use Rattle.ang_source.specs.Sound.{declared, declared_by};
 ghost use Rattle.ang_lower_expr.specs.Lowered.{lowered, lowered_or};
@@ -14,39 +14,47 @@ use crate::build::{
     let_go_of_test, let_go_of_tested, loop_of, make_tested,
 };
 use ang_core::Statement;
-use ang_lower_expr::{lower_begin, lower_boxed, lower_or, narrow_number};
+use ang_lower_expr::{lower_begin, lower_boxed, lower_or};
 use ang_typed as typed;
 use ang_typed::{Block, Choice, Expression, For, Local, Loop};
 use std::alloc::{AllocError, Global};
 
-/// One more local. Their number has 32 bits before, as that of any frame has.
-fn one_more(alive: usize) -> Result<usize, AllocError>
-    ensures exact { IfOk result (λ n. n ≡ suc alive) }
+/// One more local that is alive. Each has a byte, so that there is room for their number.
+fn begin_local(alive: &mut Vec<u8>) -> Result<(), AllocError>
+    ensures count { OnOk result (length alive.new.items ≡ suc (length alive.old.items)) }
 {
-    let before = narrow_number(alive)?;
-    Ok(before as usize + 1)
+    alive.push(0)?;
+    Ok(())
 }
 
-/// Each local as a statement of its own, after those that there are. The result is how many are then alive.
+/// Ends the locals that are alive but for the first `left`.
+fn end_locals(alive: &mut Vec<u8>, left: usize)
+    requires within { left ≤ length alive.old.items }
+    ensures count { length alive.new.items ≡ left }
+{
+    alive.truncate(left);
+}
+
+/// Each local as a statement of its own, after those that there are. Each is alive then.
 #[inline(never)]
 fn add_locals(
     alloc: Global,
-    alive: usize,
+    alive: &mut Vec<u8>,
     locals: &[Local],
     found: &mut Vec<Statement>,
-) -> Result<usize, AllocError>
+) -> Result<(), AllocError>
     ensures exact { OnOk result (list_map plain_stmt found.new.items
         ≡ list_map plain_stmt found.old.items
-        ++ spec.lowered_locals alive (list_map view_local locals.now)) }
-    ensures count { IfOk result (λ n. n ≡ length locals.now + alive) }
+        ++ spec.lowered_locals (length alive.old.items) (list_map view_local locals.now)) }
+    ensures count { OnOk result
+        (length alive.new.items ≡ length locals.now + length alive.old.items) }
 {
-    let mut here = alive;
     for local in locals {
-        let value = lower_begin(alloc, here, local)?;
+        let value = lower_begin(alloc, alive.len(), local)?;
         add(found, Statement::Declare(value))?;
-        here = one_more(here)?;
+        begin_local(alive)?;
     }
-    Ok(here)
+    Ok(())
 }
 
 /// An expression whose value nobody takes, or nothing.
@@ -133,31 +141,25 @@ fn returned(
     Ok(Statement::Return(value))
 }
 
-/// One statement that leaves as many locals as there were.
-#[inline(never)]
-fn add_one(
-    found: &mut Vec<Statement>,
-    statement: Statement,
-    alive: usize,
-) -> Result<usize, AllocError>
-    ensures exact { OnOk result (list_map plain_stmt found.new.items
-        ≡ list_map plain_stmt found.old.items ++ (plain_stmt statement ∷ [])) }
-    ensures count { IfOk result (λ n. n ≡ alive) }
-{
-    add(found, statement)?;
-    Ok(alive)
-}
-
 /// Statements in a block of their own.
 #[cycle(statement)]
 #[inline(never)]
-pub fn lower_block(alloc: Global, alive: usize, written: &Block) -> Result<Statement, AllocError>
-    ensures exact { IfOk result (λ s. plain_stmt s
-        ≡ spec.lowered_block (spec.lowered_all alive (view_block written.now))) }
+pub fn lower_block(
+    alloc: Global,
+    alive: &mut Vec<u8>,
+    written: &Block,
+) -> Result<Statement, AllocError>
+    ensures exact { IfOk result (λ s. plain_stmt s ≡ spec.lowered_block
+        (spec.lowered_all (length alive.old.items) (view_block written.now))) }
+    ensures count { OnOk result (length alive.new.items ≡ length alive.old.items) }
 {
+    let outside = alive.len();
     let mut found = Vec::new(alloc);
     match add_all(alloc, alive, written.statements.as_slice(), &mut found) {
-        Ok(_) => Ok(block(found)),
+        Ok(()) => {
+            end_locals(alive, outside);
+            Ok(block(found))
+        }
         Err(error) => {
             let_go_of_list(found);
             Err(error)
@@ -165,23 +167,24 @@ pub fn lower_block(alloc: Global, alive: usize, written: &Block) -> Result<State
     }
 }
 
-/// Statements in turn, after those that there are. The result is how many locals are then alive.
+/// Statements in turn, after those that there are. The locals that they declare are alive then.
 #[cycle(statement)]
 fn add_all(
     alloc: Global,
-    alive: usize,
+    alive: &mut Vec<u8>,
     written: &[typed::Statement],
     found: &mut Vec<Statement>,
-) -> Result<usize, AllocError>
+) -> Result<(), AllocError>
     ensures exact { OnOk result (list_map plain_stmt found.new.items
-        ≡ list_map plain_stmt found.old.items ++ spec.lowered_all alive (view_stmts written.now)) }
-    ensures count { IfOk result (λ n. n ≡ declared_by (view_stmts written.now) + alive) }
+        ≡ list_map plain_stmt found.old.items
+        ++ spec.lowered_all (length alive.old.items) (view_stmts written.now)) }
+    ensures count { OnOk result (length alive.new.items
+        ≡ declared_by (view_stmts written.now) + length alive.old.items) }
 {
-    let mut here = alive;
     for item in written {
-        here = add_statement(alloc, here, item, found)?;
+        add_statement(alloc, alive, item, found)?;
     }
-    Ok(here)
+    Ok(())
 }
 
 /// A test, and the block where it is true.
@@ -189,16 +192,17 @@ fn add_all(
 #[inline(never)]
 fn lower_tested(
     alloc: Global,
-    alive: usize,
+    alive: &mut Vec<u8>,
     then: &Block,
     condition: &Expression,
 ) -> Result<Box<Tested>, AllocError>
     ensures test { IfOk result (λ x. plain_tree x.value.test
-        ≡ lowered alive (view_expr condition.now)) }
-    ensures inside { IfOk result (λ x. plain_stmt x.value.«then»
-        ≡ spec.lowered_block (spec.lowered_all alive (view_block «then».now))) }
+        ≡ lowered (length alive.old.items) (view_expr condition.now)) }
+    ensures inside { IfOk result (λ x. plain_stmt x.value.«then» ≡ spec.lowered_block
+        (spec.lowered_all (length alive.old.items) (view_block «then».now))) }
+    ensures count { OnOk result (length alive.new.items ≡ length alive.old.items) }
 {
-    let test = lower_boxed(alloc, alive, condition)?;
+    let test = lower_boxed(alloc, alive.len(), condition)?;
     match lower_block(alloc, alive, then) {
         Ok(then) => make_tested(alloc, test, then),
         Err(error) => {
@@ -211,9 +215,10 @@ fn lower_tested(
 /// A choice between two blocks.
 #[cycle(statement)]
 #[inline(never)]
-fn lower_if(alloc: Global, alive: usize, written: &Choice) -> Result<Statement, AllocError>
+fn lower_if(alloc: Global, alive: &mut Vec<u8>, written: &Choice) -> Result<Statement, AllocError>
     ensures exact { IfOk result (λ s. plain_stmt s ∷ []
-        ≡ spec.lowered_stmt alive (view_choice written.now)) }
+        ≡ spec.lowered_stmt (length alive.old.items) (view_choice written.now)) }
+    ensures count { OnOk result (length alive.new.items ≡ length alive.old.items) }
 {
     let tested = lower_tested(alloc, alive, &written.then, &written.condition)?;
     match lower_block(alloc, alive, &written.otherwise) {
@@ -230,13 +235,14 @@ fn lower_if(alloc: Global, alive: usize, written: &Choice) -> Result<Statement, 
 #[inline(never)]
 fn lower_loop(
     alloc: Global,
-    alive: usize,
+    alive: &mut Vec<u8>,
     body: &Block,
     head: Box<LoopHead>,
 ) -> Result<Statement, AllocError>
     ensures exact { IfOk result (λ s. plain_stmt s ≡ tree.while (plain_tree head.value.test)
-        (spec.lowered_block (spec.lowered_all alive (view_block body.now)))
+        (spec.lowered_block (spec.lowered_all (length alive.old.items) (view_block body.now)))
         (plain_stmt head.value.step)) }
+    ensures count { OnOk result (length alive.new.items ≡ length alive.old.items) }
 {
     match lower_block(alloc, alive, body) {
         Ok(body) => loop_of(alloc, head, body),
@@ -250,22 +256,28 @@ fn lower_loop(
 /// A `while`.
 #[cycle(statement)]
 #[inline(never)]
-fn lower_while(alloc: Global, alive: usize, written: &Loop) -> Result<Statement, AllocError>
+fn lower_while(alloc: Global, alive: &mut Vec<u8>, written: &Loop) -> Result<Statement, AllocError>
     ensures exact { IfOk result (λ s. plain_stmt s
-        ≡ spec.lowered_while alive (view_loop written.now)) }
+        ≡ spec.lowered_while (length alive.old.items) (view_loop written.now)) }
+    ensures count { OnOk result (length alive.new.items ≡ length alive.old.items) }
 {
-    let head = head_of(alloc, alive, &written.condition)?;
+    let head = head_of(alloc, alive.len(), &written.condition)?;
     lower_loop(alloc, alive, &written.body, head)
 }
 
 /// A loop whose body runs before the first test.
 #[cycle(statement)]
 #[inline(never)]
-fn lower_late_loop(alloc: Global, alive: usize, written: &Loop) -> Result<Statement, AllocError>
+fn lower_late_loop(
+    alloc: Global,
+    alive: &mut Vec<u8>,
+    written: &Loop,
+) -> Result<Statement, AllocError>
     ensures exact { IfOk result (λ s. plain_stmt s
-        ≡ spec.lowered_do_while alive (view_loop written.now)) }
+        ≡ spec.lowered_do_while (length alive.old.items) (view_loop written.now)) }
+    ensures count { OnOk result (length alive.new.items ≡ length alive.old.items) }
 {
-    let test = lower_boxed(alloc, alive, &written.condition)?;
+    let test = lower_boxed(alloc, alive.len(), &written.condition)?;
     match lower_block(alloc, alive, &written.body) {
         Ok(body) => late_loop_of(alloc, test, body),
         Err(error) => {
@@ -278,15 +290,21 @@ fn lower_late_loop(alloc: Global, alive: usize, written: &Loop) -> Result<Statem
 /// A `for`, with what it starts from in a block around it.
 #[cycle(statement)]
 #[inline(never)]
-fn lower_for(alloc: Global, alive: usize, written: &For) -> Result<Statement, AllocError>
+fn lower_for(alloc: Global, alive: &mut Vec<u8>, written: &For) -> Result<Statement, AllocError>
     ensures exact { IfOk result (λ s. plain_stmt s ∷ []
-        ≡ spec.lowered_stmt alive (view_for written.now)) }
+        ≡ spec.lowered_stmt (length alive.old.items) (view_for written.now)) }
+    ensures count { OnOk result (length alive.new.items ≡ length alive.old.items) }
 {
+    let outside = alive.len();
     let mut inner = Vec::new(alloc);
-    let inside = add_all(alloc, alive, written.start.as_slice(), &mut inner)?;
+    add_all(alloc, alive, written.start.as_slice(), &mut inner)?;
+    let inside = alive.len();
     let head = loop_head(alloc, inside, &written.condition, written.steps.as_slice())?;
-    match lower_loop(alloc, inside, &written.body, head) {
-        Ok(whole) => block_with(inner, whole),
+    match lower_loop(alloc, alive, &written.body, head) {
+        Ok(whole) => {
+            end_locals(alive, outside);
+            block_with(inner, whole)
+        }
         Err(error) => {
             let_go_of_list(inner);
             Err(error)
@@ -299,19 +317,20 @@ fn lower_for(alloc: Global, alive: usize, written: &For) -> Result<Statement, Al
 #[inline(never)]
 fn lower_statement(
     alloc: Global,
-    alive: usize,
+    alive: &mut Vec<u8>,
     written: &typed::Statement,
 ) -> Result<Statement, AllocError>
     requires kind { is_single (view_stmt written.now) ≡ true }
     ensures exact { IfOk result (λ s. plain_stmt s ∷ []
-        ≡ spec.lowered_stmt alive (view_stmt written.now)) }
+        ≡ spec.lowered_stmt (length alive.old.items) (view_stmt written.now)) }
+    ensures count { OnOk result (length alive.new.items ≡ length alive.old.items) }
 {
     match written {
         typed::Statement::Block(inner) => lower_block(alloc, alive, inner),
-        typed::Statement::Expression(e) => simple(alloc, alive, e),
+        typed::Statement::Expression(e) => simple(alloc, alive.len(), e),
         typed::Statement::Break => Ok(Statement::Break),
         typed::Statement::Continue => Ok(Statement::Continue),
-        typed::Statement::Return(e) => returned(alloc, alive, e),
+        typed::Statement::Return(e) => returned(alloc, alive.len(), e),
         typed::Statement::If(choice) => lower_if(alloc, alive, choice),
         typed::Statement::While(inner) => lower_while(alloc, alive, inner),
         typed::Statement::DoWhile(inner) => lower_late_loop(alloc, alive, inner),
@@ -320,25 +339,26 @@ fn lower_statement(
     }
 }
 
-/// The statements that stand for one, after those that there are. The result is how many locals are then
-/// alive.
+/// The statements that stand for one, after those that there are. The locals that it declares are alive then.
 #[cycle(statement)]
 #[inline(never)]
 fn add_statement(
     alloc: Global,
-    alive: usize,
+    alive: &mut Vec<u8>,
     written: &typed::Statement,
     found: &mut Vec<Statement>,
-) -> Result<usize, AllocError>
+) -> Result<(), AllocError>
     ensures exact { OnOk result (list_map plain_stmt found.new.items
-        ≡ list_map plain_stmt found.old.items ++ spec.lowered_stmt alive (view_stmt written.now)) }
-    ensures count { IfOk result (λ n. n ≡ declared (view_stmt written.now) + alive) }
+        ≡ list_map plain_stmt found.old.items
+        ++ spec.lowered_stmt (length alive.old.items) (view_stmt written.now)) }
+    ensures count { OnOk result (length alive.new.items
+        ≡ declared (view_stmt written.now) + length alive.old.items) }
 {
     match written {
         typed::Statement::Locals(locals) => add_locals(alloc, alive, locals.as_slice(), found),
         _ => {
             let one = lower_statement(alloc, alive, written)?;
-            add_one(found, one, alive)
+            add(found, one)
         }
     }
 }

@@ -9,7 +9,7 @@ ghost use Rattle.ang_lower_expr.specs.Lowered as spec;
 use crate::build::{Pair, add_operand, apply, binary, call, choice, nullary, unary};
 use crate::folding::{complement, conversion, denial, negation};
 use crate::operators::{arithmetic, compound, is_signed, step, test};
-use crate::variables::{altering, change, narrow_number, read, reading, store, targets, writing};
+use crate::variables::{altering, change, read, reading, store, targets, writing};
 use ang_core::Expression;
 use ang_meaning::{Callee, Change, Operation};
 use ang_typed as typed;
@@ -20,7 +20,7 @@ use std::alloc::{AllocError, Global};
 /// The core tree of an expression, where `alive` locals are alive.
 ///
 /// # Errors
-/// Want of memory, which is also answered where a number has more than 32 bits.
+/// Want of memory.
 #[cycle(expression)]
 pub fn lower_expression(
     alloc: Global,
@@ -62,7 +62,7 @@ fn lower_read(alloc: Global, alive: usize, site: &Site) -> Result<Expression, Al
     match site {
         Site::Named(variable) => read(alloc, alive, variable),
         Site::Of { object, member } => {
-            let operation = reading(member)?;
+            let operation = reading(member);
             let object = lower_expression(alloc, alive, object)?;
             unary(alloc, operation, object)
         }
@@ -93,9 +93,8 @@ fn lower_unary(alloc: Global, alive: usize, e: &typed::Expression) -> Result<Exp
             denial(alloc, operand)
         }
         typed::Expression::Cast { family, operand } => {
-            let number = narrow_number(*family)?;
             let operand = lower_expression(alloc, alive, operand)?;
-            unary(alloc, Operation::Cast(number), operand)
+            unary(alloc, Operation::Cast(*family), operand)
         }
         _ => unreachable!(),
     }
@@ -233,7 +232,7 @@ fn store_at(
     match site {
         Site::Named(variable) => store(alloc, alive, variable, value),
         Site::Of { object, member } => {
-            let operation = writing(member)?;
+            let operation = writing(member);
             let right = lower_expression(alloc, alive, object)?;
             let left = value;
             binary(alloc, operation, Pair { left, right })
@@ -256,7 +255,7 @@ fn change_at(
     match site {
         Site::Named(variable) => change(alloc, alive, variable, by, value),
         Site::Of { object, member } => {
-            let operation = altering(member, by)?;
+            let operation = altering(member, by);
             let right = lower_expression(alloc, alive, object)?;
             let left = value;
             binary(alloc, operation, Pair { left, right })
@@ -265,31 +264,21 @@ fn change_at(
 }
 
 /// What code names by a callee of the tree.
-fn code_callee(callee: typed::Callee) -> Result<Callee, AllocError>
-    ensures exact { IfOk result (λ f. f ≡ callee_of callee) }
+fn code_callee(callee: typed::Callee) -> Callee
+    ensures exact { result ≡ callee_of callee }
 {
     match callee {
-        typed::Callee::Own(f) => {
-            let number = narrow_number(f)?;
-            Ok(Callee::Own(number))
-        }
-        typed::Callee::Import(i) => {
-            let number = narrow_number(i)?;
-            Ok(Callee::Import(number))
-        }
-        typed::Callee::Chosen(slot) => {
-            let number = narrow_number(slot)?;
-            Ok(Callee::Virtual(number))
-        }
+        typed::Callee::Own(f) => Callee::Own(f),
+        typed::Callee::Import(i) => Callee::Import(i),
+        typed::Callee::Chosen(slot) => Callee::Virtual(slot),
     }
 }
 
 /// A new object of a class, whose constructor did not run yet.
-fn made(alloc: Global, family: usize) -> Result<Expression, AllocError>
-    ensures exact { IfOk result (λ x. plain_expr x ≡ spec.made family) }
+fn made(alloc: Global, family: usize) -> Expression
+    ensures exact { plain_expr result ≡ spec.made family }
 {
-    let number = narrow_number(family)?;
-    Ok(nullary(alloc, Operation::Make(number)))
+    nullary(alloc, Operation::Make(family))
 }
 
 /// A call of a function of the scripts or of the host, or a new object.
@@ -309,7 +298,7 @@ fn lower_call(alloc: Global, alive: usize, e: &typed::Expression) -> Result<Expr
             arguments,
             ..
         } => {
-            let called = code_callee(*callee)?;
+            let called = code_callee(*callee);
             let values = lower_arguments(alloc, alive, arguments.as_slice())?;
             let targets = targets(alloc, alive, arguments.as_slice())?;
             Ok(call(called, values, targets))
@@ -353,15 +342,14 @@ fn lower_make(
         (spec.targets_of alive (view_args arguments.now))) }
 {
     match constructor {
-        None => made(alloc, family),
+        None => Ok(made(alloc, family)),
         Some(body) => {
-            let number = narrow_number(body)?;
-            let object = made(alloc, family)?;
+            let object = made(alloc, family);
             let mut values = Vec::new(alloc);
             add_operand(&mut values, object)?;
             add_arguments(alloc, alive, arguments, &mut values)?;
             let targets = targets(alloc, alive, arguments)?;
-            Ok(call(Callee::Own(number), values, targets))
+            Ok(call(Callee::Own(body), values, targets))
         }
     }
 }

@@ -12,4 +12,4 @@ mod operators;
 mod variables;
 
 pub use expressions::{lower_begin, lower_boxed, lower_expression, lower_or};
-pub use variables::{narrow_number, store};
+pub use variables::store;

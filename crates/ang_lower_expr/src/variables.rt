@@ -19,20 +19,6 @@ fn place(alive: usize, local: usize) -> usize
     if local < alive { alive - local - 1 } else { 0 }
 }
 
-/// A number of what a module or a frame has, in 32 bits, as code and tables have it.
-///
-/// # Errors
-/// Want of memory: the number has more than 32 bits, as none of a checked module has. It is the one place from
-/// the resolved tree to code that answers it though no allocation was refused, but for the room of a frame.
-pub fn narrow_number(number: usize) -> Result<u32, AllocError>
-    ensures exact { IfOk result (λ n. n ≡ number) }
-{
-    match u32::try_from(number) {
-        Ok(n) => Ok(n),
-        Err(_) => Err(AllocError),
-    }
-}
-
 /// `this`, which is local 0.
 fn this(alive: usize) -> Expression
     ensures exact { plain_expr result ≡ spec.this_at alive }
@@ -56,41 +42,32 @@ fn with_this(
 }
 
 /// What reads a member of its operand.
-pub fn reading(member: &Member) -> Result<Operation, AllocError>
-    ensures exact { IfOk result (λ o. o ≡ spec.reading member.now) }
+pub fn reading(member: &Member) -> Operation
+    ensures exact { result ≡ spec.reading member.now }
 {
     match member {
-        Member::Field(i) => {
-            let number = narrow_number(*i)?;
-            Ok(Operation::FieldGet(number))
-        }
-        Member::Property(host) => Ok(Operation::Read(host.entity)),
+        Member::Field(i) => Operation::FieldGet(*i),
+        Member::Property(host) => Operation::Read(host.entity),
     }
 }
 
 /// What stores its first operand into a member of the second.
-pub fn writing(member: &Member) -> Result<Operation, AllocError>
-    ensures exact { IfOk result (λ o. o ≡ spec.writing member.now) }
+pub fn writing(member: &Member) -> Operation
+    ensures exact { result ≡ spec.writing member.now }
 {
     match member {
-        Member::Field(i) => {
-            let number = narrow_number(*i)?;
-            Ok(Operation::FieldSet(number))
-        }
-        Member::Property(host) => Ok(Operation::Write(host.entity)),
+        Member::Field(i) => Operation::FieldSet(*i),
+        Member::Property(host) => Operation::Write(host.entity),
     }
 }
 
 /// What changes a member of its second operand by the first.
-pub fn altering(member: &Member, by: Change) -> Result<Operation, AllocError>
-    ensures exact { IfOk result (λ o. o ≡ spec.altering member.now by) }
+pub fn altering(member: &Member, by: Change) -> Operation
+    ensures exact { result ≡ spec.altering member.now by }
 {
     match member {
-        Member::Field(i) => {
-            let number = narrow_number(*i)?;
-            Ok(Operation::FieldChange(number, by))
-        }
-        Member::Property(host) => Ok(Operation::Alter(host.entity, by)),
+        Member::Field(i) => Operation::FieldChange(*i, by),
+        Member::Property(host) => Operation::Alter(host.entity, by),
     }
 }
 
@@ -103,15 +80,11 @@ pub fn read(alloc: Global, alive: usize, variable: &Variable) -> Result<Expressi
             let place = place(alive, *i);
             Ok(Expression::Local(place))
         }
-        Variable::Global(g) => {
-            let number = narrow_number(*g)?;
-            Ok(nullary(alloc, Operation::GlobalGet(number)))
-        }
+        Variable::Global(g) => Ok(nullary(alloc, Operation::GlobalGet(*g))),
         Variable::Property(host) => Ok(nullary(alloc, Operation::Read(host.entity))),
         Variable::Field(i) => {
-            let number = narrow_number(*i)?;
             let object = this(alive);
-            unary(alloc, Operation::FieldGet(number), object)
+            unary(alloc, Operation::FieldGet(*i), object)
         }
     }
 }
@@ -132,15 +105,9 @@ pub fn store(
             let value = Box::new(alloc, value)?;
             Ok(Expression::Assign(place, value))
         }
-        Variable::Global(g) => {
-            let number = narrow_number(*g)?;
-            unary(alloc, Operation::GlobalSet(number), value)
-        }
+        Variable::Global(g) => unary(alloc, Operation::GlobalSet(*g), value),
         Variable::Property(host) => unary(alloc, Operation::Write(host.entity), value),
-        Variable::Field(i) => {
-            let number = narrow_number(*i)?;
-            with_this(alloc, alive, Operation::FieldSet(number), value)
-        }
+        Variable::Field(i) => with_this(alloc, alive, Operation::FieldSet(*i), value),
     }
 }
 
@@ -161,38 +128,25 @@ pub fn change(
             let value = Box::new(alloc, value)?;
             Ok(Expression::Change(place, by, value))
         }
-        Variable::Global(g) => {
-            let number = narrow_number(*g)?;
-            unary(alloc, Operation::GlobalChange(number, by), value)
-        }
+        Variable::Global(g) => unary(alloc, Operation::GlobalChange(*g, by), value),
         Variable::Property(host) => unary(alloc, Operation::Alter(host.entity, by), value),
-        Variable::Field(i) => {
-            let number = narrow_number(*i)?;
-            with_this(alloc, alive, Operation::FieldChange(number, by), value)
-        }
+        Variable::Field(i) => with_this(alloc, alive, Operation::FieldChange(*i, by), value),
     }
 }
 
 /// Where a variable stands that an `&out` value moves into. A host property is none, and stands for the innermost
 /// local; no checked tree has one there.
-fn spot(alive: usize, variable: &Variable) -> Result<Spot, AllocError>
-    ensures exact { IfOk result (λ s. s ≡ spec.spot_of alive variable.now) }
+fn spot(alive: usize, variable: &Variable) -> Spot
+    ensures exact { result ≡ spec.spot_of alive variable.now }
 {
     match variable {
-        Variable::Local(i) => {
-            let place = place(alive, *i);
-            Ok(Spot::Local(place))
-        }
-        Variable::Global(g) => {
-            let number = narrow_number(*g)?;
-            Ok(Spot::Global(number))
-        }
-        Variable::Property(_) => Ok(Spot::Local(0)),
-        Variable::Field(i) => {
-            let object = place(alive, 0);
-            let field = narrow_number(*i)?;
-            Ok(Spot::Field { object, field })
-        }
+        Variable::Local(i) => Spot::Local(place(alive, *i)),
+        Variable::Global(g) => Spot::Global(*g),
+        Variable::Property(_) => Spot::Local(0),
+        Variable::Field(i) => Spot::Field {
+            object: place(alive, 0),
+            field: *i,
+        },
     }
 }
 
@@ -204,7 +158,7 @@ fn add_target(alive: usize, argument: &Argument, found: &mut Vec<Target>) -> Res
     match argument {
         Argument::Value { .. } => Ok(()),
         Argument::Out { variable, to, .. } => {
-            let spot = spot(alive, variable)?;
+            let spot = spot(alive, variable);
             found.push(Target {
                 spot,
                 to: brought_to(to),

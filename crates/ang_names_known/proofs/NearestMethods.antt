@@ -2,7 +2,7 @@
 use Rattle.std.specs.Prelude.{ℕ, ◌+◌, ◌<◌, ◌≤◌, ◌≡◌, ◌==◌, Bool, true, false, ◌||◌, List, [], ◌∷◌, ◌++◌, map, filter, length, take, drop, Option, Some, None, option_map, option_to_list, slice_get, cond}
 use Rattle.std.specs.List.{list_any, flat_map}
 use Rattle.std.proofs.Common.{refl, ap, sym, arith, get_or, append_assoc, ◌∙◌}
-use Rattle.std.proofs.lemmas.List.{append-nil, drop_all, drop-append-le, length-append, map-append, take_more, take-append-drop}
+use Rattle.std.proofs.lemmas.List.{append-nil, drop_all, drop-append-le, length-append, take_more, take-append-drop}
 use Rattle.std.proofs.lemmas.List.Elements.{filter-append}
 use Rattle.std.proofs.lemmas.List.Folds.{list_any-append}
 use Rattle.ang_names_known.specs.declared.names.Family.{Family}

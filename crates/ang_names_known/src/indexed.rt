@@ -21,9 +21,9 @@ use std::marker::Model;
 #[derive(Drop)]
 pub struct IndexedNames {
     lists: Names,
-    kinds: Index<u32>,
-    fields: Index<u32>,
-    methods: Index<u32>,
+    kinds: Index<usize>,
+    fields: Index<usize>,
+    methods: Index<usize>,
 }
 
 impl Model for IndexedNames {
@@ -89,7 +89,7 @@ impl IndexedNames {
 
     /// The places of the declarations of this name among all declarations, in the order of sections and text, where each name
     /// of a declaration of globals is one; rising. It takes no memory.
-    pub fn find(&self, name: &[u8]) -> &[u32]
+    pub fn find(&self, name: &[u8]) -> &[usize]
         ensures exact { result.now ≡ places_of self.now.declared name.now }
     {
         self.kinds.find(DECLARED, name)
@@ -105,7 +105,7 @@ impl IndexedNames {
 
     /// The numbers of the functions of this name, rising. It takes no memory.
     #[tactic(auto, using(crate::proofs::NameIndex::functions_are))]
-    pub fn functions_named(&self, name: &[u8]) -> &[u32]
+    pub fn functions_named(&self, name: &[u8]) -> &[usize]
         ensures exact { result.now ≡ spec.functions_named self.now.functions name.now }
     {
         self.kinds.find(FUNCTIONS, name)
@@ -113,7 +113,7 @@ impl IndexedNames {
 
     /// The numbers of the imports of this name, rising. It takes no memory.
     #[tactic(auto, using(crate::proofs::NameIndex::functions_are))]
-    pub fn imports_named(&self, name: &[u8]) -> &[u32]
+    pub fn imports_named(&self, name: &[u8]) -> &[usize]
         ensures exact { result.now ≡ spec.functions_named self.now.imports name.now }
     {
         self.kinds.find(IMPORTS, name)

@@ -99,14 +99,14 @@ fn has_heading(functions: &[ScriptFunction], number: usize, heading: &ScriptFunc
 /// The first of these numbers whose function has this heading.
 pub(crate) fn heading_among(
     functions: &[ScriptFunction],
-    numbers: &[u32],
+    numbers: &[usize],
     heading: &ScriptFunction,
 ) -> Option<usize>
     ensures exact { result ≡ headings.heading_among functions.now heading.now numbers.now }
 {
     for number in numbers {
-        if has_heading(functions, *number as usize, heading) {
-            return Some(*number as usize);
+        if has_heading(functions, *number, heading) {
+            return Some(*number);
         }
     }
     None

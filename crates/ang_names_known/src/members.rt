@@ -36,7 +36,7 @@ fn field_at(fields: &[Field], owner: usize, place: Option<usize>) -> Option<Foun
 /// The field of this name that a family declares itself.
 fn own_field(
     families: &[Family],
-    fields: &Index<u32>,
+    fields: &Index<usize>,
     family: usize,
     name: &[u8],
 ) -> Option<FoundField>
@@ -52,7 +52,7 @@ fn own_field(
 #[tactic(auto, unfolding(crate::specs::Lookup::field_named), using(crate::proofs::Kin::first_field_with))]
 pub(crate) fn field_in(
     families: &[Family],
-    fields: &Index<u32>,
+    fields: &Index<usize>,
     family: usize,
     name: &[u8],
 ) -> Option<FoundField>
@@ -69,7 +69,7 @@ pub(crate) fn field_in(
 }
 
 /// Whether a family declares a method of this name itself.
-fn has_own_method(families: &[Family], methods: &Index<u32>, family: usize, name: &[u8]) -> bool
+fn has_own_method(families: &[Family], methods: &Index<usize>, family: usize, name: &[u8]) -> bool
     requires indexed { IndexesMethods families.now methods.now }
     ensures exact { result ≡ option_map_or (λ f. spec.declares_method name.now (family, f))
         (slice_get families.now family) false }
@@ -81,7 +81,7 @@ fn has_own_method(families: &[Family], methods: &Index<u32>, family: usize, name
 #[tactic(auto, unfolding(crate::specs::Lookup::has_method), using(crate::proofs::Kin::any_method_with))]
 pub(crate) fn has_method_in(
     families: &[Family],
-    methods: &Index<u32>,
+    methods: &Index<usize>,
     family: usize,
     name: &[u8],
 ) -> bool

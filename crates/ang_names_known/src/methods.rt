@@ -51,7 +51,7 @@ const FEW: usize = 8;
 pub(crate) fn methods_in<'a>(
     alloc: Global,
     families: &'a [Family],
-    index: &Index<u32>,
+    index: &Index<usize>,
     family: usize,
     name: &[u8],
 ) -> Result<Vec<FoundMethod<'a>>, AllocError>
@@ -86,7 +86,7 @@ fn push_methods<'a>(
     slots: &mut HashSet<usize>,
     owner: usize,
     methods: &'a [Method],
-    places: &[u32],
+    places: &[usize],
 ) -> Result<(), AllocError>
     requires slots { HasSlots slots.old found.old.items }
     ensures pushed { OnOk result ((before : List spec.FoundMethod) →
@@ -96,7 +96,7 @@ fn push_methods<'a>(
     ensures slots { OnOk result (HasSlots slots.new found.new.items) }
 {
     for place in places {
-        let method = method_at(methods, owner, *place as usize);
+        let method = method_at(methods, owner, *place);
         push_method(found, slots, method)?;
     }
     Ok(())

@@ -19,16 +19,6 @@ pub(crate) const GLOBALS: u64 = 3;
 /// The scope of the names of classes and interfaces.
 pub(crate) const FAMILIES: u64 = 4;
 
-/// A place as an index keeps it. There is no memory for more names than it can tell apart.
-fn place_of(number: usize) -> Result<u32, AllocError>
-    ensures exact { IfOk result (λ place. place ≡ number) }
-{
-    if number > u32::MAX as usize {
-        return Err(AllocError);
-    }
-    Ok(number as u32)
-}
-
 fn declared_texts<'a>(alloc: Global, names: &'a [List<u8>]) -> Result<Vec<Text<'a>>, AllocError>
     ensures exact { IfOk result (λ texts. texts.items ≡ names.now) }
 {
@@ -75,21 +65,20 @@ fn family_texts<'a>(alloc: Global, families: &'a [Family]) -> Result<Vec<Text<'a
 /// Puts the places of some names in, under a scope's number.
 fn push_all(
     alloc: Global,
-    index: &mut Index<u32>,
+    index: &mut Index<usize>,
     scope: u64,
     names: &[Text<'_>],
 ) -> Result<(), AllocError>
     ensures pushed { OnOk result (spec.PutsAll index.old index.new scope names.now) }
 {
-    for (number, name) in names.iter().enumerate() {
-        let place = place_of(number)?;
+    for (place, name) in names.iter().enumerate() {
         index.push(alloc, scope, name.bytes(), place)?;
     }
     Ok(())
 }
 
 /// The names of the functions, the imports and the globals, each in its scope.
-fn push_variables(alloc: Global, index: &mut Index<u32>, names: &Names) -> Result<(), AllocError>
+fn push_variables(alloc: Global, index: &mut Index<usize>, names: &Names) -> Result<(), AllocError>
     ensures pushed { OnOk result (spec.PutsKinds index.old index.new names.now) }
 {
     let functions = function_texts(alloc, names.functions.as_slice())?;
@@ -104,7 +93,7 @@ fn push_variables(alloc: Global, index: &mut Index<u32>, names: &Names) -> Resul
 ///
 /// The only error is want of memory.
 #[tactic(auto, using(crate::proofs::NameIndex::kinds_indexed))]
-pub(crate) fn places_by_kind(alloc: Global, names: &Names) -> Result<Index<u32>, AllocError>
+pub(crate) fn places_by_kind(alloc: Global, names: &Names) -> Result<Index<usize>, AllocError>
     ensures exact { IfOk result (λ rows. spec.IndexesKinds names.now rows) }
 {
     let mut index = Index::new(alloc);
@@ -139,7 +128,10 @@ fn method_texts<'a>(alloc: Global, methods: &'a [Method]) -> Result<Vec<Text<'a>
 /// The places of all fields' names, each family's in the scope of its number.
 ///
 /// The only error is want of memory.
-pub(crate) fn places_of_fields(alloc: Global, families: &[Family]) -> Result<Index<u32>, AllocError>
+pub(crate) fn places_of_fields(
+    alloc: Global,
+    families: &[Family],
+) -> Result<Index<usize>, AllocError>
     ensures exact { IfOk result (λ rows. spec.IndexesFields families.now rows) }
 {
     let mut index = Index::new(alloc);
@@ -156,7 +148,7 @@ pub(crate) fn places_of_fields(alloc: Global, families: &[Family]) -> Result<Ind
 pub(crate) fn places_of_methods(
     alloc: Global,
     families: &[Family],
-) -> Result<Index<u32>, AllocError>
+) -> Result<Index<usize>, AllocError>
     ensures exact { IfOk result (λ rows. spec.IndexesMethods families.now rows) }
 {
     let mut index = Index::new(alloc);
@@ -168,11 +160,11 @@ pub(crate) fn places_of_methods(
 }
 
 /// The first of some places.
-pub(crate) fn first_of(places: &[u32]) -> Option<usize>
+pub(crate) fn first_of(places: &[usize]) -> Option<usize>
     ensures exact { result ≡ spec.first_place places.now }
 {
     match places.first() {
         None => None,
-        Some(place) => Some(*place as usize),
+        Some(place) => Some(*place),
     }
 }

@@ -11,6 +11,7 @@ use Rattle.ang_names_known.specs.declared.names.Family.{Family}
 use Rattle.ang_names_known.specs.declared.names.Field.{Field}
 use Rattle.ang_names_known.specs.declared.names.Method.{Method}
 use Rattle.ang_names_known.specs.declared.names.ScriptFunction.{ScriptFunction}
+use Rattle.ang_names_known.specs.declared.names.Written.{Written}
 use Rattle.ang_names_known.specs.Items.{each_after}
 use Rattle.ang_names_known.specs.Spaces.{Space}
 use Rattle.ang_names_listed.specs.declared.listed.Attributes.{Attributes}
@@ -65,24 +66,30 @@ passed_more p xs x =
 
 -- ---- members
 
-pub field_number : (E : Space) (d : Declaring) (inherited : ℕ) (ms : List Member) (i : ℕ) (m : Member) (number next : ℕ)
-    → number ≡ inherited + length (filter_map (λ (x : Member). field_type E d x.kind) (take i ms)) → i < length ms → m ≡ get_or ms i m
-    → next ≡ number + length (option_to_list (field_type E d m.kind)) → next ≡ inherited + length (filter_map (λ (x : Member). field_type E d x.kind) (take (i + 1) ms))
-field_number E d inherited ms i m number next h lt is e =
+numbered : (d : Declaring) (m : Member) (number : ℕ) (o : Option Written) → length (field_numbered d m number o) ≡ length (option_to_list o)
+numbered d m number None = refl
+numbered d m number (Some w) = refl
+
+pub field_number : (E : Space) (d : Declaring) (ms : List Member) (i : ℕ) (m : Member) (number : ℕ) (was now : List Field)
+    → length was ≡ length (filter_map (λ (x : Member). field_type E d x.kind) (take i ms)) → i < length ms → m ≡ get_or ms i m
+    → now ≡ was ++ field_numbered d m number (field_type E d m.kind) → length now ≡ length (filter_map (λ (x : Member). field_type E d x.kind) (take (i + 1) ms))
+field_number E d ms i m number was now h lt is pushed =
     let more = ap (λ xs. length (filter_map (λ (x : Member). field_type E d x.kind) xs)) (one_taken ms i m lt is) ∙ found_more (λ (x : Member). field_type E d x.kind) (take i ms) m in
-    omega (arith, h, e, more)
+    let grown = ap length pushed ∙ length-append was (field_numbered d m number (field_type E d m.kind)) in
+    let one = numbered d m number (field_type E d m.kind) in
+    omega (arith, h, grown, one, more)
 
 pub next_fields : (E : Space) (d : Declaring) (inherited : ℕ) (ms : List Member) (i : ℕ) (m : Member) (number : ℕ) (was now : List Field)
-    → number ≡ inherited + length (filter_map (λ (x : Member). field_type E d x.kind) (take i ms))
+    → number ≡ inherited + length was → length was ≡ length (filter_map (λ (x : Member). field_type E d x.kind) (take i ms))
     → was ≡ each_after (fields_after E d inherited) [] (take i ms) → i < length ms → m ≡ get_or ms i m
     → now ≡ was ++ field_numbered d m number (field_type E d m.kind) → now ≡ each_after (fields_after E d inherited) [] (take (i + 1) ms)
-next_fields E d inherited ms i m number was now n h lt is pushed =
-    turned (fields_after E d inherited) ms i m was now h lt is (pushed ∙ ap (λ k. was ++ field_numbered d m k (field_type E d m.kind)) n)
+next_fields E d inherited ms i m number was now n count h lt is pushed =
+    turned (fields_after E d inherited) ms i m was now h lt is (pushed ∙ ap (λ k. was ++ field_numbered d m k (field_type E d m.kind)) (n ∙ ap (λ k. inherited + k) count))
 
-pub body_next : (is_class : Bool) (first : ℕ) (ms : List Member) (i : ℕ) (m : Member) (body next : ℕ)
-    → body ≡ first + length (with_bodies is_class (take i ms)) → i < length ms → m ≡ get_or ms i m
-    → next ≡ body + (if has_body is_class m.kind then 1 else 0) → next ≡ first + length (with_bodies is_class (take (i + 1) ms))
-body_next is_class first ms i m body next h lt is e =
+pub body_next : (is_class : Bool) (ms : List Member) (i : ℕ) (m : Member) (bodies next : ℕ)
+    → bodies ≡ length (with_bodies is_class (take i ms)) → i < length ms → m ≡ get_or ms i m
+    → next ≡ bodies + (if has_body is_class m.kind then 1 else 0) → next ≡ length (with_bodies is_class (take (i + 1) ms))
+body_next is_class ms i m bodies next h lt is e =
     let more = ap (λ xs. length (with_bodies is_class xs)) (one_taken ms i m lt is) ∙ passed_more (λ (x : Member). has_body is_class x.kind) (take i ms) m in
     omega (arith, h, e, more)
 
@@ -93,19 +100,19 @@ pub one_method : (E : Space) (all : List (ScriptFunction × Bool)) (d : Declarin
 one_method E all d m body y ps a k f method was now kind heading made pushed =
     pushed ∙ ap (λ x. was ++ x ∷ []) (made ∙ ap (λ g. method_with all d m body g a) heading) ∙ ap (λ o. was ++ methods_by E all d m body o) (sym kind)
 
-pub next_methods : (E : Space) (all : List (ScriptFunction × Bool)) (d : Declaring) (first : ℕ) (ms : List Member) (i : ℕ) (m : Member) (body : ℕ) (was now : List Method)
-    → body ≡ first + length (with_bodies d.shape.is_class (take i ms))
+pub next_methods : (E : Space) (all : List (ScriptFunction × Bool)) (d : Declaring) (first : ℕ) (ms : List Member) (i : ℕ) (m : Member) (body bodies : ℕ) (was now : List Method)
+    → body ≡ first + bodies → bodies ≡ length (with_bodies d.shape.is_class (take i ms))
     → was ≡ each_after (methods_after E all d first) [] (take i ms) → i < length ms → m ≡ get_or ms i m
     → now ≡ was ++ methods_by E all d m body m.kind → now ≡ each_after (methods_after E all d first) [] (take (i + 1) ms)
-next_methods E all d first ms i m body was now n h lt is pushed =
-    turned (methods_after E all d first) ms i m was now h lt is (pushed ∙ ap (λ k. was ++ methods_by E all d m k m.kind) n)
+next_methods E all d first ms i m body bodies was now n count h lt is pushed =
+    turned (methods_after E all d first) ms i m was now h lt is (pushed ∙ ap (λ k. was ++ methods_by E all d m k m.kind) (n ∙ ap (λ k. first + k) count))
 
-pub next_constructors : (E : Space) (d : Declaring) (first : ℕ) (ms : List Member) (i : ℕ) (m : Member) (body : ℕ) (was now : List Constructor)
-    → body ≡ first + length (with_bodies d.shape.is_class (take i ms))
+pub next_constructors : (E : Space) (d : Declaring) (first : ℕ) (ms : List Member) (i : ℕ) (m : Member) (body bodies : ℕ) (was now : List Constructor)
+    → body ≡ first + bodies → bodies ≡ length (with_bodies d.shape.is_class (take i ms))
     → was ≡ each_after (constructors_after E d first) [] (take i ms) → i < length ms → m ≡ get_or ms i m
     → now ≡ was ++ constructors_by E d m body m.kind → now ≡ each_after (constructors_after E d first) [] (take (i + 1) ms)
-next_constructors E d first ms i m body was now n h lt is pushed =
-    turned (constructors_after E d first) ms i m was now h lt is (pushed ∙ ap (λ k. was ++ constructors_by E d m k m.kind) n)
+next_constructors E d first ms i m body bodies was now n count h lt is pushed =
+    turned (constructors_after E d first) ms i m was now h lt is (pushed ∙ ap (λ k. was ++ constructors_by E d m k m.kind) (n ∙ ap (λ k. first + k) count))
 
 -- ---- families
 

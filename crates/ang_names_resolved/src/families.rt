@@ -10,10 +10,11 @@ ghost use Rattle.ang_names_tables.specs.Hierarchy as hierarchy;
 ghost use Rattle.ang_names_tables.specs.Tables as tables;
 ghost use Rattle.ang_names_resolved.specs.Resolved as spec;
 
-use crate::members::{body_after, constructors_of, fields_of, methods_of};
+use crate::counting::add_bytes;
+use crate::members::{add_bodies, constructors_of, fields_of, methods_of};
 use ang_kinds::List;
 use ang_names_heritage::{above_of, after_first, first_of, order_of, reach_of};
-use ang_names_known::{Family, Space};
+use ang_names_known::{Family, Field, Space};
 use ang_names_listed::Declaring;
 use ang_names_tables::{Tables, field_count};
 use ang_names_written::copy_at;
@@ -129,61 +130,81 @@ fn field_count_at(families: &[Declaring<'_, '_>], number: usize) -> usize
     }
 }
 
-/// How many fields the classes and interfaces of these numbers declare. Memory holds each of them.
-fn field_counts(families: &[Declaring<'_, '_>], places: &[usize]) -> Result<usize, AllocError>
-    ensures exact { (E : spaces.Space) → IfOk result
-        (λ count. count ≡ length (hierarchy.field_types_at E families.now places.now)) }
+/// A byte for each field that the classes and interfaces of these numbers declare.
+fn fields_at(
+    alloc: Global,
+    families: &[Declaring<'_, '_>],
+    places: &[usize],
+) -> Result<Vec<u8>, AllocError>
+    ensures exact { (E : spaces.Space) → IfOk result (λ fields. length fields.items
+        ≡ length (hierarchy.field_types_at E families.now places.now)) }
 {
-    let mut count: usize = 0;
+    let mut fields = Vec::new(alloc);
     for place in places {
-        count = count
-            .checked_add(field_count_at(families, *place))
-            .ok_or(AllocError)?;
+        add_bytes(field_count_at(families, *place), &mut fields)?;
     }
-    Ok(count)
+    Ok(fields)
 }
 
-/// How many fields the base classes of a class have.
+/// A byte for each field that the base classes of a class have.
 fn inherited_fields(
     alloc: Global,
     families: &[Declaring<'_, '_>],
     bases: &[bool],
     number: usize,
-) -> Result<usize, AllocError>
+) -> Result<Vec<u8>, AllocError>
     requires few { length families.now ≤ 256 }
     requires there { number < length families.now }
     requires bases { Shows bases.now (length families.now) (hierarchy.is_base families.now) }
     ensures exact { (E : spaces.Space) → IfOk result
-        (λ count. count ≡ spec.inherited_fields E families.now number) }
+        (λ fields. length fields.items ≡ spec.inherited_fields E families.now number) }
 {
     let chain = chain_of(alloc, families, bases, number)?;
-    field_counts(families, after_first(&chain))
+    fields_at(alloc, families, after_first(&chain))
 }
 
-/// The class or interface of this number, the first of whose bodies has the number `first`.
+/// The fields that the class of this number declares itself, numbered after those of its base classes.
+fn own_fields(
+    alloc: Global,
+    space: &Space<'_>,
+    families: &[Declaring<'_, '_>],
+    bases: &[bool],
+    number: usize,
+    family: &Declaring<'_, '_>,
+) -> Result<List<Field>, AllocError>
+    requires few { length families.now ≤ 256 }
+    requires there { number < length families.now }
+    requires bases { Shows bases.now (length families.now) (hierarchy.is_base families.now) }
+    ensures exact { IfOk result (λ fs. fs ≡ each_after (spec.fields_after space.now family.now
+        (spec.inherited_fields space.now families.now number)) [] family.now.shape.members) }
+{
+    let inherited = inherited_fields(alloc, families, bases, number)?;
+    fields_of(alloc, space, family, &inherited)
+}
+
+/// The class or interface of this number, before whose bodies stand these, a byte each.
 fn family_with(
     alloc: Global,
     space: &Space<'_>,
     families: &[Declaring<'_, '_>],
     known: &Tables,
     number: usize,
-    first: usize,
+    before: &[u8],
     family: &Declaring<'_, '_>,
 ) -> Result<Family, AllocError>
     requires few { length families.now ≤ 256 }
     requires there { number < length families.now }
     requires known { tables.AreTables space.now families.now known.now }
     ensures exact { IfOk result (λ f. f ≡ spec.family_with space.now families.now
-        (headings.signatures_of space.now families.now) number first family.now) }
+        (headings.signatures_of space.now families.now) number (length before.now) family.now) }
 {
     let is_class = family.shape().is_class;
-    let inherited = inherited_fields(alloc, families, &known.bases, number)?;
     let name = copy_at(alloc, family.text(), &family.name())?;
     let above = all_above(alloc, families, &known.above, number)?;
     let order = order_in(alloc, space, families, known, is_class, number)?;
-    let fields = fields_of(alloc, space, family, inherited)?;
-    let methods = methods_of(alloc, space, &known.signatures, family, first)?;
-    let constructors = constructors_of(alloc, space, family, first)?;
+    let fields = own_fields(alloc, space, families, &known.bases, number, family)?;
+    let methods = methods_of(alloc, space, &known.signatures, family, before)?;
+    let constructors = constructors_of(alloc, space, family, before)?;
     Ok(Family {
         name,
         place: family.name().place,
@@ -199,7 +220,8 @@ fn family_with(
     })
 }
 
-/// The classes and interfaces of these declarations, whose tables these are. Their bodies come after those of the functions.
+/// The classes and interfaces of these declarations, whose tables these are. Their bodies, a byte each, come
+/// after those that there are.
 ///
 /// The only error is want of memory.
 pub fn families_in(
@@ -207,19 +229,18 @@ pub fn families_in(
     space: &Space<'_>,
     families: &[Declaring<'_, '_>],
     known: &Tables,
-    functions: usize,
+    bodies: &mut Vec<u8>,
 ) -> Result<List<Family>, AllocError>
     requires few { length families.now ≤ 256 }
     requires known { tables.AreTables space.now families.now known.now }
     ensures exact { IfOk result (λ fs. fs ≡ each_after (spec.families_after
         space.now families.now (headings.signatures_of space.now families.now)
-        functions) [] families.now) }
+        (length bodies.old.items)) [] families.now) }
 {
     let mut found = Vec::new(alloc);
-    let mut first = functions;
     for (number, family) in families.iter().enumerate() {
-        found.push(family_with(alloc, space, families, known, number, first, family)?)?;
-        first = body_after(family, first)?;
+        found.push(family_with(alloc, space, families, known, number, bodies, family)?)?;
+        add_bodies(family, bodies)?;
     }
     Ok(List::from_vec(found))
 }

@@ -2,6 +2,7 @@
 //! what stands above each (docs/LANGUAGE.md, "Names of a build").
 #![tactic(auto)]
 
+mod counting;
 mod families;
 mod members;
 mod resolved;

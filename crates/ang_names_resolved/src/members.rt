@@ -1,5 +1,5 @@
 //! Fields, methods and constructors, each with its number.
-ghost use Rattle.std.specs.Prelude.{◌≡◌, ◌+◌, ◌++◌, [], length, option_to_list, if◌then◌else◌, IfOk, OnOk};
+ghost use Rattle.std.specs.Prelude.{◌≡◌, ◌+◌, ◌++◌, [], length, if◌then◌else◌, IfOk, OnOk};
 ghost use Rattle.ang_names_known.specs.Items.{each_after};
 ghost use Rattle.ang_names_tables.specs.Hierarchy as hierarchy;
 ghost use Rattle.ang_names_resolved.specs.Resolved as spec;
@@ -10,13 +10,6 @@ use ang_names_listed::{Attributes, Declaring, Member, MemberKind};
 use ang_names_tables::{Signatures, field_type, heading_of, maker_of, slot_of};
 use ang_names_written::copy_at;
 use std::alloc::{AllocError, Global};
-
-/// The next number. There are fewer of what is numbered than numbers, since memory holds each of them.
-pub fn next_number(number: usize) -> Result<usize, AllocError>
-    ensures exact { IfOk result (λ next. next ≡ number + 1) }
-{
-    number.checked_add(1).ok_or(AllocError)
-}
 
 /// A field of this number.
 fn field_with(
@@ -37,7 +30,7 @@ fn field_with(
     })
 }
 
-/// Puts a member after the fields before it, if it is one, and gives the next field's number.
+/// Puts a member after the fields before it, if it is one.
 fn push_field(
     alloc: Global,
     space: &Space<'_>,
@@ -45,40 +38,37 @@ fn push_field(
     member: &Member<'_>,
     number: usize,
     found: &mut Vec<Field>,
-) -> Result<usize, AllocError>
+) -> Result<(), AllocError>
     ensures pushed { OnOk result (found.new.items ≡ found.old.items
         ++ spec.field_numbered family.now member.now number
         (hierarchy.field_type space.now family.now member.now.kind)) }
-    ensures next { IfOk result (λ next. next
-        ≡ number + length (option_to_list
-        (hierarchy.field_type space.now family.now member.now.kind))) }
 {
     match field_type(space, family, &member.kind) {
-        None => Ok(number),
+        None => Ok(()),
         Some(written) => {
             found.push(field_with(alloc, family, member, number, written)?)?;
-            next_number(number)
+            Ok(())
         }
     }
 }
 
-/// The fields that a class declares itself, before which its objects have as many others as are inherited.
+/// The fields that a class declares itself, before which its objects have the inherited ones, a byte each.
 ///
 /// The only error is want of memory.
 pub fn fields_of(
     alloc: Global,
     space: &Space<'_>,
     family: &Declaring<'_, '_>,
-    inherited: usize,
+    inherited: &[u8],
 ) -> Result<List<Field>, AllocError>
-    ensures exact { IfOk result (λ fs. fs ≡ each_after
-        (spec.fields_after space.now family.now inherited) [] family.now.shape.members) }
+    ensures exact { IfOk result (λ fs. fs ≡ each_after (spec.fields_after
+        space.now family.now (length inherited.now)) [] family.now.shape.members) }
 {
     let members = family.shape().members.as_slice();
     let mut found = Vec::new(alloc);
-    let mut number = inherited;
     for member in members {
-        number = push_field(alloc, space, family, member, number, &mut found)?;
+        let number = inherited.len() + found.len();
+        push_field(alloc, space, family, member, number, &mut found)?;
     }
     Ok(List::from_vec(found))
 }
@@ -94,34 +84,33 @@ fn has_body(is_class: bool, kind: &MemberKind<'_>) -> bool
     }
 }
 
-/// The number of the next body after that of a member of a class or an interface, if it has one.
-fn next_body(
+/// A byte more for the body of a member of a class or an interface, if it has one.
+fn add_body(
     family: &Declaring<'_, '_>,
     kind: &MemberKind<'_>,
-    body: usize,
-) -> Result<usize, AllocError>
-    ensures exact { IfOk result (λ next. next
-        ≡ body + (if spec.has_body family.now.shape.is_class kind.now then 1 else 0)) }
+    bodies: &mut Vec<u8>,
+) -> Result<(), AllocError>
+    ensures exact { OnOk result (length bodies.new.items ≡ length bodies.old.items
+        + (if spec.has_body family.now.shape.is_class kind.now then 1 else 0)) }
 {
     if has_body(family.shape().is_class, kind) {
-        next_number(body)
-    } else {
-        Ok(body)
+        bodies.push(0)?;
     }
+    Ok(())
 }
 
-/// The number of the first body after those of a class or an interface.
+/// A byte more for each body of a class or an interface.
 ///
 /// The only error is want of memory.
-pub fn body_after(family: &Declaring<'_, '_>, first: usize) -> Result<usize, AllocError>
-    ensures exact { IfOk result (λ next. next ≡ first + length (spec.body_members family.now)) }
+pub fn add_bodies(family: &Declaring<'_, '_>, bodies: &mut Vec<u8>) -> Result<(), AllocError>
+    ensures exact { OnOk result (length bodies.new.items
+        ≡ length bodies.old.items + length (spec.body_members family.now)) }
 {
     let members = family.shape().members.as_slice();
-    let mut body = first;
     for member in members {
-        body = next_body(family, &member.kind, body)?;
+        add_body(family, &member.kind, bodies)?;
     }
-    Ok(body)
+    Ok(())
 }
 
 fn body_number(is_class: bool, body: usize) -> Option<usize>
@@ -195,7 +184,7 @@ fn push_method(
     }
 }
 
-/// The methods that a class or an interface declares itself, the first of whose bodies has this number.
+/// The methods that a class or an interface declares itself, before whose bodies stand these, a byte each.
 ///
 /// The only error is want of memory.
 pub fn methods_of(
@@ -203,18 +192,19 @@ pub fn methods_of(
     space: &Space<'_>,
     signatures: &Signatures,
     family: &Declaring<'_, '_>,
-    first: usize,
+    before: &[u8],
 ) -> Result<List<Method>, AllocError>
     ensures exact { IfOk result (λ ms. ms ≡ each_after
         (spec.methods_after space.now signatures.now family.now
-        first) [] family.now.shape.members) }
+        (length before.now)) [] family.now.shape.members) }
 {
     let members = family.shape().members.as_slice();
     let mut found = Vec::new(alloc);
-    let mut body = first;
+    let mut bodies = Vec::new(alloc);
     for member in members {
+        let body = before.len() + bodies.len();
         push_method(alloc, space, signatures, family, member, body, &mut found)?;
-        body = next_body(family, &member.kind, body)?;
+        add_body(family, &member.kind, &mut bodies)?;
     }
     Ok(List::from_vec(found))
 }
@@ -248,24 +238,25 @@ fn push_constructor(
     }
 }
 
-/// The constructors of a class, among whose bodies the first has this number.
+/// The constructors of a class, before whose bodies stand these, a byte each.
 ///
 /// The only error is want of memory.
 pub fn constructors_of(
     alloc: Global,
     space: &Space<'_>,
     family: &Declaring<'_, '_>,
-    first: usize,
+    before: &[u8],
 ) -> Result<List<Constructor>, AllocError>
-    ensures exact { IfOk result (λ ks. ks ≡ each_after
-        (spec.constructors_after space.now family.now first) [] family.now.shape.members) }
+    ensures exact { IfOk result (λ ks. ks ≡ each_after (spec.constructors_after
+        space.now family.now (length before.now)) [] family.now.shape.members) }
 {
     let members = family.shape().members.as_slice();
     let mut found = Vec::new(alloc);
-    let mut body = first;
+    let mut bodies = Vec::new(alloc);
     for member in members {
+        let body = before.len() + bodies.len();
         push_constructor(alloc, space, family, member, body, &mut found)?;
-        body = next_body(family, &member.kind, body)?;
+        add_body(family, &member.kind, &mut bodies)?;
     }
     Ok(List::from_vec(found))
 }

@@ -7,6 +7,7 @@ ghost use Rattle.ang_names_listed.specs.Declarations as listed;
 ghost use Rattle.ang_names_tables.specs.Tables as tables;
 ghost use Rattle.ang_names_resolved.specs.Resolved as spec;
 
+use crate::counting::add_bytes;
 use crate::families::families_in;
 use crate::space::space_of;
 use ang_kinds::List;
@@ -204,13 +205,9 @@ pub fn families_among(
 {
     let declaring = families_of(alloc, all)?;
     let tables = tables_of(alloc, space, declaring.as_slice())?;
-    let families = families_in(
-        alloc,
-        space,
-        declaring.as_slice(),
-        &tables,
-        function_count(all),
-    )?;
+    let mut bodies = Vec::new(alloc);
+    add_bytes(function_count(all), &mut bodies)?;
+    let families = families_in(alloc, space, declaring.as_slice(), &tables, &mut bodies)?;
     Ok((families, tables))
 }
 

@@ -1,6 +1,5 @@
 -- Methods that stand for one another have the same bytes.
 use Rattle.std.specs.Prelude.{ℕ, ◌≡◌, ◌+◌, ◌==◌, Bool, true, false, ◌&&◌, List, [], ◌∷◌, ◌++◌, bytes_eq}
-use Rattle.std.specs.Int.{to_le_bytes, w32}
 use Rattle.std.proofs.Common.{arith, refl, sym, ap}
 use Rattle.std.proofs.lemmas.Slice.Eq.{bytes_eq-Decides}
 use Rattle.std.proofs.Math.Bool.{beq}

@@ -7,30 +7,37 @@ use thiserror::Error;
 
 /// Why a registration is refused (docs/EMBEDDING.md, "Registration").
 ///
-/// Where several apply, the first of them in this order is answered. `Memory` may come in the place of any answer.
+/// Where several apply, the first of them in this order is answered. `Memory` may come instead of any of
+/// them, and instead of success.
 #[derive(Clone, Copy, PartialEq, Eq, Debug, Error)]
 pub enum RegError {
-    /// 1,024 entries are there, or a declaration has more than 32 parameters.
+    /// 1,024 entries are there, blanks included, or a declaration has more than 32 parameters.
     #[error("too many entries or parameters")]
     Limit,
     /// The default mask is 0, so that no module could ever see the entry.
     #[error("the default mask is 0")]
     EmptyMask,
-    /// The text is no declaration of the call's form, or is one that hosts can't use (a reference or an object
-    /// by value, say); a name is no identifier; or a factory gives another type than its own.
-    #[error("no such declaration")]
+    /// The text is not a declaration of the call's form, or is one that hosts can't use (with a reference or
+    /// an object by value, say); the name of a type is no identifier; or a factory gives another type than
+    /// its own.
+    #[error("not a declaration that the call takes")]
     BadDeclaration,
     /// The type that the entry is to belong to, or one that its declaration names, is not registered.
     #[error("an unknown type")]
     UnknownType,
-    /// The driver's number is above 63, the driver has a type already, or the declaration names a type of
-    /// another driver.
+    /// The driver's number is above 63; the call registers a type, and the driver has one already; or the
+    /// declaration names a type of another driver.
     #[error("the wrong driver")]
     WrongDriver,
-    /// The name is taken, or the parameters of a factory, over the whole list, whatever the masks.
+    /// The list has an entry that this one can't stand beside, whatever the masks of the two.
+    ///
+    /// Types, functions and global properties share one space of names, and so do the methods and properties
+    /// of one type. But functions of one name can stand side by side where their parameters differ, and
+    /// methods where their parameters or their `const` do. Factories of one type have to differ in their
+    /// parameters, whatever their names. Names of parameters don't count.
     #[error("the name is taken")]
     Duplicate,
-    /// A growth of memory was refused.
+    /// The allocator refused memory.
     #[error("out of memory")]
     Memory,
 }

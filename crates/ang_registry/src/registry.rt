@@ -21,8 +21,14 @@ use std::alloc::{AllocError, Global};
 use std::marker::Model;
 
 /// What a host offers to scripts: a list of entries, numbered from 0 in the order of registration, and
-/// the mask that the next entry gets (docs/EMBEDDING.md, "Registration"). A registration looks at those entries alone that have
-/// its name or its types' names, and at those of its type; that of a type also at all types' drivers.
+/// the mask that the next entry gets (docs/EMBEDDING.md, "Registration").
+///
+/// It doesn't know which drivers there will be: `Engine::new` refuses an entry whose driver is not in the
+/// list (`NoDriver`).
+///
+/// Time: a registration is compared only with the entries of its own name (a factory with the factories of
+/// its type), and with those that have the name of a type that it belongs to or that its declaration names.
+/// That of a type also goes through all entries, to see whether its driver has a type already.
 #[derive(Drop)]
 pub struct Registry {
     alloc: Global,
@@ -55,7 +61,8 @@ impl Registry {
         }
     }
 
-    /// Sets the mask that what is registered next gets, and answers the one before.
+    /// Sets the mask that the entries registered from now on get, and answers the one before. A mask of 0 is
+    /// taken too; while it is set no entry is accepted (`EmptyMask`).
     pub fn set_default_mask(&mut self, mask: Mask) -> Mask
         ensures before { result ≡ self.old.default_mask }
         ensures set { self.new.default_mask ≡ mask }
@@ -66,15 +73,16 @@ impl Registry {
         before
     }
 
-    /// Registers a type of host objects for a driver, and answers its number. Its objects are the driver's, and
-    /// so are the functions that count their references.
+    /// Registers a type of host objects for a driver, and answers the entry's number. The driver keeps the
+    /// type's objects, and counts their references.
     ///
     /// # Errors
     ///
-    /// The first of these that applies: `Limit` where 1,024 entries are there; `EmptyMask` where the default mask
-    /// is 0; `BadDeclaration` where the name is no identifier; `WrongDriver` where `driver` is above 63 or has a
-    /// type already; `Duplicate` where a type, a function or a global property has the name. `Memory`, where a
-    /// growth was refused, may come in the place of any answer. After an error the registry is as it was.
+    /// The first of these that applies: `Limit` where 1,024 entries are there; `EmptyMask` where the default
+    /// mask is 0; `BadDeclaration` where the name is no identifier; `WrongDriver` where `driver` is above 63
+    /// or has a type already; `Duplicate` where a type, a function or a global property has the name.
+    /// `Memory`, where the allocator refused memory, may come instead of any other answer. After an error the
+    /// registry is as it was.
     #[tactic(auto, using(crate::proofs::Values::type_values))]
     pub fn type_(&mut self, name: &[u8], driver: u32) -> Result<EntityNo, RegError>
         ensures accepted { OnOk result
@@ -91,17 +99,19 @@ impl Registry {
         self.add_own(EntryKind::HostType, driver, 0, declared)
     }
 
-    /// Registers a factory of a type, and answers its number: function `f` of the type's driver, which makes
-    /// objects of the type. The declaration is `T@ NAME params`, where `T` is the type.
+    /// Registers a factory of a type, which makes objects of the type, and answers the entry's number. The
+    /// type's driver is asked for it by `make`, with the number `f`. The declaration is `T@ NAME params`,
+    /// where `T` is the type. Scripts call a factory by the type's name, as `T(5)`: `NAME` is for the host.
     ///
     /// # Errors
     ///
-    /// The first of these that applies: `Limit` where 1,024 entries are there or the declaration has more than 32
-    /// parameters; `EmptyMask` where the default mask is 0; `BadDeclaration` where the text is of another form,
-    /// is one that hosts can't use, or gives another type; `UnknownType` where the type or one that a parameter names is not registered;
-    /// `WrongDriver` where a parameter names a type of another driver; `Duplicate` where the type has a factory
-    /// with the same parameters. `Memory`, where a growth was refused, may come in the place of any answer. After
-    /// an error the registry is as it was.
+    /// The first of these that applies: `Limit` where 1,024 entries are there or the declaration has more
+    /// than 32 parameters; `EmptyMask` where the default mask is 0; `BadDeclaration` where the text is of
+    /// another form, is one that hosts can't use, or gives another type; `UnknownType` where the type or one
+    /// that a parameter names is not registered; `WrongDriver` where a parameter names a type of another
+    /// driver; `Duplicate` where the type has a factory with the same parameters. `Memory`, where the
+    /// allocator refused memory, may come instead of any other answer. After an error the registry is as it
+    /// was.
     #[tactic(auto, using(crate::proofs::Values::factory_values))]
     pub fn factory(&mut self, type_name: &[u8], f: u32, decl: &[u8]) -> Result<EntityNo, RegError>
         ensures accepted { OnOk result
@@ -119,17 +129,19 @@ impl Registry {
         self.add_member(EntryKind::Factory, type_name, f, declared)
     }
 
-    /// Registers a method of a type, and answers its number: function `f` of the type's driver. The
-    /// declaration is `type NAME params`, with `const` after it for a method that does not change its object.
+    /// Registers a method of a type, and answers the entry's number. The type's driver is asked for it by
+    /// `call`, with the number `f`. The declaration is `type NAME params`, with `const` after it for a method
+    /// that does not change its object.
     ///
     /// # Errors
     ///
-    /// The first of these that applies: `Limit` where 1,024 entries are there or the declaration has more than 32
-    /// parameters; `EmptyMask` where the default mask is 0; `BadDeclaration` where the text is of another form or
-    /// is one that hosts can't use; `UnknownType` where the type or one that the text names is not registered;
-    /// `WrongDriver` where the text names a type of another driver; `Duplicate` where the type has a property of the name, or a method of the
-    /// name with the same parameters and `const`. `Memory`, where a growth was refused, may come in the place of
-    /// any answer. After an error the registry is as it was.
+    /// The first of these that applies: `Limit` where 1,024 entries are there or the declaration has more
+    /// than 32 parameters; `EmptyMask` where the default mask is 0; `BadDeclaration` where the text is of
+    /// another form or is one that hosts can't use; `UnknownType` where the type or one that the text names
+    /// is not registered; `WrongDriver` where the text names a type of another driver; `Duplicate` where the
+    /// type has a property of the name, or a method of the name with the same parameters and `const`.
+    /// `Memory`, where the allocator refused memory, may come instead of any other answer. After an error the
+    /// registry is as it was.
     #[tactic(auto, using(crate::proofs::Values::method_values))]
     pub fn method(&mut self, type_name: &[u8], f: u32, decl: &[u8]) -> Result<EntityNo, RegError>
         ensures accepted { OnOk result
@@ -146,17 +158,17 @@ impl Registry {
         self.add_member(EntryKind::Method, type_name, f, declared)
     }
 
-    /// Registers a property of a type's objects, and answers its number: property `f` of the type's driver.
-    /// The declaration is `type NAME`, where the type is a primitive one; with `const` in front of it scripts
-    /// can't write the property.
+    /// Registers a property of a type's objects, and answers the entry's number. The type's driver is asked
+    /// for it by `read` or `write`, with the number `f`. The declaration is `type NAME`, where the type is a
+    /// primitive one; with `const` in front of it scripts can't write the property.
     ///
     /// # Errors
     ///
-    /// The first of these that applies: `Limit` where 1,024 entries are there; `EmptyMask` where the default mask
-    /// is 0; `BadDeclaration` where the text is of another form or its type is no primitive one; `UnknownType`
-    /// where the type of the objects is not registered; `Duplicate` where that type has a method or a property of
-    /// the name. `Memory`, where a growth was refused, may come in the place of any answer. After an error the
-    /// registry is as it was.
+    /// The first of these that applies: `Limit` where 1,024 entries are there; `EmptyMask` where the default
+    /// mask is 0; `BadDeclaration` where the text is of another form or its type is no primitive one;
+    /// `UnknownType` where the type of the objects is not registered; `Duplicate` where that type has a
+    /// method or a property of the name. `Memory`, where the allocator refused memory, may come instead of
+    /// any other answer. After an error the registry is as it was.
     #[tactic(auto, using(crate::proofs::Values::property_values))]
     pub fn property(&mut self, type_name: &[u8], f: u32, decl: &[u8]) -> Result<EntityNo, RegError>
         ensures accepted { OnOk result
@@ -174,17 +186,18 @@ impl Registry {
         self.add_member(EntryKind::Property, type_name, f, declared)
     }
 
-    /// Registers a function of a driver, and answers its number: function `f` of the driver. The declaration is
-    /// `type NAME params`.
+    /// Registers a function of a driver, and answers the entry's number. The driver is asked for it by
+    /// `call`, with the number `f` and without an object. The declaration is `type NAME params`.
     ///
     /// # Errors
     ///
-    /// The first of these that applies: `Limit` where 1,024 entries are there or the declaration has more than 32
-    /// parameters; `EmptyMask` where the default mask is 0; `BadDeclaration` where the text is of another form or
-    /// is one that hosts can't use; `UnknownType` where it names a type that is not registered; `WrongDriver` where `driver` is above 63 or the
-    /// text names a type of another driver; `Duplicate` where a type or a global property has the name, or a
-    /// function of the name has the same parameters. `Memory`, where a growth was refused, may come in the place
-    /// of any answer. After an error the registry is as it was.
+    /// The first of these that applies: `Limit` where 1,024 entries are there or the declaration has more
+    /// than 32 parameters; `EmptyMask` where the default mask is 0; `BadDeclaration` where the text is of
+    /// another form or is one that hosts can't use; `UnknownType` where it names a type that is not
+    /// registered; `WrongDriver` where `driver` is above 63 or the text names a type of another driver;
+    /// `Duplicate` where a type or a global property has the name, or a function of the name has the same
+    /// parameters. `Memory`, where the allocator refused memory, may come instead of any other answer. After
+    /// an error the registry is as it was.
     #[tactic(auto, using(crate::proofs::Values::function_values))]
     pub fn function(&mut self, driver: u32, f: u32, decl: &[u8]) -> Result<EntityNo, RegError>
         ensures accepted { OnOk result
@@ -201,17 +214,17 @@ impl Registry {
         self.add_own(EntryKind::Function, driver, f, declared)
     }
 
-    /// Registers a global property of a driver, and answers its number: property `f` of the driver. The
-    /// declaration is `type NAME`, where the type is a primitive one; with `const` in front of it scripts
-    /// can't write the property.
+    /// Registers a global property of a driver, and answers the entry's number. The driver is asked for it by
+    /// `read` or `write`, with the number `f` and without an object. The declaration is `type NAME`, where
+    /// the type is a primitive one; with `const` in front of it scripts can't write the property.
     ///
     /// # Errors
     ///
-    /// The first of these that applies: `Limit` where 1,024 entries are there; `EmptyMask` where the default mask
-    /// is 0; `BadDeclaration` where the text is of another form or its type is no primitive one; `WrongDriver`
-    /// where `driver` is above 63; `Duplicate` where a type, a function or a global property has the name.
-    /// `Memory`, where a growth was refused, may come in the place of any answer. After an error the registry is
-    /// as it was.
+    /// The first of these that applies: `Limit` where 1,024 entries are there; `EmptyMask` where the default
+    /// mask is 0; `BadDeclaration` where the text is of another form or its type is no primitive one;
+    /// `WrongDriver` where `driver` is above 63; `Duplicate` where a type, a function or a global property
+    /// has the name. `Memory`, where the allocator refused memory, may come instead of any other answer.
+    /// After an error the registry is as it was.
     #[tactic(auto, using(crate::proofs::Values::global_values))]
     pub fn global_property(
         &mut self,
@@ -233,13 +246,13 @@ impl Registry {
         self.add_own(EntryKind::Global, driver, f, declared)
     }
 
-    /// Adds a blank, which no mask sees, and answers its number: what is registered after it keeps the
-    /// number that it has in a list with an entry there.
+    /// Adds a blank, which no mask sees, and answers its number. A host that leaves an entry out puts a blank
+    /// there, so that the entries after it keep their numbers.
     ///
     /// # Errors
     ///
-    /// `Limit` where 1,024 entries are there. `Memory`, where a growth was refused, may come in the place of any
-    /// answer. After an error the registry is as it was.
+    /// `Limit` where 1,024 entries are there. `Memory`, where the allocator refused memory, may come instead
+    /// of any other answer. After an error the registry is as it was.
     pub fn blank(&mut self) -> Result<EntityNo, RegError>
         ensures accepted { OnOk result (refusal_of_blank self.old ≡ None) }
         ensures number { IfOk result (λ number. number.0 ≡ length self.old.entries) }
@@ -309,7 +322,7 @@ impl Registry {
         self.add(kind, Some(found.number), found.driver, f, signature)
     }
 
-    /// Adds an entry under the default mask, where none of the last rows of the table applies.
+    /// Adds an entry under the default mask, unless `UnknownType`, `WrongDriver` or `Duplicate` refuses it.
     fn add(
         &mut self,
         kind: EntryKind,
@@ -363,8 +376,9 @@ impl Registry {
         Ok(number)
     }
 
-    /// What a module of the mask sees of the list, which has at most 1,024 entries. No declaration in it has an
-    /// `&out` parameter, and each property is of a primitive type.
+    /// What a module of the mask sees of the list: a copy of the list in which each entry that it does not
+    /// see is a blank. It has at most 1,024 entries, blanks included. The checker of scripts relies on
+    /// `values`: no declaration in it has an `&out` parameter, and each property is of a primitive type.
     ///
     /// # Errors
     ///
@@ -377,7 +391,8 @@ impl Registry {
         view_of(alloc, &self.list, mask)
     }
 
-    /// What a module of the mask does not see of the list: each entry that it sees is a blank there.
+    /// What a module of the mask does not see of the list: a copy of the list in which each entry that it
+    /// sees is a blank. A build looks there for its denials.
     ///
     /// # Errors
     ///
@@ -388,7 +403,7 @@ impl Registry {
         hidden_of(alloc, &self.list, mask)
     }
 
-    /// The whole list, whatever the masks.
+    /// A copy of the whole list, whatever the masks.
     ///
     /// # Errors
     ///
@@ -414,7 +429,8 @@ impl Registry {
         self.list.get(number)
     }
 
-    /// The number of the type of this name, whatever its mask. It takes no memory.
+    /// The number of the type of this name, whatever its mask, or none where there is none. It takes no
+    /// memory.
     pub fn find_type(&self, name: &[u8]) -> Option<EntityNo>
         ensures exact { option_map (λ number. number.0) result
             ≡ type_named self.now.entries name.now }
@@ -422,8 +438,8 @@ impl Registry {
         self.list.find_type(name)
     }
 
-    /// The number of the first function of the name that a module of the mask sees, or none where it sees none.
-    /// It takes no memory.
+    /// The number of the first function of the name that a module of the mask sees, or none where it sees
+    /// none. It takes no memory.
     pub fn find_function(&self, mask: Mask, name: &[u8]) -> Option<EntityNo>
         ensures exact { option_map (λ number. number.0) result
             ≡ function_named (seen self.now.entries mask.0) name.now }

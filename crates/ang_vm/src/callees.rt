@@ -54,7 +54,7 @@ fn bound_or_fault(bound: Option<Routine>) -> Result<Routine, Fault>
 }
 
 /// How many parameters the methods in a slot have.
-fn count_of(table: &Table, home: u32, slot: u32) -> usize
+fn count_of(table: &Table, home: u32, slot: usize) -> usize
     ensures exact { result ≡ length (params_in (slot_of table.now home slot)) }
 {
     match slot_at(table, home, slot) {
@@ -64,7 +64,7 @@ fn count_of(table: &Table, home: u32, slot: u32) -> usize
 }
 
 /// The value of the first parameter of a slot's methods, the receiver's: it stands lowest of the arguments.
-fn receiver_of(table: &Table, home: u32, slot: u32, stack: &[Slot], top: usize) -> Slot
+fn receiver_of(table: &Table, home: u32, slot: usize, stack: &[Slot], top: usize) -> Slot
     requires within { top ≤ length stack.now }
     ensures exact { result
         ≡ receiver_in (params_in (slot_of table.now home slot)) (values stack.now top) }
@@ -83,7 +83,7 @@ fn receiver_of(table: &Table, home: u32, slot: u32, stack: &[Slot], top: usize) 
 fn method_for(
     table: &Table,
     home: u32,
-    slot: u32,
+    slot: usize,
     receiver: Slot,
     store: &Store,
 ) -> Result<Routine, Fault>

@@ -75,7 +75,7 @@ fn reserve(stack: &mut Vec<Slot>, top: usize, height: usize) -> Option<usize>
     ensures same { values stack.new.items top ≡ values stack.old.items top }
     ensures grows { length stack.old.items ≤ length stack.new.items }
 {
-    let room = top.checked_add(height)?;
+    let room = top.saturating_add(height);
     if room <= stack.len() {
         return Some(room);
     }

@@ -51,9 +51,7 @@ pub(crate) fn call(
         → CanGive (with_result result vs) (world_of ⟦<dyn Driver as Driver>⟧ store.new) }
     ensures asked { StoreAsked ⟦<dyn Driver as Driver>⟧ entity host.now.role store.old store.new }
 {
-    let Some(more) = store.live.checked_add(1) else {
-        return Err(Fault::Memory);
-    };
+    let more = store.live + 1;
     let Ok((caller, args)) = call_room(alloc, &mut store.events, more, caller, host, args) else {
         return Err(Fault::Memory);
     };
@@ -92,9 +90,7 @@ pub(crate) fn read(
         → CanGive (with_result result vs) (world_of ⟦<dyn Driver as Driver>⟧ store.new) }
     ensures asked { StoreAsked ⟦<dyn Driver as Driver>⟧ entity host.now.role store.old store.new }
 {
-    let Some(more) = store.live.checked_add(1) else {
-        return Err(Fault::Memory);
-    };
+    let more = store.live + 1;
     let Ok(caller) = room_for(alloc, &mut store.events, more, caller) else {
         return Err(Fault::Memory);
     };
@@ -139,9 +135,7 @@ pub(crate) fn write(
         → CanGive (with_result result vs) (world_of ⟦<dyn Driver as Driver>⟧ store.new) }
     ensures asked { StoreAsked ⟦<dyn Driver as Driver>⟧ entity host.now.role store.old store.new }
 {
-    let Some(more) = store.live.checked_add(1) else {
-        return Err(Fault::Memory);
-    };
+    let more = store.live + 1;
     let value = value_from(host.driver, host.result, value);
     let Ok((caller, args)) = write_room(alloc, &mut store.events, more, caller, value) else {
         return Err(Fault::Memory);
@@ -213,9 +207,7 @@ pub(crate) fn make(
         → CanGive (with_result result vs) (world_of ⟦<dyn Driver as Driver>⟧ store.new) }
     ensures asked { StoreAsked ⟦<dyn Driver as Driver>⟧ entity host.now.role store.old store.new }
 {
-    let Some(more) = store.live.checked_add(2) else {
-        return Err(Fault::Memory);
-    };
+    let more = store.live + 2;
     let Ok((caller, args)) = call_room(alloc, &mut store.events, more, caller, host, args) else {
         return Err(Fault::Memory);
     };

@@ -30,6 +30,7 @@ fn is_void(of: HostType) -> bool
 ///
 /// # Errors
 /// `BadAnswer` where there is none of the declared type, and `Tally` where a tally has run out.
+#[inline(never)]
 fn accept(store: &mut Store, value: Option<Slot>) -> Result<Slot, Fault>
     requires there { IfSome value
         (λ v. HasKey v (counts_among ⟦<dyn Driver as Driver>⟧ store.old.drivers)) }
@@ -54,6 +55,7 @@ fn accept(store: &mut Store, value: Option<Slot>) -> Result<Slot, Fault>
 /// # Errors
 /// `BadAnswer` where the answer is not of the declared type or not in its range, the driver's own fault,
 /// its want of memory, and `Tally` where one of its tallies has run out.
+#[inline(always)]
 pub(crate) fn take_answer(
     store: &mut Store,
     driver: u32,

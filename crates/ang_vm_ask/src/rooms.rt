@@ -12,6 +12,7 @@ use std::alloc::{AllocError, Global};
 ///
 /// # Errors
 /// There is no memory. The room that there is by then stays.
+#[inline(always)]
 pub(crate) fn room_for(
     alloc: Global,
     events: &mut Vec<HostEvent>,
@@ -30,6 +31,7 @@ pub(crate) fn room_for(
 }
 
 /// Slots as they are handed to a driver, each by its declared type.
+#[inline(always)]
 pub(crate) fn values_from(
     alloc: Global,
     driver: u32,
@@ -47,6 +49,7 @@ pub(crate) fn values_from(
 }
 
 /// The memory for the event of a call.
+#[inline(always)]
 pub(crate) fn call_room(
     alloc: Global,
     events: &mut Vec<HostEvent>,

@@ -11,3 +11,5 @@ pub mod BorrowedOperands
 pub mod OperandPaths
 pub mod OperandLists
 pub mod Loading
+pub mod Fielding
+pub mod NumberGlobals

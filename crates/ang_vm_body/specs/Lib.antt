@@ -3,3 +3,4 @@ pub mod Operands
 pub mod Loads
 pub mod Crossings
 pub mod Running
+pub mod Taking

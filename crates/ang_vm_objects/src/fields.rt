@@ -33,7 +33,7 @@ fn number_of(value: Slot) -> Option<usize>
 }
 
 /// Whether both ranks are there, and the first is the lower one.
-fn is_lower(first: Option<u32>, second: Option<u32>) -> bool
+fn is_lower(first: Option<usize>, second: Option<usize>) -> bool
     ensures exact { result ≡ is_lower_rank first second }
 {
     match first {
@@ -63,7 +63,7 @@ fn may_take(heap: &Heap, number: usize, value: Slot) -> bool
 
 /// A value and a field of an object change places, where the value names an object whose field may take it;
 /// else the value comes back. Nothing is held or given up.
-pub fn trade_member(store: &mut Store, object: Slot, index: u32, value: Slot) -> Slot
+pub fn trade_member(store: &mut Store, object: Slot, index: usize, value: Slot) -> Slot
     requires ready { IsReady ⟦<dyn Driver as Driver>⟧ store.old }
     ensures old { result
         ≡ member_or index object value (world_of ⟦<dyn Driver as Driver>⟧ store.old) }
@@ -102,7 +102,7 @@ pub fn make(store: &mut Store, class: &Class) -> Result<Slot, Fault>
 ///
 /// # Errors
 /// `Null` where the value names no script object, `Tally` where a tally is full.
-pub fn get(store: &mut Store, object: Slot, index: u32) -> Result<Slot, Fault>
+pub fn get(store: &mut Store, object: Slot, index: usize) -> Result<Slot, Fault>
     requires ready { IsReady ⟦<dyn Driver as Driver>⟧ store.old }
     requires counted { StandCounted (object ∷ []) (world_of ⟦<dyn Driver as Driver>⟧ store.old) }
     ensures told { (z : Setting) (home : ℕ)
@@ -127,7 +127,7 @@ pub fn get(store: &mut Store, object: Slot, index: u32) -> Result<Slot, Fault>
 ///
 /// # Errors
 /// `Null` where the object is none or its field can't take the value, `Tally` where a tally is full.
-pub fn set(store: &mut Store, object: Slot, index: u32, value: Slot) -> Result<Slot, Fault>
+pub fn set(store: &mut Store, object: Slot, index: usize, value: Slot) -> Result<Slot, Fault>
     requires ready { IsReady ⟦<dyn Driver as Driver>⟧ store.old }
     requires counted { StandCounted (object ∷ value ∷ [])
         (world_of ⟦<dyn Driver as Driver>⟧ store.old) }
@@ -159,7 +159,7 @@ pub fn set(store: &mut Store, object: Slot, index: u32, value: Slot) -> Result<S
 pub fn alter(
     store: &mut Store,
     object: Slot,
-    index: u32,
+    index: usize,
     by: Change,
     operand: Slot,
 ) -> Result<Slot, Fault>
@@ -190,14 +190,14 @@ pub fn alter(
 }
 
 /// Whether a class is or stands under the class or interface of that number.
-fn stands_under(class: &Class, number: u32) -> bool
+fn stands_under(class: &Class, number: usize) -> bool
     ensures exact { result ≡ list_any (nat_eq number) class.now.under }
 {
     class.under.as_slice().iter().any(|under| number == *under)
 }
 
 /// Whether the class of an object, where there is an object, is or stands under that class or interface.
-fn is_under(table: &Table, home: u32, number: u32, class: Option<u32>) -> bool
+fn is_under(table: &Table, home: u32, number: usize, class: Option<usize>) -> bool
     ensures exact { (nesting : ℕ)
         → result ≡ is_class_under (setting_of table.now nesting) home number class }
 {
@@ -218,7 +218,7 @@ pub fn cast_value(
     table: &Table,
     store: &mut Store,
     home: u32,
-    class: u32,
+    class: usize,
     value: Slot,
 ) -> Result<Slot, Fault>
     requires ready { IsReady ⟦<dyn Driver as Driver>⟧ store.old }

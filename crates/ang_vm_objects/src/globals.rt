@@ -15,7 +15,7 @@ use ang_vm_numbers::change_slot;
 
 /// Puts a value into a global of a module, and answers its old one; the value itself where there is no such
 /// global. Nothing is held or given up.
-pub fn trade_global(store: &mut Store, home: u32, number: u32, value: Slot) -> Slot
+pub fn trade_global(store: &mut Store, home: u32, number: usize, value: Slot) -> Slot
     requires ready { IsReady ⟦<dyn Driver as Driver>⟧ store.old }
     ensures old { result
         ≡ global_or home number value (world_of ⟦<dyn Driver as Driver>⟧ store.old) }
@@ -32,7 +32,7 @@ pub fn trade_global(store: &mut Store, home: u32, number: u32, value: Slot) -> S
 ///
 /// # Errors
 /// `Tally` where a tally is full.
-pub fn get(store: &mut Store, home: u32, number: u32) -> Result<Slot, Fault>
+pub fn get(store: &mut Store, home: u32, number: usize) -> Result<Slot, Fault>
     requires counted { StandCounted [] (world_of ⟦<dyn Driver as Driver>⟧ store.old) }
     ensures told { (z : Setting)
         → StoreTold ⟦<dyn Driver as Driver>⟧ (perform z home (GlobalGet number) []) store.old
@@ -50,7 +50,7 @@ pub fn get(store: &mut Store, home: u32, number: u32) -> Result<Slot, Fault>
 ///
 /// # Errors
 /// `Tally` where a tally is full.
-pub fn set(store: &mut Store, home: u32, number: u32, value: Slot) -> Result<Slot, Fault>
+pub fn set(store: &mut Store, home: u32, number: usize, value: Slot) -> Result<Slot, Fault>
     requires ready { IsReady ⟦<dyn Driver as Driver>⟧ store.old }
     requires counted { StandCounted (value ∷ []) (world_of ⟦<dyn Driver as Driver>⟧ store.old) }
     ensures told { (z : Setting)
@@ -73,7 +73,7 @@ pub fn set(store: &mut Store, home: u32, number: u32, value: Slot) -> Result<Slo
 pub fn alter(
     store: &mut Store,
     home: u32,
-    number: u32,
+    number: usize,
     by: Change,
     operand: Slot,
 ) -> Result<Slot, Fault>

@@ -19,7 +19,7 @@ pub struct Import {
 #[derive(Clone, Copy, PartialEq, Eq, Debug)]
 pub struct Method {
     /// The slot's number in its module.
-    pub slot: u32,
+    pub slot: usize,
     /// The function, the class's own or an inherited one.
     pub function: Routine,
 }
@@ -75,22 +75,22 @@ pub fn body_at(table: &Table, body: Routine) -> Option<&Body>
         (λ code. spec.body_of table.now body ≡ Some code.now) }
 {
     let module = table.modules.get(body.home as usize)?;
-    module.bodies.get(body.number as usize)
+    module.bodies.get(body.number)
 }
 
 /// An import of a module, where there is one.
 #[inline(always)]
-pub fn import_at(table: &Table, home: u32, number: u32) -> Option<&Import>
+pub fn import_at(table: &Table, home: u32, number: usize) -> Option<&Import>
     ensures exact { MatchOption result (spec.import_of table.now home number ≡ None)
         (λ import. spec.import_of table.now home number ≡ Some import.now) }
 {
     let module = table.modules.get(home as usize)?;
-    module.imports.get(number as usize)
+    module.imports.get(number)
 }
 
 /// The function that an import of a module is bound to, where there is such an import and it is bound.
 #[inline(always)]
-pub fn linked_at(table: &Table, home: u32, number: u32) -> Option<Routine>
+pub fn linked_at(table: &Table, home: u32, number: usize) -> Option<Routine>
     ensures exact { result ≡ spec.linked_of table.now home number }
 {
     import_at(table, home, number)?.bound
@@ -111,7 +111,7 @@ pub fn entity_at(table: &Table, home: u32, entity: EntityNo) -> Option<&HostUse>
 
 /// A class of a module, where there is one of this number.
 #[inline(always)]
-pub fn class_at(table: &Table, home: u32, number: u32) -> Option<&Class>
+pub fn class_at(table: &Table, home: u32, number: usize) -> Option<&Class>
     ensures exact { MatchOption result (spec.class_of table.now home number ≡ None)
         (λ class. spec.class_of table.now home number ≡ Some class.now) }
     ensures numbered { IfSome result (λ class. class.now.number ≡ number) }
@@ -125,23 +125,23 @@ pub fn class_at(table: &Table, home: u32, number: u32) -> Option<&Class>
 
 /// What stands in the place of a class, where there is such a place.
 #[inline(always)]
-fn class_code_at(table: &Table, home: u32, number: u32) -> Option<&ClassCode>
+fn class_code_at(table: &Table, home: u32, number: usize) -> Option<&ClassCode>
     ensures exact { MatchOption result (spec.class_code_of table.now home number ≡ None)
         (λ code. spec.class_code_of table.now home number ≡ Some code.now) }
 {
     let module = table.modules.get(home as usize)?;
-    module.classes.get(number as usize)
+    module.classes.get(number)
 }
 
 /// The method that a class has in a slot, its own or an inherited one, where it has one.
-pub fn method_at(table: &Table, home: u32, class: u32, slot: u32) -> Option<Routine>
+pub fn method_at(table: &Table, home: u32, class: usize, slot: usize) -> Option<Routine>
     ensures exact { result ≡ spec.method_of table.now home class slot }
 {
     let code = class_code_at(table, home, class)?;
     method_in(&code.methods, slot)
 }
 
-fn method_in(methods: &[Method], slot: u32) -> Option<Routine>
+fn method_in(methods: &[Method], slot: usize) -> Option<Routine>
     ensures exact { result ≡ spec.method_in methods.now slot }
 {
     let method = methods.iter().find(|method| method.slot == slot)?;
@@ -151,11 +151,11 @@ fn method_in(methods: &[Method], slot: u32) -> Option<Routine>
 /// How the parameters of the methods in a slot take their arguments, the last one first, and so the
 /// receiver last, where there is such a slot.
 #[inline(always)]
-pub fn slot_at(table: &Table, home: u32, slot: u32) -> Option<&[Passing]>
+pub fn slot_at(table: &Table, home: u32, slot: usize) -> Option<&[Passing]>
     ensures exact { MatchOption result (spec.slot_of table.now home slot ≡ None)
         (λ params. spec.slot_of table.now home slot ≡ Some params.now) }
 {
     let module = table.modules.get(home as usize)?;
-    let params = module.slots.get(slot as usize)?;
+    let params = module.slots.get(slot)?;
     Some(params.as_slice())
 }

@@ -22,7 +22,7 @@ pub(crate) fn make_object(
     store: &mut Store,
     top: usize,
     room: usize,
-    class: u32,
+    class: usize,
 ) -> Result<usize, Stop>
     requires in_room { top ≤ room }
     requires within { room ≤ length stack.old }
@@ -50,7 +50,7 @@ pub(crate) fn get_field(
     store: &mut Store,
     top: usize,
     room: usize,
-    index: u32,
+    index: usize,
 ) -> Result<usize, Stop>
     requires in_room { top ≤ room }
     requires within { room ≤ length stack.old }
@@ -75,7 +75,7 @@ pub(crate) fn set_field(
     store: &mut Store,
     top: usize,
     room: usize,
-    index: u32,
+    index: usize,
 ) -> Result<usize, Stop>
     requires in_room { top ≤ room }
     requires within { room ≤ length stack.old }
@@ -101,7 +101,7 @@ pub(crate) fn change_field(
     store: &mut Store,
     top: usize,
     room: usize,
-    index: u32,
+    index: usize,
     by: Change,
 ) -> Result<usize, Stop>
     requires in_room { top ≤ room }
@@ -130,7 +130,7 @@ pub(crate) fn cast(
     store: &mut Store,
     top: usize,
     room: usize,
-    class: u32,
+    class: usize,
 ) -> Result<usize, Stop>
     requires in_room { top ≤ room }
     requires within { room ≤ length stack.old }

@@ -20,7 +20,7 @@ pub(crate) fn get_global(
     store: &mut Store,
     top: usize,
     room: usize,
-    number: u32,
+    number: usize,
 ) -> Result<usize, Stop>
     requires in_room { top ≤ room }
     requires within { room ≤ length stack.old }
@@ -45,7 +45,7 @@ pub(crate) fn set_global(
     store: &mut Store,
     top: usize,
     room: usize,
-    number: u32,
+    number: usize,
 ) -> Result<usize, Stop>
     requires in_room { top ≤ room }
     requires within { room ≤ length stack.old }
@@ -71,7 +71,7 @@ pub(crate) fn change_global(
     store: &mut Store,
     top: usize,
     room: usize,
-    number: u32,
+    number: usize,
     by: Change,
 ) -> Result<usize, Stop>
     requires in_room { top ≤ room }

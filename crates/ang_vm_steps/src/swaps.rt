@@ -38,7 +38,7 @@ pub fn swap_local(
     top: usize,
     room: usize,
     to: Option<Prim>,
-    under: u32,
+    under: usize,
     with: usize,
 ) -> Result<usize, Stop>
     requires in_room { top ≤ room }
@@ -46,7 +46,6 @@ pub fn swap_local(
     ensures acts { ActsAlone (Swap to under with) room top stack.old result stack.new }
     ensures in_room { IfOk result (λ n. n ≤ room) }
 {
-    let under = under as usize;
     if under >= top {
         return Err(Stop::Lost);
     }
@@ -69,8 +68,8 @@ pub fn swap_global(
     top: usize,
     room: usize,
     to: Option<Prim>,
-    under: u32,
-    global: u32,
+    under: usize,
+    global: usize,
 ) -> Result<usize, Stop>
     requires in_room { top ≤ room }
     requires within { room ≤ length stack.old }
@@ -81,13 +80,12 @@ pub fn swap_global(
     ensures in_room { IfOk result (λ n. n ≤ room) }
     ensures moves { HasMoved ⟦<dyn Driver as Driver>⟧ store.old store.new }
 {
-    let place = under as usize;
-    if place >= top {
+    if under >= top {
         return Err(Stop::Lost);
     }
-    let moved = bring(to, peek(stack, top, place));
+    let moved = bring(to, peek(stack, top, under));
     let old = trade_global(store, body.home, global, moved);
-    poke(stack, top, place, old);
+    poke(stack, top, under, old);
     Ok(top)
 }
 
@@ -99,9 +97,9 @@ pub fn swap_field(
     top: usize,
     room: usize,
     to: Option<Prim>,
-    under: u32,
-    object: u32,
-    field: u32,
+    under: usize,
+    object: usize,
+    field: usize,
 ) -> Result<usize, Stop>
     requires in_room { top ≤ room }
     requires within { room ≤ length stack.old }
@@ -112,17 +110,15 @@ pub fn swap_field(
     ensures in_room { IfOk result (λ n. n ≤ room) }
     ensures moves { HasMoved ⟦<dyn Driver as Driver>⟧ store.old store.new }
 {
-    let place = under as usize;
-    if place >= top {
+    if under >= top {
         return Err(Stop::Lost);
     }
-    let object = object as usize;
     if object >= top {
         return Err(Stop::Lost);
     }
-    let moved = bring(to, peek(stack, top, place));
+    let moved = bring(to, peek(stack, top, under));
     let holder = peek(stack, top, object);
     let old = trade_member(store, holder, field, moved);
-    poke(stack, top, place, old);
+    poke(stack, top, under, old);
     Ok(top)
 }

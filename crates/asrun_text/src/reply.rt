@@ -26,6 +26,18 @@ pub fn push_text(out: &mut Vec<u8>, text: &str) -> Result<(), AllocError>
 pub fn push_number(out: &mut Vec<u8>, n: u64) -> Result<(), AllocError>
     ensures added { OnOk result (out.new.items ≡ out.old.items ++ decimal n) }
 {
+    if n < 10 {
+        out.push(b'0' + n as u8)?;
+        return Ok(());
+    }
+    push_digits(out, n)
+}
+
+/// The same of a number of any length. It stands apart, so that one digit takes no buffer.
+#[inline(never)]
+fn push_digits(out: &mut Vec<u8>, n: u64) -> Result<(), AllocError>
+    ensures added { OnOk result (out.new.items ≡ out.old.items ++ decimal n) }
+{
     let mut digits = Buffer::new();
     push_text(out, digits.format(n))
 }

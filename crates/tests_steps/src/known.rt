@@ -4,7 +4,7 @@ use ang_kinds::Prim::I64;
 use ang_vm_fuse::step::Step;
 
 /// Each from place 7 on, where 5 and 3 are in use.
-pub const KNOWN: [Row; 78] = [
+pub const KNOWN: [Row; 83] = [
     (Step::AddLocals64(1, 0), (10, 3, 5, 3, 8)),
     (Step::SubtractLocals64(1, 0), (10, 3, 5, 3, 2)),
     (Step::MultiplyLocals64(1, 0), (10, 3, 5, 3, 15)),
@@ -89,4 +89,15 @@ pub const KNOWN: [Row; 78] = [
     (Step::RemainderTestEqual32(1, 0, 2, 4), (13, 2, 5, 3, 0)),
     (Step::ShiftXorToLocalU32(true, 0, 1, 1), (12, 2, 5, 1, 0)),
     (Step::XorAddToLocal64(true, 1, 1, 0), (13, 2, 11, 3, 0)),
+    (Step::MultiplyTopConstantU64(2), (9, 2, 5, 6, 0)),
+    (Step::MultiplyKeepTopConstantU64(2, 0), (11, 1, 6, 3, 0)),
+    (Step::XorTopToLocalU64(true, 0), (9, 1, 6, 3, 0)),
+    (
+        Step::ShiftLeftXorToLocalU64(true, 0, 1, 1),
+        (12, 2, 5, 9, 0),
+    ),
+    (
+        Step::ShiftRightXorToLocalU64(true, 0, 1, 1),
+        (12, 2, 5, 1, 0),
+    ),
 ];

@@ -22,6 +22,8 @@ const SUBTRACT: Arithmetic = Arithmetic::Subtract;
 
 const I64: Prim = Prim::I64;
 
+const U64: Prim = Prim::U64;
+
 const LATER: Change = Change {
     work: Arithmetic::Add,
     at: Prim::I64,
@@ -37,7 +39,7 @@ pub type Row = (Step, Left);
 pub type Left = (usize, usize, u64, u64, u64);
 
 /// An odd number is 1 as a truth value. Where a comparison does not hold, four instructions more are passed.
-const TAKEN: [Row; 23] = [
+const TAKEN: [Row; 26] = [
     (Step::Push(4), (8, 3, 5, 3, 4)),
     (Step::Load(1), (8, 3, 5, 3, 5)),
     (Step::Keep(0), (9, 1, 3, 3, 0)),
@@ -61,23 +63,34 @@ const TAKEN: [Row; 23] = [
     (Step::ChangeConstant(LATER, 1, 2), (10, 2, 7, 3, 0)),
     (Step::ChangeLocal(LATER, 0, 1), (10, 2, 5, 8, 0)),
     (Step::ChangeTop(LATER, 0), (9, 1, 8, 3, 0)),
+    (Step::Drop, (8, 1, 5, 3, 0)),
+    (Step::Leave(1), (8, 1, 5, 3, 0)),
+    (Step::Leave(2), (8, 0, 5, 3, 0)),
 ];
 
 /// At a loop's end a tick is taken.
-const BACK: [Row; 6] = [
+const BACK: [Row; 7] = [
     (Step::ChangeBack(LATER, 1, 2, 3), (7, 2, 7, 3, 0)),
     (Step::AddBack32(true, 0, 1, 3), (7, 2, 5, 4, 0)),
     (Step::AddBack64(true, 0, 1, 3), (7, 2, 5, 4, 0)),
     (Step::AddBackU32(true, 0, 1, 3), (7, 2, 5, 4, 0)),
+    (Step::AddBackU64(true, 0, 1, 3), (7, 2, 5, 4, 0)),
     (Step::LeaveBack(1, 3), (5, 1, 5, 3, 0)),
     (Step::LeaveBack(2, 3), (5, 0, 5, 3, 0)),
 ];
 
-/// Calls, returns and host calls are left to the run, and so is what faults, finds no value or names no instructions.
-const LEFT: [Step; 6] = [
+/// Calls, returns, host calls, fields and globals are left to the run, and so is what faults, finds no value or names no
+/// instructions.
+const LEFT: [Step; 12] = [
     Step::Ask(1),
     Step::Enter(Callee::Own(0)),
     Step::Return(0),
+    Step::GetField(0, 0),
+    Step::PutField(0, 0),
+    Step::ChangeField(LATER, 0, 0),
+    Step::GetGlobal(0),
+    Step::PutGlobal(0),
+    Step::ChangeGlobal(LATER, 0),
     Step::Other,
     Step::Load(2),
     Step::WorkTopConstant(Arithmetic::Divide, I64, 0),
@@ -151,10 +164,10 @@ fn steps_are_taken(rt: HostRuntime) {
     }
     let tops = taken(3, [2, 9, 5], 9, Step::KeepTops(SUBTRACT, I64, 0));
     assert!(rt; tops == left(9, (10, 1, 4, 9, 5)));
-    let masked = taken(1, [5, 3, 0], 9, Step::MaskXorU32(0, 0, 4));
+    let masked = taken(1, [5, 3, 0], 9, Step::MaskXor(U64, 0, 0, 4));
     assert!(rt; masked == left(9, (12, 2, 5, 1, 0)));
     assert!(rt;
-        taken(2, [5, 3, 0], 9, Step::MaskXorU32(1, 0, 2)).is_none(),
+        taken(2, [5, 3, 0], 9, Step::MaskXor(U64, 1, 0, 2)).is_none(),
         "no room"
     );
     assert!(rt; taken(4, [2, 9, 5], 9, Step::Push(4)).is_none(), "no room");
@@ -279,20 +292,113 @@ const PAIRED: &[Instruction] = &[
     Back(9),
     Leave(3),
     Back(9),
+    Leave(2),
+    Drop,
 ];
 
 /// Each of them is one step. Three values and more are given up alone.
-const PAIRS: [(usize, Option<Step>); 10] = [
+const PAIRS: [(usize, Option<Step>); 12] = [
     (0, Some(Step::MultiplyShift64(1, 0, 16))),
     (5, Some(Step::AddTestGreater64(1, 0, 9, 4))),
     (11, Some(Step::SubtractAddKeep64(1, 0, 1, 0))),
     (18, Some(Step::MultiplyTestLessEqual32(1, 0, 1, 4))),
     (24, Some(Step::RemainderTestEqual32(1, 0, 0, 4))),
-    (30, Some(Step::MaskXorU32(1, 0, 255))),
+    (30, Some(Step::MaskXor(Prim::U32, 1, 0, 255))),
     (35, Some(Step::ShiftXorToLocalU32(false, 0, 1, 15))),
     (40, Some(Step::XorAddToLocal64(true, 0, 1, 0))),
     (46, Some(Step::LeaveBack(2, 9))),
     (48, Some(Step::Other)),
+    (50, Some(Step::Leave(2))),
+    (51, Some(Step::Drop)),
+];
+
+/// A change of a `uint64` by `^`.
+const DIFFER_64: Change = Change {
+    work: Arithmetic::Xor,
+    at: U64,
+    to: U64,
+    old: false,
+};
+
+/// A hash in 64 bits: a multiplication by a number of more than 32 bits, and shifts to both sides.
+const HASHING: &[Instruction] = &[
+    Load(1),
+    Load(1),
+    PushBits(255),
+    Do(Operation::Work(Arithmetic::And, U64)),
+    Do(Operation::Work(Arithmetic::Xor, U64)),
+    PushBits(0x1_0000_01B3),
+    Do(Operation::Work(Arithmetic::Multiply, U64)),
+    Store(0),
+    Drop,
+    PushBits(0x1_0000_01B3),
+    Do(Operation::Work(Arithmetic::Multiply, U64)),
+    PushBits(0x1_0000_01B3),
+    Do(Operation::Work(ADD, U64)),
+    Load(1),
+    PushBits(13),
+    Do(Operation::Work(Arithmetic::ShiftLeft, U64)),
+    Changed(DIFFER_64, 0),
+    Drop,
+    Load(1),
+    PushBits(7),
+    Do(Operation::Work(Arithmetic::ShiftRight, U64)),
+    Changed(DIFFER_64, 0),
+    Drop,
+];
+
+/// The steps of the hash. The mask is of the type of the `^` after it.
+const HASHED: [(usize, Option<Step>); 8] = [
+    (0, Some(Step::MaskXor(U64, 1, 0, 255))),
+    (2, Some(Step::AndTopConstant(U64, 255))),
+    (5, Some(Step::MultiplyKeepTopConstantU64(0x1_0000_01B3, 0))),
+    (9, Some(Step::MultiplyTopConstantU64(0x1_0000_01B3))),
+    (11, Some(Step::Push(0x1_0000_01B3))),
+    (13, Some(Step::ShiftLeftXorToLocalU64(false, 0, 1, 13))),
+    (16, Some(Step::XorTopToLocalU64(false, 0))),
+    (18, Some(Step::ShiftRightXorToLocalU64(false, 0, 1, 7))),
+];
+
+/// A field of an object that a local holds is read, stored and changed; at the end its value is kept.
+const OBJECTS: &[Instruction] = &[
+    Load(1),
+    Do(Operation::FieldGet(2)),
+    Load(3),
+    Do(Operation::FieldSet(4)),
+    Drop,
+    Load(5),
+    Do(Operation::FieldChange(6, LATER)),
+    Drop,
+    Load(3),
+    Do(Operation::FieldSet(4)),
+    Return(1),
+];
+
+/// Each is one step, but where the value is kept.
+const FIELDS: [(usize, Option<Step>); 4] = [
+    (0, Some(Step::GetField(1, 2))),
+    (2, Some(Step::PutField(3, 4))),
+    (5, Some(Step::ChangeField(LATER, 5, 6))),
+    (8, Some(Step::Load(3))),
+];
+
+/// A global is got, stored and changed; at the end its value is kept.
+const GLOBALS: &[Instruction] = &[
+    Do(Operation::GlobalGet(2)),
+    Do(Operation::GlobalSet(3)),
+    Drop,
+    Do(Operation::GlobalChange(4, LATER)),
+    Drop,
+    Do(Operation::GlobalSet(3)),
+    Return(1),
+];
+
+/// Each is one step, but where the value is kept.
+const GLOBAL_STEPS: [(usize, Option<Step>); 4] = [
+    (0, Some(Step::GetGlobal(2))),
+    (1, Some(Step::PutGlobal(3))),
+    (3, Some(Step::ChangeGlobal(LATER, 4))),
+    (5, Some(Step::Other)),
 ];
 
 /// What a step comes to where 9, 7, 5 and 3 are in use, and there is room for four values more.
@@ -327,6 +433,20 @@ fn is_same(step: Step, wanted: Step) -> bool {
         (Step::Other, Step::Other) => true,
         (Step::Ask(count), Step::Ask(other)) => count == other,
         (Step::Push(number), Step::Push(other)) => number == other,
+        (Step::GetField(place, field), Step::GetField(other, its)) => {
+            place == other && field == its
+        }
+        (Step::PutField(place, field), Step::PutField(other, its)) => {
+            place == other && field == its
+        }
+        (Step::ChangeField(by, place, field), Step::ChangeField(to, other, its)) => {
+            by == to && place == other && field == its
+        }
+        (Step::GetGlobal(number), Step::GetGlobal(other)) => number == other,
+        (Step::PutGlobal(number), Step::PutGlobal(other)) => number == other,
+        (Step::ChangeGlobal(by, number), Step::ChangeGlobal(to, other)) => {
+            by == to && number == other
+        }
         _ => match ends(wanted) {
             Some(after) => ends(step) == Some(after),
             None => false,
@@ -366,5 +486,8 @@ fn each_place_has_its_step(rt: HostRuntime) -> Result<(), AllocError> {
     assert_eq!(rt; first_other(rt.alloc(), COUNTING, &STEPS)?, None);
     assert_eq!(rt; first_other(rt.alloc(), ASKING, &ASKED)?, None);
     assert_eq!(rt; first_other(rt.alloc(), PAIRED, &PAIRS)?, None);
+    assert_eq!(rt; first_other(rt.alloc(), HASHING, &HASHED)?, None);
+    assert_eq!(rt; first_other(rt.alloc(), OBJECTS, &FIELDS)?, None);
+    assert_eq!(rt; first_other(rt.alloc(), GLOBALS, &GLOBAL_STEPS)?, None);
     Ok(())
 }

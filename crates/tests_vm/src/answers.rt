@@ -18,7 +18,7 @@ const TEXTS: &[Text] = list! {
 };
 
 /// The type of a body's value, the body's number, and what a call hands out.
-const ANSWERS: [(Option<Prim>, u32, Option<Value>); 9] = [
+const ANSWERS: [(Option<Prim>, usize, Option<Value>); 9] = [
     (None, 0, None),
     (None, 3, None),
     (Some(Prim::I8), 0, Some(Value::Int(-1))),
@@ -50,7 +50,7 @@ fn table_of(alloc: Global, ty: Option<Prim>) -> Result<Table, AllocError> {
 fn answers(
     alloc: Global,
     ty: Option<Prim>,
-    number: u32,
+    number: usize,
     want: Option<Value>,
 ) -> Result<bool, AllocError> {
     let table = table_of(alloc, ty)?;

@@ -17,13 +17,13 @@ use tests_vm_programs::listed::{first_other, live_after};
 #[derive(Clone, Copy)]
 pub enum Turn {
     /// A call, with a number or nothing.
-    Call(u32, Option<u64>, u64, Result<u64, Fault>),
+    Call(usize, Option<u64>, u64, Result<u64, Fault>),
     /// A call without arguments that gives a number, on a thousand ticks.
-    Gives(u32, u64),
+    Gives(usize, u64),
     /// A call without arguments that faults, on a thousand ticks.
-    Faults(u32, Fault),
+    Faults(usize, Fault),
     /// An initializer, and the ticks that it leaves.
-    Initializes(u32, u64, Result<u64, Fault>),
+    Initializes(usize, u64, Result<u64, Fault>),
 }
 
 /// Its name, the module's number, turns on a new machine, and all that is listed then. After the last turn no global

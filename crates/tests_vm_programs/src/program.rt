@@ -15,10 +15,10 @@ pub type Text = (&'static [Passing], usize, &'static [Instruction]);
 
 /// A class: its rank, its fields, the classes that it is or stands under, and its methods, each with its slot.
 pub type ClassRow = (
-    u32,
+    usize,
     &'static [ValueKind],
-    &'static [u32],
-    &'static [(u32, u32)],
+    &'static [usize],
+    &'static [(usize, usize)],
 );
 
 /// An import: its parameters, the last one first, and where it leads.
@@ -75,7 +75,7 @@ fn imports(alloc: Global, rows: &[ImportRow]) -> Result<Vec<Import>, AllocError>
     Ok(imports)
 }
 
-fn methods(alloc: Global, home: u32, rows: &[(u32, u32)]) -> Result<Vec<Method>, AllocError> {
+fn methods(alloc: Global, home: u32, rows: &[(usize, usize)]) -> Result<Vec<Method>, AllocError> {
     let mut methods = Vec::new(alloc);
     for (slot, number) in rows {
         methods.push(Method {
@@ -89,7 +89,7 @@ fn methods(alloc: Global, home: u32, rows: &[(u32, u32)]) -> Result<Vec<Method>,
     Ok(methods)
 }
 
-fn class(alloc: Global, number: u32, row: &ClassRow) -> Result<Class, AllocError> {
+fn class(alloc: Global, number: usize, row: &ClassRow) -> Result<Class, AllocError> {
     Ok(Class {
         number,
         rank: row.0,
@@ -101,7 +101,6 @@ fn class(alloc: Global, number: u32, row: &ClassRow) -> Result<Class, AllocError
 fn classes(alloc: Global, home: u32, rows: &[ClassRow]) -> Result<Vec<ClassCode>, AllocError> {
     let mut classes = Vec::new(alloc);
     for (number, row) in rows.iter().enumerate() {
-        let number = u32::try_from(number).unwrap_or(u32::MAX);
         let class = class(alloc, number, row)?;
         let methods = methods(alloc, home, row.3)?;
         classes.push(ClassCode { class, methods })?;

@@ -5,4 +5,4 @@ use Rattle.ang_gen_body.proofs.expression.+expression.Given as goal
 
 abbrev pub invariant-write_operands-loop-e : goal.invariant-write_operands-loop-e
 invariant-write_operands-loop-e l =
-    (l.text ≡ list_code l.next (reverse (map (λ y. y.now) l.yielded)) ++ l.initial.text) × (l.next + length l.yielded ≡ l.initial.next)
+    (l.text ≡ list_code l.next (reverse (map (λ y. y.now) l.yielded)) ++ l.initial.text) × (l.next + length l.yielded ≡ l.above + length l.operands)

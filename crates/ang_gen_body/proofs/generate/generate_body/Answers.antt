@@ -1,4 +1,4 @@
-use Rattle.std.proofs.Common.{◌≡◌, ◌-◌, refl, ap, ◌∙◌}
+use Rattle.std.proofs.Common.{◌≡◌, ◌-◌, refl, ap, ◌∙◌, arith}
 use Rattle.std.specs.List.{each_same}
 use Rattle.ang_gen_body.specs.Code.{body_code}
 use Rattle.ang_gen_body.specs.Peaks.{body_peak}
@@ -11,11 +11,13 @@ returns c =
     let b = c.args.body.now in let top = c.in_ok-peak.peak in
     let params : c.in_ok-params.params.items ≡ b.params.items = each_same b.params.items c.in_ok-params.params.items c.in_ok-params.ensures.cases.0 in
     let count : c.len-count.result ≡ parameter_count b = c.len-count.ensures ∙ b.params.ok.0 in
+    let peak : top ≡ body_peak (parameter_count b) b.statement = c.in_ok-peak.ensures.peak ∙ ap (λ n. body_peak n b.statement) count in
     record {
       code = record {
         params = params;
         result = refl;
         text = c.in_ok-text.ensures.exact ∙ ap (λ n. body_code n b.statement) count;
-        height = is_height b top (top - c.len-count.result) (c.in_ok-peak.ensures.exact ∙ ap (λ n. body_peak n b.statement) count) (ap (λ n. top - n) count);
+        height = is_height b top (top - c.len-count.result) peak (ap (λ n. top - n) count);
+        counted = omega (arith, peak, count, c.in_ok-peak.ensures.counted);
       };
     }

@@ -1,4 +1,4 @@
-use Rattle.std.proofs.Common.{◌≡◌, ◌+◌, IfOk, ap, sym, subst, ◌∙◌}
+use Rattle.std.proofs.Common.{◌≡◌, ◌+◌, IfSome, ap, sym, subst, ◌∙◌}
 use Rattle.ang_core.specs.Sound.{declared}
 use Rattle.ang_gen_body.specs.Peaks.{statement_peak, statements_peak}
 use Rattle.ang_gen_body.proofs.Lists.{block_peak}
@@ -10,7 +10,7 @@ statement_peak-returns-in-Block t c =
     let n = c.args.alive in
     let same : statements_peak n c.deref-in-Block.result.now ≡ statement_peak n c.args.s.now =
     ap (λ l. statements_peak n l) c.deref-in-Block.ensures.value ∙ sym (block_peak n c.in-Block.row) ∙ ap (λ x. statement_peak n x) (sym c.in-Block.is) in
-    record { exact = subst (λ m. IfOk c.row_peak.result (λ top. top ≡ m)) same c.row_peak.ensures.exact }
+    record { exact = subst (λ m. IfSome c.row_peak.result (λ top. top ≡ m)) same c.row_peak.ensures.exact }
 
 pub row_peak-loop-s-preserved : goal.row_peak-loop-s-preserved
 row_peak-loop-s-preserved t c =

@@ -1,16 +1,72 @@
-use Rattle.std.proofs.Common.{◌≡◌, ◌+◌, ◌-◌, [], ◌∷◌, ◌++◌, length, OnOk, refl, ap, sym, subst, ◌∙◌, arith}
-use Rattle.std.specs.Prelude.{map}
+use Rattle.std.proofs.Common.{rules, ◌≡◌, ◌+◌, ◌-◌, [], ◌∷◌, ◌++◌, length, OnOk, refl, ap, sym, subst, ◌∙◌, arith, length-append}
+use Rattle.std.specs.Prelude.{max, map}
+use Rattle.std.proofs.lemmas.Grind.{common_steps}
 use Rattle.std.proofs.lemmas.Iterator.Adapters.{YieldsList-from_rev_slice}
 use Rattle.std.proofs.lemmas.Iterator.Consumers.{YieldsList-turn, YieldsList-so_far}
 use Rattle.ang_code.specs.declared.instruction.Instruction.TheVariants.{SkipIfFalse, GoOn, Back}
+use Rattle.ang_core.specs.declared.tree.Statement.TheFolds.{the_lemmas}
 use Rattle.ang_core.proofs.tree.Statement.TheLaws.{the_size}
 use Rattle.ang_core.specs.Sound.{declared}
 use Rattle.ang_gen_body.specs.Code.{expr_code, leave_code, block_code, stmt_code, while_code}
+use Rattle.ang_gen_body.specs.Peaks.{peak, statement_peak}
 use Rattle.ang_gen_body.specs.Rows.{statements_code, declared_in}
 use Rattle.ang_gen_body.proofs.Shapes.{grown, behind_more, block_made}
 use Rattle.ang_gen_body.proofs.Arms.{ending, block_at, body_at, if_arm, while_arm, block_arm}
 use Rattle.ang_gen_body.proofs.Turns.{row_turn, row_room, row_depth, one_more}
+use Rattle.ang_gen_body.proofs.Counted.{room_alone, block_room, row_tall, statement_room}
 use Rattle.ang_gen_body.proofs.statement.+statement.Goals as goal
+
+-- ---- that the frame is counted
+
+pub write_statement-write_expression-requires : goal.write_statement-write_expression-requires
+write_statement-write_expression-requires t c =
+    let n = c.args.locals in let e = c.deref.result.now in
+    let whole : statement_peak n c.args.s.now ≡ peak n e = ap (λ s. statement_peak n s) c.in-Evaluate.is ∙ ap (λ x. peak n x) (sym c.deref.ensures) in
+    record { room = room_alone n e (omega (arith, whole, c.requires.room)) }
+
+pub write_statement-write_expression-requires-in-Declare : goal.write_statement-write_expression-requires-in-Declare
+write_statement-write_expression-requires-in-Declare t c =
+    let n = c.args.locals in let e = c.deref-in-Declare.result.now in
+    let whole : statement_peak n c.args.s.now ≡ peak n e = ap (λ s. statement_peak n s) c.in-Declare.is ∙ ap (λ x. peak n x) (sym c.deref-in-Declare.ensures) in
+    record { room = room_alone n e (omega (arith, whole, c.requires.room)) }
+
+pub write_statement-write_expression-requires-in-Return : goal.write_statement-write_expression-requires-in-Return
+write_statement-write_expression-requires-in-Return t c =
+    let n = c.args.locals in let e = c.deref-in-Return.result.now in
+    let whole : statement_peak n c.args.s.now ≡ peak n e = ap (λ s. statement_peak n s) c.in-Return.is ∙ ap (λ x. peak n x) (sym c.deref-in-Return.ensures) in
+    record { room = room_alone n e (omega (arith, whole, c.requires.room)) }
+
+pub write_statement-write_row-requires : goal.write_statement-write_row-requires
+write_statement-write_row-requires t c =
+    let more : length c.write_leave.new.text ≡ length (leave_code c.declared_by_all.result) + length c.args.text.now =
+    ap length c.in_ok-write_leave-in-Block.ensures.code ∙ length-append (leave_code c.declared_by_all.result) c.args.text.now in (
+      first_of (search (rules, the_lemmas), grind (the_lemmas, arith, common_steps)),
+      (
+        block_room c.args.locals c.in-Block.row c.args.s.now c.deref-in-Block-2.result.now c.deref-in-Block-2.ensures.value c.in-Block.is c.requires.room,
+        (c.requires.params, (c.requires.alive, (omega (arith, more, c.requires.exit), omega (arith, more, c.requires.again)))),
+      ),
+    )
+
+pub write_statement-write_test-requires-clause-room : goal.write_statement-write_test-requires-clause-room
+write_statement-write_test-requires-clause-room t c =
+    let n = c.args.locals in let e = c.deref-in-If-3.result.now in
+    let whole : statement_peak n c.args.s.now ≡ max (peak n c.in-If.test.value) (max (statement_peak n c.in-If.one.value) (statement_peak n c.in-If.two.value)) = ap (λ s. statement_peak n s) c.in-If.is in
+    let same : peak n e ≡ peak n c.in-If.test.value = ap (λ x. peak n x) c.deref-in-If-3.ensures in
+    room_alone n e (omega (arith, whole, same, c.requires.room))
+
+pub write_statement-begin_loop-requires-clause-room : goal.write_statement-begin_loop-requires-clause-room
+write_statement-begin_loop-requires-clause-room t c =
+    let n = c.args.locals in let e = c.deref-in-While-3.result.now in
+    let whole : statement_peak n c.args.s.now ≡ max (peak n c.in-While.test.value) (max (statement_peak n c.in-While.body.value) (statement_peak n c.in-While.step.value)) = ap (λ s. statement_peak n s) c.in-While.is in
+    let same : peak n e ≡ peak n c.in-While.test.value = ap (λ x. peak n x) c.deref-in-While-3.ensures in
+    room_alone n e (omega (arith, whole, same, c.requires.room))
+
+pub write_statement-begin_at_body-requires-clause-room : goal.write_statement-begin_at_body-requires-clause-room
+write_statement-begin_at_body-requires-clause-room t c =
+    let n = c.args.locals in let e = c.deref-in-DoWhile-2.result.now in
+    let whole : statement_peak n c.args.s.now ≡ max (peak n c.in-DoWhile.test.value) (statement_peak n c.in-DoWhile.body.value) = ap (λ s. statement_peak n s) c.in-DoWhile.is in
+    let same : peak n e ≡ peak n c.in-DoWhile.test.value = ap (λ x. peak n x) c.deref-in-DoWhile-2.ensures in
+    room_alone n e (omega (arith, whole, same, c.requires.room))
 
 -- ---- a block
 
@@ -57,13 +113,16 @@ write_body-returns t c =
 
 -- ---- statements in turn
 
+pub write_row-overflow_add-here : goal.write_row-overflow_add-here
+write_row-overflow_add-here t c =
+    omega (arith, row_tall c.args.locals c.args.row.now, c.declared_by_all.ensures.exact, c.ranges.locals.fits, c.requires.room)
+
 pub write_row-overflow_sub-here : goal.write_row-overflow_sub-here
 write_row-overflow_sub-here t c =
     let xs = c.args.row.now in let ys = c.loop-s.yielded in
     let turn = YieldsList-turn (YieldsList-from_rev_slice xs (cc)) ys _ c.loop-s.yielded_by _ _ c.in-Some.s c.in-Some.is c.next.ensures.steps in
     let so_far = YieldsList-so_far (YieldsList-from_rev_slice xs (cc)) ys _ c.loop-s.yielded_by in
-    let total : c.in_ok-here.here ≡ declared_in xs + c.args.locals = c.in_ok-here.ensures.exact ∙ ap (λ k. k + c.args.locals) c.declared_by_all.ensures.exact in
-    let room = row_room xs ys c.in-Some.s c.args.locals c.loop-s.here c.in_ok-here.here turn.0 turn.1 so_far total c.loop-s.invariant.1 in
+    let room = row_room xs ys c.in-Some.s c.args.locals c.loop-s.here (declared_in xs + c.args.locals) turn.0 turn.1 so_far refl c.loop-s.invariant.1 in
     omega (arith, room, c.declared_by-here.ensures.count)
 
 pub write_row-write_statement-requires : goal.write_row-write_statement-requires
@@ -71,16 +130,21 @@ write_row-write_statement-requires t c =
     let xs = c.args.row.now in let ys = c.loop-s.yielded in
     let turn = YieldsList-turn (YieldsList-from_rev_slice xs (cc)) ys _ c.loop-s.yielded_by _ _ c.in-Some.s c.in-Some.is c.next.ensures.steps in
     let so_far = YieldsList-so_far (YieldsList-from_rev_slice xs (cc)) ys _ c.loop-s.yielded_by in
-    let total : c.in_ok-here.here ≡ declared_in xs + c.args.locals = c.in_ok-here.ensures.exact ∙ ap (λ k. k + c.args.locals) c.declared_by_all.ensures.exact in
-    let room = row_room xs ys c.in-Some.s c.args.locals c.loop-s.here c.in_ok-here.here turn.0 turn.1 so_far total c.loop-s.invariant.1 in
+    let room = row_room xs ys c.in-Some.s c.args.locals c.loop-s.here (declared_in xs + c.args.locals) turn.0 turn.1 so_far refl c.loop-s.invariant.1 in
     let more = grown c.args.text.now c.loop-s.text _ c.loop-s.invariant.0 in
-    let depth = row_depth (λ s. the_size s) xs (map (λ y. y.now) ys) (length ys) c.in-Some.s.now turn.0 turn.1 so_far in (
+    let depth = row_depth (λ s. the_size s) xs (map (λ y. y.now) ys) (length ys) c.in-Some.s.now turn.0 turn.1 so_far in
+    let next = c.loop-s.here in let here = c.loop-s.here - c.declared_by-here.result in
+    let n_is : next ≡ declared c.in-Some.s.now + here = omega (arith, room, c.declared_by-here.ensures.count) in
+    let inside = statement_room xs ys c.in-Some.s c.args.locals next here (declared_in xs + c.args.locals) turn.0 turn.1 so_far refl c.loop-s.invariant.1 n_is in (
       omega (arith, depth, c.decreases),
       (
-        omega (arith, room, c.declared_by-here.ensures.count, c.requires.params),
+        omega (arith, inside, c.requires.room),
         (
-          omega (arith, room, c.declared_by-here.ensures.count, c.requires.alive),
-          (omega (arith, more, c.requires.exit), omega (arith, more, c.requires.again)),
+          omega (arith, room, c.declared_by-here.ensures.count, c.requires.params),
+          (
+            omega (arith, room, c.declared_by-here.ensures.count, c.requires.alive),
+            (omega (arith, more, c.requires.exit), omega (arith, more, c.requires.again)),
+          ),
         ),
       ),
     )
@@ -91,8 +155,7 @@ write_row-loop-s-preserved t c =
     let old = c.args.text.now in let next = c.loop-s.here in let here = c.loop-s.here - c.declared_by-here.result in
     let turn = YieldsList-turn (YieldsList-from_rev_slice xs (cc)) ys _ c.loop-s.yielded_by _ _ y c.in-Some.is c.next.ensures.steps in
     let so_far = YieldsList-so_far (YieldsList-from_rev_slice xs (cc)) ys _ c.loop-s.yielded_by in
-    let total : c.in_ok-here.here ≡ declared_in xs + c.args.locals = c.in_ok-here.ensures.exact ∙ ap (λ k. k + c.args.locals) c.declared_by_all.ensures.exact in
-    let room = row_room xs ys y c.args.locals next c.in_ok-here.here turn.0 turn.1 so_far total c.loop-s.invariant.1 in
+    let room = row_room xs ys y c.args.locals next (declared_in xs + c.args.locals) turn.0 turn.1 so_far refl c.loop-s.invariant.1 in
     let n_is : next ≡ declared y.now + here = omega (arith, room, c.declared_by-here.ensures.count) in
     let count = ap (λ l. declared_in l) (one_more ys y) in (
       row_turn x.params x.alive here next x.exit x.again ys y c.loop-s.text c.write_statement.new.text old c.loop-s.invariant.0 n_is c.requires.exit c.requires.again c.in_ok-write_statement.ensures.code,

@@ -1,4 +1,4 @@
-use Rattle.std.proofs.Common.{Some, map, ◌≡◌, ◌<◌, ◌≤◌, ◌==◌, ℕ, List, [], ◌++◌, cond, length, take, arith, refl, ap, ◌∙◌}
+use Rattle.std.proofs.Common.{Some, map, ◌≡◌, ◌<◌, ◌≤◌, ◌==◌, ℕ, List, [], ◌++◌, cond, length, arith, refl, ap, ◌∙◌}
 use Rattle.std.specs.Prelude.{slice_get}
 use Rattle.std.proofs.lemmas.List.{take_all}
 use Rattle.ang_index.specs.Rows.{items_at}

@@ -7,5 +7,5 @@ use Rattle.ang_names_resolved.proofs.families.families_in.Given as goal
 
 abbrev pub invariant-loop-number : goal.invariant-loop-number
 invariant-loop-number l =
-    (l.found.items ≡ each_after (families_after l.space l.families (signatures_of l.space l.families) l.functions) [] (take l.number l.families))
-    × (l.first ≡ l.functions + length (flat_map body_members (take l.number l.families)))
+    (l.found.items ≡ each_after (families_after l.space l.families (signatures_of l.space l.families) (length l.initial.bodies.items)) [] (take l.number l.families))
+    × (length l.bodies.items ≡ length l.initial.bodies.items + length (flat_map body_members (take l.number l.families)))

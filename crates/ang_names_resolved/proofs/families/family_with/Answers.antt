@@ -4,7 +4,7 @@ use Rattle.ang_names_known.specs.Items.{each_after}
 use Rattle.ang_names_heritage.specs.Graphs.{above, order_of, reach_of}
 use Rattle.ang_names_listed.specs.Declarations.{family_name}
 use Rattle.ang_names_tables.specs.Hierarchy.{holds, is_base, is_parent}
-use Rattle.ang_names_resolved.specs.Resolved.{fields_after, first_below, gives_members, methods_after}
+use Rattle.ang_names_resolved.specs.Resolved.{first_below, gives_members, methods_after}
 use Rattle.ang_names_resolved.proofs.families.family_with.Goals as goal
 
 pub returns : goal.returns
@@ -19,8 +19,8 @@ returns c =
     let over : c.from_vec.result ≡ above (is_parent ds) (length ds) c.args.number = search rules in
     let order : c.from_vec-2.result ≡ order_of (gives_members ds d.shape.is_class) (length ds) c.args.number = search rules in
     let rank : c.rank_of.result ≡ reach_of (holds E ds) (length ds) c.args.number = search rules in
-    let fields = c.in_ok-fields.ensures.exact ∙ ap (λ n. each_after (fields_after E d n) [] d.shape.members) (c.in_ok-inherited.ensures.exact E) in
-    let methods = c.in_ok-methods.ensures.exact ∙ ap (λ all. each_after (methods_after E all d c.args.first) [] d.shape.members) c.requires.known.signatures in
+    let fields = c.in_ok-fields.ensures.exact in
+    let methods = c.in_ok-methods.ensures.exact ∙ ap (λ all. each_after (methods_after E all d (length c.args.before.now)) [] d.shape.members) c.requires.known.signatures in
     let constructors = c.in_ok-constructors.ensures.exact in
     let origin : c.origin.result ≡ d.origin = search rules in
     record {

@@ -17,8 +17,8 @@ use Rattle.ang_vm_ask.proofs.Asks.{refused, made_told, by_making, listed_by, mad
 use Rattle.ang_vm_ask.proofs.Moved.{made_asked}
 use Rattle.ang_vm_ask.proofs.asking.make.Goals as goal
 
-pub returns-in_default-call_room-clause-told : goal.returns-in_default-call_room-clause-told
-returns-in_default-call_room-clause-told g c = λ z m sees.
+pub returns-in_default-clause-told : goal.returns-in_default-clause-told
+returns-in_default-clause-told g c = λ z m sees.
     let host = c.args.host.now in
     refused z m c.args.caller.now c.args.entity host sees None (values_of host.driver host.params c.args.args.now) host.result (world_of (λ v. (g.dyn-1.0.entry v).1) c.args.store.now) _ c.call_room.ensures.events
 
@@ -58,5 +58,5 @@ returns-clause-asked g c =
     (made_asked (λ v. (g.dyn-1.0.entry v).1) c.args.entity host.role c.args.store.now c.make_listed-answer.new.drivers c.make_listed-answer.new.events event host.driver _
     (c.make_listed-answer.ensures.listed ∙ ap (λ es. es ++ event ∷ []) c.call_room.ensures.events) (λ roles h. c.make_listed-answer.ensures.follow roles (h ∙ c.requires.role))
     c.room_for_ends.new.ends made c.make_listed-answer.ensures.moved
-    (omega (arith, c.make_listed-answer.ensures.len, c.make_listed-answer.ensures.capacity, c.in-Ok.ensures.room, c.in-Some.ensures))
-    c.room_for_ends.ensures.events (omega (arith, c.in-Ok-room_for_ends.ensures.room, c.in-Some.ensures)))
+    (omega (arith, c.make_listed-answer.ensures.len, c.make_listed-answer.ensures.capacity, c.in-Ok.ensures.room))
+    c.room_for_ends.ensures.events (omega (arith, c.in-Ok-room_for_ends.ensures.room)))

@@ -10,8 +10,8 @@ use Rattle.ang_vm_ask.proofs.Asks.{refused, told_by, by_property, listed_by}
 use Rattle.ang_vm_ask.proofs.Moved.{asked_then, moved_asked, answered_asked}
 use Rattle.ang_vm_ask.proofs.asking.read.Goals as goal
 
-pub returns-in_default-room_for-clause-told : goal.returns-in_default-room_for-clause-told
-returns-in_default-room_for-clause-told g c = λ z m sees.
+pub returns-in_default-clause-told : goal.returns-in_default-clause-told
+returns-in_default-clause-told g c = λ z m sees.
     refused z m c.args.caller.now c.args.entity c.args.host.now sees c.args.object [] c.args.host.now.result (world_of (λ v. (g.dyn-1.0.entry v).1) c.args.store.now) _ c.room_for.ensures.events
 
 pub returns-clause-told : goal.returns-clause-told
@@ -32,5 +32,5 @@ returns-clause-asked g c =
     let event = Called c.in-Ok.caller c.args.entity host.driver c.args.object c.from_vec.result (Asking c.read_listed-answer.result) in
     let all = answered_asked (λ v. (g.dyn-1.0.entry v).1) c.args.entity host.role c.args.store.now c.read_listed-answer.new.drivers c.read_listed-answer.new.events event host.driver _
     (c.read_listed-answer.ensures.listed ∙ ap (λ es. es ++ event ∷ []) c.room_for.ensures.events) (λ roles h. c.read_listed-answer.ensures.follow roles (h ∙ c.requires.role))
-    c.read_listed-answer.result c.read_listed-answer.ensures.moved (omega (arith, c.read_listed-answer.ensures.len, c.read_listed-answer.ensures.capacity, c.in-Ok.ensures.room, c.in-Some.ensures)) in
+    c.read_listed-answer.result c.read_listed-answer.ensures.moved (omega (arith, c.read_listed-answer.ensures.len, c.read_listed-answer.ensures.capacity, c.in-Ok.ensures.room)) in
     asked_then (λ v. (g.dyn-1.0.entry v).1) c.args.entity host.role _ _ _ all (moved_asked (λ v. (g.dyn-1.0.entry v).1) c.args.entity host.role _ _ c.take_answer.ensures.moves)

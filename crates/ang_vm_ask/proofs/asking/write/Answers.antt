@@ -12,8 +12,8 @@ use Rattle.ang_vm_ask.proofs.Asks.{refused, told_by, by_property, listed_by}
 use Rattle.ang_vm_ask.proofs.Moved.{asked_then, moved_asked, answered_asked}
 use Rattle.ang_vm_ask.proofs.asking.write.Goals as goal
 
-pub returns-in_default-write_room-clause-told : goal.returns-in_default-write_room-clause-told
-returns-in_default-write_room-clause-told g c = λ z m sees.
+pub returns-in_default-clause-told : goal.returns-in_default-clause-told
+returns-in_default-clause-told g c = λ z m sees.
     refused z m c.args.caller.now c.args.entity c.args.host.now sees c.args.object (value_of c.args.host.now.driver c.args.host.now.result c.args.value ∷ []) Nothing (world_of (λ v. (g.dyn-1.0.entry v).1) c.args.store.now) _ c.write_room.ensures.events
 
 pub returns-clause-told : goal.returns-clause-told
@@ -34,5 +34,5 @@ returns-clause-asked g c =
     let event = Called c.in-Ok.caller c.args.entity host.driver c.args.object c.in-Ok.args (Asking c.write_listed-answer.result) in
     let all = answered_asked (λ v. (g.dyn-1.0.entry v).1) c.args.entity host.role c.args.store.now c.write_listed-answer.new.drivers c.write_listed-answer.new.events event host.driver _
     (c.write_listed-answer.ensures.listed ∙ ap (λ es. es ++ event ∷ []) c.write_room.ensures.events) (λ roles h. c.write_listed-answer.ensures.follow roles (h ∙ c.requires.role))
-    c.write_listed-answer.result c.write_listed-answer.ensures.moved (omega (arith, c.write_listed-answer.ensures.len, c.write_listed-answer.ensures.capacity, c.in-Ok.ensures.room, c.in-Some.ensures)) in
+    c.write_listed-answer.result c.write_listed-answer.ensures.moved (omega (arith, c.write_listed-answer.ensures.len, c.write_listed-answer.ensures.capacity, c.in-Ok.ensures.room)) in
     asked_then (λ v. (g.dyn-1.0.entry v).1) c.args.entity host.role _ _ _ all (moved_asked (λ v. (g.dyn-1.0.entry v).1) c.args.entity host.role _ _ c.take_answer.ensures.moves)

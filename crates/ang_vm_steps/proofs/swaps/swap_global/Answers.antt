@@ -5,11 +5,11 @@ use Rattle.ang_heap.proofs.Storing.{moves_none}
 use Rattle.ang_vm_steps.proofs.Trading.{global_outside, global_traded}
 use Rattle.ang_vm_steps.proofs.swaps.swap_global.Goals as goal
 
-pub returns-then-place-top : goal.returns-then-place-top
-returns-then-place-top g c =
+pub returns-then-under-top : goal.returns-then-under-top
+returns-then-under-top g c =
     let deep : c.args.top ≤ length c.args.stack.now = omega (arith, c.requires.in_room, c.requires.within) in
     let w = world_of (λ v. (g.dyn-1.0.entry v).1) c.args.store.now in
-    record { acts = λ z code. global_outside z code c.args.room c.args.top c.args.stack.now c.args.stack.now w w deep c.args.to c.args.under c.args.body c.args.global c.if-place-top.true; in_room = tt; moves = λ roles. moves_none _ roles _ }
+    record { acts = λ z code. global_outside z code c.args.room c.args.top c.args.stack.now c.args.stack.now w w deep c.args.to c.args.under c.args.body c.args.global c.if-under-top.true; in_room = tt; moves = λ roles. moves_none _ roles _ }
 
 pub returns : goal.returns
 returns g c =

@@ -4,7 +4,7 @@ use Rattle.std.specs.FinMap as map
 use Rattle.ang_host.specs.State.{count_at}
 use Rattle.ang_drivers.specs.declared.objects.Counted.{Counted}
 use Rattle.ang_drivers.specs.Objects.{by_key}
-use Rattle.ang_drivers.proofs.Ledgers.{is_held, stands, by_key-removed, counted-released, counted-ended}
+use Rattle.ang_drivers.proofs.Ledgers.{is_held, stands, counted-released, counted-ended}
 use Rattle.ang_drivers.proofs.objects.Objects.release.Goals as goal
 
 pub count_down-requires : goal.count_down-requires
@@ -49,7 +49,7 @@ invariant_of-self-2 g c =
     let there = stands counts c.args.key c.requires.held.0 c.requires.held.1 in
     let one : n ≡ 1 = omega (arith, ltb-false 1 n (sym c.if-count_down.ensures.exact), s.positive c.args.key n there) in
     let new = counted-ended counts _ c.args.key n s.made s.added s.released there one
-    (by_key-removed (λ (o : Counted g.row.T.Denot). o.count) _ _ _ c.remove.ensures.updates.0 ∙ ap (λ m. map.remove m c.args.key) c.if-count_down.ensures.counts)
+    (c.take_out.ensures.counts ∙ ap (λ m. map.remove m c.args.key) c.if-count_down.ensures.counts)
     (record { sums = s.sums; positive = s.positive; unused = s.unused }) in
     record { sums = new.sums; positive = new.positive; unused = new.unused; makings = s.makings; few_asked = s.few_asked; few_added = s.few_added }
 
@@ -63,8 +63,8 @@ returns g c =
     record {
       released = (
         there ∙ ap Some one,
-        by_key-removed (λ (o : Counted g.row.T.Denot). o.count) _ _ _ c.remove.ensures.updates.0 ∙ ap (λ m. map.remove m c.args.key) c.if-count_down.ensures.counts,
-        ap (λ m. record { next = s.made; values = m }) (by_key-removed (λ (o : Counted g.row.T.Denot). o.value) _ _ _ c.remove.ensures.updates.0 ∙ ap (λ m. map.remove m c.args.key) c.if-count_down.ensures.values),
+        c.take_out.ensures.counts ∙ ap (λ m. map.remove m c.args.key) c.if-count_down.ensures.counts,
+        ap (λ m. record { next = s.made; values = m }) (c.take_out.ensures.values ∙ ap (λ m. map.remove m c.args.key) c.if-count_down.ensures.values),
         refl,
       );
     }

@@ -1,15 +1,8 @@
-use Rattle.std.proofs.Common.{◌<◌, ◌^◌, arith, Some}
+use Rattle.std.proofs.Common.{Some}
 use Rattle.ang_meaning.specs.declared.routine.Routine.{Routine}
 use Rattle.ang_engine_modules.proofs.Loading.{loaded_linked}
-use Rattle.ang_engine_modules.proofs.Serving.{small_link, fits_still, within_still}
+use Rattle.ang_engine_modules.proofs.Serving.{fits_still, within_still}
 use Rattle.ang_engine_modules.proofs.modules.Modules.bind.Goals as goal
-
-pub overflow_cast-function : goal.overflow_cast-function
-overflow_cast-function c =
-    let x = c.self.inside in
-    let f : Routine = record { home = c.args.exporter; number = c.args.number } in
-    let few : c.args.number < 2 ^ 32 = small_link x.table x.loaded.items c.args.self.now c.self.invariant c.self.view_is c.args.home c.args.index f c.requires.fits in
-    omega (arith, few)
 
 pub invariant_of-self : goal.invariant_of-self
 invariant_of-self c =

@@ -1,16 +1,9 @@
-use Rattle.std.proofs.Common.{◌<◌, ◌^◌, length, arith}
+use Rattle.std.proofs.Common.{length}
 use Rattle.ang_host.specs.Boxes.{members}
 use Rattle.ang_heap.specs.Stores.{world_of}
 use Rattle.ang_vm.specs.Machines.{lent}
-use Rattle.ang_engine_modules.proofs.Serving.{small, there, have, call_ended}
+use Rattle.ang_engine_modules.proofs.Serving.{there, have, call_ended}
 use Rattle.ang_engine_modules.proofs.modules.Modules.call.Goals as goal
-
-pub overflow_cast-entry : goal.overflow_cast-entry
-overflow_cast-entry g c =
-    let x = c.self.inside in
-    let few : c.args.number < 2 ^ 32 =
-    small x.table x.loaded.items c.args.self.now c.self.invariant c.self.view_is c.args.home c.args.number (length c.args.args.now) c.requires.takes in
-    omega (arith, few)
 
 pub run-requires-clause-drivers : goal.run-requires-clause-drivers
 run-requires-clause-drivers g c =

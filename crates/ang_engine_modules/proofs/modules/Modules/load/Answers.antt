@@ -11,6 +11,6 @@ invariant_of-self c =
     let x = c.self.inside in
     let e = c.in_ok-code.ensures in
     loaded_put x.table _ x.loaded.items _ c.self.invariant c.args.home c.in_ok-code.code c.args.loaded c.put_code.ensures.put c.put_loaded.ensures.put
-    (coded c.args.home c.in_ok-code.code c.args.loaded c.in_ok-generated.generated (e.name ∙ c.as_slice.ensures.same) e.bodies e.few e.imports e.bound e.entities e.classes e.slots
+    (coded c.args.home c.in_ok-code.code c.args.loaded c.in_ok-generated.generated (e.name ∙ c.as_slice.ensures.same) e.bodies e.imports e.bound e.entities e.classes e.slots
     c.in_ok-generated.ensures.params c.in_ok-generated.ensures.results c.in_ok-generated.ensures.code c.requires.sound c.requires.unbound)
     (ap (λ l. loaded_at l c.args.home) c.self.view_is ∙ c.requires.empty) c.requires.unbound
