@@ -3,7 +3,6 @@ pub mod Counting
 pub mod Stepping
 pub mod Coming
 pub mod Weighing
-pub mod BorrowedFields
 pub mod MovedValues
 pub mod MovedGlobals
 pub mod MovedFields
@@ -11,5 +10,3 @@ pub mod BorrowedOperands
 pub mod OperandPaths
 pub mod OperandLists
 pub mod Loading
-pub mod Fielding
-pub mod NumberGlobals

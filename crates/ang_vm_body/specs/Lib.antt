@@ -1,6 +1,4 @@
-pub mod Along
 pub mod Operands
 pub mod Loads
 pub mod Crossings
 pub mod Running
-pub mod Taking
