@@ -137,6 +137,9 @@ raise_done s t k o g u =
 pub count_in_slab : (s : Slab ScriptObject) (k : ℕ) (o : ScriptObject) → get s k ≡ Some o → count_of_object (map.get (objects_in s) k) ≡ o.count
 count_in_slab s k o g = ap count_of_object (get_object s k ∙ ap (option_map record_of) g)
 
+pub count_nowhere : (s : Slab ScriptObject) (k : ℕ) → get s k ≡ None → count_of_object (map.get (objects_in s) k) ≡ 0
+count_nowhere s k g = ap count_of_object (get_object s k ∙ ap (option_map record_of) g)
+
 -- ---- a slab without objects
 
 none_at : (slots : List (Option ScriptObject)) (i : ℕ) → count_by is_some slots ≡ 0 → slice_index_or slots i None ≡ None
@@ -220,6 +223,13 @@ pub lent_stored : (s t : Slab ScriptObject) (k i : ℕ) (v : Slot) (old new : Sc
 lent_stored s t k i v old new g e put r h =
     let same : old ≡ r = ap (λ x. unwrap_or x old) (sym g ∙ h) in
     (new, e, put ∙ ap (λ x. record (record_of x) { fields = slice_set x.fields.items i v }) same)
+
+pub field_lent : (s : Slab ScriptObject) (k i : ℕ) (v : Slot) (old new : ScriptObject) → get s k ≡ Some old → record_of new ≡ record (record_of old) { fields = slice_set old.fields.items i v }
+    → objects_in (with_value s k new) ≡ with_field k (map.get (objects_in s) k) i v (objects_in s)
+field_lent s k i v old new g put =
+    object_set s (with_value s k new) k new (value_updates s (with_value s k new) k old new g refl)
+    ∙ ap (map.insert (objects_in s) k) put
+    ∙ sym (ap (λ o. with_field k o i v (objects_in s)) (get_object s k ∙ ap (option_map record_of) g))
 
 pub on_err : {A E P : Type 0} (r : Result A E) → P → OnErr r P
 on_err (Ok a) p = tt

@@ -3,3 +3,4 @@ pub mod Heaping
 pub mod Giving
 pub mod Storing
 pub mod Puts
+pub mod Numbering

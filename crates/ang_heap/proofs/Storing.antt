@@ -8,6 +8,7 @@ use Rattle.ang_meaning.specs.declared.slot.Slot.{Slot}
 use Rattle.ang_meaning.specs.declared.slot.Slot.TheVariants.{Bits, Script, Host}
 use Rattle.ang_meaning.specs.World.{World, ScriptObjects, HostCounts, Tallied, Yes, No, hold, one_more, tally_step, host_raised, script_raised, if_told, with_inputs}
 use Rattle.ang_meaning.specs.Told.{Told}
+use Rattle.ang_heap.specs.declared.heap.Heap.{Heap}
 use Rattle.ang_heap.specs.declared.store.Store.{Store}
 use Rattle.ang_heap.specs.Parts.{world_by}
 use Rattle.ang_heap.specs.Stores.{StoreMoves}
@@ -72,4 +73,11 @@ pub moves_join : {V : Type 0} {P : V → Type 0} (m : Meanings P) (roles : List 
 moves_join m roles s t u p q = record {
   parts = parts_join m roles (members s.drivers) (members t.drivers) (members u.drivers) s.events.items t.events.items u.events.items p.parts q.parts;
   ready = λ r. q.ready (p.ready r);
+}
+
+-- its script objects alone are others
+pub moves_objects : {V : Type 0} {P : V → Type 0} (m : Meanings P) (roles : List Role) (s : Store V P) (h : Heap) → StoreMoves m roles s (record s { heap = h })
+moves_objects m roles s h = record {
+  parts = parts_none m roles (members s.drivers) s.events.items;
+  ready = λ r. record { kept = record { drivers = r.kept.drivers; alive = r.kept.alive; none = r.kept.none }; room = r.room };
 }

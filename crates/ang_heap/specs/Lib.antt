@@ -1,4 +1,5 @@
 pub mod Globals
+pub mod Numbers
 pub mod Parts
 pub mod Heaps
 pub mod Stores

@@ -37,7 +37,7 @@ impl Globals {
 
 /// The globals of a module, none where there is no such module.
 #[inline(always)]
-fn values_of(globals: &Globals, home: u32) -> &[Slot]
+pub(crate) fn values_of(globals: &Globals, home: u32) -> &[Slot]
     ensures exact { result.now ≡ slice_index_or (values_in globals.now) home [] }
 {
     match globals.modules.get(home as usize) {

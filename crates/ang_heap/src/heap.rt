@@ -124,11 +124,13 @@ fn set_count(records: &mut Slab<ScriptObject>, key: usize, count: u64)
 
 /// One more place holds a script object. False where its count is full, and then nothing is done. True where
 /// there is no such object: its number then names nothing, and to hold that changes nothing.
-fn raise(records: &mut Slab<ScriptObject>, key: usize) -> bool
+#[inline(always)]
+pub(crate) fn raise(records: &mut Slab<ScriptObject>, key: usize) -> bool
     ensures raised { objects_in records.new
         ≡ (if result then script_raised key (objects_in records.old) else objects_in records.old) }
     ensures full { result ≡ false
         → 2 ^ 64 - 1 ≤ count_of_object (map.get (objects_in records.old) key) }
+    ensures kept { result ≡ false → records.new ≡ records.old }
 {
     let count = match records.get(key) {
         Some(o) => o.count,
@@ -176,6 +178,25 @@ fn hold(records: &mut Slab<ScriptObject>, drivers: &mut Drivers, value: Slot) ->
             None => true,
         },
     }
+}
+
+/// One place less holds a script object that other places hold as well. False where no other place does or
+/// there is no such object, and then nothing is done.
+#[inline(always)]
+pub(crate) fn lower_shared(records: &mut Slab<ScriptObject>, key: usize) -> bool
+    ensures lowered { IsTrue result
+        → script_lowered key (objects_in records.old) ≡ Kept (objects_in records.new) }
+    ensures last { result ≡ false
+        → count_of_object (map.get (objects_in records.old) key) ≤ 1 }
+    ensures same { result ≡ false → records.new ≡ records.old }
+{
+    if let Some(o) = records.get_mut(key) {
+        if o.count > 1 {
+            o.count -= 1;
+            return true;
+        }
+    }
+    false
 }
 
 /// One place less holds a script object: the object, where it was the last.

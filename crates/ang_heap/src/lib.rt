@@ -6,6 +6,7 @@
 mod globals;
 mod heap;
 mod hosts;
+mod numbers;
 mod objects;
 mod store;
 

@@ -1,5 +1,6 @@
 //! What lies outside the stack of a run, as one thing.
-ghost use Rattle.std.specs.Prelude.{◌≡◌, ◌∷◌, false, List, []};
+ghost use Rattle.std.specs.Prelude.{◌≡◌, ℕ, ◌∷◌, false, List, [], Option};
+ghost use Rattle.ang_meaning.specs.declared.slot.Slot.TheVariants.{Script as Handle};
 ghost use Rattle.ang_meaning.specs.World.{hold as hold_in, give as give_in, if_told};
 ghost use Rattle.ang_meaning.specs.Counting.{CanGive, HasKey};
 ghost use Rattle.ang_heap.specs.Heaps.{objects_of};
@@ -7,7 +8,7 @@ ghost use Rattle.ang_heap.specs.Parts.{IsTallyFull, states_among, counts_among};
 ghost use Rattle.ang_heap.specs.Stores.{world_of, IsReady, StoreTold, HasMoved, StoreBecomes};
 
 use crate::globals::Globals;
-use crate::heap::Heap;
+use crate::heap::{Heap, lower_shared, raise};
 use ang_host::{Driver, Drivers, HostEvent};
 use ang_meaning::Slot;
 
@@ -42,11 +43,16 @@ pub fn hold(store: &mut Store, value: Slot) -> bool
     ensures unchanged { result ≡ false
         → states_among ⟦<dyn Driver as Driver>⟧ store.new.drivers
         ≡ states_among ⟦<dyn Driver as Driver>⟧ store.old.drivers }
+    ensures kept { (handle : Option ℕ) → value ≡ Handle handle → result ≡ false
+        → store.new ≡ store.old }
     ensures moves { HasMoved ⟦<dyn Driver as Driver>⟧ store.old store.new }
 {
     match value {
         Slot::Bits(_) => true,
-        Slot::Script(_) => hold_object(store, value),
+        Slot::Script(handle) => match handle {
+            Some(number) => raise(&mut store.heap.records, number),
+            None => true,
+        },
         Slot::Host(_, _) => hold_object(store, value),
     }
 }
@@ -77,7 +83,14 @@ pub fn give(store: &mut Store, value: Slot)
 {
     match value {
         Slot::Bits(_) => {}
-        Slot::Script(_) => give_object(store, value),
+        Slot::Script(handle) => match handle {
+            Some(number) => {
+                if !lower_shared(&mut store.heap.records, number) {
+                    give_object(store, value);
+                }
+            }
+            None => {}
+        },
         Slot::Host(_, _) => give_object(store, value),
     }
 }

@@ -1,15 +1,18 @@
 //! Where a body is left.
-ghost use Rattle.std.specs.Prelude.{◌≡◌, ℕ, ◌+◌, ◌-◌, ◌<◌, ◌≤◌, ◌∷◌, ◌++◌, List, [], length, reverse, Some, IfOk};
+ghost use Rattle.std.specs.Prelude.{◌≡◌, ℕ, ◌+◌, ◌-◌, ◌<◌, ◌≤◌, ◌∷◌, ◌++◌, List, [], length, Some, IfSome};
 ghost use Rattle.ang_meaning.specs.declared.slot.Slot.{Slot};
+ghost use Rattle.ang_meaning.specs.declared.routine.Routine.{Routine};
+ghost use Rattle.ang_meaning.specs.World.{World};
+ghost use Rattle.ang_meaning.specs.Setting.{Setting, params_of};
 ghost use Rattle.ang_meaning.specs.Counting.{CanGive};
 ghost use Rattle.ang_meaning.specs.Results.{give_others as others_given, outs_of};
 ghost use Rattle.ang_code.specs.declared.instruction.Instruction.TheVariants.{Return};
-ghost use Rattle.ang_code.specs.Machine.{act, back};
+ghost use Rattle.ang_code.specs.declared.instruction.Frame.{Frame};
+ghost use Rattle.ang_code.specs.Machine.{Texts, act, back};
 ghost use Rattle.ang_heap.specs.Stores.{world_of, IsReady, StoreTold, HasMoved, StoreBecomes};
-ghost use Rattle.ang_vm_fuse.specs.Parameters.{by_value as are_by_value};
+ghost use Rattle.ang_vm_fuse.specs.Parameters.{has_outs as give_back};
 ghost use Rattle.ang_vm_stack.specs.Stacks.{values};
-ghost use Rattle.ang_vm_stack.specs.Tables.{body_of, setting_of, texts_of};
-ghost use Rattle.ang_vm.specs.Legs.{Fits, AllFit, given_by, with_out, Unmoved, left};
+ghost use Rattle.ang_vm.specs.Legs.{given_by, with_out, Unmoved, handed, resumed};
 ghost use Rattle.ang_vm_steps.specs.Arms.{AreCounted};
 
 use ang_code::Frame;
@@ -17,10 +20,18 @@ use ang_heap::{Store, give};
 use ang_host::Driver;
 use ang_meaning::{Passing, Slot};
 use ang_vm_fuse::body::Body;
-use ang_vm_stack::place::{Ending, Place, Standing};
+use ang_vm_stack::place::{Place, Standing};
 use ang_vm_stack::stack::{peek, push};
-use ang_vm_stack::table::Table;
 use ang_vm_steps::many::{give_top, nothing_lives};
+
+/// What a body leaves.
+#[derive(Clone, Copy, PartialEq, Eq, Debug)]
+pub struct Parted {
+    /// The value that it gives.
+    pub value: Slot,
+    /// How many values are in use below it.
+    pub kept: usize,
+}
 
 /// A parameter's value at its body's end: that of an `&out` parameter stays, and any other is given up.
 #[inline(always)]
@@ -95,55 +106,11 @@ pub fn keep_outs(params: &[Passing], stack: &mut [Slot], top: usize) -> usize
     kept
 }
 
-/// The innermost caller goes on with a value on top of those in use, or the run ends with it where there is
-/// none.
-#[inline(always)]
-fn hand_back(
-    stack: &mut [Slot],
-    frames: &mut Vec<Frame>,
-    store: &mut Store,
-    value: Slot,
-    kept: usize,
-    ticks: u64,
-) -> Result<Standing, Ending>
-    requires below { kept < length stack.old }
-    requires callers { AllFit (length stack.old) (reverse frames.old.items) }
-    requires ready { IsReady ⟦<dyn Driver as Driver>⟧ store.old }
-    requires held { CanGive (values stack.old kept) (world_of ⟦<dyn Driver as Driver>⟧ store.old) }
-    ensures told { (outs rest : List Slot) → values stack.old kept ≡ outs ++ rest
-        → StoreTold ⟦<dyn Driver as Driver>⟧ (back (reverse frames.old.items) value outs rest ticks)
-        store.old (left result stack.new (reverse frames.new.items)) store.new }
-    ensures fits { IfOk result (λ s. Fits s stack.new frames.new.items) }
-    ensures moves { HasMoved ⟦<dyn Driver as Driver>⟧ store.old store.new }
-{
-    match frames.pop() {
-        None => {
-            give_top(stack, store, kept, kept);
-            Err(Ending::Gives(value, ticks))
-        }
-        Some(caller) => {
-            if kept >= caller.room {
-                return Err(Ending::Lost);
-            }
-            push(stack, kept, value);
-            Ok(Standing {
-                body: caller.of,
-                room: caller.room,
-                place: Place {
-                    at: caller.at,
-                    top: kept + 1,
-                    ticks,
-                },
-            })
-        }
-    }
-}
-
 /// The parameters are left: those other than `&out` give up their values, and the values of the others move down
 /// to where the parameters begin. How many values are in use then.
 #[inline(always)]
 fn leave_params(
-    by_value: bool,
+    has_outs: bool,
     params: &[Passing],
     stack: &mut [Slot],
     store: &mut Store,
@@ -151,7 +118,7 @@ fn leave_params(
 ) -> usize
     requires enough { length params.now ≤ top }
     requires within { top ≤ length stack.old }
-    requires known { by_value ≡ are_by_value params.now }
+    requires known { has_outs ≡ give_back params.now }
     requires ready { IsReady ⟦<dyn Driver as Driver>⟧ store.old }
     requires held { CanGive (values stack.old top) (world_of ⟦<dyn Driver as Driver>⟧ store.old) }
     ensures given { StoreBecomes ⟦<dyn Driver as Driver>⟧
@@ -162,7 +129,7 @@ fn leave_params(
     ensures fewer { result ≤ top }
     ensures moves { HasMoved ⟦<dyn Driver as Driver>⟧ store.old store.new }
 {
-    if by_value {
+    if !has_outs {
         give_top(stack, store, top, params.len());
         return top - params.len();
     }
@@ -170,44 +137,66 @@ fn leave_params(
     keep_outs(params, stack, top)
 }
 
-/// `Return`: the body gives up `count` locals and its parameters, and its caller goes on with the top value,
-/// above those of the `&out` parameters.
+/// `Return`: a body with `top` values in use gives up `count` locals and its parameters, and leaves the top value,
+/// above those of its `&out` parameters. None where it finds less than it takes.
 #[inline(always)]
 pub fn leave_body(
-    table: &Table,
     code: &Body,
     stack: &mut [Slot],
-    frames: &mut Vec<Frame>,
     store: &mut Store,
-    from: Standing,
+    top: usize,
     count: usize,
-) -> Result<Standing, Ending>
-    requires there { body_of table.now from.body ≡ Some code.now }
-    requires fits { Fits from stack.old frames.old.items }
+) -> Option<Parted>
+    requires within { top ≤ length stack.old }
     requires ready { IsReady ⟦<dyn Driver as Driver>⟧ store.old }
-    requires counted { AreCounted ⟦<dyn Driver as Driver>⟧ stack.old from.place.top store.old }
-    ensures told { (nesting : ℕ)
-        → StoreTold ⟦<dyn Driver as Driver>⟧ (act (setting_of table.now nesting)
-        (texts_of table.now) (Some (Return count)) from.body from.place.at from.room
-        (values stack.old from.place.top) (reverse frames.old.items) from.place.ticks) store.old
-        (left result stack.new (reverse frames.new.items)) store.new }
-    ensures fits { IfOk result (λ s. Fits s stack.new frames.new.items) }
+    requires counted { AreCounted ⟦<dyn Driver as Driver>⟧ stack.old top store.old }
+    ensures told { (z : Setting) (texts : Texts) (f : Routine) (at room : ℕ) (frames : List Frame)
+        (ticks : ℕ) → code.now.params.items ≡ params_of z f
+        → StoreTold ⟦<dyn Driver as Driver>⟧ (act z texts (Some (Return count)) f at room
+        (values stack.old top) frames ticks) store.old (handed result stack.new frames ticks)
+        store.new }
+    ensures held { IfSome result (λ parted. CanGive (values stack.new parted.kept)
+        (world_of ⟦<dyn Driver as Driver>⟧ store.new)) }
+    ensures fewer { IfSome result (λ parted. parted.kept < top) }
     ensures moves { HasMoved ⟦<dyn Driver as Driver>⟧ store.old store.new }
 {
-    let top = from.place.top;
     if top == 0 {
-        return Err(Ending::Lost);
+        return None;
     }
     if count > top - 1 {
-        return Err(Ending::Lost);
+        return None;
     }
     let params = code.params();
     let base = top - 1 - count;
     if params.len() > base {
-        return Err(Ending::Lost);
+        return None;
     }
     let value = peek(stack, top, 0);
     give_top(stack, store, top - 1, count);
-    let kept = leave_params(code.by_value(), params, stack, store, base);
-    hand_back(stack, frames, store, value, kept, from.place.ticks)
+    let kept = leave_params(code.has_outs(), params, stack, store, base);
+    Some(Parted { value, kept })
+}
+
+/// A caller goes on with a value on top of those in use, if there is room for it.
+#[inline(always)]
+pub fn resume(stack: &mut [Slot], caller: Frame, parted: Parted, ticks: u64) -> Option<Standing>
+    requires below { parted.kept < length stack.old }
+    ensures told { (frames : List Frame) (w : World)
+        → back (caller ∷ frames) parted.value [] (values stack.old parted.kept) ticks w
+        ≡ resumed result stack.new frames w }
+    ensures fits { IfSome result (λ s. (s.place.top ≤ s.room) × (s.room ≡ caller.room)) }
+{
+    if parted.kept >= caller.room {
+        return None;
+    }
+    push(stack, parted.kept, parted.value);
+    Some(Standing {
+        body: caller.of,
+        room: caller.room,
+        place: Place {
+            at: caller.at,
+            top: parted.kept + 1,
+            ticks,
+        },
+    })
 }

@@ -3,10 +3,6 @@ pub mod Counting
 pub mod Stepping
 pub mod Coming
 pub mod Weighing
-pub mod MovedValues
-pub mod MovedGlobals
-pub mod MovedFields
 pub mod BorrowedOperands
 pub mod OperandPaths
 pub mod OperandLists
-pub mod Loading

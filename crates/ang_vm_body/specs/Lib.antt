@@ -1,4 +1,3 @@
 pub mod Operands
-pub mod Loads
 pub mod Crossings
 pub mod Running

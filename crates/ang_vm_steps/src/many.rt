@@ -57,7 +57,7 @@ pub fn give_top(stack: &[Slot], store: &mut Store, top: usize, count: usize)
         store.old store.new }
     ensures moves { HasMoved ⟦<dyn Driver as Driver>⟧ store.old store.new }
 {
-    if nothing_lives(store) {
+    if count == 0 || nothing_lives(store) {
         return;
     }
     give_each(stack, store, top, count);

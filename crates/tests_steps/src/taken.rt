@@ -4,7 +4,8 @@ ghost use Rattle.std.specs.Prelude.{◌<◌, ◌^◌, length};
 use crate::known::KNOWN;
 use ang_code::Instruction;
 use ang_code::Instruction::{
-    Back, Change as Changed, Do, Drop, Leave, Load, PushBits, Return, SkipIfFalse, Store, Tick,
+    Back, Change as Changed, Do, Drop, DropUnder, Leave, Load, PushBits, Return, SkipIfFalse,
+    Store, Tick,
 };
 use ang_kinds::{EntityNo, Prim};
 use ang_meaning::{Arithmetic, Callee, Change, Comparison, Operation, Slot};
@@ -39,7 +40,7 @@ pub type Row = (Step, Left);
 pub type Left = (usize, usize, u64, u64, u64);
 
 /// An odd number is 1 as a truth value. Where a comparison does not hold, four instructions more are passed.
-const TAKEN: [Row; 26] = [
+const TAKEN: [Row; 29] = [
     (Step::Push(4), (8, 3, 5, 3, 4)),
     (Step::Load(1), (8, 3, 5, 3, 5)),
     (Step::Keep(0), (9, 1, 3, 3, 0)),
@@ -66,6 +67,9 @@ const TAKEN: [Row; 26] = [
     (Step::Drop, (8, 1, 5, 3, 0)),
     (Step::Leave(1), (8, 1, 5, 3, 0)),
     (Step::Leave(2), (8, 0, 5, 3, 0)),
+    (Step::DropUnder(1), (8, 1, 3, 3, 0)),
+    (Step::Swap(None, 0, 1), (8, 2, 3, 5, 0)),
+    (Step::Swap(Some(Prim::Bool), 0, 1), (8, 2, 1, 5, 0)),
 ];
 
 /// At a loop's end a tick is taken.
@@ -240,7 +244,8 @@ const DIFFER: Change = Change {
     old: false,
 };
 
-/// Two operators that stand together, and values that are given up at a loop's end, one after the other.
+/// Two operators that stand together, values that are given up at a loop's end, and such that are given up below the top
+/// one or change places, one after the other.
 const PAIRED: &[Instruction] = &[
     Load(1),
     Load(1),
@@ -294,10 +299,17 @@ const PAIRED: &[Instruction] = &[
     Back(9),
     Leave(2),
     Drop,
+    DropUnder(2),
+    DropUnder(3),
+    Instruction::Swap {
+        to: Some(Prim::I32),
+        under: 0,
+        with: 2,
+    },
 ];
 
 /// Each of them is one step. Three values and more are given up alone.
-const PAIRS: [(usize, Option<Step>); 12] = [
+const PAIRS: [(usize, Option<Step>); 15] = [
     (0, Some(Step::MultiplyShift64(1, 0, 16))),
     (5, Some(Step::AddTestGreater64(1, 0, 9, 4))),
     (11, Some(Step::SubtractAddKeep64(1, 0, 1, 0))),
@@ -310,6 +322,9 @@ const PAIRS: [(usize, Option<Step>); 12] = [
     (48, Some(Step::Other)),
     (50, Some(Step::Leave(2))),
     (51, Some(Step::Drop)),
+    (52, Some(Step::DropUnder(2))),
+    (53, Some(Step::Other)),
+    (54, Some(Step::Swap(Some(Prim::I32), 0, 2))),
 ];
 
 /// A change of a `uint64` by `^`.

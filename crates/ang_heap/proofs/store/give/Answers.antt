@@ -1,9 +1,37 @@
-use Rattle.std.proofs.Common.{ap, ◌∙◌}
+use Rattle.std.proofs.Common.{sym, ap, ◌∙◌}
+use Rattle.ang_meaning.specs.declared.slot.Slot.TheVariants.{Script}
 use Rattle.ang_meaning.specs.World.{give, with_inputs}
+use Rattle.ang_meaning.proofs.Giving.{give_bits, give_null, give_kept}
+use Rattle.ang_heap.specs.Heaps.{objects_in}
 use Rattle.ang_heap.specs.Stores.{world_of}
-use Rattle.ang_meaning.proofs.Giving.{give_bits}
+use Rattle.ang_heap.proofs.Storing.{moves_objects, moves_join}
 use Rattle.ang_heap.proofs.store.give.Goals as goal
 
 pub returns-in-Bits-clause-given : goal.returns-in-Bits-clause-given
 returns-in-Bits-clause-given g c = λ is.
     ap (λ v. give v (with_inputs is (world_of (λ v. (g.dyn-1.0.entry v).1) c.args.store.now))) c.in-Bits.is ∙ give_bits _ _
+
+pub returns-in-None-clause-given : goal.returns-in-None-clause-given
+returns-in-None-clause-given g c = λ is.
+    ap (λ v. give v (with_inputs is (world_of (λ v. (g.dyn-1.0.entry v).1) c.args.store.now))) (c.in-Script.is ∙ ap Script c.in-None.is) ∙ give_null _
+
+-- others hold the object as well
+pub returns-else-not-lower_shared-clause-given : goal.returns-else-not-lower_shared-clause-given
+returns-else-not-lower_shared-clause-given g c = λ is.
+    let w = with_inputs is (world_of (λ v. (g.dyn-1.0.entry v).1) c.args.store.now) in
+    ap (λ v. give v w) (c.in-Script.is ∙ ap Script c.in-Some.is)
+    ∙ give_kept c.in-Some.number (objects_in c.lower_shared.new.records) w (c.lower_shared.ensures.lowered c.if-not-lower_shared.false)
+
+-- its script objects are as they were
+pub returns-then-not-lower_shared-clause-given : goal.returns-then-not-lower_shared-clause-given
+returns-then-not-lower_shared-clause-given g c = λ is.
+    let s = c.args.store.now in
+    ap (λ v. give v (with_inputs is (world_of (λ v. (g.dyn-1.0.entry v).1) s))) c.in-Script.is
+    ∙ ap (λ r. give (Script c.in-Script.handle) (with_inputs is (world_of (λ v. (g.dyn-1.0.entry v).1) (record s { heap = record s.heap { records = r } })))) (sym (c.lower_shared.ensures.same c.if-not-lower_shared.true))
+    ∙ c.give_object.ensures.given is
+
+pub returns-then-not-lower_shared-clause-moves : goal.returns-then-not-lower_shared-clause-moves
+returns-then-not-lower_shared-clause-moves g c = λ roles.
+    let s = c.args.store.now in
+    let h = record s.heap { records = c.lower_shared.new.records } in
+    moves_join _ roles s (record s { heap = h }) c.give_object.new.store (moves_objects _ roles s h) (c.give_object.ensures.moves roles)
