@@ -6,7 +6,7 @@ those of bench/classes, which have classes of their own, with those of bench/obj
 of bench/imports, which import functions of other modules. The program lists and prints what is asked of the host's objects, which
 is in its seconds.
 
-    python3 bench/machine.py ASRUN [--original MACHINE] [--modes plain,bare,counted] [--rounds N] [--check] [SCRIPT ...]
+    python3 bench/machine.py ASRUN [--original MACHINE] [--modes plain,bare,counted,listed] [--rounds N] [--check] [SCRIPT ...]
 
 ASRUN is the executable of crates/asrun and MACHINE that of bench/original/machine.cpp, whose modes are named there. A round runs
 each once, one after the other, and the quickest of N rounds counts (5, if left out). Seconds are processor time. Those of the
@@ -42,7 +42,7 @@ EVENTS = ("host ", "end ")
 FOLDERS = ["scripts", "classes", "objects", "imports"]
 MOST_TICKS = 2147483647
 CALL = "call bench () int64 main()\n"
-MODES = ["plain", "bare", "counted"]
+MODES = ["plain", "bare", "counted", "listed"]
 
 
 class Refused(Exception):
@@ -220,12 +220,12 @@ def options():
     reader = argparse.ArgumentParser(description=__doc__, formatter_class=argparse.RawDescriptionHelpFormatter)
     reader.add_argument("asrun")
     reader.add_argument("--original")
-    reader.add_argument("--modes", default="plain,bare")
+    reader.add_argument("--modes")
     reader.add_argument("--rounds", type=int, default=5)
     reader.add_argument("--check", action="store_true")
     reader.add_argument("scripts", nargs="*", type=Path)
     chosen = reader.parse_intermixed_args()
-    chosen.modes = chosen.modes.split(",") if chosen.original else []
+    chosen.modes = chosen.modes.split(",") if chosen.modes else []
     if chosen.rounds < 1 or not set(chosen.modes) <= set(MODES):
         reader.error("a round at least, and modes of %s" % ", ".join(MODES))
     return chosen
@@ -235,12 +235,20 @@ def scripts_in(name):
     return sorted((Path(__file__).parent / name).glob("*.as"))
 
 
+def modes_of(scripts, chosen):
+    """The original's modes: the chosen ones, and if none are `plain` and `bare`, with `listed` for scripts that ask the host."""
+    if not chosen.original:
+        return []
+    asks = any(script.events for script in scripts)
+    return chosen.modes or ["plain", "bare"] + (["listed"] if asks else [])
+
+
 def act_on(scripts, program, chosen):
     """Checks or measures the scripts; how many are refused."""
     if chosen.check:
         _, refused = each_of(scripts, lambda script: check(script, program))
         return refused
-    return measure_all(scripts, program, Original(chosen.original), chosen.modes, chosen.rounds)
+    return measure_all(scripts, program, Original(chosen.original), modes_of(scripts, chosen), chosen.rounds)
 
 
 def main():
