@@ -5,7 +5,8 @@
 
 ASRUN is the executable of crates/asrun. The first table is of classes: 256 in a chain, each the base class of the next, with 256
 members each, so that 65,280 members are inherited by the last. The second is of denials: builds with errors, each a call of a
-function that is hidden or not there, over a number of hidden functions. A row is run N times (3, if left out), one after the other,
+function that is hidden or not there, over a number of hidden functions. The third is of denials too: each error is a call of a name that many hidden functions have, of which
+most would take the call. A row is run N times (3, if left out), one after the other,
 and the quickest counts. Seconds are those of the whole process: it reads the session, builds, and ends.
 
 Ends with status 1 where a build answered otherwise than it should.
@@ -25,6 +26,8 @@ USES = 4096
 LETTERS = string.ascii_letters
 ERRORS = (100, 1000, 10000)
 HIDDEN = (0, 64, 256, 1022)
+OVERLOADS = (64, 256, 1000)
+PRIMITIVES = ("int8", "int16", "int", "int64", "uint8", "uint16", "uint", "uint64", "bool")
 
 
 def name(number):
@@ -99,9 +102,25 @@ def profile(hidden):
     return "\n".join(lines) + "\n"
 
 
-def built(program, room, declarations, hidden, rounds):
-    """The last line, the number of denials, the seconds and the greatest memory of a build."""
-    write(room, {"profile": profile(hidden), "session": session(declarations)})
+def parameters(number):
+    """Four parameters that no other number has."""
+    return ", ".join(PRIMITIVES[number // len(PRIMITIVES) ** place % len(PRIMITIVES)] for place in range(4))
+
+
+def overloads(hidden):
+    """A profile with that number of hidden functions of one name."""
+    lines = ["mask 00000002", *(f"function 0 {i % 256} void h({parameters(i)})" for i in range(hidden))]
+    return "\n".join(lines) + "\n"
+
+
+def refused_alike(errors):
+    """Functions with an error each, a call of the name of those overloads."""
+    return [f"void {name(i)}(){{h(1,2,3,4);}}\n" for i in range(errors)]
+
+
+def built(program, room, declarations, registered, rounds):
+    """The last line, the number of denials and the seconds of a build over a profile."""
+    write(room, {"profile": registered, "session": session(declarations)})
     runs = [run_session(program, room) for _ in range(rounds)]
     lines = runs[-1][1] or [""]
     return lines[-1], sum(line.startswith("denied ") for line in lines), min(seconds for seconds, _ in runs)
@@ -123,15 +142,20 @@ def main():
     with tempfile.TemporaryDirectory() as room:
         print("| 256 classes of 256 members | Seconds |\n|---|---|")
         for what, declarations in chains.items():
-            last, _, seconds = built(program, room, declarations, 0, given.rounds)
+            last, _, seconds = built(program, room, declarations, profile(0), given.rounds)
             wrong += last != "ok"
             print(f"| {what} | {seconds:.2f} |", flush=True)
         print("\n| Errors | Hidden functions | Denials | Seconds |\n|---|---|---|---|")
         for errors in ERRORS:
             for hidden in HIDDEN:
-                last, denials, seconds = built(program, room, refused(errors), hidden, given.rounds)
+                last, denials, seconds = built(program, room, refused(errors), profile(hidden), given.rounds)
                 wrong += last != "refused BuildErrors"
                 print(f"| {errors:,} | {hidden:,} | {denials:,} | {seconds:.2f} |", flush=True)
+        print("\n| Errors | Hidden overloads of their name | Denials | Seconds |\n|---|---|---|---|")
+        for hidden in OVERLOADS:
+            last, denials, seconds = built(program, room, refused_alike(USES), overloads(hidden), given.rounds)
+            wrong += last != "refused BuildErrors"
+            print(f"| {USES:,} | {hidden:,} | {denials:,} | {seconds:.2f} |", flush=True)
     return wrong > 0
 
 

@@ -7,6 +7,7 @@ use Rattle.ang_view.specs.Hidden.{is_unmet, is_with, names_entry, numbers_of}
 use Rattle.ang_view.specs.Registration.{RegistrationList, entry_at, is_named_by, is_number, is_type, mentions}
 use Rattle.ang_view.proofs.Lists.{and_gives}
 use Rattle.ang_check_denials.specs.Names.{Picked, is_type_entry, type_numbers}
+use Rattle.ang_check_denials.specs.Rising.{behind, is_first}
 use Rattle.ang_check_denials.proofs.Kept.{any_kept}
 use Rattle.ang_check_denials.proofs.Merging.{merged, merged_has_all}
 
@@ -107,3 +108,38 @@ pub none_denied : (R : RegistrationList) (m : ℕ) (hs : List ℕ) → length hs
     → filter (λ y. is_unmet R m y && list_any (λ x. is_with R x y) hs) (numbers_of R) ≡ []
 none_denied R m hs e =
     ap (λ ks. filter (λ y. is_unmet R m y && list_any (λ x. is_with R x y) ks) (numbers_of R)) (no_entries hs e) ∙ none_kept R m (numbers_of R)
+
+-- ---- each entry comes with itself
+
+turned : (x y : ℕ) → (x == y) ≡ true → (y == x) ≡ true
+turned x y e = search arith
+
+or_has : (a b c d e : Bool) → (a ≡ true → c ≡ true) → (b ≡ true → e ≡ true) → (a || b) ≡ true → ((c || d) || e) ≡ true
+or_has true b c d e h k s = ap (λ t. (t || d) || e) (h refl)
+or_has false b c d e h k s = ap (λ t. (c || d) || t) (k s) ∙ or_true (c || d)
+
+-- what is one of some entries comes with one of them
+pub comes_with_itself : (R : RegistrationList) (y : ℕ) (hs : List ℕ) → list_any (λ x. x == y) hs ≡ true → list_any (λ x. is_with R x y) hs ≡ true
+comes_with_itself R y [] e = cc
+comes_with_itself R y (x ∷ hs) e =
+    or_has (x == y) (list_any (λ k. k == y) hs) (y == x) (names_entry (entry_at R x) y (entry_at R y)) (list_any (λ k. is_with R k y) hs)
+    (turned x y) (comes_with_itself R y hs) e
+
+-- what stands in front of a list is in it
+pub first_is_one : (n : ℕ) (xs : List ℕ) → is_first n xs ≡ true → list_any (λ x. x == n) xs ≡ true
+first_is_one n [] e = cc
+first_is_one n (x ∷ xs) e = ap (λ b. b || list_any (λ k. k == n) xs) e
+
+rest_or_all : (b : Bool) (y x : ℕ) (xs : List ℕ) → list_any (λ k. k == y) (cond b xs (x ∷ xs)) ≡ true → list_any (λ k. k == y) (x ∷ xs) ≡ true
+rest_or_all true y x xs e = ap (λ b. (x == y) || b) e ∙ or_true (x == y)
+rest_or_all false y x xs e = e
+
+-- what is left of a list was in it
+pub behind_is_among : (n y : ℕ) (xs : List ℕ) → list_any (λ x. x == y) (behind n xs) ≡ true → list_any (λ x. x == y) xs ≡ true
+behind_is_among n y [] e = e
+behind_is_among n y (x ∷ xs) e = rest_or_all (x == n) y x xs e
+
+-- a test beside one that follows from it
+pub one_comes : (b c : Bool) → (b ≡ true → c ≡ true) → (b || c) ≡ c
+one_comes true c h = sym (h refl)
+one_comes false c h = refl

@@ -34,6 +34,7 @@ use Rattle.ang_check_denials.specs.Added.{adds, call_wins, factories, has_global
 use Rattle.ang_check_denials.specs.Denials.{helps, means_entry, stays}
 use Rattle.ang_check_denials.specs.Names.{PutsHidden, help_row, hidden_named, is_hidden_named, name_meant, name_sought, own_name, owner_name}
 use Rattle.ang_check_denials.proofs.Helping.{entry_at-hidden, helps_is, hidden_unseen, seen_helps_not}
+use Rattle.ang_check_denials.proofs.Kept.{one_more}
 use Rattle.ang_check_denials.proofs.Meaning.{wins_wanted}
 
 -- ---- the name of an entry
@@ -206,15 +207,6 @@ hidden_by_name R m s r a x view lt e =
     ((bytes_eq-Decides (name_meant R (entry_at R x)) (name_sought R r.error.name a)).1 (helps_by_name R m s r a x view lt e))
 
 -- ---- the row
-
-left_out : (q : Bool) (n : ℕ) (ks rest : List ℕ) → (q ≡ true → false ≡ true) → ks ≡ rest → ks ≡ cond q (n ∷ rest) rest
-left_out true n ks rest h e = let no' : false ≡ true = h refl in cc
-left_out false n ks rest h e = e
-
-pub one_more : (p : ℕ → Bool) (b : Bool) (n : ℕ) (row rest : List ℕ) → (p n ≡ true → b ≡ true) → filter p row ≡ rest
-    → filter p (if b then n ∷ row else row) ≡ cond (p n) (n ∷ rest) rest
-one_more p true n row rest h e = ap (λ ks. cond (p n) (n ∷ ks) ks) e
-one_more p false n row rest h e = left_out (p n) n (filter p row) rest h e
 
 in_row : (p q : ℕ → Bool) → ((k : ℕ) → k < 1024 → p k ≡ true → q k ≡ true) → (n count : ℕ) → n + count ≤ 1024
     → filter p (filter q (range_with_len n count)) ≡ filter p (range_with_len n count)

@@ -18,6 +18,20 @@ kept_more p n =
     ap (filter p) (sym (map-id (range_with_len 0 (n + 1)))) ∙ filter_of_map_range_with_len_more p (λ k. k) 0 n n first
     ∙ ap (λ ks. filter p ks ++ (if p n then n ∷ [] else [])) (map-id (range_with_len 0 n))
 
+left_out : (q : Bool) (n : ℕ) (ks rest : List ℕ) → (q ≡ true → false ≡ true) → ks ≡ rest → ks ≡ cond q (n ∷ rest) rest
+left_out true n ks rest h e = let no' : false ≡ true = h refl in cc
+left_out false n ks rest h e = e
+
+pub one_more : (p : ℕ → Bool) (b : Bool) (n : ℕ) (row rest : List ℕ) → (p n ≡ true → b ≡ true) → filter p row ≡ rest
+    → filter p (if b then n ∷ row else row) ≡ cond (p n) (n ∷ rest) rest
+one_more p true n row rest h e = ap (λ ks. cond (p n) (n ∷ ks) ks) e
+one_more p false n row rest h e = left_out (p n) n (filter p row) rest h e
+
+-- What passes a test is found where another one that it implies was asked first.
+pub kept_of_part : (p q : ℕ → Bool) → ((k : ℕ) → p k ≡ true → q k ≡ true) → (ks : List ℕ) → filter p (filter q ks) ≡ filter p ks
+kept_of_part p q h [] = refl
+kept_of_part p q h (k ∷ ks) = one_more p (q k) k (filter q ks) (filter p ks) (h k) (kept_of_part p q h ks)
+
 any_with : (b : Bool) (q : ℕ → Bool) (n : ℕ) (ks : List ℕ) (rest : Bool) → list_any q ks ≡ rest → list_any q (cond b (n ∷ ks) ks) ≡ ((b && q n) || rest)
 any_with true q n ks rest e = ap (λ r. q n || r) e
 any_with false q n ks rest e = e

@@ -4,7 +4,7 @@ use Rattle.std.specs.List.{range_with_len}
 use Rattle.std.proofs.Common.{arith, refl, sym, ap, ◌∙◌}
 use Rattle.std.proofs.lemmas.List.{append_assoc}
 use Rattle.ang_check_denials.specs.Rising.{behind, lower_first}
-use Rattle.ang_check_denials.proofs.ByName.{one_more}
+use Rattle.ang_check_denials.proofs.Kept.{kept_of_part}
 
 -- a list with x in front, merged with another one, where `rest` merges what is after x
 abbrev pub merged_front : ℕ → (List ℕ → List ℕ) → List ℕ → List ℕ
@@ -125,10 +125,6 @@ merged_parts s t n (suc count) =
     let next : n < n + 1 = omega arith in
     one_number (s n) (t n) n (filter s (range_with_len (n + 1) count)) (filter t (range_with_len (n + 1) count)) (above s n (n + 1) count next) (above t n (n + 1) count next)
     ∙ ap (λ ks. cond (s n || t n) (n ∷ ks) ks) (merged_parts s t (n + 1) count)
-
-kept_of_part : (p q : ℕ → Bool) → ((k : ℕ) → p k ≡ true → q k ≡ true) → (ks : List ℕ) → filter p (filter q ks) ≡ filter p ks
-kept_of_part p q h [] = refl
-kept_of_part p q h (k ∷ ks) = one_more p (q k) k (filter q ks) (filter p ks) (h k) (kept_of_part p q h ks)
 
 -- What passes is found in the two parts where each number that passes is in one of them.
 pub merged_has_all : (p s t : ℕ → Bool) → ((k : ℕ) → p k ≡ true → (s k || t k) ≡ true) → (n count : ℕ)

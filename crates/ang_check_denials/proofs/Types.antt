@@ -8,7 +8,7 @@ use Rattle.ang_view.specs.declared.entry.Entry.{Entry}
 use Rattle.ang_view.specs.declared.entry.EntryKind.{EntryKind}
 use Rattle.ang_view.specs.declared.entry.EntryKind.TheVariants as entry
 use Rattle.ang_view.specs.Hidden.{is_with, numbers_of, seen_with}
-use Rattle.ang_view.specs.Named.{first_of, has_name, is_bare, find as found}
+use Rattle.ang_view.specs.Named.{has_name, is_bare, find as found}
 use Rattle.ang_view.specs.Registration.{RegistrationList, entry_at, is_seen, is_type, seen, seen_entry}
 use Rattle.ang_view.specs.Types.{is_type_named, type_named}
 use Rattle.ang_view.proofs.Seen.{entry_at-seen, position-passes}
@@ -17,7 +17,9 @@ use Rattle.ang_names_known.specs.declared.space.Named.TheVariants as named
 use Rattle.ang_names_known.specs.Spaces.{family_or_host, family_type, type_of_name}
 use Rattle.ang_names_host.proofs.Adding.{length-seen_with, entry_at-seen_with}
 use Rattle.ang_check_uses.specs.Uses.{Scope}
-use Rattle.ang_check_denials.specs.Added.{is_type_with, named_with}
+use Rattle.ang_check_denials.specs.Added.{is_shown, named_with}
+use Rattle.ang_check_denials.specs.Names.{types_named}
+use Rattle.ang_check_denials.proofs.Kept.{kept_of_part}
 
 pub type_is : (V : RegistrationList) (name : List ℕ) → type_named V name ≡ position_from (is_type_named name) 0 V
 unfolding type_named
@@ -42,7 +44,7 @@ shown_type R m name b (Some t) = by_sight (is_seen R m t) b (is_type_named name 
     by_sight false false false e = refl
 
 pub type_by_place : (R V : RegistrationList) (m x : ℕ) (name : List ℕ) (k : ℕ) → V ≡ seen R m
-    → is_type_with R V x name k ≡ is_type_named name (entry_at (seen_with R m x) k)
+    → (is_type_named name (entry_at R k) && is_shown R V x k) ≡ is_type_named name (entry_at (seen_with R m x) k)
 type_by_place R V m x name k e =
     let there : entry_at V k ≡ seen_entry R m (entry_at R k) = ap (λ W. entry_at W k) e ∙ entry_at-seen R m k in
     ap (λ o. is_type_named name (entry_at R k) && (is_some o || is_with R x k)) there
@@ -51,24 +53,10 @@ type_by_place R V m x name k e =
 
 -- ---- the types of a name are among the entries that the list finds by it
 
-first_numbers : (p : ℕ → Bool) (es : List EntityNo) → first_of p es ≡ find p (map (λ (e : EntityNo). e.0) es)
-first_numbers p [] = refl
-first_numbers p (e ∷ es) = ap (λ r. cond (p e.0) (Some e.0) r) (first_numbers p es)
-
-first_kept : (p : ℕ → Bool) (n : ℕ) (ns ms : List ℕ) (b c : Bool) → p n ≡ c → (c ≡ true → b ≡ true) → find p ns ≡ find p ms
-    → cond c (Some n) (find p ns) ≡ find p (cond b (n ∷ ms) ms)
-first_kept p n ns ms true c e h same = λ i. cond (sym e i) (Some n) (same i)
-first_kept p n ns ms false true e h same = let no' : false ≡ true = h refl in cc
-first_kept p n ns ms false false e h same = same
-
-first_filtered : (p q : ℕ → Bool) → ((n : ℕ) → p n ≡ true → q n ≡ true) → (ns : List ℕ) → find p ns ≡ find p (filter q ns)
-first_filtered p q h [] = refl
-first_filtered p q h (n ∷ ns) = first_kept p n ns (filter q ns) (q n) (p n) refl (h n) (first_filtered p q h ns)
-
-bare_type : (b c d e : Bool) → (b ≡ true → d ≡ true) → ((b && c) && e) ≡ true → (d && c) ≡ true
-bare_type true true d e h is = rw (h refl) refl
-bare_type true false d e h is = cc
-bare_type false c d e h is = cc
+bare_type : (b d c : Bool) → (b ≡ true → d ≡ true) → (b && c) ≡ true → (d && c) ≡ true
+bare_type true d true h is = rw (h refl) refl
+bare_type true d false h is = cc
+bare_type false d c h is = cc
 
 type_is_bare : (k : EntryKind) → is_type k ≡ true → is_bare k ≡ true
 type_is_bare entry.HostType e = refl
@@ -78,18 +66,28 @@ type_is_bare entry.Property e = cc
 type_is_bare entry.Function e = cc
 type_is_bare entry.Global e = cc
 
-type_is_found : (name : List ℕ) (o : Option Entry) (b : Bool) → (is_type_named name o && b) ≡ true → has_name name o ≡ true
-type_is_found name None b e = cc
-type_is_found name (Some x) b e = bare_type (is_type x.kind) (bytes_eq x.signature.name name) (is_bare x.kind) b (type_is_bare x.kind) e
+type_is_found : (name : List ℕ) (o : Option Entry) → is_type_named name o ≡ true → has_name name o ≡ true
+type_is_found name None e = cc
+type_is_found name (Some x) e = bare_type (is_type x.kind) (is_bare x.kind) (bytes_eq x.signature.name name) (type_is_bare x.kind) e
 
-among_found : (R V : RegistrationList) (x : ℕ) (name : List ℕ) (es : List EntityNo) → map (λ (e : EntityNo). e.0) es ≡ found R name
-    → first_of (is_type_with R V x name) es ≡ find (is_type_with R V x name) (numbers_of R)
-unfolding found
-among_found R V x name es are =
-    let p : ℕ → Bool = is_type_with R V x name in
-    let q : ℕ → Bool = λ n. has_name name (entry_at R n) in
-    first_numbers p es ∙ ap (find p) are
-    ∙ sym (first_filtered p q (λ n e. type_is_found name (entry_at R n) (is_some (entry_at V n) || is_with R x n) e) (numbers_of R))
+pub types_are : (R : RegistrationList) (name : List ℕ) (es : List EntityNo) → map (λ (e : EntityNo). e.0) es ≡ found R name
+    → filter (λ k. is_type_named name (entry_at R k)) (map (λ (e : EntityNo). e.0) es) ≡ types_named R name
+unfolding found types_named
+types_are R name es are =
+    let is_type_at : ℕ → Bool = λ k. is_type_named name (entry_at R k) in
+    ap (filter is_type_at) are
+    ∙ kept_of_part is_type_at (λ k. has_name name (entry_at R k)) (λ k e. type_is_found name (entry_at R k) e) (numbers_of R)
+
+-- ---- the first of them that is shown
+
+one_found : (p q : ℕ → Bool) (n : ℕ) (ns ms : List ℕ) (b : Bool) → find p ns ≡ find (λ k. q k && p k) ms
+    → find p (cond b (n ∷ ns) ns) ≡ cond (b && p n) (Some n) (find (λ k. q k && p k) ms)
+one_found p q n ns ms true same = ap (cond (p n) (Some n)) same
+one_found p q n ns ms false same = same
+
+found_of_part : (p q : ℕ → Bool) (ns : List ℕ) → find p (filter q ns) ≡ find (λ k. q k && p k) ns
+found_of_part p q [] = refl
+found_of_part p q (n ∷ ns) = one_found p q n (filter q ns) ns (q n) (found_of_part p q ns)
 
 first_at : (t : ℕ → Bool) (p : Option Entry → Bool) (n : ℕ) (os ws : RegistrationList) → length os ≡ length ws
     → ((j : ℕ) → t (n + j) ≡ p (entry_at ws j)) → find t (range_with_len n (length os)) ≡ position_from p n ws
@@ -103,15 +101,19 @@ first_at t p n (o ∷ os) (w ∷ ws) e h =
     λ i. cond (here i) (Some n) (rest i)
 
 first_type_in : (R V : RegistrationList) (m x : ℕ) (name : List ℕ) → V ≡ seen R m
-    → find (is_type_with R V x name) (numbers_of R) ≡ type_named (seen_with R m x) name
+    → find (λ k. is_type_named name (entry_at R k) && is_shown R V x k) (numbers_of R) ≡ type_named (seen_with R m x) name
 first_type_in R V m x name e =
-    first_at (is_type_with R V x name) (is_type_named name) 0 R (seen_with R m x) (sym (length-seen_with R m x))
-    (λ j. let z : 0 + j ≡ j = omega arith in ap (is_type_with R V x name) z ∙ type_by_place R V m x name j e)
+    let is_type_with : ℕ → Bool = λ k. is_type_named name (entry_at R k) && is_shown R V x k in
+    first_at is_type_with (is_type_named name) 0 R (seen_with R m x) (sym (length-seen_with R m x))
+    (λ j. let z : 0 + j ≡ j = omega arith in ap is_type_with z ∙ type_by_place R V m x name j e)
     ∙ sym (type_is (seen_with R m x) name)
 
-pub first_type_is : (R V : RegistrationList) (m x : ℕ) (name : List ℕ) (es : List EntityNo) → V ≡ seen R m
-    → map (λ (e : EntityNo). e.0) es ≡ found R name → first_of (is_type_with R V x name) es ≡ type_named (seen_with R m x) name
-first_type_is R V m x name es e are = among_found R V x name es are ∙ first_type_in R V m x name e
+pub first_type_is : (R V : RegistrationList) (m x : ℕ) (name : List ℕ) (ns : List ℕ) → V ≡ seen R m
+    → ns ≡ types_named R name → find (is_shown R V x) ns ≡ type_named (seen_with R m x) name
+unfolding types_named
+first_type_is R V m x name ns e are =
+    ap (find (is_shown R V x)) are ∙ found_of_part (is_shown R V x) (λ k. is_type_named name (entry_at R k)) (numbers_of R)
+    ∙ first_type_in R V m x name e
 
 -- ---- a type that a name means is one of that name
 

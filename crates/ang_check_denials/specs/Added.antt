@@ -79,9 +79,9 @@ is_joined s name a = is_call a && not (is_empty (functions_of s name))
 
 -- ---- types by name
 
--- an entry is a type of this name that is seen, or one that comes with entry x
-abbrev pub is_type_with : RegistrationList → RegistrationList → ℕ → List ℕ → ℕ → Bool
-is_type_with R V x name k = is_type_named name (entry_at R k) && (is_some (entry_at V k) || is_with R x k)
+-- an entry is seen, or comes with entry x
+abbrev pub is_shown : RegistrationList → RegistrationList → ℕ → ℕ → Bool
+is_shown R V x k = is_some (entry_at V k) || is_with R x k
 
 -- what a name means as a type where entry x is added
 abbrev pub named_with : RegistrationList → ℕ → Scope → ℕ → List ℕ → Named

@@ -7,6 +7,7 @@ use Rattle.ang_types.specs.declared.asks.Asks.TheVariants as asks
 use Rattle.ang_view.specs.declared.entry.Entry.{Entry}
 use Rattle.ang_view.specs.Hidden.{is_hidden, numbers_of}
 use Rattle.ang_view.specs.Registration.{RegistrationList, entry_at, is_type}
+use Rattle.ang_view.specs.Types.{is_type_named}
 use Rattle.ang_names_host.specs.Host.{is_factory}
 
 -- ---- names
@@ -56,6 +57,12 @@ pub record HasHidden (R : RegistrationList) (m : ℕ) (rows : Rows ℕ) : Type 0
 -- the numbers of the hidden entries that a use can mean
 abbrev pub help_row : RegistrationList → ℕ → List ℕ → Asks → List ℕ
 help_row R m name a = hidden_named R m (name_sought R name a)
+
+-- ---- types by name
+
+-- the numbers of the types of a name, rising
+unfoldable pub types_named : RegistrationList → List ℕ → List ℕ
+types_named R name = filter (λ k. is_type_named name (entry_at R k)) (numbers_of R)
 
 -- ---- what comes with an entry
 

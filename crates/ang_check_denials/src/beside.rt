@@ -5,7 +5,10 @@ ghost use Rattle.ang_types.specs.Rivals.{AreRivals};
 ghost use Rattle.ang_names_known.specs.Items.{is_empty};
 ghost use Rattle.ang_check_uses.specs.Uses as uses;
 ghost use Rattle.ang_check_denials.specs.Added as spec;
+ghost use Rattle.ang_check_denials.specs.Names as names;
 
+use crate::masked::Masked;
+use crate::named::types_named;
 use ang_check_uses::{Scope, functions_of, host_methods, types_with_receiver};
 use ang_names_host::{HostProperty, Wanted, WantedProperty, host_where, property_where};
 use ang_names_known::Text;
@@ -24,6 +27,8 @@ pub struct Beside {
     pub property: Option<HostProperty>,
     /// Whether there are functions of the name, which a hidden one would join.
     pub joined: bool,
+    /// The types of the name in the whole list, seen or hidden, by their numbers.
+    pub named: Vec<u32>,
 }
 
 /// The factories of the host type of this number that are seen, as candidates.
@@ -47,12 +52,14 @@ fn of_candidates(
     candidates: &[Candidate],
     types: Vec<ArgType>,
     joined: bool,
+    named: Vec<u32>,
 ) -> Result<Beside, AllocError>
     ensures rivals { IfOk result
         (λ b. AreRivals b.rivals scope.now.ancestors candidates.now types.items) }
     ensures types { IfOk result (λ b. b.types.items ≡ types.items) }
     ensures property { IfOk result (λ b. b.property ≡ None) }
     ensures joined { IfOk result (λ b. b.joined ≡ joined) }
+    ensures named { IfOk result (λ b. b.named.items ≡ named.items) }
 {
     let rivals = Rivals::of(alloc, scope.lineage(), candidates, types.as_slice())?;
     Ok(Beside {
@@ -60,6 +67,7 @@ fn of_candidates(
         types,
         property: None,
         joined,
+        named,
     })
 }
 
@@ -68,11 +76,13 @@ fn of_property(
     alloc: Global,
     scope: &Scope<'_>,
     property: Option<HostProperty>,
+    named: Vec<u32>,
 ) -> Result<Beside, AllocError>
     ensures rivals { IfOk result (λ b. AreRivals b.rivals scope.now.ancestors [] []) }
     ensures types { IfOk result (λ b. b.types.items ≡ []) }
     ensures property { IfOk result (λ b. b.property ≡ property) }
     ensures joined { IfOk result (λ b. b.joined ≡ false) }
+    ensures named { IfOk result (λ b. b.named.items ≡ named.items) }
 {
     let rivals = Rivals::of(alloc, scope.lineage(), &[], &[])?;
     Ok(Beside {
@@ -80,6 +90,7 @@ fn of_property(
         types: Vec::new(alloc),
         property,
         joined: false,
+        named,
     })
 }
 
@@ -89,6 +100,7 @@ fn of_functions(
     scope: &Scope<'_>,
     name: &[u8],
     args: &[ArgType],
+    named: Vec<u32>,
 ) -> Result<Beside, AllocError>
     ensures rivals { IfOk result (λ b. AreRivals b.rivals scope.now.ancestors
         (uses.candidates_of (uses.functions_of scope.now name.now)) args.now) }
@@ -96,11 +108,12 @@ fn of_functions(
     ensures property { IfOk result (λ b. b.property ≡ None) }
     ensures joined { IfOk result
         (λ b. b.joined ≡ not (is_empty (uses.functions_of scope.now name.now))) }
+    ensures named { IfOk result (λ b. b.named.items ≡ named.items) }
 {
     let functions = functions_of(alloc, scope, name)?;
     let types = Vec::from_slice(alloc, args)?;
     let joined = !functions.is_empty();
-    of_candidates(alloc, scope, functions.candidates(), types, joined)
+    of_candidates(alloc, scope, functions.candidates(), types, joined, named)
 }
 
 /// The factories of a host type.
@@ -109,16 +122,18 @@ fn of_factories(
     scope: &Scope<'_>,
     number: u32,
     args: &[ArgType],
+    named: Vec<u32>,
 ) -> Result<Beside, AllocError>
     ensures rivals { IfOk result (λ b. AreRivals b.rivals scope.now.ancestors
         (spec.factories scope.now.view number) args.now) }
     ensures types { IfOk result (λ b. b.types.items ≡ args.now) }
     ensures property { IfOk result (λ b. b.property ≡ None) }
     ensures joined { IfOk result (λ b. b.joined ≡ false) }
+    ensures named { IfOk result (λ b. b.named.items ≡ named.items) }
 {
     let candidates = factories(alloc, scope.view(), number)?;
     let types = Vec::from_slice(alloc, args)?;
-    of_candidates(alloc, scope, candidates.as_slice(), types, false)
+    of_candidates(alloc, scope, candidates.as_slice(), types, false, named)
 }
 
 /// The methods of a name of a host type, on a receiver that is read only or not.
@@ -128,6 +143,7 @@ fn of_methods(
     name: &[u8],
     receiver: (u32, bool),
     args: &[ArgType],
+    named: Vec<u32>,
 ) -> Result<Beside, AllocError>
     ensures rivals { IfOk result (λ b. AreRivals b.rivals scope.now.ancestors
         (uses.candidates_of (uses.host_methods scope.now.view receiver.0 name.now))
@@ -136,11 +152,12 @@ fn of_methods(
         (λ b. b.types.items ≡ Object receiver.0 receiver.1 ∷ args.now) }
     ensures property { IfOk result (λ b. b.property ≡ None) }
     ensures joined { IfOk result (λ b. b.joined ≡ false) }
+    ensures named { IfOk result (λ b. b.named.items ≡ named.items) }
 {
     let (number, read_only) = receiver;
     let methods = host_methods(alloc, scope, number, name)?;
     let types = types_with_receiver(alloc, number, read_only, args)?;
-    of_candidates(alloc, scope, methods.candidates(), types, false)
+    of_candidates(alloc, scope, methods.candidates(), types, false, named)
 }
 
 /// What is kept, for a use of this name, of what a module sees.
@@ -148,6 +165,7 @@ fn of_methods(
 /// The only error is want of memory.
 pub fn beside_of(
     alloc: Global,
+    masked: &Masked<'_>,
     scope: &Scope<'_>,
     name: &[u8],
     asks: &Asks,
@@ -158,23 +176,26 @@ pub fn beside_of(
     ensures property { IfOk result
         (λ b. b.property ≡ spec.property_for scope.now name.now asks.now) }
     ensures joined { IfOk result (λ b. b.joined ≡ spec.is_joined scope.now name.now asks.now) }
+    ensures named { IfOk result
+        (λ b. b.named.items ≡ names.types_named masked.now.list name.now) }
 {
+    let named = types_named(alloc, masked.whole(), name)?;
     match asks {
         Asks::Value => {
             let wanted = WantedProperty::Global(Text::new(name));
-            of_property(alloc, scope, property_where(scope.view(), &wanted))
+            of_property(alloc, scope, property_where(scope.view(), &wanted), named)
         }
-        Asks::Type => of_property(alloc, scope, None),
-        Asks::Call(args) => of_functions(alloc, scope, name, args.as_slice()),
-        Asks::Make(number, args) => of_factories(alloc, scope, *number, args.as_slice()),
-        Asks::Default(number) => of_factories(alloc, scope, *number, &[]),
+        Asks::Type => of_property(alloc, scope, None, named),
+        Asks::Call(args) => of_functions(alloc, scope, name, args.as_slice(), named),
+        Asks::Make(number, args) => of_factories(alloc, scope, *number, args.as_slice(), named),
+        Asks::Default(number) => of_factories(alloc, scope, *number, &[], named),
         Asks::Property(number) => {
             let wanted = WantedProperty::Member(*number, Text::new(name));
-            of_property(alloc, scope, property_where(scope.view(), &wanted))
+            of_property(alloc, scope, property_where(scope.view(), &wanted), named)
         }
         Asks::Method(number, read_only, args) => {
             let receiver = (*number, *read_only);
-            of_methods(alloc, scope, name, receiver, args.as_slice())
+            of_methods(alloc, scope, name, receiver, args.as_slice(), named)
         }
     }
 }

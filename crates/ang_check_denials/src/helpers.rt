@@ -86,6 +86,8 @@ fn helps(
         ≡ added.property_for scope.now refused.now.error.name asks.now }
     requires joined { beside.now.joined
         ≡ added.is_joined scope.now refused.now.error.name asks.now }
+    requires named { beside.now.named.items
+        ≡ names.types_named masked.now.list refused.now.error.name }
     requires few { number < 1024 }
     ensures exact { IfOk result (λ help. help ≡ spec.helps masked.now.list masked.now.mask
         scope.now refused.now asks.now number) }
@@ -138,6 +140,8 @@ fn helper_at(
         ≡ added.property_for scope.now refused.now.error.name asks.now }
     requires joined { beside.now.joined
         ≡ added.is_joined scope.now refused.now.error.name asks.now }
+    requires named { beside.now.named.items
+        ≡ names.types_named masked.now.list refused.now.error.name }
     requires count { count ≡ length masked.now.list }
     requires few { count ≤ 1024 }
     ensures exact { IfOk result (λ helper. option_to_list helper ≡ filter
@@ -151,7 +155,8 @@ fn helper_at(
     Ok(kept(help, number))
 }
 
-fn push_number(numbers: &mut Vec<u32>, number: Option<u32>) -> Result<(), AllocError>
+/// Puts a number at the end, where there is one.
+pub fn push_number(numbers: &mut Vec<u32>, number: Option<u32>) -> Result<(), AllocError>
     ensures pushed { OnOk result
         (numbers.new.items ≡ numbers.old.items ++ option_to_list number) }
 {
@@ -181,7 +186,7 @@ fn helpers_among(
     if row.is_empty() {
         return Ok(numbers);
     }
-    let beside = beside_of(alloc, scope, refused.error.name.as_slice(), asks)?;
+    let beside = beside_of(alloc, masked, scope, refused.error.name.as_slice(), asks)?;
     for number in row {
         let helper = helper_at(alloc, masked, scope, refused, asks, &beside, count, *number)?;
         push_number(&mut numbers, helper)?;

@@ -10,6 +10,7 @@ ghost use Rattle.ang_names_host.specs.Added.{added_property};
 ghost use Rattle.ang_names_known.specs.Spaces as spaces;
 ghost use Rattle.ang_check_uses.specs.Uses.{candidates_of, functions_of};
 ghost use Rattle.ang_check_denials.specs.Added as spec;
+ghost use Rattle.ang_check_denials.specs.Names.{types_named};
 
 use crate::beside::{Beside, factories};
 use crate::masked::Masked;
@@ -87,13 +88,23 @@ fn value_wins(
 }
 
 /// Whether a type's name would mean the type that is added.
-fn type_wins(masked: &Masked<'_>, scope: &Scope<'_>, added: u32, name: &[u8]) -> bool
+fn type_wins(
+    masked: &Masked<'_>,
+    scope: &Scope<'_>,
+    added: u32,
+    name: &[u8],
+    beside: &Beside,
+) -> bool
     requires view { scope.now.view ≡ seen masked.now.list masked.now.mask }
+    requires named { beside.now.named.items ≡ types_named masked.now.list name.now }
     ensures exact { result ≡ spec.adds masked.now.list scope.now name.now added
         (spec.named_with masked.now.list masked.now.mask scope.now added name.now) asks_of.Type }
 {
     is_type_named(masked.whole(), added, name)
-        && is_number_of(added, named_with(masked, scope, added, name))
+        && is_number_of(
+            added,
+            named_with(masked, scope, added, name, beside.named.as_slice()),
+        )
 }
 
 fn is_number_of(number: u32, named: Named) -> bool
@@ -194,12 +205,13 @@ fn call_wins(
     requires view { scope.now.view ≡ seen masked.now.list masked.now.mask }
     requires rivals { AreRivals beside.now.rivals scope.now.ancestors
         (candidates_of (functions_of scope.now name.now)) beside.now.types.items }
+    requires named { beside.now.named.items ≡ types_named masked.now.list name.now }
     ensures exact { IfOk result (λ won. won ≡ spec.call_wins masked.now.list scope.now name.now
         beside.now.types.items added
         (spec.named_with masked.now.list masked.now.mask scope.now added name.now)) }
 {
     let types = beside.types.as_slice();
-    match named_with(masked, scope, added, name) {
+    match named_with(masked, scope, added, name, beside.named.as_slice()) {
         Named::Object(number) => factory_wins(alloc, masked, scope, added, number, types),
         Named::Unknown => {
             let wanted = Wanted::Function(Text::new(name));
@@ -230,6 +242,7 @@ fn call_means(
     requires view { scope.now.view ≡ seen masked.now.list masked.now.mask }
     requires rivals { AreRivals beside.now.rivals scope.now.ancestors
         (candidates_of (functions_of scope.now name.now)) beside.now.types.items }
+    requires named { beside.now.named.items ≡ types_named masked.now.list name.now }
     ensures exact { IfOk result (λ won. won ≡ (spec.is_called_by masked.now.list name.now added
         && spec.call_wins masked.now.list scope.now name.now beside.now.types.items added
         (spec.named_with masked.now.list masked.now.mask scope.now added name.now))) }
@@ -259,6 +272,7 @@ pub fn adds(
         (spec.candidates_for scope.now name.now asks.now) beside.now.types.items }
     requires types { beside.now.types.items ≡ spec.types_of asks.now }
     requires property { beside.now.property ≡ spec.property_for scope.now name.now asks.now }
+    requires named { beside.now.named.items ≡ types_named masked.now.list name.now }
     ensures exact { IfOk result (λ won. won ≡ spec.adds masked.now.list scope.now name.now added
         (spec.named_with masked.now.list masked.now.mask scope.now added name.now) asks.now) }
 {
@@ -266,7 +280,7 @@ pub fn adds(
     let types = beside.types.as_slice();
     match asks {
         Asks::Value => Ok(value_wins(masked, scope, added, name, beside.property)),
-        Asks::Type => Ok(type_wins(masked, scope, added, name)),
+        Asks::Type => Ok(type_wins(masked, scope, added, name, beside)),
         Asks::Call(_) => call_means(alloc, masked, scope, added, name, beside),
         Asks::Make(number, _) | Asks::Default(number) => {
             let wanted = Wanted::Factory(*number);

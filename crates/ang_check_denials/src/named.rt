@@ -1,18 +1,20 @@
 //! Types by name, where a hidden entry is added to what a module sees.
-ghost use Rattle.std.specs.Prelude.{◌≡◌, ◌<◌, bytes_eq, is_some, map as list_map, IfSome, Some};
+ghost use Rattle.std.specs.Prelude.{◌≡◌, ◌<◌, [], ◌∷◌, bytes_eq, filter, find, is_some, map as list_map, option_to_list, IfOk, IfSome, Some};
 ghost use Rattle.std.specs.List.{position};
 ghost use Rattle.ang_view.specs.Hidden.{seen_with};
-ghost use Rattle.ang_view.specs.Named.{first_of};
 ghost use Rattle.ang_view.specs.Registration as registration;
 ghost use Rattle.ang_view.specs.Registration.{entry_at, seen};
 ghost use Rattle.ang_view.specs.Types as types;
 ghost use Rattle.ang_check_denials.specs.Added as spec;
+ghost use Rattle.ang_check_denials.specs.Names as names;
 
+use crate::helpers::push_number;
 use crate::masked::Masked;
 use ang_check_uses::Scope;
 use ang_kinds::EntityNo;
 use ang_names_known::{Named, family_or_host};
 use ang_view::{Entry, EntryKind, View};
+use std::alloc::{AllocError, Global};
 
 /// Whether the entry of this number is a type of this name.
 pub fn is_type_named(whole: &View, number: u32, name: &[u8]) -> bool
@@ -33,42 +35,67 @@ fn sees(view: &View, number: u32) -> bool
     view.get(EntityNo(number)).is_some()
 }
 
-/// Whether an entry is a type of this name that is seen, or one that comes with the entry that is added.
-fn is_type_with(masked: &Masked<'_>, view: &View, added: u32, name: &[u8], number: u32) -> bool
-    ensures exact { result ≡ spec.is_type_with masked.now.list view.now added name.now number }
+/// The number of an entry, where it is a type of this name.
+fn type_at(whole: &View, name: &[u8], number: EntityNo) -> Option<u32>
+    ensures exact { option_to_list result ≡ filter
+        (λ k. types.is_type_named name.now (entry_at whole.now k)) (number.0 ∷ []) }
 {
-    is_type_named(masked.whole(), number, name)
-        && (sees(view, number) || masked.comes_with(added, number))
+    if is_type_named(whole, number.0, name) {
+        Some(number.0)
+    } else {
+        None
+    }
 }
 
-/// The first of these numbers whose entry is a type of this name that is seen, or that comes with the entry that is added.
-fn first_type(
-    masked: &Masked<'_>,
-    view: &View,
-    added: u32,
-    name: &[u8],
-    numbers: &[EntityNo],
-) -> Option<u32>
-    ensures exact { result ≡ first_of
-        (spec.is_type_with masked.now.list view.now added name.now) numbers.now }
+/// The numbers of the types of this name, rising.
+///
+/// The only error is want of memory.
+pub fn types_named(alloc: Global, whole: &View, name: &[u8]) -> Result<Vec<u32>, AllocError>
+    ensures exact { IfOk result (λ numbers. numbers.items ≡ names.types_named whole.now name.now) }
+{
+    let mut numbers = Vec::new(alloc);
+    let found = whole.find(name);
+    for number in found {
+        push_number(&mut numbers, type_at(whole, name, *number))?;
+    }
+    Ok(numbers)
+}
+
+/// Whether an entry is seen, or comes with the entry that is added.
+fn is_shown(masked: &Masked<'_>, view: &View, added: u32, number: u32) -> bool
+    ensures exact { result ≡ spec.is_shown masked.now.list view.now added number }
+{
+    sees(view, number) || masked.comes_with(added, number)
+}
+
+/// The first of these numbers whose entry is seen, or comes with the entry that is added.
+fn first_shown(masked: &Masked<'_>, view: &View, added: u32, numbers: &[u32]) -> Option<u32>
+    ensures exact { result ≡ find (spec.is_shown masked.now.list view.now added) numbers.now }
 {
     for number in numbers {
-        if is_type_with(masked, view, added, name, number.0) {
-            return Some(number.0);
+        if is_shown(masked, view, added, *number) {
+            return Some(*number);
         }
     }
     None
 }
 
-/// The number of the host type of this name, where an entry is added to what is seen.
+/// The number of the host type of this name, where an entry is added to what is seen. `numbers` are those of all
+/// types of the name.
 #[tactic(auto, using(crate::proofs::Types::first_type_is))]
-fn type_with(masked: &Masked<'_>, view: &View, added: u32, name: &[u8]) -> Option<u32>
+fn type_with(
+    masked: &Masked<'_>,
+    view: &View,
+    added: u32,
+    name: &[u8],
+    numbers: &[u32],
+) -> Option<u32>
     requires view { view.now ≡ seen masked.now.list masked.now.mask }
+    requires numbers { numbers.now ≡ names.types_named masked.now.list name.now }
     ensures exact { result
         ≡ types.type_named (seen_with masked.now.list masked.now.mask added) name.now }
 {
-    let numbers = masked.whole().find(name);
-    first_type(masked, view, added, name, numbers)
+    first_shown(masked, view, added, numbers)
 }
 
 /// The number of the script's family of this name.
@@ -80,15 +107,24 @@ fn family_named(scope: &Scope<'_>, name: &[u8]) -> Option<usize>
     scope.names().family_named(name)
 }
 
-/// What a name means as a type, where an entry is added to what a module sees. It takes no memory.
+/// What a name means as a type, where an entry is added to what a module sees. `numbers` are those of all types of the
+/// name, seen or hidden. It takes no memory.
 #[tactic(auto, unfolding(ang_names_known::specs::Spaces::type_of_name))]
-pub fn named_with(masked: &Masked<'_>, scope: &Scope<'_>, added: u32, name: &[u8]) -> Named
+pub fn named_with(
+    masked: &Masked<'_>,
+    scope: &Scope<'_>,
+    added: u32,
+    name: &[u8],
+    numbers: &[u32],
+) -> Named
     requires view { scope.now.view ≡ seen masked.now.list masked.now.mask }
+    requires numbers { numbers.now ≡ names.types_named masked.now.list name.now }
     ensures exact { result
         ≡ spec.named_with masked.now.list masked.now.mask scope.now added name.now }
 {
     let family = family_named(scope, name);
-    family_or_host(family, type_with(masked, scope.view(), added, name))
+    let host = type_with(masked, scope.view(), added, name, numbers);
+    family_or_host(family, host)
 }
 
 /// Whether an entry is a function of this name, or a factory of a type of this name.

@@ -22,6 +22,16 @@ pub fn lower_first(left: &[u32], right: &[u32]) -> Option<u32>
     }
 }
 
+/// Whether a number stands in front of a list.
+pub fn is_first(numbers: &[u32], number: u32) -> bool
+    ensures exact { result ≡ spec.is_first number numbers.now }
+{
+    match numbers {
+        [] => false,
+        [first, ..] => *first == number,
+    }
+}
+
 /// What is left of a list after a number, where this one stands in front.
 pub fn behind(numbers: &[u32], number: u32) -> &[u32]
     ensures exact { result.now ≡ spec.behind number numbers.now }

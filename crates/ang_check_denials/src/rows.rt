@@ -1,5 +1,5 @@
 //! The rows of denials.
-ghost use Rattle.std.specs.Prelude.{◌≡◌, ◌==◌, ◌++◌, ◌&&◌, filter, map as list_map, IfOk, OnOk};
+ghost use Rattle.std.specs.Prelude.{◌≡◌, ◌==◌, ◌++◌, ◌&&◌, ◌||◌, filter, map as list_map, IfOk, OnOk};
 ghost use Rattle.std.specs.List.{list_any, flat_map};
 ghost use Rattle.ang_view.specs.Hidden.{is_unmet, is_with, numbers_of};
 ghost use Rattle.ang_view.specs.Registration.{seen};
@@ -8,7 +8,7 @@ ghost use Rattle.ang_check_denials.specs.Names.{HasHidden, Picked, type_numbers}
 
 use crate::helpers::{helpers, push_kept};
 use crate::masked::Masked;
-use crate::rising::{behind, lower_first};
+use crate::rising::{behind, is_first, lower_first};
 use crate::sought::{help_rows, type_numbers};
 use ang_check_uses::Scope;
 use ang_index::Index;
@@ -25,16 +25,17 @@ fn comes_with_one(masked: &Masked<'_>, helpers: &[u32], number: u32) -> bool
         .any(|added| masked.comes_with(*added, number))
 }
 
-/// Whether an entry, whose own mask does not meet the module's, comes with one of these.
-fn is_denied(masked: &Masked<'_>, helpers: &[u32], number: u32) -> bool
-    ensures exact { result ≡ (is_unmet masked.now.list masked.now.mask number
-        && list_any (λ x. is_with masked.now.list x number) helpers.now) }
+/// Whether an entry, whose own mask does not meet the module's, is one of these or comes with one: what is one of them is
+/// not looked for among them.
+fn is_denied(masked: &Masked<'_>, helpers: &[u32], is_helper: bool, number: u32) -> bool
+    ensures exact { result ≡ (is_unmet masked.now.list masked.now.mask number && (is_helper
+        || list_any (λ x. is_with masked.now.list x number) helpers.now)) }
 {
-    masked.is_unmet(number) && comes_with_one(masked, helpers, number)
+    masked.is_unmet(number) && (is_helper || comes_with_one(masked, helpers, number))
 }
 
 /// The numbers of the entries that come with one of these and whose own masks do not meet the module's, rising: what comes
-/// with one of these is one of them or one of `types`, which are all types of the list.
+/// with one of these is one of them or one of `types`, which are all types of the list. Each of them comes with itself.
 fn denied_with(
     alloc: Global,
     masked: &Masked<'_>,
@@ -55,9 +56,11 @@ fn denied_with(
     let mut left = helpers;
     let mut types_left = types;
     while let Some(number) = lower_first(left, types_left) {
+        let is_helper = is_first(left, number);
         left = behind(left, number);
         types_left = behind(types_left, number);
-        push_kept(&mut numbers, is_denied(masked, helpers, number), number)?;
+        let keeps = is_denied(masked, helpers, is_helper, number);
+        push_kept(&mut numbers, keeps, number)?;
     }
     Ok(numbers)
 }
