@@ -5,7 +5,10 @@ ghost use Rattle.ang_meaning.specs.Setting.{has_objects, target};
 ghost use Rattle.ang_meaning.specs.Told.{Told};
 ghost use Rattle.ang_code.specs.declared.instruction.Frame.{Frame};
 ghost use Rattle.ang_code.specs.Machine.{Texts, begins, enters, found_enters};
-ghost use Rattle.ang_vm_fuse.specs.Parameters.{by_value as are_by_value};
+ghost use Rattle.ang_vm_fuse.specs.Parameters.{
+  by_value as are_by_value,
+  only_receiver as is_only_receiver,
+};
 ghost use Rattle.ang_heap.specs.Stores.{world_of};
 ghost use Rattle.ang_vm_stack.specs.Stacks.{values};
 ghost use Rattle.ang_vm_stack.specs.Tables.{body_of, setting_of, texts_of};
@@ -52,16 +55,27 @@ pub fn have_objects(params: &[Passing], stack: &[Slot], top: usize) -> bool
     true
 }
 
-/// The same, where it is known whether all parameters take values.
+/// The same, where it is known whether all parameters take values, and whether the first parameter alone takes an
+/// object.
 #[inline(always)]
-fn objects_there(by_value: bool, params: &[Passing], stack: &[Slot], top: usize) -> bool
+fn objects_there(
+    by_value: bool,
+    only_receiver: bool,
+    params: &[Passing],
+    stack: &[Slot],
+    top: usize,
+) -> bool
     requires enough { length params.now ≤ top }
     requires within { top ≤ length stack.now }
     requires known { by_value ≡ are_by_value params.now }
+    requires known_receiver { only_receiver ≡ is_only_receiver params.now }
     ensures exact { result ≡ has_objects params.now (values stack.now top) }
 {
     if by_value {
         return true;
+    }
+    if only_receiver {
+        return !is_null(peek(stack, top, params.len() - 1));
     }
     have_objects(params, stack, top)
 }
@@ -138,7 +152,7 @@ pub fn begin(
     ensures same { values stack.new.items top ≡ values stack.old.items top }
     ensures grows { length stack.old.items ≤ length stack.new.items }
 {
-    let (_, height, _) = params_and_height(table, body);
+    let (_, height, _, _) = params_and_height(table, body);
     begin_above(body, height, stack, top, ticks)
 }
 
@@ -169,11 +183,11 @@ pub fn enter_body(
     ensures grows { length stack.old.items ≤ length stack.new.items }
 {
     let top = from.place.top;
-    let (params, height, by_value) = params_and_height(table, body);
+    let (params, height, by_value, only_receiver) = params_and_height(table, body);
     if params.len() > top {
         return Err(Stop::Lost);
     }
-    if !objects_there(by_value, params, stack.as_slice(), top) {
+    if !objects_there(by_value, only_receiver, params, stack.as_slice(), top) {
         return Err(Stop::Fails(Fault::Null));
     }
     if frames.len() + 1 >= nesting {

@@ -1,7 +1,10 @@
 //! What a run looks up of a body that it enters, in one look at the table.
 ghost use Rattle.std.specs.Prelude.{◌≡◌, ℕ};
 ghost use Rattle.ang_meaning.specs.Setting.{params_of};
-ghost use Rattle.ang_vm_fuse.specs.Parameters.{by_value as are_by_value};
+ghost use Rattle.ang_vm_fuse.specs.Parameters.{
+  by_value as are_by_value,
+  only_receiver as is_only_receiver,
+};
 ghost use Rattle.ang_vm_stack.specs.Tables.{setting_of, texts_of, result_of};
 
 use ang_kinds::Prim;
@@ -9,16 +12,22 @@ use ang_meaning::{Passing, Routine};
 use ang_vm_stack::table::{Table, body_at};
 
 /// How a body's parameters take their arguments, the last parameter first, how many values the body puts above
-/// them at most, and whether all of them take values.
+/// them at most, whether all of them take values, and whether the first parameter alone takes an object.
 #[inline(always)]
-pub fn params_and_height(table: &Table, body: Routine) -> (&[Passing], usize, bool)
+pub fn params_and_height(table: &Table, body: Routine) -> (&[Passing], usize, bool, bool)
     ensures params { (nesting : ℕ) → result.0.now ≡ params_of (setting_of table.now nesting) body }
     ensures height { result.1 ≡ (texts_of table.now).height body }
     ensures by_value { result.2 ≡ are_by_value result.0.now }
+    ensures only_receiver { result.3 ≡ is_only_receiver result.0.now }
 {
     match body_at(table, body) {
-        Some(code) => (code.params(), code.height(), code.by_value()),
-        None => (&[], 0, true),
+        Some(code) => (
+            code.params(),
+            code.height(),
+            code.by_value(),
+            code.only_receiver(),
+        ),
+        None => (&[], 0, true, false),
     }
 }
 
