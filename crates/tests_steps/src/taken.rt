@@ -10,9 +10,9 @@ use ang_code::Instruction::{
 use ang_kinds::{EntityNo, Prim};
 use ang_meaning::{Arithmetic, Callee, Change, Comparison, Operation, Slot};
 use ang_vm_fuse::fuse::fuse;
-use ang_vm_fuse::step::Step;
 use ang_vm_fused::fused::take;
 use ang_vm_stack::place::Place;
+use ang_vm_step::step::Step;
 use std::alloc::{AllocError, Global};
 
 const LESS: Comparison = Comparison::Less;
