@@ -54,7 +54,7 @@ impl Cell {
     /// A cell driver without objects, which was never asked.
     ///
     /// # Errors
-    /// Want of memory.
+    /// None yet: it takes no memory before it is asked. It answers a `Result` as a driver that takes some does.
     pub fn new(alloc: Global) -> Result<Cell, AllocError>
         ensures fresh { IfOk result (λ c. cell_ledger c ≡ fresh) }
     {

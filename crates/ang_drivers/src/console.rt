@@ -35,7 +35,7 @@ impl Console {
     /// A console with 0 in its register, which noted nothing and was never asked.
     ///
     /// # Errors
-    /// Want of memory.
+    /// None yet: it takes no memory before it is asked. It answers a `Result` as a driver that takes some does.
     pub fn new(alloc: Global) -> Result<Console, AllocError>
         ensures fresh { IfOk result (λ c. state_of c ≡ console_state (pos 0) [] 0) }
     {

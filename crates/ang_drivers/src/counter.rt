@@ -50,7 +50,7 @@ impl Counter {
     /// A counter without objects, which was never asked.
     ///
     /// # Errors
-    /// Want of memory.
+    /// None yet: it takes no memory before it is asked. It answers a `Result` as a driver that takes some does.
     pub fn new(alloc: Global) -> Result<Counter, AllocError>
         ensures fresh { IfOk result (λ c. counter_ledger c ≡ fresh) }
     {

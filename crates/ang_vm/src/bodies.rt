@@ -170,25 +170,26 @@ pub fn run_from(
     ensures moves { RunMoves ⟦<dyn Driver as Driver>⟧ table.now store.old store.new }
 {
     let mut here = from;
-    let mut code = body_at(table, from.body);
+    let Some(mut code) = body_at(table, from.body) else {
+        return Ending::Lost;
+    };
     loop {
-        let Some(there) = code else {
-            return Ending::Lost;
-        };
-        let (place, crossing) = run_within(table, there, stack, store, here);
+        let (place, crossing) = run_within(table, code, stack, store, here);
         match crossing {
             Crossing::Enters(callee) => {
-                let caller = Standing { place, ..here };
-                match enter(table, nesting, stack, frames, store, caller, callee) {
-                    Ok((next, its)) => {
-                        here = next;
-                        code = its;
-                    }
+                let left = Standing { place, ..here };
+                let (next, its) = match enter(table, nesting, stack, frames, store, left, callee) {
+                    Ok(both) => both,
                     Err(stop) => return give_up(stack, store, place.top, stop),
-                }
+                };
+                let Some(its) = its else {
+                    return Ending::Lost;
+                };
+                here = next;
+                code = its;
             }
             Crossing::Returns(count) => {
-                let Some(parted) = leave_within(there, stack, store, place.top, count) else {
+                let Some(parted) = leave_within(code, stack, store, place.top, count) else {
                     return Ending::Lost;
                 };
                 let Some(caller) = frames.pop() else {
@@ -197,8 +198,11 @@ pub fn run_from(
                 let Some(next) = resume_within(stack, caller, parted, place.ticks) else {
                     return Ending::Lost;
                 };
+                let Some(its) = body_at(table, next.body) else {
+                    return Ending::Lost;
+                };
                 here = next;
-                code = body_at(table, next.body);
+                code = its;
             }
             Crossing::Faults(fault) => return fail(stack, store, place.top, fault),
             Crossing::Lost => return Ending::Lost,

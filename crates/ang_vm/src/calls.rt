@@ -5,14 +5,17 @@ ghost use Rattle.ang_meaning.specs.Setting.{has_objects, target};
 ghost use Rattle.ang_meaning.specs.Told.{Told};
 ghost use Rattle.ang_code.specs.declared.instruction.Frame.{Frame};
 ghost use Rattle.ang_code.specs.Machine.{Texts, begins, enters, found_enters};
-ghost use Rattle.ang_vm_fuse.specs.Parameters.{by_value as are_by_value};
+ghost use Rattle.ang_vm_fuse.specs.Parameters.{
+  by_value as are_by_value,
+  only_receiver as is_only_receiver,
+};
 ghost use Rattle.ang_heap.specs.Stores.{world_of};
 ghost use Rattle.ang_vm_stack.specs.Stacks.{values};
 ghost use Rattle.ang_vm_stack.specs.Tables.{body_of, setting_of, texts_of};
 ghost use Rattle.ang_vm.specs.Legs.{Fits, begun, caller_at, misses, standing_in};
 
 use crate::callees::callee_of;
-use crate::lookups::params_and_height;
+use crate::lookups::facts_of;
 use ang_code::Frame;
 use ang_heap::Store;
 use ang_host::Driver;
@@ -52,16 +55,27 @@ pub fn have_objects(params: &[Passing], stack: &[Slot], top: usize) -> bool
     true
 }
 
-/// The same, where it is known whether all parameters take values.
+/// The same, where it is known whether all parameters take values, and whether the first parameter alone takes an
+/// object.
 #[inline(always)]
-fn objects_there(by_value: bool, params: &[Passing], stack: &[Slot], top: usize) -> bool
+fn objects_there(
+    by_value: bool,
+    only_receiver: bool,
+    params: &[Passing],
+    stack: &[Slot],
+    top: usize,
+) -> bool
     requires enough { length params.now ≤ top }
     requires within { top ≤ length stack.now }
     requires known { by_value ≡ are_by_value params.now }
+    requires known_receiver { only_receiver ≡ is_only_receiver params.now }
     ensures exact { result ≡ has_objects params.now (values stack.now top) }
 {
     if by_value {
         return true;
+    }
+    if only_receiver {
+        return !is_null(peek(stack, top, params.len() - 1));
     }
     have_objects(params, stack, top)
 }
@@ -138,11 +152,11 @@ pub fn begin(
     ensures same { values stack.new.items top ≡ values stack.old.items top }
     ensures grows { length stack.old.items ≤ length stack.new.items }
 {
-    let (_, height, _) = params_and_height(table, body);
+    let (_, height, _, _) = facts_of(body_at(table, body));
     begin_above(body, height, stack, top, ticks)
 }
 
-/// A function is entered, with its arguments on top.
+/// A function is entered, with its arguments on top; `code` is its code, if it has any.
 ///
 /// # Errors
 /// `Null`, `Depth`, `Budget` and `Memory`, the first of them that applies.
@@ -154,9 +168,12 @@ pub fn enter_body(
     frames: &mut Vec<Frame>,
     from: Standing,
     body: Routine,
+    code: Option<&Body>,
 ) -> Result<Standing, Stop>
     requires fits { Fits from stack.old.items frames.old.items }
     requires inside { from.place.at + 1 < 2 ^ 64 }
+    requires known { MatchOption code (body_of table.now body ≡ None)
+        (λ code. body_of table.now body ≡ Some code.now) }
     ensures told { (w : World)
         → Told (λ is. enters (setting_of table.now nesting) (texts_of table.now) body
         (values stack.old.items from.place.top) (reverse frames.old.items) (caller_at from)
@@ -169,11 +186,11 @@ pub fn enter_body(
     ensures grows { length stack.old.items ≤ length stack.new.items }
 {
     let top = from.place.top;
-    let (params, height, by_value) = params_and_height(table, body);
+    let (params, height, by_value, only_receiver) = facts_of(code);
     if params.len() > top {
         return Err(Stop::Lost);
     }
-    if !objects_there(by_value, params, stack.as_slice(), top) {
+    if !objects_there(by_value, only_receiver, params, stack.as_slice(), top) {
         return Err(Stop::Fails(Fault::Null));
     }
     if frames.len() + 1 >= nesting {
@@ -227,7 +244,7 @@ pub fn enter<'t>(
     match callee_of(table, from.body.home, callee, stack.as_slice(), top, store) {
         Ok(body) => {
             let code = body_at(table, body);
-            match enter_body(table, nesting, stack, frames, from, body) {
+            match enter_body(table, nesting, stack, frames, from, body, code) {
                 Ok(next) => Ok((next, code)),
                 Err(stop) => Err(stop),
             }

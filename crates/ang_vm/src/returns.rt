@@ -10,7 +10,6 @@ ghost use Rattle.ang_code.specs.declared.instruction.Instruction.TheVariants.{Re
 ghost use Rattle.ang_code.specs.declared.instruction.Frame.{Frame};
 ghost use Rattle.ang_code.specs.Machine.{Texts, act, back};
 ghost use Rattle.ang_heap.specs.Stores.{world_of, IsReady, StoreTold, HasMoved, StoreBecomes};
-ghost use Rattle.ang_vm_fuse.specs.Parameters.{has_outs as give_back};
 ghost use Rattle.ang_vm_stack.specs.Stacks.{values};
 ghost use Rattle.ang_vm.specs.Legs.{given_by, with_out, Unmoved, handed, resumed};
 ghost use Rattle.ang_vm_steps.specs.Arms.{AreCounted};
@@ -109,16 +108,9 @@ pub fn keep_outs(params: &[Passing], stack: &mut [Slot], top: usize) -> usize
 /// The parameters are left: those other than `&out` give up their values, and the values of the others move down
 /// to where the parameters begin. How many values are in use then.
 #[inline(always)]
-fn leave_params(
-    has_outs: bool,
-    params: &[Passing],
-    stack: &mut [Slot],
-    store: &mut Store,
-    top: usize,
-) -> usize
+fn leave_params(params: &[Passing], stack: &mut [Slot], store: &mut Store, top: usize) -> usize
     requires enough { length params.now ≤ top }
     requires within { top ≤ length stack.old }
-    requires known { has_outs ≡ give_back params.now }
     requires ready { IsReady ⟦<dyn Driver as Driver>⟧ store.old }
     requires held { CanGive (values stack.old top) (world_of ⟦<dyn Driver as Driver>⟧ store.old) }
     ensures given { StoreBecomes ⟦<dyn Driver as Driver>⟧
@@ -129,10 +121,6 @@ fn leave_params(
     ensures fewer { result ≤ top }
     ensures moves { HasMoved ⟦<dyn Driver as Driver>⟧ store.old store.new }
 {
-    if !has_outs {
-        give_top(stack, store, top, params.len());
-        return top - params.len();
-    }
     give_others(params, stack, store, top);
     keep_outs(params, stack, top)
 }
@@ -171,9 +159,15 @@ pub fn leave_body(
     if params.len() > base {
         return None;
     }
+    if !code.has_outs() {
+        give_top(stack, store, top - 1, count + params.len());
+        let value = peek(stack, top, 0);
+        let kept = base - params.len();
+        return Some(Parted { value, kept });
+    }
     let value = peek(stack, top, 0);
     give_top(stack, store, top - 1, count);
-    let kept = leave_params(code.has_outs(), params, stack, store, base);
+    let kept = leave_params(params, stack, store, base);
     Some(Parted { value, kept })
 }
 

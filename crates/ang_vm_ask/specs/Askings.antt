@@ -1,4 +1,4 @@
--- What asking an entity of the host leaves of a store.
+-- What asking an entry of the host leaves of a store.
 use Rattle.std.specs.Prelude.{ℕ, ◌≡◌, true, List, Some, Result, length, reverse}
 use Rattle.ang_kinds.specs.declared.mask.EntityNo.{EntityNo}
 use Rattle.ang_kinds.specs.declared.fault.Fault.{Fault}
@@ -23,13 +23,13 @@ use Rattle.ang_vm_stack.specs.declared.table.Table.{Table}
 use Rattle.ang_vm_ask.specs.Asks.{asks}
 use Rattle.ang_vm_ask.specs.Entities.{HaveRoles}
 
--- a module of this name sees an entity as this
+-- a module of this name sees an entry as this
 pub record Sees (z : Setting) (m : ℕ) (caller : List ℕ) (e : EntityNo) (u : HostUse) : Type 0 where
   pub name : z.name m ≡ caller
   pub host : z.host m e.0 ≡ Some u
 
 -- Operation o on these operands, the first one first, gave this result and left this world, in each
--- module that sees the entity so, where the operation is fit and these are as many operands as it
+-- module that sees the entry so, where the operation is fit and these are as many operands as it
 -- takes.
 pub record Performed (caller : List ℕ) (e : EntityNo) (u : HostUse) (o : Operation)
     (ops : List Slot) (w : World) (r : Result Slot Fault) (w' : World) : Type 0 where
@@ -37,7 +37,7 @@ pub record Performed (caller : List ℕ) (e : EntityNo) (u : HostUse) (o : Opera
       → length ops ≡ operands z m o
       → Told (λ is. asks z m o (reverse ops) (with_inputs is w)) (λ is. done r (with_inputs is w'))
 
--- An entity of this role was asked, or not: the drivers follow what was listed, there are as many
+-- An entry of this role was asked, or not: the drivers follow what was listed, there are as many
 -- of them as before, and all is ready again.
 pub record StoreAsked {V : Type 0} {P : V → Type 0} (m : Meanings P) (e : EntityNo) (role : Role)
     (s t : Store V P) : Type 0 where
@@ -53,7 +53,7 @@ driver_state m s d = state_at (states_of m (members s.drivers)) d
 abbrev pub StillGives : {V : Type 0} {P : V → Type 0} → Meanings P → Store V P → Store V P → Type 0
 StillGives m s t = (vs : List Slot) → CanGive vs (world_of m s) → CanGive vs (world_of m t)
 
--- the drivers follow what was listed, where they have the roles of the table's entities
+-- the drivers follow what was listed, where they have the roles of the table's entries
 abbrev pub HasMovedOver : {V : Type 0} {P : V → Type 0} → Meanings P → Table → Store V P
     → Store V P → Type 0
 HasMovedOver m t s u = (roles : List Role) → HaveRoles t roles → StoreMoves m roles s u

@@ -52,10 +52,10 @@ fn key_of(driver: u32, handle: Slot) -> Result<Option<u64>, Fault>
     }
 }
 
-/// The object that an entity is asked of, which the first place holds; none where it is asked of no object.
+/// The object that an entry is asked of, which the first place holds; none where it is asked of no object.
 ///
 /// # Errors
-/// `Null` where there is no object of the entity's driver.
+/// `Null` where there is no object of the entry's driver.
 pub(crate) fn object_of(host: &HostUse, places: &[Slot]) -> Result<Option<u64>, Fault>
     ensures exact { result ≡ object_in (receiver_of host.now places.now) }
 {

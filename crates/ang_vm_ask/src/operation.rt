@@ -110,7 +110,7 @@ fn put_changed(
     }
 }
 
-/// Calls the function or method that the entity is, or asks for a new object where it is a factory. A property
+/// Calls the function or method that the entry is, or asks for a new object where it is a factory. A property
 /// is `Null`, and nothing is asked.
 fn perform_ask(
     alloc: Global,
@@ -141,7 +141,7 @@ fn perform_ask(
     }
 }
 
-/// Reads the property that the entity is. What is no property is `Null`, and nothing is asked.
+/// Reads the property that the entry is. What is no property is `Null`, and nothing is asked.
 fn perform_read(
     alloc: Global,
     store: &mut Store,
@@ -168,7 +168,7 @@ fn perform_read(
     }
 }
 
-/// Writes the first operand to the property that the entity is, and answers that operand. What is no property is
+/// Writes the first operand to the property that the entry is, and answers that operand. What is no property is
 /// `Null`, and nothing is asked.
 fn perform_write(
     alloc: Global,
@@ -201,7 +201,7 @@ fn perform_write(
     }
 }
 
-/// Reads the property that the entity is, changes its value by the first operand, and writes it. The answer is the
+/// Reads the property that the entry is, changes its value by the first operand, and writes it. The answer is the
 /// old value or the new one, as `by` says. What is no property is `Null`, and nothing is asked.
 fn perform_alter(
     alloc: Global,
@@ -242,7 +242,7 @@ fn perform_alter(
     }
 }
 
-/// An operation on the host by the entity that it asks.
+/// An operation on the host by the entry that it asks.
 fn perform(
     alloc: Global,
     store: &mut Store,
@@ -300,7 +300,7 @@ fn perform(
 ///
 /// # Errors
 /// `Memory` where there is none for an event, and then that driver is not asked; `Null` where the object of
-/// which the entity is asked is none of its driver; `NoObject` where a factory made none; `BadAnswer` where the
+/// which the entry is asked is none of its driver; `NoObject` where a factory made none; `BadAnswer` where the
 /// answer is not of the declared type or not in its range; `Tally` where a tally of the driver has run out; the
 /// driver's own faults and its want of memory; and of a property that is altered the faults of the change, with
 /// the property read and not written.

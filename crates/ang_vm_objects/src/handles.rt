@@ -1,5 +1,6 @@
 //! Handles: which are null, and which name one object.
 ghost use Rattle.std.specs.Prelude.{◌≡◌, ℕ, ◌∷◌, List, []};
+ghost use Rattle.ang_meaning.specs.declared.slot.Slot.TheVariants.{Bits as Number};
 ghost use Rattle.ang_meaning.specs.declared.operation.Operation.TheVariants.{Same};
 ghost use Rattle.ang_meaning.specs.Setting.{Setting, is_null as is_null_slot};
 ghost use Rattle.ang_meaning.specs.Numbers.{truth as truth_of};
@@ -63,6 +64,13 @@ fn truth(value: bool) -> u64
     if value { 1 } else { 0 }
 }
 
+/// `is` on two values, which stay where they are.
+pub fn same(first: Slot, second: Slot) -> Slot
+    ensures exact { result ≡ Number (truth_of (is_same first second)) }
+{
+    Slot::Bits(truth(are_same(first, second)))
+}
+
 /// `is` on two values, which are given up, the second one first.
 pub fn compare_handles(store: &mut Store, first: Slot, second: Slot) -> Slot
     requires ready { IsReady ⟦<dyn Driver as Driver>⟧ store.old }
@@ -73,8 +81,8 @@ pub fn compare_handles(store: &mut Store, first: Slot, second: Slot) -> Slot
         (Fine result) store.new }
     ensures moves { HasMoved ⟦<dyn Driver as Driver>⟧ store.old store.new }
 {
-    let same = truth(are_same(first, second));
+    let answer = same(first, second);
     give(store, second);
     give(store, first);
-    Slot::Bits(same)
+    answer
 }

@@ -4,15 +4,16 @@ ghost use Rattle.std.specs.Prelude.{◌<◌, ◌^◌, length};
 use crate::known::KNOWN;
 use ang_code::Instruction;
 use ang_code::Instruction::{
-    Back, Change as Changed, Do, Drop, DropUnder, Leave, Load, PushBits, Return, SkipIfFalse,
-    Store, Tick,
+    Back, Change as Changed, Do, Drop, DropUnder, Leave, Load, PushBits, PushNull, Return,
+    SkipIfFalse, Store, Tick,
 };
 use ang_kinds::{EntityNo, Prim};
 use ang_meaning::{Arithmetic, Callee, Change, Comparison, Operation, Slot};
 use ang_vm_fuse::fuse::fuse;
-use ang_vm_fuse::step::Step;
 use ang_vm_fused::fused::take;
 use ang_vm_stack::place::Place;
+use ang_vm_step::kind::Kind;
+use ang_vm_step::step::{Handle, Step};
 use std::alloc::{AllocError, Global};
 
 const LESS: Comparison = Comparison::Less;
@@ -40,9 +41,8 @@ pub type Row = (Step, Left);
 pub type Left = (usize, usize, u64, u64, u64);
 
 /// An odd number is 1 as a truth value. Where a comparison does not hold, four instructions more are passed.
-const TAKEN: [Row; 29] = [
+const TAKEN: [Row; 28] = [
     (Step::Push(4), (8, 3, 5, 3, 4)),
-    (Step::Load(1), (8, 3, 5, 3, 5)),
     (Step::Keep(0), (9, 1, 3, 3, 0)),
     (Step::Move(1, 0), (10, 2, 5, 5, 0)),
     (Step::LoadConverted(Prim::Bool, 1), (9, 3, 5, 3, 1)),
@@ -83,21 +83,28 @@ const BACK: [Row; 7] = [
     (Step::LeaveBack(2, 3), (5, 0, 5, 3, 0)),
 ];
 
-/// Calls, returns, host calls, fields and globals are left to the run, and so is what faults, finds no value or names no
-/// instructions.
-const LEFT: [Step; 12] = [
-    Step::Ask(1),
-    Step::Enter(Callee::Own(0)),
-    Step::Return(0),
-    Step::GetField(0, 0),
-    Step::PutField(0, 0),
-    Step::ChangeField(LATER, 0, 0),
-    Step::GetGlobal(0),
-    Step::PutGlobal(0),
-    Step::ChangeGlobal(LATER, 0),
-    Step::Other,
-    Step::Load(2),
-    Step::WorkTopConstant(Arithmetic::Divide, I64, 0),
+/// Calls, returns, host calls, loads, fields, globals and handles are left to the run, and so is what faults, finds no
+/// value or names no instructions. Each says which it is.
+const LEFT: [(Step, Kind); 16] = [
+    (Step::Other, Kind::Alone),
+    (Step::Ask(1), Kind::Alone),
+    (Step::Load(1), Kind::Load),
+    (Step::Move(2, 0), Kind::Move),
+    (Step::Same(Handle::Local(1), Handle::Null), Kind::Same),
+    (Step::GetField(0, 0), Kind::GetField),
+    (Step::PutField(0, 0), Kind::PutField),
+    (Step::ChangeField(LATER, 0, 0), Kind::ChangeField),
+    (Step::GetGlobal(0), Kind::GetGlobal),
+    (Step::PutGlobal(0), Kind::PutGlobal),
+    (Step::ChangeGlobal(LATER, 0), Kind::ChangeGlobal),
+    (Step::Enter(Callee::Own(0)), Kind::Enter),
+    (Step::Return(0), Kind::Return),
+    (Step::ReturnNothing(0), Kind::ReturnNothing),
+    (Step::Keep(2), Kind::Value),
+    (
+        Step::WorkTopConstant(Arithmetic::Divide, I64, 0),
+        Kind::Value,
+    ),
 ];
 
 /// A place, and the numbers in the first three places of the stack.
@@ -109,10 +116,10 @@ struct After {
     third: Slot,
 }
 
-/// What a step comes to where `top` of these numbers are in use.
-fn taken(top: usize, numbers: [u64; 3], ticks: u64, step: Step) -> Option<After> {
+/// What a step comes to where `top` of these numbers are in use, or which kind of step it is where it is not taken.
+fn taken(top: usize, numbers: [u64; 3], ticks: u64, step: Step) -> Result<After, Kind> {
     if top > 4 {
-        return None;
+        return Err(Kind::Alone);
     }
     let [first, second, third] = numbers;
     let mut stack = [
@@ -123,7 +130,7 @@ fn taken(top: usize, numbers: [u64; 3], ticks: u64, step: Step) -> Option<After>
     ];
     let here = Place { at: 7, top, ticks };
     let place = take(&mut stack, here, 4, &step)?;
-    Some(After {
+    Ok(After {
         place,
         first: stack[0],
         second: stack[1],
@@ -132,9 +139,9 @@ fn taken(top: usize, numbers: [u64; 3], ticks: u64, step: Step) -> Option<After>
 }
 
 /// That, with `ticks` ticks left.
-fn left(ticks: u64, want: Left) -> Option<After> {
+fn left(ticks: u64, want: Left) -> Result<After, Kind> {
     let (at, top, first, second, third) = want;
-    Some(After {
+    Ok(After {
         place: Place { at, top, ticks },
         first: Slot::Bits(first),
         second: Slot::Bits(second),
@@ -162,7 +169,7 @@ fn steps_are_taken(rt: HostRuntime) {
             "back to {after}"
         );
         assert!(rt;
-            taken(2, [5, 3, 0], 0, step).is_none(),
+            taken(2, [5, 3, 0], 0, step) == Err(Kind::Value),
             "no tick, back to {after}"
         );
     }
@@ -170,13 +177,18 @@ fn steps_are_taken(rt: HostRuntime) {
     assert!(rt; tops == left(9, (10, 1, 4, 9, 5)));
     let masked = taken(1, [5, 3, 0], 9, Step::MaskXor(U64, 0, 0, 4));
     assert!(rt; masked == left(9, (12, 2, 5, 1, 0)));
+}
+
+#[test]
+fn steps_are_left(rt: HostRuntime) {
     assert!(rt;
-        taken(2, [5, 3, 0], 9, Step::MaskXor(U64, 1, 0, 2)).is_none(),
+        taken(2, [5, 3, 0], 9, Step::MaskXor(U64, 1, 0, 2)) == Err(Kind::Value),
         "no room"
     );
-    assert!(rt; taken(4, [2, 9, 5], 9, Step::Push(4)).is_none(), "no room");
-    for step in LEFT {
-        assert!(rt; taken(2, [5, 3, 0], 9, step).is_none());
+    let pushed = taken(4, [2, 9, 5], 9, Step::Push(4));
+    assert!(rt; pushed == Err(Kind::Value), "no room");
+    for (step, kind) in LEFT {
+        assert!(rt; taken(2, [5, 3, 0], 9, step) == Err(kind), "{kind:?}");
     }
 }
 
@@ -416,6 +428,32 @@ const GLOBAL_STEPS: [(usize, Option<Step>); 4] = [
     (5, Some(Step::Other)),
 ];
 
+/// Handles of locals, of a global and null are compared; at the end the second one is the first.
+const COMPARING: &[Instruction] = &[
+    Load(1),
+    Load(1),
+    Do(Operation::Same),
+    Do(Operation::GlobalGet(3)),
+    PushNull,
+    Do(Operation::Same),
+    PushNull,
+    Load(3),
+    Do(Operation::Same),
+    Load(1),
+    Load(0),
+    Do(Operation::Same),
+];
+
+/// Each pair is one step, but where the second one is the value that the first one pushes.
+const COMPARED: [(usize, Option<Step>); 6] = [
+    (0, Some(Step::Same(Handle::Local(1), Handle::Local(0)))),
+    (3, Some(Step::Same(Handle::Global(3), Handle::Null))),
+    (4, Some(Step::Other)),
+    (6, Some(Step::Same(Handle::Null, Handle::Local(2)))),
+    (9, Some(Step::Load(1))),
+    (10, Some(Step::Load(0))),
+];
+
 /// What a step comes to where 9, 7, 5 and 3 are in use, and there is room for four values more.
 fn ends(step: Step) -> Option<After> {
     let mut stack = [
@@ -433,7 +471,7 @@ fn ends(step: Step) -> Option<After> {
         top: 4,
         ticks: 9,
     };
-    let place = take(&mut stack, here, 8, &step)?;
+    let place = take(&mut stack, here, 8, &step).ok()?;
     Some(After {
         place,
         first: stack[2],
@@ -448,6 +486,8 @@ fn is_same(step: Step, wanted: Step) -> bool {
         (Step::Other, Step::Other) => true,
         (Step::Ask(count), Step::Ask(other)) => count == other,
         (Step::Push(number), Step::Push(other)) => number == other,
+        (Step::Load(place), Step::Load(other)) => place == other,
+        (Step::Same(one, two), Step::Same(other, its)) => one == other && two == its,
         (Step::GetField(place, field), Step::GetField(other, its)) => {
             place == other && field == its
         }
@@ -504,5 +544,6 @@ fn each_place_has_its_step(rt: HostRuntime) -> Result<(), AllocError> {
     assert_eq!(rt; first_other(rt.alloc(), HASHING, &HASHED)?, None);
     assert_eq!(rt; first_other(rt.alloc(), OBJECTS, &FIELDS)?, None);
     assert_eq!(rt; first_other(rt.alloc(), GLOBALS, &GLOBAL_STEPS)?, None);
+    assert_eq!(rt; first_other(rt.alloc(), COMPARING, &COMPARED)?, None);
     Ok(())
 }

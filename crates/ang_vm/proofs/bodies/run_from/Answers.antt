@@ -21,9 +21,9 @@ use Rattle.ang_vm.proofs.Going.{none_there, some_there, lost_nowhere, params_the
 use Rattle.ang_vm.proofs.Running.{entered, not_entered, left_on, left_over, halted, leg_lighter}
 use Rattle.ang_vm.proofs.bodies.run_from.Goals as goal
 
-pub loop-code-init : goal.loop-code-init
-loop-code-init g c = record {
-  code = c.body_at-code.ensures.exact;
+pub loop-callee-init : goal.loop-callee-init
+loop-callee-init g c = record {
+  code = c.in-Some.ensures.exact;
   fits = c.requires.fits;
   may_run = c.requires.may_run;
   reaches = reach_same (setting_of c.args.table.now c.args.nesting) (texts_of c.args.table.now) (λ is. refl);
@@ -33,122 +33,149 @@ loop-code-init g c = record {
 -- a body that there is not
 pub returns-in_default-clause-ends : goal.returns-in_default-clause-ends
 returns-in_default-clause-ends g c =
-    let none : body_of c.args.table.now c.loop-code.here.body ≡ None = none_there _ (λ code. body_of c.args.table.now c.loop-code.here.body ≡ Some code.now) c.loop-code.code c.in_default.is c.loop-code.invariant.code in
-    reach_then (setting_of c.args.table.now c.args.nesting) (texts_of c.args.table.now) c.loop-code.invariant.reaches
-    (lost_nowhere c.args.table.now c.args.nesting c.loop-code.here c.loop-code.stack.items c.loop-code.frames.items (world_of (λ v. (g.dyn-1.0.entry v).1) c.loop-code.store) none)
+    let none : body_of c.args.table.now c.args.from.body ≡ None = none_there _ (λ code. body_of c.args.table.now c.args.from.body ≡ Some code.now) c.body_at.result c.in_default.is c.body_at.ensures.exact in
+    lost_nowhere c.args.table.now c.args.nesting c.args.from c.args.stack.now.items c.args.frames.now.items (world_of (λ v. (g.dyn-1.0.entry v).1) c.args.store.now) none
 
 -- a fault, and code that is lost
 pub returns-in-Faults-clause-ends : goal.returns-in-Faults-clause-ends
 returns-in-Faults-clause-ends g c =
-    reach_then (setting_of c.args.table.now c.args.nesting) (texts_of c.args.table.now) c.loop-code.invariant.reaches
-    (halted c.args.table.now c.args.nesting c.loop-code.here c.loop-code.stack.items c.run_within-crossing.new.stack.items c.loop-code.frames.items (world_of (λ v. (g.dyn-1.0.entry v).1) c.loop-code.store) (world_of (λ v. (g.dyn-1.0.entry v).1) c.run_within-crossing.new.store) (pause.Faults c.run_within-crossing.result.0.top c.in-Faults.fault) c.fail.result (world_of (λ v. (g.dyn-1.0.entry v).1) c.fail.new.store) (pauses_at c.args.table.now c.loop-code.here c.loop-code.stack.items c.run_within-crossing.new.stack.items (world_of (λ v. (g.dyn-1.0.entry v).1) c.loop-code.store) (world_of (λ v. (g.dyn-1.0.entry v).1) c.run_within-crossing.new.store) _ _ (ap (λ x. pause_of x c.run_within-crossing.result.0) c.in-Faults.is) c.run_within-crossing.ensures.comes) c.fail.ensures.told)
+    reach_then (setting_of c.args.table.now c.args.nesting) (texts_of c.args.table.now) c.loop-callee.invariant.reaches
+    (halted c.args.table.now c.args.nesting c.loop-callee.here c.loop-callee.stack.items c.run_within-crossing.new.stack.items c.loop-callee.frames.items (world_of (λ v. (g.dyn-1.0.entry v).1) c.loop-callee.store) (world_of (λ v. (g.dyn-1.0.entry v).1) c.run_within-crossing.new.store) (pause.Faults c.run_within-crossing.result.0.top c.in-Faults.fault) c.fail.result (world_of (λ v. (g.dyn-1.0.entry v).1) c.fail.new.store) (pauses_at c.args.table.now c.loop-callee.here c.loop-callee.stack.items c.run_within-crossing.new.stack.items (world_of (λ v. (g.dyn-1.0.entry v).1) c.loop-callee.store) (world_of (λ v. (g.dyn-1.0.entry v).1) c.run_within-crossing.new.store) _ _ (ap (λ x. pause_of x c.run_within-crossing.result.0) c.in-Faults.is) c.run_within-crossing.ensures.comes) c.fail.ensures.told)
 
 pub returns-in-Faults-clause-moves : goal.returns-in-Faults-clause-moves
-returns-in-Faults-clause-moves g c = moved_then (λ v. (g.dyn-1.0.entry v).1) c.args.table.now _ _ _ c.loop-code.invariant.moves (moved_then (λ v. (g.dyn-1.0.entry v).1) c.args.table.now _ _ _ c.run_within-crossing.ensures.moves (moved_by (λ v. (g.dyn-1.0.entry v).1) c.args.table.now _ _ c.fail.ensures.moves))
+returns-in-Faults-clause-moves g c = moved_then (λ v. (g.dyn-1.0.entry v).1) c.args.table.now _ _ _ c.loop-callee.invariant.moves (moved_then (λ v. (g.dyn-1.0.entry v).1) c.args.table.now _ _ _ c.run_within-crossing.ensures.moves (moved_by (λ v. (g.dyn-1.0.entry v).1) c.args.table.now _ _ c.fail.ensures.moves))
 
 pub returns-in-Lost-clause-ends : goal.returns-in-Lost-clause-ends
 returns-in-Lost-clause-ends g c =
-    reach_then (setting_of c.args.table.now c.args.nesting) (texts_of c.args.table.now) c.loop-code.invariant.reaches
-    (halted c.args.table.now c.args.nesting c.loop-code.here c.loop-code.stack.items c.run_within-crossing.new.stack.items c.loop-code.frames.items (world_of (λ v. (g.dyn-1.0.entry v).1) c.loop-code.store) (world_of (λ v. (g.dyn-1.0.entry v).1) c.run_within-crossing.new.store) pause.Lost ending.Lost (world_of (λ v. (g.dyn-1.0.entry v).1) c.run_within-crossing.new.store) (pauses_at c.args.table.now c.loop-code.here c.loop-code.stack.items c.run_within-crossing.new.stack.items (world_of (λ v. (g.dyn-1.0.entry v).1) c.loop-code.store) (world_of (λ v. (g.dyn-1.0.entry v).1) c.run_within-crossing.new.store) _ _ (ap (λ x. pause_of x c.run_within-crossing.result.0) c.in-Lost.is) c.run_within-crossing.ensures.comes) (told_same (λ is. refl)))
+    reach_then (setting_of c.args.table.now c.args.nesting) (texts_of c.args.table.now) c.loop-callee.invariant.reaches
+    (halted c.args.table.now c.args.nesting c.loop-callee.here c.loop-callee.stack.items c.run_within-crossing.new.stack.items c.loop-callee.frames.items (world_of (λ v. (g.dyn-1.0.entry v).1) c.loop-callee.store) (world_of (λ v. (g.dyn-1.0.entry v).1) c.run_within-crossing.new.store) pause.Lost ending.Lost (world_of (λ v. (g.dyn-1.0.entry v).1) c.run_within-crossing.new.store) (pauses_at c.args.table.now c.loop-callee.here c.loop-callee.stack.items c.run_within-crossing.new.stack.items (world_of (λ v. (g.dyn-1.0.entry v).1) c.loop-callee.store) (world_of (λ v. (g.dyn-1.0.entry v).1) c.run_within-crossing.new.store) _ _ (ap (λ x. pause_of x c.run_within-crossing.result.0) c.in-Lost.is) c.run_within-crossing.ensures.comes) (told_same (λ is. refl)))
 
 pub returns-in-Lost-clause-moves : goal.returns-in-Lost-clause-moves
-returns-in-Lost-clause-moves g c = moved_then (λ v. (g.dyn-1.0.entry v).1) c.args.table.now _ _ _ c.loop-code.invariant.moves c.run_within-crossing.ensures.moves
+returns-in-Lost-clause-moves g c = moved_then (λ v. (g.dyn-1.0.entry v).1) c.args.table.now _ _ _ c.loop-callee.invariant.moves c.run_within-crossing.ensures.moves
 
 -- a call
-pub loop-code-preserved-in-Ok : goal.loop-code-preserved-in-Ok
-loop-code-preserved-in-Ok g c =
-    let led = entered c.args.table.now c.args.nesting c.loop-code.here c.loop-code.stack.items c.run_within-crossing.new.stack.items c.loop-code.frames.items (world_of (λ v. (g.dyn-1.0.entry v).1) c.loop-code.store) (world_of (λ v. (g.dyn-1.0.entry v).1) c.run_within-crossing.new.store) c.run_within-crossing.result.0 c.in-Enters.callee c.enter.new.stack.items c.enter.new.frames.items c.in-Ok.next (pauses_at c.args.table.now c.loop-code.here c.loop-code.stack.items c.run_within-crossing.new.stack.items (world_of (λ v. (g.dyn-1.0.entry v).1) c.loop-code.store) (world_of (λ v. (g.dyn-1.0.entry v).1) c.run_within-crossing.new.store) _ _ (ap (λ x. pause_of x c.run_within-crossing.result.0) c.in-Enters.is) c.run_within-crossing.ensures.comes) c.in-Ok.ensures.fits c.in-Ok.ensures.told in
+pub loop-callee-preserved-in-Enters : goal.loop-callee-preserved-in-Enters
+loop-callee-preserved-in-Enters g c =
+    let led = entered c.args.table.now c.args.nesting c.loop-callee.here c.loop-callee.stack.items c.run_within-crossing.new.stack.items c.loop-callee.frames.items (world_of (λ v. (g.dyn-1.0.entry v).1) c.loop-callee.store) (world_of (λ v. (g.dyn-1.0.entry v).1) c.run_within-crossing.new.store) c.run_within-crossing.result.0 c.in-Enters.callee c.enter.new.stack.items c.enter.new.frames.items c.in-Ok.both.0 (pauses_at c.args.table.now c.loop-callee.here c.loop-callee.stack.items c.run_within-crossing.new.stack.items (world_of (λ v. (g.dyn-1.0.entry v).1) c.loop-callee.store) (world_of (λ v. (g.dyn-1.0.entry v).1) c.run_within-crossing.new.store) _ _ (ap (λ x. pause_of x c.run_within-crossing.result.0) c.in-Enters.is) c.run_within-crossing.ensures.comes) c.in-Ok.ensures.fits c.in-Ok.ensures.told in
     record {
-      code = c.in-Ok.ensures.code;
+      code = some_there _ (λ code. body_of c.args.table.now c.in-Ok.both.0.body ≡ Some code.now) c.in-Ok.both.1 c.in-Some-its.its c.in-Some-its.is c.in-Ok.ensures.code;
       fits = led.fits;
-      may_run = may_go_on (λ v. (g.dyn-1.0.entry v).1) c.args.table.now _ _ c.loop-code.store c.run_within-crossing.new.store c.loop-code.invariant.may_run c.run_within-crossing.ensures.moves
-          (leg_counted c.args.table.now c.args.nesting c.loop-code.here c.in-Ok.next c.loop-code.stack.items c.enter.new.stack.items c.loop-code.frames.items c.enter.new.frames.items (world_of (λ v. (g.dyn-1.0.entry v).1) c.loop-code.store) (world_of (λ v. (g.dyn-1.0.entry v).1) c.run_within-crossing.new.store) led c.loop-code.invariant.may_run.counted);
-      reaches = reach_then (setting_of c.args.table.now c.args.nesting) (texts_of c.args.table.now) c.loop-code.invariant.reaches (lead_reach (setting_of c.args.table.now c.args.nesting) (texts_of c.args.table.now) led.leads);
-      moves = moved_then (λ v. (g.dyn-1.0.entry v).1) c.args.table.now _ _ _ c.loop-code.invariant.moves c.run_within-crossing.ensures.moves;
+      may_run = may_go_on (λ v. (g.dyn-1.0.entry v).1) c.args.table.now _ _ c.loop-callee.store c.run_within-crossing.new.store c.loop-callee.invariant.may_run c.run_within-crossing.ensures.moves
+          (leg_counted c.args.table.now c.args.nesting c.loop-callee.here c.in-Ok.both.0 c.loop-callee.stack.items c.enter.new.stack.items c.loop-callee.frames.items c.enter.new.frames.items (world_of (λ v. (g.dyn-1.0.entry v).1) c.loop-callee.store) (world_of (λ v. (g.dyn-1.0.entry v).1) c.run_within-crossing.new.store) led c.loop-callee.invariant.may_run.counted);
+      reaches = reach_then (setting_of c.args.table.now c.args.nesting) (texts_of c.args.table.now) c.loop-callee.invariant.reaches (lead_reach (setting_of c.args.table.now c.args.nesting) (texts_of c.args.table.now) led.leads);
+      moves = moved_then (λ v. (g.dyn-1.0.entry v).1) c.args.table.now _ _ _ c.loop-callee.invariant.moves c.run_within-crossing.ensures.moves;
     }
 
-pub loop-code-smaller-in-Ok : goal.loop-code-smaller-in-Ok
-loop-code-smaller-in-Ok g c =
-    leg_lighter c.args.table.now c.args.nesting c.loop-code.here c.in-Ok.next c.loop-code.stack.items c.enter.new.stack.items c.loop-code.frames.items c.enter.new.frames.items (world_of (λ v. (g.dyn-1.0.entry v).1) c.loop-code.store) (world_of (λ v. (g.dyn-1.0.entry v).1) c.run_within-crossing.new.store)
-    (entered c.args.table.now c.args.nesting c.loop-code.here c.loop-code.stack.items c.run_within-crossing.new.stack.items c.loop-code.frames.items (world_of (λ v. (g.dyn-1.0.entry v).1) c.loop-code.store) (world_of (λ v. (g.dyn-1.0.entry v).1) c.run_within-crossing.new.store) c.run_within-crossing.result.0 c.in-Enters.callee c.enter.new.stack.items c.enter.new.frames.items c.in-Ok.next (pauses_at c.args.table.now c.loop-code.here c.loop-code.stack.items c.run_within-crossing.new.stack.items (world_of (λ v. (g.dyn-1.0.entry v).1) c.loop-code.store) (world_of (λ v. (g.dyn-1.0.entry v).1) c.run_within-crossing.new.store) _ _ (ap (λ x. pause_of x c.run_within-crossing.result.0) c.in-Enters.is) c.run_within-crossing.ensures.comes) c.in-Ok.ensures.fits c.in-Ok.ensures.told)
+pub loop-callee-smaller-in-Enters : goal.loop-callee-smaller-in-Enters
+loop-callee-smaller-in-Enters g c =
+    leg_lighter c.args.table.now c.args.nesting c.loop-callee.here c.in-Ok.both.0 c.loop-callee.stack.items c.enter.new.stack.items c.loop-callee.frames.items c.enter.new.frames.items (world_of (λ v. (g.dyn-1.0.entry v).1) c.loop-callee.store) (world_of (λ v. (g.dyn-1.0.entry v).1) c.run_within-crossing.new.store)
+    (entered c.args.table.now c.args.nesting c.loop-callee.here c.loop-callee.stack.items c.run_within-crossing.new.stack.items c.loop-callee.frames.items (world_of (λ v. (g.dyn-1.0.entry v).1) c.loop-callee.store) (world_of (λ v. (g.dyn-1.0.entry v).1) c.run_within-crossing.new.store) c.run_within-crossing.result.0 c.in-Enters.callee c.enter.new.stack.items c.enter.new.frames.items c.in-Ok.both.0 (pauses_at c.args.table.now c.loop-callee.here c.loop-callee.stack.items c.run_within-crossing.new.stack.items (world_of (λ v. (g.dyn-1.0.entry v).1) c.loop-callee.store) (world_of (λ v. (g.dyn-1.0.entry v).1) c.run_within-crossing.new.store) _ _ (ap (λ x. pause_of x c.run_within-crossing.result.0) c.in-Enters.is) c.run_within-crossing.ensures.comes) c.in-Ok.ensures.fits c.in-Ok.ensures.told)
+
+pub returns-in_default-its-clause-ends : goal.returns-in_default-its-clause-ends
+returns-in_default-its-clause-ends g c =
+    let led = entered c.args.table.now c.args.nesting c.loop-callee.here c.loop-callee.stack.items c.run_within-crossing.new.stack.items c.loop-callee.frames.items (world_of (λ v. (g.dyn-1.0.entry v).1) c.loop-callee.store) (world_of (λ v. (g.dyn-1.0.entry v).1) c.run_within-crossing.new.store) c.run_within-crossing.result.0 c.in-Enters.callee c.enter.new.stack.items c.enter.new.frames.items c.in-Ok.both.0 (pauses_at c.args.table.now c.loop-callee.here c.loop-callee.stack.items c.run_within-crossing.new.stack.items (world_of (λ v. (g.dyn-1.0.entry v).1) c.loop-callee.store) (world_of (λ v. (g.dyn-1.0.entry v).1) c.run_within-crossing.new.store) _ _ (ap (λ x. pause_of x c.run_within-crossing.result.0) c.in-Enters.is) c.run_within-crossing.ensures.comes) c.in-Ok.ensures.fits c.in-Ok.ensures.told in
+    let none : body_of c.args.table.now c.in-Ok.both.0.body ≡ None = none_there _ (λ code. body_of c.args.table.now c.in-Ok.both.0.body ≡ Some code.now) c.in-Ok.both.1 c.in_default-its.is c.in-Ok.ensures.code in
+    reach_then (setting_of c.args.table.now c.args.nesting) (texts_of c.args.table.now) c.loop-callee.invariant.reaches
+    (reach_then (setting_of c.args.table.now c.args.nesting) (texts_of c.args.table.now) (lead_reach (setting_of c.args.table.now c.args.nesting) (texts_of c.args.table.now) led.leads)
+    (lost_nowhere c.args.table.now c.args.nesting c.in-Ok.both.0 c.enter.new.stack.items c.enter.new.frames.items (world_of (λ v. (g.dyn-1.0.entry v).1) c.run_within-crossing.new.store) none))
+
+pub returns-in_default-its-clause-moves : goal.returns-in_default-its-clause-moves
+returns-in_default-its-clause-moves g c = moved_then (λ v. (g.dyn-1.0.entry v).1) c.args.table.now _ _ _ c.loop-callee.invariant.moves c.run_within-crossing.ensures.moves
 
 pub give_up-requires-clause-held : goal.give_up-requires-clause-held
 give_up-requires-clause-held g c =
     subst (λ l. CanGive l (world_of (λ v. (g.dyn-1.0.entry v).1) c.run_within-crossing.new.store)) (sym c.in-Err.ensures.same) (counted_enough (values c.run_within-crossing.new.stack.items c.run_within-crossing.result.0.top) (world_of (λ v. (g.dyn-1.0.entry v).1) c.run_within-crossing.new.store)
-    (enters_counted c.args.table.now c.loop-code.here.body c.loop-code.here.room c.loop-code.here.place c.run_within-crossing.result.0 c.in-Enters.callee c.loop-code.stack.items c.run_within-crossing.new.stack.items (world_of (λ v. (g.dyn-1.0.entry v).1) c.loop-code.store) (world_of (λ v. (g.dyn-1.0.entry v).1) c.run_within-crossing.new.store) (pauses_at c.args.table.now c.loop-code.here c.loop-code.stack.items c.run_within-crossing.new.stack.items (world_of (λ v. (g.dyn-1.0.entry v).1) c.loop-code.store) (world_of (λ v. (g.dyn-1.0.entry v).1) c.run_within-crossing.new.store) _ _ (ap (λ x. pause_of x c.run_within-crossing.result.0) c.in-Enters.is) c.run_within-crossing.ensures.comes) c.loop-code.invariant.may_run.counted))
+    (enters_counted c.args.table.now c.loop-callee.here.body c.loop-callee.here.room c.loop-callee.here.place c.run_within-crossing.result.0 c.in-Enters.callee c.loop-callee.stack.items c.run_within-crossing.new.stack.items (world_of (λ v. (g.dyn-1.0.entry v).1) c.loop-callee.store) (world_of (λ v. (g.dyn-1.0.entry v).1) c.run_within-crossing.new.store) (pauses_at c.args.table.now c.loop-callee.here c.loop-callee.stack.items c.run_within-crossing.new.stack.items (world_of (λ v. (g.dyn-1.0.entry v).1) c.loop-callee.store) (world_of (λ v. (g.dyn-1.0.entry v).1) c.run_within-crossing.new.store) _ _ (ap (λ x. pause_of x c.run_within-crossing.result.0) c.in-Enters.is) c.run_within-crossing.ensures.comes) c.loop-callee.invariant.may_run.counted))
 
 pub returns-in-Err-clause-ends : goal.returns-in-Err-clause-ends
 returns-in-Err-clause-ends g c =
-    reach_then (setting_of c.args.table.now c.args.nesting) (texts_of c.args.table.now) c.loop-code.invariant.reaches
-    (not_entered c.args.table.now c.args.nesting c.loop-code.here c.loop-code.stack.items c.run_within-crossing.new.stack.items c.loop-code.frames.items (world_of (λ v. (g.dyn-1.0.entry v).1) c.loop-code.store) (world_of (λ v. (g.dyn-1.0.entry v).1) c.run_within-crossing.new.store) c.run_within-crossing.result.0 c.in-Enters.callee c.give_up.result (world_of (λ v. (g.dyn-1.0.entry v).1) c.give_up.new.store) (pauses_at c.args.table.now c.loop-code.here c.loop-code.stack.items c.run_within-crossing.new.stack.items (world_of (λ v. (g.dyn-1.0.entry v).1) c.loop-code.store) (world_of (λ v. (g.dyn-1.0.entry v).1) c.run_within-crossing.new.store) _ _ (ap (λ x. pause_of x c.run_within-crossing.result.0) c.in-Enters.is) c.run_within-crossing.ensures.comes) (told_then c.in-Err.ensures.told (c.give_up.ensures.told _)))
+    reach_then (setting_of c.args.table.now c.args.nesting) (texts_of c.args.table.now) c.loop-callee.invariant.reaches
+    (not_entered c.args.table.now c.args.nesting c.loop-callee.here c.loop-callee.stack.items c.run_within-crossing.new.stack.items c.loop-callee.frames.items (world_of (λ v. (g.dyn-1.0.entry v).1) c.loop-callee.store) (world_of (λ v. (g.dyn-1.0.entry v).1) c.run_within-crossing.new.store) c.run_within-crossing.result.0 c.in-Enters.callee c.give_up.result (world_of (λ v. (g.dyn-1.0.entry v).1) c.give_up.new.store) (pauses_at c.args.table.now c.loop-callee.here c.loop-callee.stack.items c.run_within-crossing.new.stack.items (world_of (λ v. (g.dyn-1.0.entry v).1) c.loop-callee.store) (world_of (λ v. (g.dyn-1.0.entry v).1) c.run_within-crossing.new.store) _ _ (ap (λ x. pause_of x c.run_within-crossing.result.0) c.in-Enters.is) c.run_within-crossing.ensures.comes) (told_then c.in-Err.ensures.told (c.give_up.ensures.told _)))
 
 pub returns-in-Err-clause-moves : goal.returns-in-Err-clause-moves
-returns-in-Err-clause-moves g c = moved_then (λ v. (g.dyn-1.0.entry v).1) c.args.table.now _ _ _ c.loop-code.invariant.moves (moved_then (λ v. (g.dyn-1.0.entry v).1) c.args.table.now _ _ _ c.run_within-crossing.ensures.moves (moved_by (λ v. (g.dyn-1.0.entry v).1) c.args.table.now _ _ c.give_up.ensures.moves))
+returns-in-Err-clause-moves g c = moved_then (λ v. (g.dyn-1.0.entry v).1) c.args.table.now _ _ _ c.loop-callee.invariant.moves (moved_then (λ v. (g.dyn-1.0.entry v).1) c.args.table.now _ _ _ c.run_within-crossing.ensures.moves (moved_by (λ v. (g.dyn-1.0.entry v).1) c.args.table.now _ _ c.give_up.ensures.moves))
 
 -- a return
 pub leave_within-requires-clause-counted : goal.leave_within-requires-clause-counted
 leave_within-requires-clause-counted g c =
-    returns_counted c.args.table.now c.loop-code.here.body c.loop-code.here.room c.loop-code.here.place c.run_within-crossing.result.0 c.in-Returns.count c.loop-code.stack.items c.run_within-crossing.new.stack.items (world_of (λ v. (g.dyn-1.0.entry v).1) c.loop-code.store) (world_of (λ v. (g.dyn-1.0.entry v).1) c.run_within-crossing.new.store) (pauses_at c.args.table.now c.loop-code.here c.loop-code.stack.items c.run_within-crossing.new.stack.items (world_of (λ v. (g.dyn-1.0.entry v).1) c.loop-code.store) (world_of (λ v. (g.dyn-1.0.entry v).1) c.run_within-crossing.new.store) _ _ (ap (λ x. pause_of x c.run_within-crossing.result.0) c.in-Returns.is) c.run_within-crossing.ensures.comes) c.loop-code.invariant.may_run.counted
+    returns_counted c.args.table.now c.loop-callee.here.body c.loop-callee.here.room c.loop-callee.here.place c.run_within-crossing.result.0 c.in-Returns.count c.loop-callee.stack.items c.run_within-crossing.new.stack.items (world_of (λ v. (g.dyn-1.0.entry v).1) c.loop-callee.store) (world_of (λ v. (g.dyn-1.0.entry v).1) c.run_within-crossing.new.store) (pauses_at c.args.table.now c.loop-callee.here c.loop-callee.stack.items c.run_within-crossing.new.stack.items (world_of (λ v. (g.dyn-1.0.entry v).1) c.loop-callee.store) (world_of (λ v. (g.dyn-1.0.entry v).1) c.run_within-crossing.new.store) _ _ (ap (λ x. pause_of x c.run_within-crossing.result.0) c.in-Returns.is) c.run_within-crossing.ensures.comes) c.loop-callee.invariant.may_run.counted
 
 pub returns-in_default-leave_within-clause-ends : goal.returns-in_default-leave_within-clause-ends
 returns-in_default-leave_within-clause-ends g c =
-    reach_then (setting_of c.args.table.now c.args.nesting) (texts_of c.args.table.now) c.loop-code.invariant.reaches
-    (left_over c.args.table.now c.args.nesting c.loop-code.here c.loop-code.stack.items c.run_within-crossing.new.stack.items c.loop-code.frames.items (world_of (λ v. (g.dyn-1.0.entry v).1) c.loop-code.store) (world_of (λ v. (g.dyn-1.0.entry v).1) c.run_within-crossing.new.store) c.run_within-crossing.result.0 c.in-Returns.count ending.Lost (world_of (λ v. (g.dyn-1.0.entry v).1) c.leave_within.new.store) (pauses_at c.args.table.now c.loop-code.here c.loop-code.stack.items c.run_within-crossing.new.stack.items (world_of (λ v. (g.dyn-1.0.entry v).1) c.loop-code.store) (world_of (λ v. (g.dyn-1.0.entry v).1) c.run_within-crossing.new.store) _ _ (ap (λ x. pause_of x c.run_within-crossing.result.0) c.in-Returns.is) c.run_within-crossing.ensures.comes)
-    (told_then (c.leave_within.ensures.told (setting_of c.args.table.now c.args.nesting) (texts_of c.args.table.now) c.loop-code.here.body c.run_within-crossing.result.0.at c.loop-code.here.room (reverse c.loop-code.frames.items) c.run_within-crossing.result.0.ticks (params_there c.args.table.now c.loop-code.here.body c.in-Some.there.now c.args.nesting (some_there _ (λ code. body_of c.args.table.now c.loop-code.here.body ≡ Some code.now) c.loop-code.code c.in-Some.there c.in-Some.is c.loop-code.invariant.code))) (told_same (λ is. ap (λ o. handed o c.leave_within.new.stack.items (reverse c.loop-code.frames.items) c.run_within-crossing.result.0.ticks (with_inputs is (world_of (λ v. (g.dyn-1.0.entry v).1) c.leave_within.new.store))) (c.in_default-leave_within.is)))))
+    reach_then (setting_of c.args.table.now c.args.nesting) (texts_of c.args.table.now) c.loop-callee.invariant.reaches
+    (left_over c.args.table.now c.args.nesting c.loop-callee.here c.loop-callee.stack.items c.run_within-crossing.new.stack.items c.loop-callee.frames.items (world_of (λ v. (g.dyn-1.0.entry v).1) c.loop-callee.store) (world_of (λ v. (g.dyn-1.0.entry v).1) c.run_within-crossing.new.store) c.run_within-crossing.result.0 c.in-Returns.count ending.Lost (world_of (λ v. (g.dyn-1.0.entry v).1) c.leave_within.new.store) (pauses_at c.args.table.now c.loop-callee.here c.loop-callee.stack.items c.run_within-crossing.new.stack.items (world_of (λ v. (g.dyn-1.0.entry v).1) c.loop-callee.store) (world_of (λ v. (g.dyn-1.0.entry v).1) c.run_within-crossing.new.store) _ _ (ap (λ x. pause_of x c.run_within-crossing.result.0) c.in-Returns.is) c.run_within-crossing.ensures.comes)
+    (told_then (c.leave_within.ensures.told (setting_of c.args.table.now c.args.nesting) (texts_of c.args.table.now) c.loop-callee.here.body c.run_within-crossing.result.0.at c.loop-callee.here.room (reverse c.loop-callee.frames.items) c.run_within-crossing.result.0.ticks (params_there c.args.table.now c.loop-callee.here.body c.loop-callee.code.now c.args.nesting c.loop-callee.invariant.code)) (told_same (λ is. ap (λ o. handed o c.leave_within.new.stack.items (reverse c.loop-callee.frames.items) c.run_within-crossing.result.0.ticks (with_inputs is (world_of (λ v. (g.dyn-1.0.entry v).1) c.leave_within.new.store))) (c.in_default-leave_within.is)))))
 
 pub returns-in_default-leave_within-clause-moves : goal.returns-in_default-leave_within-clause-moves
-returns-in_default-leave_within-clause-moves g c = moved_then (λ v. (g.dyn-1.0.entry v).1) c.args.table.now _ _ _ c.loop-code.invariant.moves (moved_then (λ v. (g.dyn-1.0.entry v).1) c.args.table.now _ _ _ c.run_within-crossing.ensures.moves (moved_by (λ v. (g.dyn-1.0.entry v).1) c.args.table.now _ _ c.leave_within.ensures.moves))
+returns-in_default-leave_within-clause-moves g c = moved_then (λ v. (g.dyn-1.0.entry v).1) c.args.table.now _ _ _ c.loop-callee.invariant.moves (moved_then (λ v. (g.dyn-1.0.entry v).1) c.args.table.now _ _ _ c.run_within-crossing.ensures.moves (moved_by (λ v. (g.dyn-1.0.entry v).1) c.args.table.now _ _ c.leave_within.ensures.moves))
 
 pub finish-requires-clause-ready : goal.finish-requires-clause-ready
-finish-requires-clause-ready g c = (c.leave_within.ensures.moves []).ready (c.run_within-crossing.ensures.moves.ready c.loop-code.invariant.may_run.ready)
+finish-requires-clause-ready g c = (c.leave_within.ensures.moves []).ready (c.run_within-crossing.ensures.moves.ready c.loop-callee.invariant.may_run.ready)
 
 pub returns-in_default-pop-clause-ends : goal.returns-in_default-pop-clause-ends
 returns-in_default-pop-clause-ends g c =
-    let none : reverse c.loop-code.frames.items ≡ [] = no_callers c.loop-code.frames.items (omega (arith, c.in_default-pop.ensures.cases.0)) in
-    reach_then (setting_of c.args.table.now c.args.nesting) (texts_of c.args.table.now) c.loop-code.invariant.reaches
-    (left_over c.args.table.now c.args.nesting c.loop-code.here c.loop-code.stack.items c.run_within-crossing.new.stack.items c.loop-code.frames.items (world_of (λ v. (g.dyn-1.0.entry v).1) c.loop-code.store) (world_of (λ v. (g.dyn-1.0.entry v).1) c.run_within-crossing.new.store) c.run_within-crossing.result.0 c.in-Returns.count c.finish.result (world_of (λ v. (g.dyn-1.0.entry v).1) c.finish.new.store) (pauses_at c.args.table.now c.loop-code.here c.loop-code.stack.items c.run_within-crossing.new.stack.items (world_of (λ v. (g.dyn-1.0.entry v).1) c.loop-code.store) (world_of (λ v. (g.dyn-1.0.entry v).1) c.run_within-crossing.new.store) _ _ (ap (λ x. pause_of x c.run_within-crossing.result.0) c.in-Returns.is) c.run_within-crossing.ensures.comes)
-    (told_then (c.in-Some-leave_within.ensures.told (setting_of c.args.table.now c.args.nesting) (texts_of c.args.table.now) c.loop-code.here.body c.run_within-crossing.result.0.at c.loop-code.here.room (reverse c.loop-code.frames.items) c.run_within-crossing.result.0.ticks (params_there c.args.table.now c.loop-code.here.body c.in-Some.there.now c.args.nesting (some_there _ (λ code. body_of c.args.table.now c.loop-code.here.body ≡ Some code.now) c.loop-code.code c.in-Some.there c.in-Some.is c.loop-code.invariant.code))) (told_then (told_same (λ is. ap (λ x. back x c.in-Some-leave_within.parted.value [] (values c.leave_within.new.stack.items c.in-Some-leave_within.parted.kept) c.run_within-crossing.result.0.ticks (with_inputs is (world_of (λ v. (g.dyn-1.0.entry v).1) c.leave_within.new.store))) none)) c.finish.ensures.told)))
+    let none : reverse c.loop-callee.frames.items ≡ [] = no_callers c.loop-callee.frames.items (omega (arith, c.in_default-pop.ensures.cases.0)) in
+    reach_then (setting_of c.args.table.now c.args.nesting) (texts_of c.args.table.now) c.loop-callee.invariant.reaches
+    (left_over c.args.table.now c.args.nesting c.loop-callee.here c.loop-callee.stack.items c.run_within-crossing.new.stack.items c.loop-callee.frames.items (world_of (λ v. (g.dyn-1.0.entry v).1) c.loop-callee.store) (world_of (λ v. (g.dyn-1.0.entry v).1) c.run_within-crossing.new.store) c.run_within-crossing.result.0 c.in-Returns.count c.finish.result (world_of (λ v. (g.dyn-1.0.entry v).1) c.finish.new.store) (pauses_at c.args.table.now c.loop-callee.here c.loop-callee.stack.items c.run_within-crossing.new.stack.items (world_of (λ v. (g.dyn-1.0.entry v).1) c.loop-callee.store) (world_of (λ v. (g.dyn-1.0.entry v).1) c.run_within-crossing.new.store) _ _ (ap (λ x. pause_of x c.run_within-crossing.result.0) c.in-Returns.is) c.run_within-crossing.ensures.comes)
+    (told_then (c.in-Some-leave_within.ensures.told (setting_of c.args.table.now c.args.nesting) (texts_of c.args.table.now) c.loop-callee.here.body c.run_within-crossing.result.0.at c.loop-callee.here.room (reverse c.loop-callee.frames.items) c.run_within-crossing.result.0.ticks (params_there c.args.table.now c.loop-callee.here.body c.loop-callee.code.now c.args.nesting c.loop-callee.invariant.code)) (told_then (told_same (λ is. ap (λ x. back x c.in-Some-leave_within.parted.value [] (values c.leave_within.new.stack.items c.in-Some-leave_within.parted.kept) c.run_within-crossing.result.0.ticks (with_inputs is (world_of (λ v. (g.dyn-1.0.entry v).1) c.leave_within.new.store))) none)) c.finish.ensures.told)))
 
 pub returns-in_default-pop-clause-moves : goal.returns-in_default-pop-clause-moves
-returns-in_default-pop-clause-moves g c = moved_then (λ v. (g.dyn-1.0.entry v).1) c.args.table.now _ _ _ c.loop-code.invariant.moves (moved_then (λ v. (g.dyn-1.0.entry v).1) c.args.table.now _ _ _ c.run_within-crossing.ensures.moves (moved_by (λ v. (g.dyn-1.0.entry v).1) c.args.table.now _ _ (λ roles. moves_join (λ v. (g.dyn-1.0.entry v).1) roles _ _ _ (c.leave_within.ensures.moves roles) (c.finish.ensures.moves roles))))
+returns-in_default-pop-clause-moves g c = moved_then (λ v. (g.dyn-1.0.entry v).1) c.args.table.now _ _ _ c.loop-callee.invariant.moves (moved_then (λ v. (g.dyn-1.0.entry v).1) c.args.table.now _ _ _ c.run_within-crossing.ensures.moves (moved_by (λ v. (g.dyn-1.0.entry v).1) c.args.table.now _ _ (λ roles. moves_join (λ v. (g.dyn-1.0.entry v).1) roles _ _ _ (c.leave_within.ensures.moves roles) (c.finish.ensures.moves roles))))
 
 pub returns-in_default-resume_within-clause-ends : goal.returns-in_default-resume_within-clause-ends
 returns-in_default-resume_within-clause-ends g c =
-    let split : reverse c.loop-code.frames.items ≡ c.in-Some-pop.caller ∷ reverse c.pop.new.self.items = ap reverse c.in-Some-pop.ensures.items ∙ push_front c.pop.new.self.items c.in-Some-pop.caller in
-    reach_then (setting_of c.args.table.now c.args.nesting) (texts_of c.args.table.now) c.loop-code.invariant.reaches
-    (left_over c.args.table.now c.args.nesting c.loop-code.here c.loop-code.stack.items c.run_within-crossing.new.stack.items c.loop-code.frames.items (world_of (λ v. (g.dyn-1.0.entry v).1) c.loop-code.store) (world_of (λ v. (g.dyn-1.0.entry v).1) c.run_within-crossing.new.store) c.run_within-crossing.result.0 c.in-Returns.count ending.Lost (world_of (λ v. (g.dyn-1.0.entry v).1) c.leave_within.new.store) (pauses_at c.args.table.now c.loop-code.here c.loop-code.stack.items c.run_within-crossing.new.stack.items (world_of (λ v. (g.dyn-1.0.entry v).1) c.loop-code.store) (world_of (λ v. (g.dyn-1.0.entry v).1) c.run_within-crossing.new.store) _ _ (ap (λ x. pause_of x c.run_within-crossing.result.0) c.in-Returns.is) c.run_within-crossing.ensures.comes)
-    (told_then (c.in-Some-leave_within.ensures.told (setting_of c.args.table.now c.args.nesting) (texts_of c.args.table.now) c.loop-code.here.body c.run_within-crossing.result.0.at c.loop-code.here.room (reverse c.loop-code.frames.items) c.run_within-crossing.result.0.ticks (params_there c.args.table.now c.loop-code.here.body c.in-Some.there.now c.args.nesting (some_there _ (λ code. body_of c.args.table.now c.loop-code.here.body ≡ Some code.now) c.loop-code.code c.in-Some.there c.in-Some.is c.loop-code.invariant.code))) (told_same (λ is. ap (λ x. back x c.in-Some-leave_within.parted.value [] (values c.leave_within.new.stack.items c.in-Some-leave_within.parted.kept) c.run_within-crossing.result.0.ticks (with_inputs is (world_of (λ v. (g.dyn-1.0.entry v).1) c.leave_within.new.store))) split ∙ c.resume_within.ensures.told (reverse c.pop.new.self.items) (with_inputs is (world_of (λ v. (g.dyn-1.0.entry v).1) c.leave_within.new.store))
+    let split : reverse c.loop-callee.frames.items ≡ c.in-Some-pop.caller ∷ reverse c.pop.new.self.items = ap reverse c.in-Some-pop.ensures.items ∙ push_front c.pop.new.self.items c.in-Some-pop.caller in
+    reach_then (setting_of c.args.table.now c.args.nesting) (texts_of c.args.table.now) c.loop-callee.invariant.reaches
+    (left_over c.args.table.now c.args.nesting c.loop-callee.here c.loop-callee.stack.items c.run_within-crossing.new.stack.items c.loop-callee.frames.items (world_of (λ v. (g.dyn-1.0.entry v).1) c.loop-callee.store) (world_of (λ v. (g.dyn-1.0.entry v).1) c.run_within-crossing.new.store) c.run_within-crossing.result.0 c.in-Returns.count ending.Lost (world_of (λ v. (g.dyn-1.0.entry v).1) c.leave_within.new.store) (pauses_at c.args.table.now c.loop-callee.here c.loop-callee.stack.items c.run_within-crossing.new.stack.items (world_of (λ v. (g.dyn-1.0.entry v).1) c.loop-callee.store) (world_of (λ v. (g.dyn-1.0.entry v).1) c.run_within-crossing.new.store) _ _ (ap (λ x. pause_of x c.run_within-crossing.result.0) c.in-Returns.is) c.run_within-crossing.ensures.comes)
+    (told_then (c.in-Some-leave_within.ensures.told (setting_of c.args.table.now c.args.nesting) (texts_of c.args.table.now) c.loop-callee.here.body c.run_within-crossing.result.0.at c.loop-callee.here.room (reverse c.loop-callee.frames.items) c.run_within-crossing.result.0.ticks (params_there c.args.table.now c.loop-callee.here.body c.loop-callee.code.now c.args.nesting c.loop-callee.invariant.code)) (told_same (λ is. ap (λ x. back x c.in-Some-leave_within.parted.value [] (values c.leave_within.new.stack.items c.in-Some-leave_within.parted.kept) c.run_within-crossing.result.0.ticks (with_inputs is (world_of (λ v. (g.dyn-1.0.entry v).1) c.leave_within.new.store))) split ∙ c.resume_within.ensures.told (reverse c.pop.new.self.items) (with_inputs is (world_of (λ v. (g.dyn-1.0.entry v).1) c.leave_within.new.store))
     ∙ ap (λ o. resumed o c.resume_within.new.stack.items (reverse c.pop.new.self.items) (with_inputs is (world_of (λ v. (g.dyn-1.0.entry v).1) c.leave_within.new.store))) c.in_default-resume_within.is))))
 
 pub returns-in_default-resume_within-clause-moves : goal.returns-in_default-resume_within-clause-moves
-returns-in_default-resume_within-clause-moves g c = moved_then (λ v. (g.dyn-1.0.entry v).1) c.args.table.now _ _ _ c.loop-code.invariant.moves (moved_then (λ v. (g.dyn-1.0.entry v).1) c.args.table.now _ _ _ c.run_within-crossing.ensures.moves (moved_by (λ v. (g.dyn-1.0.entry v).1) c.args.table.now _ _ c.leave_within.ensures.moves))
+returns-in_default-resume_within-clause-moves g c = moved_then (λ v. (g.dyn-1.0.entry v).1) c.args.table.now _ _ _ c.loop-callee.invariant.moves (moved_then (λ v. (g.dyn-1.0.entry v).1) c.args.table.now _ _ _ c.run_within-crossing.ensures.moves (moved_by (λ v. (g.dyn-1.0.entry v).1) c.args.table.now _ _ c.leave_within.ensures.moves))
 
-pub loop-code-smaller : goal.loop-code-smaller
-loop-code-smaller g c =
-    let split : reverse c.loop-code.frames.items ≡ c.in-Some-pop.caller ∷ reverse c.pop.new.self.items = ap reverse c.in-Some-pop.ensures.items ∙ push_front c.pop.new.self.items c.in-Some-pop.caller in
-    let same : length c.resume_within.new.stack.items ≡ length c.loop-code.stack.items = c.in-Some-resume_within.ensures.same ∙ c.leave_within.ensures.same ∙ c.run_within-crossing.ensures.same in
-    let all = subst (AllFit (length c.loop-code.stack.items)) split c.loop-code.invariant.fits.callers in
+pub returns-in_default-body_at-clause-ends : goal.returns-in_default-body_at-clause-ends
+returns-in_default-body_at-clause-ends g c =
+    let split : reverse c.loop-callee.frames.items ≡ c.in-Some-pop.caller ∷ reverse c.pop.new.self.items = ap reverse c.in-Some-pop.ensures.items ∙ push_front c.pop.new.self.items c.in-Some-pop.caller in
+    let same : length c.resume_within.new.stack.items ≡ length c.loop-callee.stack.items = c.in-Some-resume_within.ensures.same ∙ c.leave_within.ensures.same ∙ c.run_within-crossing.ensures.same in
+    let all = subst (AllFit (length c.loop-callee.stack.items)) split c.loop-callee.invariant.fits.callers in
     let room = c.in-Some-resume_within.ensures.fits in
     let fits : Fits c.in-Some-resume_within.next c.resume_within.new.stack.items c.pop.new.self.items = record { values = room.0; body = omega (arith, all.0, same, room.1); callers = subst (λ n. AllFit n (reverse c.pop.new.self.items)) (sym same) all.1 } in
-    let led = left_on c.args.table.now c.args.nesting c.loop-code.here c.loop-code.stack.items c.run_within-crossing.new.stack.items c.loop-code.frames.items (world_of (λ v. (g.dyn-1.0.entry v).1) c.loop-code.store) (world_of (λ v. (g.dyn-1.0.entry v).1) c.run_within-crossing.new.store) c.run_within-crossing.result.0 c.in-Returns.count c.resume_within.new.stack.items c.pop.new.self.items c.in-Some-resume_within.next (world_of (λ v. (g.dyn-1.0.entry v).1) c.leave_within.new.store) (pauses_at c.args.table.now c.loop-code.here c.loop-code.stack.items c.run_within-crossing.new.stack.items (world_of (λ v. (g.dyn-1.0.entry v).1) c.loop-code.store) (world_of (λ v. (g.dyn-1.0.entry v).1) c.run_within-crossing.new.store) _ _ (ap (λ x. pause_of x c.run_within-crossing.result.0) c.in-Returns.is) c.run_within-crossing.ensures.comes) fits
-    (told_then (c.in-Some-leave_within.ensures.told (setting_of c.args.table.now c.args.nesting) (texts_of c.args.table.now) c.loop-code.here.body c.run_within-crossing.result.0.at c.loop-code.here.room (reverse c.loop-code.frames.items) c.run_within-crossing.result.0.ticks (params_there c.args.table.now c.loop-code.here.body c.in-Some.there.now c.args.nesting (some_there _ (λ code. body_of c.args.table.now c.loop-code.here.body ≡ Some code.now) c.loop-code.code c.in-Some.there c.in-Some.is c.loop-code.invariant.code))) (told_same (λ is. ap (λ x. back x c.in-Some-leave_within.parted.value [] (values c.leave_within.new.stack.items c.in-Some-leave_within.parted.kept) c.run_within-crossing.result.0.ticks (with_inputs is (world_of (λ v. (g.dyn-1.0.entry v).1) c.leave_within.new.store))) split ∙ c.in-Some-resume_within.ensures.told (reverse c.pop.new.self.items) (with_inputs is (world_of (λ v. (g.dyn-1.0.entry v).1) c.leave_within.new.store))))) in
-    leg_lighter c.args.table.now c.args.nesting c.loop-code.here c.in-Some-resume_within.next c.loop-code.stack.items c.resume_within.new.stack.items c.loop-code.frames.items c.pop.new.self.items (world_of (λ v. (g.dyn-1.0.entry v).1) c.loop-code.store) (world_of (λ v. (g.dyn-1.0.entry v).1) c.leave_within.new.store) led
+    let led = left_on c.args.table.now c.args.nesting c.loop-callee.here c.loop-callee.stack.items c.run_within-crossing.new.stack.items c.loop-callee.frames.items (world_of (λ v. (g.dyn-1.0.entry v).1) c.loop-callee.store) (world_of (λ v. (g.dyn-1.0.entry v).1) c.run_within-crossing.new.store) c.run_within-crossing.result.0 c.in-Returns.count c.resume_within.new.stack.items c.pop.new.self.items c.in-Some-resume_within.next (world_of (λ v. (g.dyn-1.0.entry v).1) c.leave_within.new.store) (pauses_at c.args.table.now c.loop-callee.here c.loop-callee.stack.items c.run_within-crossing.new.stack.items (world_of (λ v. (g.dyn-1.0.entry v).1) c.loop-callee.store) (world_of (λ v. (g.dyn-1.0.entry v).1) c.run_within-crossing.new.store) _ _ (ap (λ x. pause_of x c.run_within-crossing.result.0) c.in-Returns.is) c.run_within-crossing.ensures.comes) fits
+    (told_then (c.in-Some-leave_within.ensures.told (setting_of c.args.table.now c.args.nesting) (texts_of c.args.table.now) c.loop-callee.here.body c.run_within-crossing.result.0.at c.loop-callee.here.room (reverse c.loop-callee.frames.items) c.run_within-crossing.result.0.ticks (params_there c.args.table.now c.loop-callee.here.body c.loop-callee.code.now c.args.nesting c.loop-callee.invariant.code)) (told_same (λ is. ap (λ x. back x c.in-Some-leave_within.parted.value [] (values c.leave_within.new.stack.items c.in-Some-leave_within.parted.kept) c.run_within-crossing.result.0.ticks (with_inputs is (world_of (λ v. (g.dyn-1.0.entry v).1) c.leave_within.new.store))) split ∙ c.in-Some-resume_within.ensures.told (reverse c.pop.new.self.items) (with_inputs is (world_of (λ v. (g.dyn-1.0.entry v).1) c.leave_within.new.store))))) in
+    let none : body_of c.args.table.now c.in-Some-resume_within.next.body ≡ None = none_there _ (λ code. body_of c.args.table.now c.in-Some-resume_within.next.body ≡ Some code.now) c.body_at-in-Returns.result c.in_default-body_at.is c.body_at-in-Returns.ensures.exact in
+    reach_then (setting_of c.args.table.now c.args.nesting) (texts_of c.args.table.now) c.loop-callee.invariant.reaches
+    (reach_then (setting_of c.args.table.now c.args.nesting) (texts_of c.args.table.now) (lead_reach (setting_of c.args.table.now c.args.nesting) (texts_of c.args.table.now) led.leads)
+    (lost_nowhere c.args.table.now c.args.nesting c.in-Some-resume_within.next c.resume_within.new.stack.items c.pop.new.self.items (world_of (λ v. (g.dyn-1.0.entry v).1) c.leave_within.new.store) none))
 
-pub loop-code-preserved : goal.loop-code-preserved
-loop-code-preserved g c =
-    let split : reverse c.loop-code.frames.items ≡ c.in-Some-pop.caller ∷ reverse c.pop.new.self.items = ap reverse c.in-Some-pop.ensures.items ∙ push_front c.pop.new.self.items c.in-Some-pop.caller in
-    let same : length c.resume_within.new.stack.items ≡ length c.loop-code.stack.items = c.in-Some-resume_within.ensures.same ∙ c.leave_within.ensures.same ∙ c.run_within-crossing.ensures.same in
-    let all = subst (AllFit (length c.loop-code.stack.items)) split c.loop-code.invariant.fits.callers in
+pub returns-in_default-body_at-clause-moves : goal.returns-in_default-body_at-clause-moves
+returns-in_default-body_at-clause-moves g c = moved_then (λ v. (g.dyn-1.0.entry v).1) c.args.table.now _ _ _ c.loop-callee.invariant.moves (moved_then (λ v. (g.dyn-1.0.entry v).1) c.args.table.now _ _ _ c.run_within-crossing.ensures.moves (moved_by (λ v. (g.dyn-1.0.entry v).1) c.args.table.now _ _ c.leave_within.ensures.moves))
+
+pub loop-callee-smaller : goal.loop-callee-smaller
+loop-callee-smaller g c =
+    let split : reverse c.loop-callee.frames.items ≡ c.in-Some-pop.caller ∷ reverse c.pop.new.self.items = ap reverse c.in-Some-pop.ensures.items ∙ push_front c.pop.new.self.items c.in-Some-pop.caller in
+    let same : length c.resume_within.new.stack.items ≡ length c.loop-callee.stack.items = c.in-Some-resume_within.ensures.same ∙ c.leave_within.ensures.same ∙ c.run_within-crossing.ensures.same in
+    let all = subst (AllFit (length c.loop-callee.stack.items)) split c.loop-callee.invariant.fits.callers in
     let room = c.in-Some-resume_within.ensures.fits in
     let fits : Fits c.in-Some-resume_within.next c.resume_within.new.stack.items c.pop.new.self.items = record { values = room.0; body = omega (arith, all.0, same, room.1); callers = subst (λ n. AllFit n (reverse c.pop.new.self.items)) (sym same) all.1 } in
-    let led = left_on c.args.table.now c.args.nesting c.loop-code.here c.loop-code.stack.items c.run_within-crossing.new.stack.items c.loop-code.frames.items (world_of (λ v. (g.dyn-1.0.entry v).1) c.loop-code.store) (world_of (λ v. (g.dyn-1.0.entry v).1) c.run_within-crossing.new.store) c.run_within-crossing.result.0 c.in-Returns.count c.resume_within.new.stack.items c.pop.new.self.items c.in-Some-resume_within.next (world_of (λ v. (g.dyn-1.0.entry v).1) c.leave_within.new.store) (pauses_at c.args.table.now c.loop-code.here c.loop-code.stack.items c.run_within-crossing.new.stack.items (world_of (λ v. (g.dyn-1.0.entry v).1) c.loop-code.store) (world_of (λ v. (g.dyn-1.0.entry v).1) c.run_within-crossing.new.store) _ _ (ap (λ x. pause_of x c.run_within-crossing.result.0) c.in-Returns.is) c.run_within-crossing.ensures.comes) fits
-    (told_then (c.in-Some-leave_within.ensures.told (setting_of c.args.table.now c.args.nesting) (texts_of c.args.table.now) c.loop-code.here.body c.run_within-crossing.result.0.at c.loop-code.here.room (reverse c.loop-code.frames.items) c.run_within-crossing.result.0.ticks (params_there c.args.table.now c.loop-code.here.body c.in-Some.there.now c.args.nesting (some_there _ (λ code. body_of c.args.table.now c.loop-code.here.body ≡ Some code.now) c.loop-code.code c.in-Some.there c.in-Some.is c.loop-code.invariant.code))) (told_same (λ is. ap (λ x. back x c.in-Some-leave_within.parted.value [] (values c.leave_within.new.stack.items c.in-Some-leave_within.parted.kept) c.run_within-crossing.result.0.ticks (with_inputs is (world_of (λ v. (g.dyn-1.0.entry v).1) c.leave_within.new.store))) split ∙ c.in-Some-resume_within.ensures.told (reverse c.pop.new.self.items) (with_inputs is (world_of (λ v. (g.dyn-1.0.entry v).1) c.leave_within.new.store))))) in
+    let led = left_on c.args.table.now c.args.nesting c.loop-callee.here c.loop-callee.stack.items c.run_within-crossing.new.stack.items c.loop-callee.frames.items (world_of (λ v. (g.dyn-1.0.entry v).1) c.loop-callee.store) (world_of (λ v. (g.dyn-1.0.entry v).1) c.run_within-crossing.new.store) c.run_within-crossing.result.0 c.in-Returns.count c.resume_within.new.stack.items c.pop.new.self.items c.in-Some-resume_within.next (world_of (λ v. (g.dyn-1.0.entry v).1) c.leave_within.new.store) (pauses_at c.args.table.now c.loop-callee.here c.loop-callee.stack.items c.run_within-crossing.new.stack.items (world_of (λ v. (g.dyn-1.0.entry v).1) c.loop-callee.store) (world_of (λ v. (g.dyn-1.0.entry v).1) c.run_within-crossing.new.store) _ _ (ap (λ x. pause_of x c.run_within-crossing.result.0) c.in-Returns.is) c.run_within-crossing.ensures.comes) fits
+    (told_then (c.in-Some-leave_within.ensures.told (setting_of c.args.table.now c.args.nesting) (texts_of c.args.table.now) c.loop-callee.here.body c.run_within-crossing.result.0.at c.loop-callee.here.room (reverse c.loop-callee.frames.items) c.run_within-crossing.result.0.ticks (params_there c.args.table.now c.loop-callee.here.body c.loop-callee.code.now c.args.nesting c.loop-callee.invariant.code)) (told_same (λ is. ap (λ x. back x c.in-Some-leave_within.parted.value [] (values c.leave_within.new.stack.items c.in-Some-leave_within.parted.kept) c.run_within-crossing.result.0.ticks (with_inputs is (world_of (λ v. (g.dyn-1.0.entry v).1) c.leave_within.new.store))) split ∙ c.in-Some-resume_within.ensures.told (reverse c.pop.new.self.items) (with_inputs is (world_of (λ v. (g.dyn-1.0.entry v).1) c.leave_within.new.store))))) in
+    leg_lighter c.args.table.now c.args.nesting c.loop-callee.here c.in-Some-resume_within.next c.loop-callee.stack.items c.resume_within.new.stack.items c.loop-callee.frames.items c.pop.new.self.items (world_of (λ v. (g.dyn-1.0.entry v).1) c.loop-callee.store) (world_of (λ v. (g.dyn-1.0.entry v).1) c.leave_within.new.store) led
+
+pub loop-callee-preserved : goal.loop-callee-preserved
+loop-callee-preserved g c =
+    let split : reverse c.loop-callee.frames.items ≡ c.in-Some-pop.caller ∷ reverse c.pop.new.self.items = ap reverse c.in-Some-pop.ensures.items ∙ push_front c.pop.new.self.items c.in-Some-pop.caller in
+    let same : length c.resume_within.new.stack.items ≡ length c.loop-callee.stack.items = c.in-Some-resume_within.ensures.same ∙ c.leave_within.ensures.same ∙ c.run_within-crossing.ensures.same in
+    let all = subst (AllFit (length c.loop-callee.stack.items)) split c.loop-callee.invariant.fits.callers in
+    let room = c.in-Some-resume_within.ensures.fits in
+    let fits : Fits c.in-Some-resume_within.next c.resume_within.new.stack.items c.pop.new.self.items = record { values = room.0; body = omega (arith, all.0, same, room.1); callers = subst (λ n. AllFit n (reverse c.pop.new.self.items)) (sym same) all.1 } in
+    let led = left_on c.args.table.now c.args.nesting c.loop-callee.here c.loop-callee.stack.items c.run_within-crossing.new.stack.items c.loop-callee.frames.items (world_of (λ v. (g.dyn-1.0.entry v).1) c.loop-callee.store) (world_of (λ v. (g.dyn-1.0.entry v).1) c.run_within-crossing.new.store) c.run_within-crossing.result.0 c.in-Returns.count c.resume_within.new.stack.items c.pop.new.self.items c.in-Some-resume_within.next (world_of (λ v. (g.dyn-1.0.entry v).1) c.leave_within.new.store) (pauses_at c.args.table.now c.loop-callee.here c.loop-callee.stack.items c.run_within-crossing.new.stack.items (world_of (λ v. (g.dyn-1.0.entry v).1) c.loop-callee.store) (world_of (λ v. (g.dyn-1.0.entry v).1) c.run_within-crossing.new.store) _ _ (ap (λ x. pause_of x c.run_within-crossing.result.0) c.in-Returns.is) c.run_within-crossing.ensures.comes) fits
+    (told_then (c.in-Some-leave_within.ensures.told (setting_of c.args.table.now c.args.nesting) (texts_of c.args.table.now) c.loop-callee.here.body c.run_within-crossing.result.0.at c.loop-callee.here.room (reverse c.loop-callee.frames.items) c.run_within-crossing.result.0.ticks (params_there c.args.table.now c.loop-callee.here.body c.loop-callee.code.now c.args.nesting c.loop-callee.invariant.code)) (told_same (λ is. ap (λ x. back x c.in-Some-leave_within.parted.value [] (values c.leave_within.new.stack.items c.in-Some-leave_within.parted.kept) c.run_within-crossing.result.0.ticks (with_inputs is (world_of (λ v. (g.dyn-1.0.entry v).1) c.leave_within.new.store))) split ∙ c.in-Some-resume_within.ensures.told (reverse c.pop.new.self.items) (with_inputs is (world_of (λ v. (g.dyn-1.0.entry v).1) c.leave_within.new.store))))) in
     let moves = moved_then (λ v. (g.dyn-1.0.entry v).1) c.args.table.now _ _ _ c.run_within-crossing.ensures.moves (moved_by (λ v. (g.dyn-1.0.entry v).1) c.args.table.now _ _ c.leave_within.ensures.moves) in
     record {
-      code = c.body_at-code-in-Returns.ensures.exact;
+      code = c.in-Some-body_at.ensures.exact;
       fits = led.fits;
-      may_run = may_go_on (λ v. (g.dyn-1.0.entry v).1) c.args.table.now _ _ c.loop-code.store c.leave_within.new.store c.loop-code.invariant.may_run moves
-          (leg_counted c.args.table.now c.args.nesting c.loop-code.here c.in-Some-resume_within.next c.loop-code.stack.items c.resume_within.new.stack.items c.loop-code.frames.items c.pop.new.self.items (world_of (λ v. (g.dyn-1.0.entry v).1) c.loop-code.store) (world_of (λ v. (g.dyn-1.0.entry v).1) c.leave_within.new.store) led c.loop-code.invariant.may_run.counted);
-      reaches = reach_then (setting_of c.args.table.now c.args.nesting) (texts_of c.args.table.now) c.loop-code.invariant.reaches (lead_reach (setting_of c.args.table.now c.args.nesting) (texts_of c.args.table.now) led.leads);
-      moves = moved_then (λ v. (g.dyn-1.0.entry v).1) c.args.table.now _ _ _ c.loop-code.invariant.moves moves;
+      may_run = may_go_on (λ v. (g.dyn-1.0.entry v).1) c.args.table.now _ _ c.loop-callee.store c.leave_within.new.store c.loop-callee.invariant.may_run moves
+          (leg_counted c.args.table.now c.args.nesting c.loop-callee.here c.in-Some-resume_within.next c.loop-callee.stack.items c.resume_within.new.stack.items c.loop-callee.frames.items c.pop.new.self.items (world_of (λ v. (g.dyn-1.0.entry v).1) c.loop-callee.store) (world_of (λ v. (g.dyn-1.0.entry v).1) c.leave_within.new.store) led c.loop-callee.invariant.may_run.counted);
+      reaches = reach_then (setting_of c.args.table.now c.args.nesting) (texts_of c.args.table.now) c.loop-callee.invariant.reaches (lead_reach (setting_of c.args.table.now c.args.nesting) (texts_of c.args.table.now) led.leads);
+      moves = moved_then (λ v. (g.dyn-1.0.entry v).1) c.args.table.now _ _ _ c.loop-callee.invariant.moves moves;
     }

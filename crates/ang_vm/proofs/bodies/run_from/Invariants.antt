@@ -1,5 +1,4 @@
-use Rattle.std.proofs.Common.{◌≡◌, reverse, Some, None}
-use Rattle.std.specs.Prelude.{MatchOption}
+use Rattle.std.proofs.Common.{◌≡◌, reverse, Some}
 use Rattle.ang_meaning.specs.World.{with_inputs}
 use Rattle.ang_code.specs.Weight.{weight}
 use Rattle.ang_heap.specs.Stores.{world_of}
@@ -10,14 +9,14 @@ use Rattle.ang_vm.specs.Legs.{Fits, standing}
 use Rattle.ang_vm_body.specs.Running.{MayRun, RunMoves, all_long}
 use Rattle.ang_vm.proofs.bodies.run_from.Given as goal
 
-abbrev pub invariant-loop-code : goal.invariant-loop-code
-invariant-loop-code g l = record {
-  code : MatchOption l.code (body_of l.table l.here.body ≡ None) (λ code. body_of l.table l.here.body ≡ Some code.now);
+abbrev pub invariant-loop-callee : goal.invariant-loop-callee
+invariant-loop-callee g l = record {
+  code : body_of l.table l.here.body ≡ Some l.code;
   fits : Fits l.here l.stack.items l.frames.items;
   may_run : MayRun (λ v. (g.dyn-1.0.entry v).1) l.table (values l.stack.items l.here.place.top) l.store;
   reaches : Reaches (setting_of l.table l.nesting) (texts_of l.table) (λ is. standing l.fn.from l.initial.stack.items (reverse l.initial.frames.items) (with_inputs is (world_of (λ v. (g.dyn-1.0.entry v).1) l.initial.store))) (λ is. standing l.here l.stack.items (reverse l.frames.items) (with_inputs is (world_of (λ v. (g.dyn-1.0.entry v).1) l.store)));
   moves : RunMoves (λ v. (g.dyn-1.0.entry v).1) l.table l.initial.store l.store;
 }
 
-abbrev pub decreases-loop-code : goal.decreases-loop-code
-decreases-loop-code g l = weight (texts_of l.table) (all_long l.table) (standing l.here l.stack.items (reverse l.frames.items) (world_of (λ v. (g.dyn-1.0.entry v).1) l.store))
+abbrev pub decreases-loop-callee : goal.decreases-loop-callee
+decreases-loop-callee g l = weight (texts_of l.table) (all_long l.table) (standing l.here l.stack.items (reverse l.frames.items) (world_of (λ v. (g.dyn-1.0.entry v).1) l.store))

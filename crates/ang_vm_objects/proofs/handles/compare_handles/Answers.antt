@@ -1,7 +1,6 @@
-use Rattle.std.proofs.Common.{ap, ◌∙◌, [], ◌∷◌}
+use Rattle.std.proofs.Common.{[], ◌∷◌}
 use Rattle.ang_heap.specs.Stores.{world_of}
 use Rattle.ang_heap.proofs.Storing.{moves_join}
-use Rattle.ang_meaning.specs.Numbers.{truth}
 use Rattle.ang_vm_objects.proofs.Operands.{first_gives, given_stand}
 use Rattle.ang_vm_objects.proofs.StoreOperations.{compared_same}
 use Rattle.ang_vm_objects.proofs.handles.compare_handles.Goals as goal
@@ -23,7 +22,7 @@ returns-clause-told g c =
     let w = world_of (λ v. (g.dyn-1.0.entry v).1) c.args.store.now in
     let u = world_of (λ v. (g.dyn-1.0.entry v).1) c.give.new.store in
     let x = world_of (λ v. (g.dyn-1.0.entry v).1) c.give-2.new.store in
-    λ z home. compared_same z home c.args.first c.args.second c.truth-same.result w u x (c.truth-same.ensures.exact ∙ ap truth c.are_same.ensures.exact) c.give.ensures.given c.give-2.ensures.given
+    λ z home. compared_same z home c.args.first c.args.second c.same-answer.result w u x c.same-answer.ensures.exact c.give.ensures.given c.give-2.ensures.given
 
 pub returns-clause-moves : goal.returns-clause-moves
 returns-clause-moves g c = λ roles. moves_join _ roles c.args.store.now c.give.new.store c.give-2.new.store (c.give.ensures.moves roles) (c.give-2.ensures.moves roles)
