@@ -3,13 +3,14 @@
 
     python3 tools/over_stubs.py CRATE [FLAG..]
 
-Runs `rattle check --allow-holes` on crates/CRATE with the flags (`--only FUNCTION`, say), over the library of each crate below that an
-earlier `rt ci` on this machine has proved on the same files, and over a stub of each other one. A stub has the types, definitions,
-contracts and lemma files of its crate, of its functions those that CRATE names, for a body a loop and for a proof a hole. So
-`depends on a hole in` a stub's function is as good as proved, and nothing that is printed is a verdict: `rt ci` alone gives one.
-Stubs are written below crates/CRATE/out, which is never committed. docs/PROVING.md says when this helps.
+Runs `rattle check --allow-holes` on crates/CRATE with the flags (`--only FUNCTION`, say), over the library of each crate below that
+was proved on this machine before, on the same files, and over a stub of each other one. A stub has the types, definitions, contracts and
+lemma files of its crate, of its functions those that CRATE names, for a body a loop and for a proof a hole. So `depends on a hole in` a
+stub's function is as good as proved, and nothing that is printed is a verdict: `rt ci` alone gives one. Stubs are written below
+crates/CRATE/out, which is never committed. docs/PROVING.md says when this helps.
 
-It finds the kit by `rt doc`, and what `rt ci` keeps by the kit's own functions, as `rattle-kit-13f` has them.
+It finds the kit by `rt doc`. What was proved before it takes from `rt ci`, by the kit's own functions as `rattle-kit-13f` has them, or, where
+`rt ci` keeps nothing (`rattle-kit-13b`), from tools/kept.py.
 """
 
 import os
@@ -261,19 +262,37 @@ def words_for(crate, lacking, stubs):
     return [*words, "--links", f"{crate.name}="]
 
 
+def kept_by_rt(rt, top, name):
+    """The crate, and those below it whose libraries no earlier `rt ci` kept."""
+    rt.Crate.allowed = rt.handles_of(top)
+    crates = rt.crates_of(top)
+    crate = crate_named(name, crates)
+    kept, lacking = rt.Kept(crates), []
+    for dep in crate.below():
+        if any(it in lacking for it in dep.below()) or not takes_library(dep, kept, rt):
+            lacking.append(dep)
+    return crate, lacking
+
+
+def kept_by_us(name):
+    """The crate, and those below it whose libraries tools/kept.py has not."""
+    import kept
+
+    crate = crate_named(name, kept.crates_here())
+    return crate, kept.lacking(crate.below())
+
+
+def crate_named(name, crates):
+    return next((it for it in crates if it.name == name), None) or sys.exit(f"crates.txt has no {name}")
+
+
 def main():
     if len(sys.argv) < 2:
         sys.exit(__doc__)
     top = os.path.dirname(os.path.dirname(os.path.realpath(__file__)))
     os.chdir(top)
     rt = of_kit("rt_of_the_kit", "rt")
-    rt.Crate.allowed = rt.handles_of(top)
-    crates = rt.crates_of(top)
-    crate = next((it for it in crates if it.name == sys.argv[1]), None) or sys.exit(f"crates.txt has no {sys.argv[1]}")
-    kept, lacking = rt.Kept(crates), []
-    for dep in crate.below():
-        if any(it in lacking for it in dep.below()) or not takes_library(dep, kept, rt):
-            lacking.append(dep)
+    crate, lacking = kept_by_rt(rt, top, sys.argv[1]) if hasattr(rt, "Kept") else kept_by_us(sys.argv[1])
     print("over stubs of:", " ".join(it.name for it in lacking) or "none", flush=True)
     stubs, wanted, gone = f"{crate.folder}/out/stubs", words_in(crate), {}
     shutil.rmtree(stubs, ignore_errors=True)
