@@ -110,7 +110,7 @@ released_len : (fits : Fits) (s t : State) (k : ℕ) (b : Bool) → Releases fit
 released_len fits s t k true h = ap (λ m. map.len m + 1) h.1 ∙ len_gone s.counts k 1 h.0
 released_len fits s t k false h = let e : map.len t.counts ≡ map.len s.counts = ap map.len h.2 ∙ len_over s.counts k (h.0 + 2) (h.0 + 1) h.1 in omega (arith, e)
 
-ends_length : (d k : ℕ) (b : Bool) → length (ends d k b) ≡ one_if b
+pub ends_length : (d k : ℕ) (b : Bool) → length (ends d k b) ≡ one_if b
 ends_length d k true = refl
 ends_length d k false = refl
 

@@ -105,7 +105,9 @@ impl Heap {
     {
         match value {
             Slot::Host(driver, named) => match named {
-                Some(key) => release(drivers, events, driver, key),
+                Some(key) => {
+                    release(drivers, events, driver, key);
+                }
                 None => {}
             },
             _ => give_up(&mut self.records, drivers, events, value),
@@ -251,7 +253,9 @@ fn give_up(
     match value {
         Slot::Bits(_) => {}
         Slot::Host(driver, named) => match named {
-            Some(key) => release(drivers, events, driver, key),
+            Some(key) => {
+                release(drivers, events, driver, key);
+            }
             None => {}
         },
         Slot::Script(handle) => match handle {

@@ -13,9 +13,9 @@ ghost use Rattle.ang_heap.specs.Parts.{world_by, AreReady, PartsMove, states_amo
 use ang_host::{Driver, Drivers, HostEvent, release_listed};
 use ang_meaning::Slot;
 
-/// One place gives up a host object. Where it was the last, the object's end is listed, in the room that
+/// One place gives up a host object, and whether it was the last. Then the object's end is listed, in the room that
 /// is kept for it.
-pub fn release(drivers: &mut Drivers, events: &mut Vec<HostEvent>, driver: u32, key: u64)
+pub fn release(drivers: &mut Drivers, events: &mut Vec<HostEvent>, driver: u32, key: u64) -> bool
     requires ready { AreReady (states_among ⟦<dyn Driver as Driver>⟧ drivers.old)
         (vec_len events.old) (vec_capacity events.old) }
     requires held { 0 < count_at (counts_among ⟦<dyn Driver as Driver>⟧ drivers.old driver) key }
@@ -27,6 +27,7 @@ pub fn release(drivers: &mut Drivers, events: &mut Vec<HostEvent>, driver: u32, 
         (vec_len events.new) (vec_capacity events.new) }
     ensures level { vec_len events.new + live_among ⟦<dyn Driver as Driver>⟧ drivers.new
         ≡ vec_len events.old + live_among ⟦<dyn Driver as Driver>⟧ drivers.old }
+    ensures ended { vec_len events.new ≡ vec_len events.old + (if result then 1 else 0) }
     ensures fewer { live_among ⟦<dyn Driver as Driver>⟧ drivers.new
         ≤ live_among ⟦<dyn Driver as Driver>⟧ drivers.old }
     ensures capacity { vec_capacity events.new ≡ vec_capacity events.old }
@@ -34,7 +35,7 @@ pub fn release(drivers: &mut Drivers, events: &mut Vec<HostEvent>, driver: u32, 
         → PartsMove ⟦<dyn Driver as Driver>⟧ roles (members drivers.old) events.old.items
         (members drivers.new) events.new.items }
 {
-    release_listed(drivers, events, driver, key);
+    release_listed(drivers, events, driver, key)
 }
 
 /// One more place holds a host object. False where a tally is full, and then nothing is done.

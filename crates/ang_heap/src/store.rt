@@ -1,6 +1,7 @@
 //! What lies outside the stack of a run, as one thing.
-ghost use Rattle.std.specs.Prelude.{◌≡◌, ℕ, ◌∷◌, false, List, [], Option};
-ghost use Rattle.ang_meaning.specs.declared.slot.Slot.TheVariants.{Script as Handle};
+ghost use Rattle.std.specs.Prelude.{◌≡◌, ◌<◌, ℕ, ◌∷◌, false, List, [], Option, Some};
+ghost use Rattle.ang_host.specs.State.{count_at};
+ghost use Rattle.ang_meaning.specs.declared.slot.Slot.TheVariants.{Script as Handle, Host};
 ghost use Rattle.ang_meaning.specs.World.{hold as hold_in, give as give_in, if_told};
 ghost use Rattle.ang_meaning.specs.Counting.{CanGive, HasKey};
 ghost use Rattle.ang_heap.specs.Heaps.{objects_of};
@@ -9,6 +10,7 @@ ghost use Rattle.ang_heap.specs.Stores.{world_of, IsReady, StoreTold, HasMoved, 
 
 use crate::globals::Globals;
 use crate::heap::{Heap, lower_shared, raise};
+use crate::hosts::release;
 use ang_host::{Driver, Drivers, HostEvent};
 use ang_meaning::Slot;
 
@@ -86,25 +88,48 @@ pub fn give(store: &mut Store, value: Slot)
         Slot::Script(handle) => match handle {
             Some(number) => {
                 if !lower_shared(&mut store.heap.records, number) {
-                    give_object(store, value);
+                    give_script(store, number);
                 }
             }
             None => {}
         },
-        Slot::Host(_, _) => give_object(store, value),
+        Slot::Host(driver, named) => match named {
+            Some(key) => give_host(store, driver, key),
+            None => {}
+        },
     }
 }
 
+/// One place gives up a script object, and each object that ends gives up its fields. It stays apart, so that what
+/// gives up a script object that other places hold as well stays small.
 #[inline(never)]
-fn give_object(store: &mut Store, value: Slot)
+fn give_script(store: &mut Store, number: usize)
     requires ready { IsReady ⟦<dyn Driver as Driver>⟧ store.old }
-    requires enough { CanGive (value ∷ []) (world_of ⟦<dyn Driver as Driver>⟧ store.old) }
-    ensures given { StoreBecomes ⟦<dyn Driver as Driver>⟧ (give_in value) store.old store.new }
+    requires enough { CanGive (Handle (Some number) ∷ [])
+        (world_of ⟦<dyn Driver as Driver>⟧ store.old) }
+    ensures given { StoreBecomes ⟦<dyn Driver as Driver>⟧ (give_in (Handle (Some number))) store.old
+        store.new }
     ensures moves { HasMoved ⟦<dyn Driver as Driver>⟧ store.old store.new }
 {
     let before = store.events.len();
+    let value = Slot::Script(Some(number));
     store
         .heap
         .give_up(&mut store.drivers, &mut store.events, value);
     store.live -= store.events.len() - before;
+}
+
+/// One place gives up a host object. It stays apart as `give_script` does.
+#[inline(never)]
+fn give_host(store: &mut Store, driver: u32, key: u64)
+    requires ready { IsReady ⟦<dyn Driver as Driver>⟧ store.old }
+    requires held { 0 < count_at
+        (counts_among ⟦<dyn Driver as Driver>⟧ store.old.drivers driver) key }
+    ensures given { StoreBecomes ⟦<dyn Driver as Driver>⟧ (give_in (Host driver (Some key)))
+        store.old store.new }
+    ensures moves { HasMoved ⟦<dyn Driver as Driver>⟧ store.old store.new }
+{
+    if release(&mut store.drivers, &mut store.events, driver, key) {
+        store.live -= 1;
+    }
 }

@@ -22,7 +22,7 @@ use ang_code::Frame;
 use ang_heap::Store;
 use ang_host::Driver;
 use ang_kinds::Fault;
-use ang_meaning::Slot;
+use ang_meaning::{Routine, Slot};
 use ang_vm_body::crossing::Crossing;
 use ang_vm_body::turns::run_body;
 use ang_vm_fuse::body::Body;
@@ -153,6 +153,8 @@ fn finish(stack: &Vec<Slot>, store: &mut Store, parted: Parted, ticks: u64) -> E
 }
 
 /// Goes on until the run is over; `nesting` functions may stand one inside the other.
+///
+/// The body is named by its parts here and in `resume`: a copy of the whole takes the bytes between them along at each call.
 pub fn run_from(
     table: &Table,
     nesting: usize,
@@ -169,7 +171,11 @@ pub fn run_from(
         (λ w. Over (outcome result w)) store.new }
     ensures moves { RunMoves ⟦<dyn Driver as Driver>⟧ table.now store.old store.new }
 {
-    let mut here = from;
+    let Routine { home, number } = from.body;
+    let mut here = Standing {
+        body: Routine { home, number },
+        ..from
+    };
     let Some(mut code) = body_at(table, from.body) else {
         return Ending::Lost;
     };
@@ -181,9 +187,6 @@ pub fn run_from(
                 let (next, its) = match enter(table, nesting, stack, frames, store, left, callee) {
                     Ok(both) => both,
                     Err(stop) => return give_up(stack, store, place.top, stop),
-                };
-                let Some(its) = its else {
-                    return Ending::Lost;
                 };
                 here = next;
                 code = its;

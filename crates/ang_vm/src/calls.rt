@@ -1,5 +1,5 @@
 //! Calls: what stands before a body, and room for its frame.
-ghost use Rattle.std.specs.Prelude.{◌≡◌, ℕ, ◌+◌, ◌<◌, ◌≤◌, ◌^◌, List, length, reverse, Some, None, IfOk, IfSome, MatchOption};
+ghost use Rattle.std.specs.Prelude.{◌≡◌, ℕ, ◌+◌, ◌<◌, ◌≤◌, ◌^◌, List, length, reverse, Some, None, Err, IfOk, IfSome};
 ghost use Rattle.ang_meaning.specs.World.{World, with_inputs};
 ghost use Rattle.ang_meaning.specs.Setting.{has_objects, target};
 ghost use Rattle.ang_meaning.specs.Told.{Told};
@@ -12,10 +12,11 @@ ghost use Rattle.ang_vm_fuse.specs.Parameters.{
 ghost use Rattle.ang_heap.specs.Stores.{world_of};
 ghost use Rattle.ang_vm_stack.specs.Stacks.{values};
 ghost use Rattle.ang_vm_stack.specs.Tables.{body_of, setting_of, texts_of};
+ghost use Rattle.ang_vm_steps.specs.Turns.{Reaches};
 ghost use Rattle.ang_vm.specs.Legs.{Fits, begun, caller_at, misses, standing_in};
 
 use crate::callees::callee_of;
-use crate::lookups::facts_of;
+use crate::lookups::height_at;
 use ang_code::Frame;
 use ang_heap::Store;
 use ang_host::Driver;
@@ -80,6 +81,24 @@ fn objects_there(
     have_objects(params, stack, top)
 }
 
+/// Room above the values in use for `height` more, for which the stack has to grow; none where there is no memory for it.
+/// It stays apart, so that entering a body stays small.
+#[inline(never)]
+fn grow(stack: &mut Vec<Slot>, top: usize, height: usize) -> Option<usize>
+    requires within { top ≤ length stack.old.items }
+    requires short { length stack.old.items < top + height }
+    ensures exact { IfSome result
+        (λ room. (room ≡ top + height) × (room ≤ length stack.new.items)) }
+    ensures same { values stack.new.items top ≡ values stack.old.items top }
+    ensures grows { length stack.old.items ≤ length stack.new.items }
+{
+    let room = top.saturating_add(height);
+    match stack.resize(room, Slot::Bits(0)) {
+        Ok(()) => Some(room),
+        Err(_) => None,
+    }
+}
+
 /// Room above the values in use for `height` more; none where there is no memory for it.
 #[inline(always)]
 fn reserve(stack: &mut Vec<Slot>, top: usize, height: usize) -> Option<usize>
@@ -89,14 +108,10 @@ fn reserve(stack: &mut Vec<Slot>, top: usize, height: usize) -> Option<usize>
     ensures same { values stack.new.items top ≡ values stack.old.items top }
     ensures grows { length stack.old.items ≤ length stack.new.items }
 {
-    let room = top.saturating_add(height);
-    if room <= stack.len() {
-        return Some(room);
+    if height <= stack.len() - top {
+        return Some(top + height);
     }
-    match stack.resize(room, Slot::Bits(0)) {
-        Ok(()) => Some(room),
-        Err(_) => None,
-    }
+    grow(stack, top, height)
 }
 
 /// A body that puts `height` values above its parameters at most begins, where there is memory for its frame.
@@ -152,11 +167,10 @@ pub fn begin(
     ensures same { values stack.new.items top ≡ values stack.old.items top }
     ensures grows { length stack.old.items ≤ length stack.new.items }
 {
-    let (_, height, _, _) = facts_of(body_at(table, body));
-    begin_above(body, height, stack, top, ticks)
+    begin_above(body, height_at(table, body), stack, top, ticks)
 }
 
-/// A function is entered, with its arguments on top; `code` is its code, if it has any.
+/// A function is entered, with its arguments on top; `code` is its code.
 ///
 /// # Errors
 /// `Null`, `Depth`, `Budget` and `Memory`, the first of them that applies.
@@ -168,12 +182,11 @@ pub fn enter_body(
     frames: &mut Vec<Frame>,
     from: Standing,
     body: Routine,
-    code: Option<&Body>,
+    code: &Body,
 ) -> Result<Standing, Stop>
     requires fits { Fits from stack.old.items frames.old.items }
     requires inside { from.place.at + 1 < 2 ^ 64 }
-    requires known { MatchOption code (body_of table.now body ≡ None)
-        (λ code. body_of table.now body ≡ Some code.now) }
+    requires known { body_of table.now body ≡ Some code.now }
     ensures told { (w : World)
         → Told (λ is. enters (setting_of table.now nesting) (texts_of table.now) body
         (values stack.old.items from.place.top) (reverse frames.old.items) (caller_at from)
@@ -186,11 +199,18 @@ pub fn enter_body(
     ensures grows { length stack.old.items ≤ length stack.new.items }
 {
     let top = from.place.top;
-    let (params, height, by_value, only_receiver) = facts_of(code);
+    let params = code.params();
+    let height = code.height();
     if params.len() > top {
         return Err(Stop::Lost);
     }
-    if !objects_there(by_value, only_receiver, params, stack.as_slice(), top) {
+    if !objects_there(
+        code.by_value(),
+        code.only_receiver(),
+        params,
+        stack.as_slice(),
+        top,
+    ) {
         return Err(Stop::Fails(Fault::Null));
     }
     if frames.len() + 1 >= nesting {
@@ -210,10 +230,29 @@ pub fn enter_body(
     }
 }
 
-/// `Enter`: the function that a call names is entered. With where it stands comes its code, if it has any.
+/// A function that there is not is entered: why that leads nowhere. It stays apart, so that entering a body stays small.
+#[inline(never)]
+fn enter_nothing(nesting: usize, frames: &Vec<Frame>, place: Place) -> Stop
+    ensures reaches { (table : Table) (body : Routine) (stack : List Slot) (top : ℕ) (caller : Frame)
+        (w : World) → body_of table body ≡ None → top ≤ length stack
+        → Reaches (setting_of table nesting) (texts_of table)
+        (λ is. enters (setting_of table nesting) (texts_of table) body (values stack top)
+        (reverse frames.now.items) caller place.ticks (with_inputs is w))
+        (λ is. begun (Err result) top stack (reverse frames.now.items) (with_inputs is w)) }
+{
+    if nesting <= frames.len() + 1 {
+        return Stop::Fails(Fault::Depth);
+    }
+    if place.ticks == 0 {
+        return Stop::Fails(Fault::Budget);
+    }
+    Stop::Lost
+}
+
+/// `Enter`: the function that a call names is entered. With where it stands comes its code.
 ///
 /// # Errors
-/// `Unbound`, `Null`, `Depth`, `Budget` and `Memory`, the first of them that applies.
+/// `Unbound`, `Null`, `Depth`, `Budget` and `Memory`, the first of them that applies; lost where there is no such function.
 #[inline(always)]
 pub fn enter<'t>(
     table: &'t Table,
@@ -223,10 +262,11 @@ pub fn enter<'t>(
     store: &Store,
     from: Standing,
     callee: Callee,
-) -> Result<(Standing, Option<&'t Body>), Stop>
+) -> Result<(Standing, &'t Body), Stop>
     requires fits { Fits from stack.old.items frames.old.items }
     requires inside { from.place.at + 1 < 2 ^ 64 }
-    ensures told { Told (λ is. found_enters (setting_of table.now nesting) (texts_of table.now)
+    ensures reaches { Reaches (setting_of table.now nesting) (texts_of table.now)
+        (λ is. found_enters (setting_of table.now nesting) (texts_of table.now)
         (target (setting_of table.now nesting) from.body.home callee
         (values stack.old.items from.place.top)
         (with_inputs is (world_of ⟦<dyn Driver as Driver>⟧ store.now)))
@@ -235,15 +275,16 @@ pub fn enter<'t>(
         (λ is. begun (standing_in result) from.place.top stack.new.items (reverse frames.new.items)
         (with_inputs is (world_of ⟦<dyn Driver as Driver>⟧ store.now))) }
     ensures fits { IfOk result (λ r. Fits r.0 stack.new.items frames.new.items) }
-    ensures code { IfOk result (λ r. MatchOption r.1 (body_of table.now r.0.body ≡ None)
-        (λ code. body_of table.now r.0.body ≡ Some code.now)) }
+    ensures code { IfOk result (λ r. body_of table.now r.0.body ≡ Some r.1.now) }
     ensures same { values stack.new.items from.place.top ≡ values stack.old.items from.place.top }
     ensures grows { length stack.old.items ≤ length stack.new.items }
 {
     let top = from.place.top;
     match callee_of(table, from.body.home, callee, stack.as_slice(), top, store) {
         Ok(body) => {
-            let code = body_at(table, body);
+            let Some(code) = body_at(table, body) else {
+                return Err(enter_nothing(nesting, frames, from.place));
+            };
             match enter_body(table, nesting, stack, frames, from, body, code) {
                 Ok(next) => Ok((next, code)),
                 Err(stop) => Err(stop),

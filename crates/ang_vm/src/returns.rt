@@ -17,11 +17,11 @@ ghost use Rattle.ang_vm_steps.specs.Arms.{AreCounted};
 use ang_code::Frame;
 use ang_heap::{Store, give};
 use ang_host::Driver;
-use ang_meaning::{Passing, Slot};
+use ang_meaning::{Passing, Routine, Slot};
 use ang_vm_fuse::body::Body;
 use ang_vm_stack::place::{Place, Standing};
 use ang_vm_stack::stack::{peek, push};
-use ang_vm_steps::many::{give_top, nothing_lives};
+use ang_vm_steps::many::{give_top, give_top_in_line, nothing_lives};
 
 /// What a body leaves.
 #[derive(Clone, Copy, PartialEq, Eq, Debug)]
@@ -160,7 +160,7 @@ pub fn leave_body(
         return None;
     }
     if !code.has_outs() {
-        give_top(stack, store, top - 1, count + params.len());
+        give_top_in_line(stack, store, top - 1, count + params.len());
         let value = peek(stack, top, 0);
         let kept = base - params.len();
         return Some(Parted { value, kept });
@@ -184,8 +184,9 @@ pub fn resume(stack: &mut [Slot], caller: Frame, parted: Parted, ticks: u64) -> 
         return None;
     }
     push(stack, parted.kept, parted.value);
+    let Routine { home, number } = caller.of;
     Some(Standing {
-        body: caller.of,
+        body: Routine { home, number },
         room: caller.room,
         place: Place {
             at: caller.at,

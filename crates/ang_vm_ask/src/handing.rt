@@ -9,6 +9,7 @@ use ang_kinds::Fault;
 use ang_meaning::{HostUse, Slot};
 
 /// The `count` top values, as operands, the last one on top.
+#[inline(always)]
 pub(crate) fn operands_at(stack: &[Slot], top: usize, count: usize) -> &[Slot]
     requires in_use { count ≤ top }
     requires within { top ≤ length stack.now }
@@ -17,12 +18,14 @@ pub(crate) fn operands_at(stack: &[Slot], top: usize, count: usize) -> &[Slot]
     &stack[top - count..top]
 }
 
+#[inline(always)]
 pub(crate) fn first_of(slots: &[Slot]) -> Option<Slot>
     ensures exact { result ≡ slice_get slots.now 0 }
 {
     slots.first().copied()
 }
 
+#[inline(always)]
 pub(crate) fn behind_first(slots: &[Slot]) -> &[Slot]
     ensures exact { result.now ≡ behind_first_of slots.now }
 {
@@ -33,6 +36,7 @@ pub(crate) fn behind_first(slots: &[Slot]) -> &[Slot]
 ///
 /// # Errors
 /// `Null` where it names none.
+#[inline(always)]
 fn key_of(driver: u32, handle: Slot) -> Result<Option<u64>, Fault>
     ensures exact { (vs : List Slot) → result ≡ object_in (key_at driver (handle ∷ vs)) }
 {
@@ -56,6 +60,7 @@ fn key_of(driver: u32, handle: Slot) -> Result<Option<u64>, Fault>
 ///
 /// # Errors
 /// `Null` where there is no object of the entry's driver.
+#[inline(always)]
 pub(crate) fn object_of(host: &HostUse, places: &[Slot]) -> Result<Option<u64>, Fault>
     ensures exact { result ≡ object_in (receiver_of host.now places.now) }
 {
@@ -69,6 +74,7 @@ pub(crate) fn object_of(host: &HostUse, places: &[Slot]) -> Result<Option<u64>, 
 }
 
 /// The operands of a call after the object of which it is asked.
+#[inline(always)]
 pub(crate) fn arguments_of<'a>(host: &HostUse, operands: &'a [Slot]) -> &'a [Slot]
     ensures exact { result.now ≡ arguments_in host.now operands.now }
 {

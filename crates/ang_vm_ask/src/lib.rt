@@ -10,5 +10,5 @@ mod operation;
 mod replies;
 mod rooms;
 
-pub use fitting::{asked_by, given_count, operands};
-pub use operation::ask;
+pub use fitting::{entry_of, given_count, operands, operands_of};
+pub use operation::{ask, ask_entry};

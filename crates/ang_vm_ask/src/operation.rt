@@ -20,18 +20,18 @@ ghost use Rattle.ang_vm_stack.specs.Stacks.{values};
 ghost use Rattle.ang_vm_stack.specs.Tables.{setting_of};
 ghost use Rattle.ang_vm_ask.specs.Asks.{asked_by, asks_host, asks};
 ghost use Rattle.ang_vm_ask.specs.Askings.{Sees, Performed, StoreAsked, StillGives, driver_state, HasMovedOver};
-ghost use Rattle.ang_vm_ask.specs.Entities.{DriversThere};
+ghost use Rattle.ang_vm_ask.specs.Entities.{DriversThere, AsksEntry};
 ghost use Rattle.ang_vm_ask.specs.Handing.{object_in};
 
 use crate::asking::{call, make, read, write};
-use crate::fitting::asked_by;
+use crate::fitting::entry_of;
 use crate::handing::{arguments_of, behind_first, first_of, object_of, operands_at};
 use ang_heap::{Store, give};
 use ang_host::{Driver, Role};
 use ang_kinds::{EntityNo, Fault};
 use ang_meaning::{Change, HostUse, Operation, Slot};
 use ang_vm_numbers::{Altered, change_slot};
-use ang_vm_stack::table::{Table, entity_at, name_at};
+use ang_vm_stack::table::{Table, name_at};
 use std::alloc::Global;
 
 /// Writes a property, and answers `given` where that went well.
@@ -112,6 +112,7 @@ fn put_changed(
 
 /// Calls the function or method that the entry is, or asks for a new object where it is a factory. A property
 /// is `Null`, and nothing is asked.
+#[inline(never)]
 fn perform_ask(
     alloc: Global,
     store: &mut Store,
@@ -242,27 +243,28 @@ fn perform_alter(
     }
 }
 
-/// An operation on the host by the entry that it asks.
-fn perform(
+/// An operation on the host by the entry that it asks. It stays apart, so that `perform` stays small.
+#[inline(never)]
+fn perform_apart(
     alloc: Global,
     store: &mut Store,
     caller: &[u8],
     host: &HostUse,
-    operation: Operation,
+    operation: &Operation,
     operands: &[Slot],
 ) -> Result<Slot, Fault>
     requires in_list { host.now.driver < length (members store.old.drivers) }
     requires ready { IsReady ⟦<dyn Driver as Driver>⟧ store.old }
     requires enough { CanGiveEach operands.now (world_of ⟦<dyn Driver as Driver>⟧ store.old) }
-    ensures performed { (e : EntityNo) → asked_by operation ≡ Some e
-        → Performed caller.now e host.now operation operands.now
+    ensures performed { (e : EntityNo) → asked_by operation.now ≡ Some e
+        → Performed caller.now e host.now operation.now operands.now
         (world_of ⟦<dyn Driver as Driver>⟧ store.old) result
         (world_of ⟦<dyn Driver as Driver>⟧ store.new) }
     ensures enough { StillGives ⟦<dyn Driver as Driver>⟧ store.old store.new }
-    ensures asked { (e : EntityNo) → asked_by operation ≡ Some e
+    ensures asked { (e : EntityNo) → asked_by operation.now ≡ Some e
         → StoreAsked ⟦<dyn Driver as Driver>⟧ e host.now.role store.old store.new }
 {
-    match operation {
+    match *operation {
         Operation::Ask(entity) => perform_ask(alloc, store, caller, entity, host, operands),
         Operation::Read(entity) => perform_read(alloc, store, caller, entity, host, operands),
         Operation::Write(entity) => perform_write(alloc, store, caller, entity, host, operands),
@@ -284,6 +286,33 @@ fn perform(
         Operation::FieldSet(_) => Err(Fault::Null),
         Operation::FieldChange(_, _) => Err(Fault::Null),
         Operation::Cast(_) => Err(Fault::Null),
+    }
+}
+
+/// The same, with calls told from all others first.
+#[inline(always)]
+fn perform(
+    alloc: Global,
+    store: &mut Store,
+    caller: &[u8],
+    host: &HostUse,
+    operation: &Operation,
+    operands: &[Slot],
+) -> Result<Slot, Fault>
+    requires in_list { host.now.driver < length (members store.old.drivers) }
+    requires ready { IsReady ⟦<dyn Driver as Driver>⟧ store.old }
+    requires enough { CanGiveEach operands.now (world_of ⟦<dyn Driver as Driver>⟧ store.old) }
+    ensures performed { (e : EntityNo) → asked_by operation.now ≡ Some e
+        → Performed caller.now e host.now operation.now operands.now
+        (world_of ⟦<dyn Driver as Driver>⟧ store.old) result
+        (world_of ⟦<dyn Driver as Driver>⟧ store.new) }
+    ensures enough { StillGives ⟦<dyn Driver as Driver>⟧ store.old store.new }
+    ensures asked { (e : EntityNo) → asked_by operation.now ≡ Some e
+        → StoreAsked ⟦<dyn Driver as Driver>⟧ e host.now.role store.old store.new }
+{
+    match *operation {
+        Operation::Ask(entity) => perform_ask(alloc, store, caller, entity, host, operands),
+        _ => perform_apart(alloc, store, caller, host, operation, operands),
     }
 }
 
@@ -333,12 +362,43 @@ pub fn ask(
     ensures same { length (members store.new.drivers) ≡ length (members store.old.drivers) }
     ensures moves { HasMovedOver ⟦<dyn Driver as Driver>⟧ table.now store.old store.new }
 {
-    let Some(entity) = asked_by(operation) else {
+    let Some(host) = entry_of(table, home, &operation) else {
         return Err(Fault::Null);
     };
-    let Some(host) = entity_at(table, home, entity) else {
-        return Err(Fault::Null);
-    };
+    ask_entry(
+        alloc, table, home, host, stack, top, count, store, &operation,
+    )
+}
+
+/// The same of an operation whose entry was looked up: `entry_of` found it.
+#[inline(always)]
+pub fn ask_entry(
+    alloc: Global,
+    table: &Table,
+    home: u32,
+    host: &HostUse,
+    stack: &[Slot],
+    top: usize,
+    count: usize,
+    store: &mut Store,
+    operation: &Operation,
+) -> Result<Slot, Fault>
+    requires entry { AsksEntry table.now home operation.now host.now }
+    requires in_use { count ≤ top }
+    requires within { top ≤ length stack.now }
+    requires drivers { DriversThere table.now (length (members store.old.drivers)) }
+    requires ready { IsReady ⟦<dyn Driver as Driver>⟧ store.old }
+    requires enough { CanGiveEach (take_some count (values stack.now top))
+        (world_of ⟦<dyn Driver as Driver>⟧ store.old) }
+    ensures told { (nesting : ℕ) → is_fit (setting_of table.now nesting) home operation.now ≡ true
+        → count ≡ operand_count (setting_of table.now nesting) home operation.now
+        → StoreTold ⟦<dyn Driver as Driver>⟧ (asks (setting_of table.now nesting) home operation.now
+        (take_some count (values stack.now top))) store.old (done result) store.new }
+    ensures enough { StillGives ⟦<dyn Driver as Driver>⟧ store.old store.new }
+    ensures ready { IsReady ⟦<dyn Driver as Driver>⟧ store.new }
+    ensures same { length (members store.new.drivers) ≡ length (members store.old.drivers) }
+    ensures moves { HasMovedOver ⟦<dyn Driver as Driver>⟧ table.now store.old store.new }
+{
     let caller = name_at(table, home);
     let operands = operands_at(stack, top, count);
     perform(alloc, store, caller, host, operation, operands)

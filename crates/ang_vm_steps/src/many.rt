@@ -2,9 +2,9 @@
 //!
 //! Where nothing lives nothing is given up, so that a script without objects pays one test for all of its
 //! values.
-ghost use Rattle.std.specs.Prelude.{◌≡◌, ℕ, ◌+◌, ◌-◌, ◌<◌, ◌≤◌, List, length, IfOk, IsTrue};
+ghost use Rattle.std.specs.Prelude.{◌≡◌, ℕ, ◌+◌, ◌-◌, ◌<◌, ◌≤◌, List, [], ◌∷◌, length, IfOk, IsTrue};
 ghost use Rattle.ang_meaning.specs.World.{give as give_in, give_all};
-ghost use Rattle.ang_meaning.specs.Results.{give_some, give_back};
+ghost use Rattle.ang_meaning.specs.Results.{give_some, give_back, local_at};
 ghost use Rattle.ang_meaning.specs.Counting.{CanGive};
 ghost use Rattle.ang_code.specs.declared.instruction.Instruction.TheVariants.{Leave, DropUnder};
 ghost use Rattle.ang_code.specs.Machine.{take_some};
@@ -28,6 +28,41 @@ pub fn nothing_lives(store: &Store) -> bool
     store.live == 0 && store.heap.is_empty()
 }
 
+/// Gives up the top value, in line where it is a number or a script object that other places hold as well.
+#[inline(always)]
+fn give_last(stack: &[Slot], store: &mut Store, top: usize)
+    requires in_use { 0 < top }
+    requires within { top ≤ length stack.now }
+    requires ready { IsReady ⟦<dyn Driver as Driver>⟧ store.old }
+    requires enough { CanGive (local_at (values stack.now top) 0 ∷ [])
+        (world_of ⟦<dyn Driver as Driver>⟧ store.old) }
+    ensures given { StoreBecomes ⟦<dyn Driver as Driver>⟧
+        (give_in (local_at (values stack.now top) 0)) store.old store.new }
+    ensures moves { HasMoved ⟦<dyn Driver as Driver>⟧ store.old store.new }
+{
+    match stack[top - 1] {
+        Slot::Bits(_) => {}
+        Slot::Script(handle) => give(store, Slot::Script(handle)),
+        Slot::Host(driver, key) => give(store, Slot::Host(driver, key)),
+    }
+}
+
+/// Gives up `count` values from the top one by one, the top one first, in line.
+#[inline(always)]
+fn give_each_in_line(stack: &[Slot], store: &mut Store, top: usize, count: usize)
+    requires in_use { count ≤ top }
+    requires within { top ≤ length stack.now }
+    requires ready { IsReady ⟦<dyn Driver as Driver>⟧ store.old }
+    requires enough { CanGive (values stack.now top) (world_of ⟦<dyn Driver as Driver>⟧ store.old) }
+    ensures given { StoreBecomes ⟦<dyn Driver as Driver>⟧ (give_some count (values stack.now top))
+        store.old store.new }
+    ensures moves { HasMoved ⟦<dyn Driver as Driver>⟧ store.old store.new }
+{
+    for given in 0..count {
+        give_last(stack, store, top - given);
+    }
+}
+
 /// Gives up `count` values from the top one by one, the top one first. It stays apart, so that the loop over a body, which
 /// comes here only where objects live, stays small.
 #[inline(never)]
@@ -40,10 +75,7 @@ fn give_each(stack: &[Slot], store: &mut Store, top: usize, count: usize)
         store.old store.new }
     ensures moves { HasMoved ⟦<dyn Driver as Driver>⟧ store.old store.new }
 {
-    for given in 0..count {
-        let value = peek(stack, top - given, 0);
-        give(store, value);
-    }
+    give_each_in_line(stack, store, top, count);
 }
 
 /// Gives up `count` values from the top, the top one first.
@@ -61,6 +93,24 @@ pub fn give_top(stack: &[Slot], store: &mut Store, top: usize, count: usize)
         return;
     }
     give_each(stack, store, top, count);
+}
+
+/// Gives up `count` values from the top, the top one first, in line. A body's end does so: most of what it gives up are numbers,
+/// and a receiver that its caller holds as well.
+#[inline(always)]
+pub fn give_top_in_line(stack: &[Slot], store: &mut Store, top: usize, count: usize)
+    requires in_use { count ≤ top }
+    requires within { top ≤ length stack.now }
+    requires ready { IsReady ⟦<dyn Driver as Driver>⟧ store.old }
+    requires enough { CanGive (values stack.now top) (world_of ⟦<dyn Driver as Driver>⟧ store.old) }
+    ensures given { StoreBecomes ⟦<dyn Driver as Driver>⟧ (give_some count (values stack.now top))
+        store.old store.new }
+    ensures moves { HasMoved ⟦<dyn Driver as Driver>⟧ store.old store.new }
+{
+    if count == 0 || nothing_lives(store) {
+        return;
+    }
+    give_each_in_line(stack, store, top, count);
 }
 
 /// Gives up all values in use, the top one first, as a fault does.

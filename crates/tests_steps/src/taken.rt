@@ -4,7 +4,7 @@ ghost use Rattle.std.specs.Prelude.{◌<◌, ◌^◌, length};
 use crate::known::KNOWN;
 use ang_code::Instruction;
 use ang_code::Instruction::{
-    Back, Change as Changed, Do, Drop, DropUnder, Leave, Load, PushBits, PushNull, Return,
+    Back, Change as Changed, Do, Drop, DropUnder, Enter, Leave, Load, PushBits, PushNull, Return,
     SkipIfFalse, Store, Tick,
 };
 use ang_kinds::{EntityNo, Prim};
@@ -84,8 +84,8 @@ const BACK: [Row; 7] = [
 ];
 
 /// Calls, returns, host calls, loads, fields, globals and handles are left to the run, and so is what faults, finds no
-/// value or names no instructions. Each says which it is.
-const LEFT: [(Step, Kind); 16] = [
+/// value, brings it to a rare type or names no instructions. Each says which it is.
+const LEFT: [(Step, Kind); 21] = [
     (Step::Other, Kind::Alone),
     (Step::Ask(1), Kind::Alone),
     (Step::Load(1), Kind::Load),
@@ -94,13 +94,18 @@ const LEFT: [(Step, Kind); 16] = [
     (Step::GetField(0, 0), Kind::GetField),
     (Step::PutField(0, 0), Kind::PutField),
     (Step::ChangeField(LATER, 0, 0), Kind::ChangeField),
+    (Step::MoveField(0, 0, 1, 0), Kind::MoveField),
     (Step::GetGlobal(0), Kind::GetGlobal),
     (Step::PutGlobal(0), Kind::PutGlobal),
     (Step::ChangeGlobal(LATER, 0), Kind::ChangeGlobal),
+    (Step::MoveGlobal(0, 1), Kind::MoveGlobal),
     (Step::Enter(Callee::Own(0)), Kind::Enter),
     (Step::Return(0), Kind::Return),
     (Step::ReturnNothing(0), Kind::ReturnNothing),
     (Step::Keep(2), Kind::Value),
+    (Step::DropUnder(2), Kind::Value),
+    (Step::KeepOut(None, 0), Kind::Value),
+    (Step::KeepLastOut(None, 0), Kind::Value),
     (
         Step::WorkTopConstant(Arithmetic::Divide, I64, 0),
         Kind::Value,
@@ -175,6 +180,14 @@ fn steps_are_taken(rt: HostRuntime) {
     }
     let tops = taken(3, [2, 9, 5], 9, Step::KeepTops(SUBTRACT, I64, 0));
     assert!(rt; tops == left(9, (10, 1, 4, 9, 5)));
+    let under = taken(3, [2, 9, 5], 9, Step::DropUnder(2));
+    assert!(rt; under == left(9, (8, 1, 5, 9, 5)));
+    let out = taken(3, [2, 9, 5], 9, Step::KeepOut(None, 0));
+    assert!(rt; out == left(9, (10, 1, 9, 9, 5)));
+    let truth = taken(3, [2, 9, 5], 9, Step::KeepOut(Some(Prim::Bool), 0));
+    assert!(rt; truth == left(9, (10, 1, 1, 9, 5)));
+    let last = taken(4, [2, 9, 5], 9, Step::KeepLastOut(Some(I64), 0));
+    assert!(rt; last == left(9, (10, 1, 5, 9, 5)));
     let masked = taken(1, [5, 3, 0], 9, Step::MaskXor(U64, 0, 0, 4));
     assert!(rt; masked == left(9, (12, 2, 5, 1, 0)));
 }
@@ -187,6 +200,8 @@ fn steps_are_left(rt: HostRuntime) {
     );
     let pushed = taken(4, [2, 9, 5], 9, Step::Push(4));
     assert!(rt; pushed == Err(Kind::Value), "no room");
+    let small = taken(3, [2, 9, 5], 9, Step::KeepOut(Some(Prim::I8), 0));
+    assert!(rt; small == Err(Kind::Value), "rare type");
     for (step, kind) in LEFT {
         assert!(rt; taken(2, [5, 3, 0], 9, step) == Err(kind), "{kind:?}");
     }
@@ -209,7 +224,7 @@ const COUNTING: &[Instruction] = &[
 ];
 
 /// Steps of a text by their places, and the number of all.
-const STEPS: [(usize, Option<Step>); 10] = [
+const STEPS: [(usize, Option<Step>); 11] = [
     (0, Some(Step::Push(0))),
     (1, Some(Step::Other)),
     (2, Some(Step::LessConstant(0, 10, 4))),
@@ -219,6 +234,7 @@ const STEPS: [(usize, Option<Step>); 10] = [
     (6, Some(Step::AddBack64(true, 0, 1, 7))),
     (7, Some(Step::AddTopToLocal64(true, 0))),
     (10, Some(Step::Load(0))),
+    (11, Some(Step::Return(1))),
     (12, None),
 ];
 
@@ -248,6 +264,32 @@ const ASKED: [(usize, Option<Step>); 6] = [
     (10, Some(Step::Load(1))),
 ];
 
+/// A local and the top value are stored, and a function is entered; a body is left with 0, and with another number.
+const CALLING: &[Instruction] = &[
+    Load(1),
+    Store(2),
+    Drop,
+    Enter(Callee::Own(3)),
+    Store(4),
+    Drop,
+    PushBits(0),
+    Return(5),
+    PushBits(1),
+    Return(6),
+];
+
+/// What gives back 0 is one step with the return after it, as that of a function without a value.
+const CALLS: [(usize, Option<Step>); 8] = [
+    (0, Some(Step::Move(1, 2))),
+    (1, Some(Step::Keep(2))),
+    (3, Some(Step::Enter(Callee::Own(3)))),
+    (4, Some(Step::Keep(4))),
+    (6, Some(Step::ReturnNothing(5))),
+    (7, Some(Step::Return(5))),
+    (8, Some(Step::Push(1))),
+    (9, Some(Step::Return(6))),
+];
+
 /// A change of a `uint` by `^`.
 const DIFFER: Change = Change {
     work: Arithmetic::Xor,
@@ -257,7 +299,7 @@ const DIFFER: Change = Change {
 };
 
 /// Two operators that stand together, values that are given up at a loop's end, and such that are given up below the top
-/// one or change places, one after the other.
+/// one or change places, one after the other; at the end the top one is given up after those below it.
 const PAIRED: &[Instruction] = &[
     Load(1),
     Load(1),
@@ -318,10 +360,17 @@ const PAIRED: &[Instruction] = &[
         under: 0,
         with: 2,
     },
+    DropUnder(1),
+    Drop,
+    DropUnder(2),
+    Drop,
+    DropUnder(3),
+    Drop,
+    DropUnder(1),
 ];
 
 /// Each of them is one step. Three values and more are given up alone.
-const PAIRS: [(usize, Option<Step>); 15] = [
+const PAIRS: [(usize, Option<Step>); 20] = [
     (0, Some(Step::MultiplyShift64(1, 0, 16))),
     (5, Some(Step::AddTestGreater64(1, 0, 9, 4))),
     (11, Some(Step::SubtractAddKeep64(1, 0, 1, 0))),
@@ -337,6 +386,66 @@ const PAIRS: [(usize, Option<Step>); 15] = [
     (52, Some(Step::DropUnder(2))),
     (53, Some(Step::Other)),
     (54, Some(Step::Swap(Some(Prim::I32), 0, 2))),
+    (55, Some(Step::DropUnder(1))),
+    (56, Some(Step::Drop)),
+    (57, Some(Step::DropUnder(2))),
+    (59, Some(Step::Other)),
+    (61, Some(Step::DropUnder(1))),
+];
+
+/// Values of `&out` arguments that change places with locals: of one, of two, of one of a rare type, of one at a place
+/// that is none of a local's, and of one of a call whose value is used.
+const OUTS: &[Instruction] = &[
+    Instruction::Swap {
+        to: Some(I64),
+        under: 1,
+        with: 2,
+    },
+    DropUnder(1),
+    Drop,
+    Instruction::Swap {
+        to: None,
+        under: 2,
+        with: 4,
+    },
+    Instruction::Swap {
+        to: Some(Prim::Bool),
+        under: 1,
+        with: 3,
+    },
+    DropUnder(2),
+    Drop,
+    Instruction::Swap {
+        to: Some(Prim::I8),
+        under: 1,
+        with: 2,
+    },
+    DropUnder(1),
+    Drop,
+    Instruction::Swap {
+        to: None,
+        under: 1,
+        with: 1,
+    },
+    DropUnder(1),
+    Drop,
+    Instruction::Swap {
+        to: None,
+        under: 1,
+        with: 2,
+    },
+    DropUnder(1),
+    Load(0),
+];
+
+/// One of them, or the last of two, is stored by the step that gives up the call's value.
+const OUT_STEPS: [(usize, Option<Step>); 6] = [
+    (0, Some(Step::KeepOut(Some(I64), 0))),
+    (3, Some(Step::Swap(None, 2, 4))),
+    (4, Some(Step::KeepLastOut(Some(Prim::Bool), 0))),
+    (7, Some(Step::Swap(Some(Prim::I8), 1, 2))),
+    (10, Some(Step::Swap(None, 1, 1))),
+    (13, Some(Step::Swap(None, 1, 2))),
 ];
 
 /// A change of a `uint64` by `^`.
@@ -386,7 +495,8 @@ const HASHED: [(usize, Option<Step>); 8] = [
     (18, Some(Step::ShiftRightXorToLocalU64(false, 0, 1, 7))),
 ];
 
-/// A field of an object that a local holds is read, stored and changed; at the end its value is kept.
+/// A field of an object that a local holds is stored into another one, and is changed. Then it is stored into a field of
+/// the object that it holds itself, and at the end the stored value is kept.
 const OBJECTS: &[Instruction] = &[
     Load(1),
     Do(Operation::FieldGet(2)),
@@ -396,36 +506,49 @@ const OBJECTS: &[Instruction] = &[
     Load(5),
     Do(Operation::FieldChange(6, LATER)),
     Drop,
+    Load(1),
+    Do(Operation::FieldGet(2)),
+    Load(0),
+    Do(Operation::FieldSet(4)),
+    Drop,
+    Load(1),
+    Do(Operation::FieldGet(2)),
     Load(3),
     Do(Operation::FieldSet(4)),
     Return(1),
 ];
 
-/// Each is one step, but where the value is kept.
-const FIELDS: [(usize, Option<Step>); 4] = [
-    (0, Some(Step::GetField(1, 2))),
+/// Each is one step, but where the object is the value that was pushed, or the value is kept.
+const FIELDS: [(usize, Option<Step>); 8] = [
+    (0, Some(Step::MoveField(1, 2, 2, 4))),
+    (1, Some(Step::Other)),
     (2, Some(Step::PutField(3, 4))),
     (5, Some(Step::ChangeField(LATER, 5, 6))),
-    (8, Some(Step::Load(3))),
+    (8, Some(Step::GetField(1, 2))),
+    (10, Some(Step::PutField(0, 4))),
+    (13, Some(Step::GetField(1, 2))),
+    (15, Some(Step::Load(3))),
 ];
 
-/// A global is got, stored and changed; at the end its value is kept.
+/// A global is stored into another one, and is changed; at the end the stored value is kept.
 const GLOBALS: &[Instruction] = &[
     Do(Operation::GlobalGet(2)),
     Do(Operation::GlobalSet(3)),
     Drop,
     Do(Operation::GlobalChange(4, LATER)),
     Drop,
+    Do(Operation::GlobalGet(2)),
     Do(Operation::GlobalSet(3)),
     Return(1),
 ];
 
 /// Each is one step, but where the value is kept.
-const GLOBAL_STEPS: [(usize, Option<Step>); 4] = [
-    (0, Some(Step::GetGlobal(2))),
+const GLOBAL_STEPS: [(usize, Option<Step>); 5] = [
+    (0, Some(Step::MoveGlobal(2, 3))),
     (1, Some(Step::PutGlobal(3))),
     (3, Some(Step::ChangeGlobal(LATER, 4))),
-    (5, Some(Step::Other)),
+    (5, Some(Step::GetGlobal(2))),
+    (6, Some(Step::Other)),
 ];
 
 /// Handles of locals, of a global and null are compared; at the end the second one is the first.
@@ -480,14 +603,9 @@ fn ends(step: Step) -> Option<After> {
     })
 }
 
-/// Whether two steps do the same, or are left to the run in the same way.
-fn is_same(step: Step, wanted: Step) -> bool {
+/// Whether two steps on fields are the same.
+fn is_same_on_fields(step: Step, wanted: Step) -> bool {
     match (step, wanted) {
-        (Step::Other, Step::Other) => true,
-        (Step::Ask(count), Step::Ask(other)) => count == other,
-        (Step::Push(number), Step::Push(other)) => number == other,
-        (Step::Load(place), Step::Load(other)) => place == other,
-        (Step::Same(one, two), Step::Same(other, its)) => one == other && two == its,
         (Step::GetField(place, field), Step::GetField(other, its)) => {
             place == other && field == its
         }
@@ -497,14 +615,49 @@ fn is_same(step: Step, wanted: Step) -> bool {
         (Step::ChangeField(by, place, field), Step::ChangeField(to, other, its)) => {
             by == to && place == other && field == its
         }
+        (Step::MoveField(from, field, to, into), Step::MoveField(other, its, at, its_into)) => {
+            from == other && field == its && to == at && into == its_into
+        }
+        _ => false,
+    }
+}
+
+/// Whether two steps on globals are the same.
+fn is_same_on_globals(step: Step, wanted: Step) -> bool {
+    match (step, wanted) {
         (Step::GetGlobal(number), Step::GetGlobal(other)) => number == other,
         (Step::PutGlobal(number), Step::PutGlobal(other)) => number == other,
         (Step::ChangeGlobal(by, number), Step::ChangeGlobal(to, other)) => {
             by == to && number == other
         }
+        (Step::MoveGlobal(from, to), Step::MoveGlobal(other, its)) => from == other && to == its,
+        _ => false,
+    }
+}
+
+/// Whether two steps do the same, or are left to the run in the same way.
+fn is_same(step: Step, wanted: Step) -> bool {
+    match (step, wanted) {
+        (Step::Other, Step::Other) => true,
+        (Step::Ask(count), Step::Ask(other)) => count == other,
+        (Step::Push(number), Step::Push(other)) => number == other,
+        (Step::Load(place), Step::Load(other)) => place == other,
+        (Step::Keep(to), Step::Keep(other)) => to == other,
+        (Step::KeepOut(to, place), Step::KeepOut(other, its)) => to == other && place == its,
+        (Step::KeepLastOut(to, place), Step::KeepLastOut(other, its)) => {
+            to == other && place == its
+        }
+        (Step::Move(from, to), Step::Move(other, its)) => from == other && to == its,
+        (Step::Swap(to, under, with), Step::Swap(other, its, at)) => {
+            to == other && under == its && with == at
+        }
+        (Step::Same(one, two), Step::Same(other, its)) => one == other && two == its,
+        (Step::Enter(callee), Step::Enter(other)) => callee == other,
+        (Step::Return(count), Step::Return(other)) => count == other,
+        (Step::ReturnNothing(count), Step::ReturnNothing(other)) => count == other,
         _ => match ends(wanted) {
             Some(after) => ends(step) == Some(after),
-            None => false,
+            None => is_same_on_fields(step, wanted) || is_same_on_globals(step, wanted),
         },
     }
 }
@@ -540,7 +693,9 @@ fn first_other(
 fn each_place_has_its_step(rt: HostRuntime) -> Result<(), AllocError> {
     assert_eq!(rt; first_other(rt.alloc(), COUNTING, &STEPS)?, None);
     assert_eq!(rt; first_other(rt.alloc(), ASKING, &ASKED)?, None);
+    assert_eq!(rt; first_other(rt.alloc(), CALLING, &CALLS)?, None);
     assert_eq!(rt; first_other(rt.alloc(), PAIRED, &PAIRS)?, None);
+    assert_eq!(rt; first_other(rt.alloc(), OUTS, &OUT_STEPS)?, None);
     assert_eq!(rt; first_other(rt.alloc(), HASHING, &HASHED)?, None);
     assert_eq!(rt; first_other(rt.alloc(), OBJECTS, &FIELDS)?, None);
     assert_eq!(rt; first_other(rt.alloc(), GLOBALS, &GLOBAL_STEPS)?, None);

@@ -1,10 +1,10 @@
-use Rattle.std.proofs.Common.{sym, ap, ◌∙◌}
+use Rattle.std.proofs.Common.{◌+◌, sym, ap, ◌∙◌, vec_len}
 use Rattle.ang_host.specs.Boxes.{members}
 use Rattle.ang_host.specs.Events.{ends}
 use Rattle.ang_host.specs.Members.{state_at, states_of}
 use Rattle.ang_host.proofs.Counts.{IsLive-held}
 use Rattle.ang_heap.specs.Parts.{counts_of, world_by}
-use Rattle.ang_heap.proofs.Hosting.{in_list, room_left, release_gives, release_ready, release_level, release_fewer}
+use Rattle.ang_heap.proofs.Hosting.{in_list, room_left, ends_length, release_gives, release_ready, release_level, release_fewer}
 use Rattle.ang_heap.proofs.hosts.release.Goals as goal
 
 pub release_listed-requires-clause-in_list : goal.release_listed-requires-clause-in_list
@@ -23,6 +23,9 @@ returns-clause-gives g c = λ os gs is.
 
 pub returns-clause-ready : goal.returns-clause-ready
 returns-clause-ready g c = release_ready _ _ _ _ _ _ _ _ c.release_listed.ensures.moved _ _ _ _ c.requires.ready c.release_listed.ensures.len c.release_listed.ensures.capacity
+
+pub returns-clause-ended : goal.returns-clause-ended
+returns-clause-ended g c = c.release_listed.ensures.len ∙ ap (λ n. vec_len c.args.events.now + n) (ends_length c.args.driver c.args.key c.release_listed.result)
 
 pub returns-clause-fewer : goal.returns-clause-fewer
 returns-clause-fewer g c = release_fewer _ _ _ _ _ _ _ _ c.release_listed.ensures.moved

@@ -11,13 +11,13 @@ use Rattle.ang_vm_stack.specs.declared.place.Pause.TheVariants as pause
 use Rattle.ang_vm_stack.specs.declared.place.Ending.TheVariants as ending
 use Rattle.ang_vm_stack.specs.Stacks.{values}
 use Rattle.ang_vm_stack.specs.Tables.{body_of, setting_of, texts_of}
-use Rattle.ang_vm_steps.proofs.Paths.{reach_same, reach_then, lead_reach}
+use Rattle.ang_vm_steps.proofs.Paths.{reach_same, reach_told, reach_then, lead_reach}
 use Rattle.ang_vm_body.specs.Crossings.{pause_of}
 use Rattle.ang_vm_body.proofs.Moving.{moved_by, moved_none, moved_then, may_go_on}
 use Rattle.ang_vm.specs.Legs.{AllFit, Fits, handed, resumed}
 use Rattle.ang_vm.proofs.Calling.{no_callers, push_front}
 use Rattle.ang_vm.proofs.Counting.{enters_counted, returns_counted, leg_counted}
-use Rattle.ang_vm.proofs.Going.{none_there, some_there, lost_nowhere, params_there, pauses_at}
+use Rattle.ang_vm.proofs.Going.{none_there, lost_nowhere, params_there, pauses_at}
 use Rattle.ang_vm.proofs.Running.{entered, not_entered, left_on, left_over, halted, leg_lighter}
 use Rattle.ang_vm.proofs.bodies.run_from.Goals as goal
 
@@ -56,9 +56,9 @@ returns-in-Lost-clause-moves g c = moved_then (λ v. (g.dyn-1.0.entry v).1) c.ar
 -- a call
 pub loop-callee-preserved-in-Enters : goal.loop-callee-preserved-in-Enters
 loop-callee-preserved-in-Enters g c =
-    let led = entered c.args.table.now c.args.nesting c.loop-callee.here c.loop-callee.stack.items c.run_within-crossing.new.stack.items c.loop-callee.frames.items (world_of (λ v. (g.dyn-1.0.entry v).1) c.loop-callee.store) (world_of (λ v. (g.dyn-1.0.entry v).1) c.run_within-crossing.new.store) c.run_within-crossing.result.0 c.in-Enters.callee c.enter.new.stack.items c.enter.new.frames.items c.in-Ok.both.0 (pauses_at c.args.table.now c.loop-callee.here c.loop-callee.stack.items c.run_within-crossing.new.stack.items (world_of (λ v. (g.dyn-1.0.entry v).1) c.loop-callee.store) (world_of (λ v. (g.dyn-1.0.entry v).1) c.run_within-crossing.new.store) _ _ (ap (λ x. pause_of x c.run_within-crossing.result.0) c.in-Enters.is) c.run_within-crossing.ensures.comes) c.in-Ok.ensures.fits c.in-Ok.ensures.told in
+    let led = entered c.args.table.now c.args.nesting c.loop-callee.here c.loop-callee.stack.items c.run_within-crossing.new.stack.items c.loop-callee.frames.items (world_of (λ v. (g.dyn-1.0.entry v).1) c.loop-callee.store) (world_of (λ v. (g.dyn-1.0.entry v).1) c.run_within-crossing.new.store) c.run_within-crossing.result.0 c.in-Enters.callee c.enter.new.stack.items c.enter.new.frames.items c.in-Ok.both.0 (pauses_at c.args.table.now c.loop-callee.here c.loop-callee.stack.items c.run_within-crossing.new.stack.items (world_of (λ v. (g.dyn-1.0.entry v).1) c.loop-callee.store) (world_of (λ v. (g.dyn-1.0.entry v).1) c.run_within-crossing.new.store) _ _ (ap (λ x. pause_of x c.run_within-crossing.result.0) c.in-Enters.is) c.run_within-crossing.ensures.comes) c.in-Ok.ensures.fits c.in-Ok.ensures.reaches in
     record {
-      code = some_there _ (λ code. body_of c.args.table.now c.in-Ok.both.0.body ≡ Some code.now) c.in-Ok.both.1 c.in-Some-its.its c.in-Some-its.is c.in-Ok.ensures.code;
+      code = c.in-Ok.ensures.code;
       fits = led.fits;
       may_run = may_go_on (λ v. (g.dyn-1.0.entry v).1) c.args.table.now _ _ c.loop-callee.store c.run_within-crossing.new.store c.loop-callee.invariant.may_run c.run_within-crossing.ensures.moves
           (leg_counted c.args.table.now c.args.nesting c.loop-callee.here c.in-Ok.both.0 c.loop-callee.stack.items c.enter.new.stack.items c.loop-callee.frames.items c.enter.new.frames.items (world_of (λ v. (g.dyn-1.0.entry v).1) c.loop-callee.store) (world_of (λ v. (g.dyn-1.0.entry v).1) c.run_within-crossing.new.store) led c.loop-callee.invariant.may_run.counted);
@@ -69,18 +69,7 @@ loop-callee-preserved-in-Enters g c =
 pub loop-callee-smaller-in-Enters : goal.loop-callee-smaller-in-Enters
 loop-callee-smaller-in-Enters g c =
     leg_lighter c.args.table.now c.args.nesting c.loop-callee.here c.in-Ok.both.0 c.loop-callee.stack.items c.enter.new.stack.items c.loop-callee.frames.items c.enter.new.frames.items (world_of (λ v. (g.dyn-1.0.entry v).1) c.loop-callee.store) (world_of (λ v. (g.dyn-1.0.entry v).1) c.run_within-crossing.new.store)
-    (entered c.args.table.now c.args.nesting c.loop-callee.here c.loop-callee.stack.items c.run_within-crossing.new.stack.items c.loop-callee.frames.items (world_of (λ v. (g.dyn-1.0.entry v).1) c.loop-callee.store) (world_of (λ v. (g.dyn-1.0.entry v).1) c.run_within-crossing.new.store) c.run_within-crossing.result.0 c.in-Enters.callee c.enter.new.stack.items c.enter.new.frames.items c.in-Ok.both.0 (pauses_at c.args.table.now c.loop-callee.here c.loop-callee.stack.items c.run_within-crossing.new.stack.items (world_of (λ v. (g.dyn-1.0.entry v).1) c.loop-callee.store) (world_of (λ v. (g.dyn-1.0.entry v).1) c.run_within-crossing.new.store) _ _ (ap (λ x. pause_of x c.run_within-crossing.result.0) c.in-Enters.is) c.run_within-crossing.ensures.comes) c.in-Ok.ensures.fits c.in-Ok.ensures.told)
-
-pub returns-in_default-its-clause-ends : goal.returns-in_default-its-clause-ends
-returns-in_default-its-clause-ends g c =
-    let led = entered c.args.table.now c.args.nesting c.loop-callee.here c.loop-callee.stack.items c.run_within-crossing.new.stack.items c.loop-callee.frames.items (world_of (λ v. (g.dyn-1.0.entry v).1) c.loop-callee.store) (world_of (λ v. (g.dyn-1.0.entry v).1) c.run_within-crossing.new.store) c.run_within-crossing.result.0 c.in-Enters.callee c.enter.new.stack.items c.enter.new.frames.items c.in-Ok.both.0 (pauses_at c.args.table.now c.loop-callee.here c.loop-callee.stack.items c.run_within-crossing.new.stack.items (world_of (λ v. (g.dyn-1.0.entry v).1) c.loop-callee.store) (world_of (λ v. (g.dyn-1.0.entry v).1) c.run_within-crossing.new.store) _ _ (ap (λ x. pause_of x c.run_within-crossing.result.0) c.in-Enters.is) c.run_within-crossing.ensures.comes) c.in-Ok.ensures.fits c.in-Ok.ensures.told in
-    let none : body_of c.args.table.now c.in-Ok.both.0.body ≡ None = none_there _ (λ code. body_of c.args.table.now c.in-Ok.both.0.body ≡ Some code.now) c.in-Ok.both.1 c.in_default-its.is c.in-Ok.ensures.code in
-    reach_then (setting_of c.args.table.now c.args.nesting) (texts_of c.args.table.now) c.loop-callee.invariant.reaches
-    (reach_then (setting_of c.args.table.now c.args.nesting) (texts_of c.args.table.now) (lead_reach (setting_of c.args.table.now c.args.nesting) (texts_of c.args.table.now) led.leads)
-    (lost_nowhere c.args.table.now c.args.nesting c.in-Ok.both.0 c.enter.new.stack.items c.enter.new.frames.items (world_of (λ v. (g.dyn-1.0.entry v).1) c.run_within-crossing.new.store) none))
-
-pub returns-in_default-its-clause-moves : goal.returns-in_default-its-clause-moves
-returns-in_default-its-clause-moves g c = moved_then (λ v. (g.dyn-1.0.entry v).1) c.args.table.now _ _ _ c.loop-callee.invariant.moves c.run_within-crossing.ensures.moves
+    (entered c.args.table.now c.args.nesting c.loop-callee.here c.loop-callee.stack.items c.run_within-crossing.new.stack.items c.loop-callee.frames.items (world_of (λ v. (g.dyn-1.0.entry v).1) c.loop-callee.store) (world_of (λ v. (g.dyn-1.0.entry v).1) c.run_within-crossing.new.store) c.run_within-crossing.result.0 c.in-Enters.callee c.enter.new.stack.items c.enter.new.frames.items c.in-Ok.both.0 (pauses_at c.args.table.now c.loop-callee.here c.loop-callee.stack.items c.run_within-crossing.new.stack.items (world_of (λ v. (g.dyn-1.0.entry v).1) c.loop-callee.store) (world_of (λ v. (g.dyn-1.0.entry v).1) c.run_within-crossing.new.store) _ _ (ap (λ x. pause_of x c.run_within-crossing.result.0) c.in-Enters.is) c.run_within-crossing.ensures.comes) c.in-Ok.ensures.fits c.in-Ok.ensures.reaches)
 
 pub give_up-requires-clause-held : goal.give_up-requires-clause-held
 give_up-requires-clause-held g c =
@@ -90,7 +79,7 @@ give_up-requires-clause-held g c =
 pub returns-in-Err-clause-ends : goal.returns-in-Err-clause-ends
 returns-in-Err-clause-ends g c =
     reach_then (setting_of c.args.table.now c.args.nesting) (texts_of c.args.table.now) c.loop-callee.invariant.reaches
-    (not_entered c.args.table.now c.args.nesting c.loop-callee.here c.loop-callee.stack.items c.run_within-crossing.new.stack.items c.loop-callee.frames.items (world_of (λ v. (g.dyn-1.0.entry v).1) c.loop-callee.store) (world_of (λ v. (g.dyn-1.0.entry v).1) c.run_within-crossing.new.store) c.run_within-crossing.result.0 c.in-Enters.callee c.give_up.result (world_of (λ v. (g.dyn-1.0.entry v).1) c.give_up.new.store) (pauses_at c.args.table.now c.loop-callee.here c.loop-callee.stack.items c.run_within-crossing.new.stack.items (world_of (λ v. (g.dyn-1.0.entry v).1) c.loop-callee.store) (world_of (λ v. (g.dyn-1.0.entry v).1) c.run_within-crossing.new.store) _ _ (ap (λ x. pause_of x c.run_within-crossing.result.0) c.in-Enters.is) c.run_within-crossing.ensures.comes) (told_then c.in-Err.ensures.told (c.give_up.ensures.told _)))
+    (not_entered c.args.table.now c.args.nesting c.loop-callee.here c.loop-callee.stack.items c.run_within-crossing.new.stack.items c.loop-callee.frames.items (world_of (λ v. (g.dyn-1.0.entry v).1) c.loop-callee.store) (world_of (λ v. (g.dyn-1.0.entry v).1) c.run_within-crossing.new.store) c.run_within-crossing.result.0 c.in-Enters.callee c.give_up.result (world_of (λ v. (g.dyn-1.0.entry v).1) c.give_up.new.store) (pauses_at c.args.table.now c.loop-callee.here c.loop-callee.stack.items c.run_within-crossing.new.stack.items (world_of (λ v. (g.dyn-1.0.entry v).1) c.loop-callee.store) (world_of (λ v. (g.dyn-1.0.entry v).1) c.run_within-crossing.new.store) _ _ (ap (λ x. pause_of x c.run_within-crossing.result.0) c.in-Enters.is) c.run_within-crossing.ensures.comes) (reach_then (setting_of c.args.table.now c.args.nesting) (texts_of c.args.table.now) c.in-Err.ensures.reaches (reach_told (setting_of c.args.table.now c.args.nesting) (texts_of c.args.table.now) (c.give_up.ensures.told _))))
 
 pub returns-in-Err-clause-moves : goal.returns-in-Err-clause-moves
 returns-in-Err-clause-moves g c = moved_then (λ v. (g.dyn-1.0.entry v).1) c.args.table.now _ _ _ c.loop-callee.invariant.moves (moved_then (λ v. (g.dyn-1.0.entry v).1) c.args.table.now _ _ _ c.run_within-crossing.ensures.moves (moved_by (λ v. (g.dyn-1.0.entry v).1) c.args.table.now _ _ c.give_up.ensures.moves))

@@ -1,11 +1,9 @@
-use Rattle.std.proofs.Common.{◌∙◌}
 use Rattle.ang_vm_stack.specs.Tables.{texts_of}
-use Rattle.ang_vm.proofs.Going.{height_known}
 use Rattle.ang_vm.proofs.calls.begin.Goals as goal
 
 pub returns : goal.returns
 returns c = record {
-  told = λ fr w. c.begin_above.ensures.told (texts_of c.args.table.now) fr w (c.facts_of-height.ensures.height ∙ height_known (λ b. b.now) c.body_at.result c.args.table.now c.args.body c.body_at.ensures.exact);
+  told = λ fr w. c.begin_above.ensures.told (texts_of c.args.table.now) fr w c.height_at.ensures.exact;
   in_room = c.begin_above.ensures.in_room;
   same = c.begin_above.ensures.same;
   grows = c.begin_above.ensures.grows;

@@ -9,8 +9,15 @@ use Rattle.ang_vm_stack.specs.Tables.{setting_of, texts_of}
 use Rattle.ang_vm.specs.Legs.{caller_at, AllFit}
 use Rattle.ang_code.specs.Machine.{begins}
 use Rattle.ang_vm.proofs.Calling.{enters_lost, enters_null, enters_deep, enters_spent, enters_begins, begins_refused, fit_more, fits_begun, push_front}
-use Rattle.ang_vm.proofs.Going.{height_known, params_known}
+use Rattle.ang_vm_fuse.specs.Parameters.{by_value, only_receiver}
+use Rattle.ang_vm.proofs.Going.{height_there, params_there}
 use Rattle.ang_vm.proofs.calls.enter_body.Goals as goal
+
+pub objects_there-requires-clause-known : goal.objects_there-requires-clause-known
+objects_there-requires-clause-known c = c.by_value.ensures.exact ∙ ap by_value (sym c.params-params.ensures.exact)
+
+pub objects_there-requires-clause-known_receiver : goal.objects_there-requires-clause-known_receiver
+objects_there-requires-clause-known_receiver c = c.only_receiver.ensures.exact ∙ ap only_receiver (sym c.params-params.ensures.exact)
 
 pub returns-then-params-top : goal.returns-then-params-top
 returns-then-params-top c =
@@ -20,7 +27,7 @@ returns-then-params-top c =
     let stack = c.args.stack.now.items in
     let frames = reverse c.args.frames.now.items in
     let deep : f.place.top ≤ length stack = omega (arith, c.requires.fits.values, c.requires.fits.body) in
-    let params = c.facts_of-height.ensures.params ∙ params_known (λ b. b.now) c.args.code c.args.table.now c.args.body c.args.nesting c.requires.known in
+    let params = c.params-params.ensures.exact ∙ params_there c.args.table.now c.args.body c.args.code.now c.args.nesting c.requires.known in
     let count = ap length params in
     record {
       told = λ w. told_same (λ is. enters_lost z code c.args.body stack f.place.top frames (caller_at f) f.place.ticks deep (omega (arith, count)) (with_inputs is w));
@@ -38,10 +45,10 @@ returns-then-not-objects_there c =
     let stack = c.args.stack.now.items in
     let frames = reverse c.args.frames.now.items in
     let deep : f.place.top ≤ length stack = omega (arith, c.requires.fits.values, c.requires.fits.body) in
-    let params = c.facts_of-height.ensures.params ∙ params_known (λ b. b.now) c.args.code c.args.table.now c.args.body c.args.nesting c.requires.known in
+    let params = c.params-params.ensures.exact ∙ params_there c.args.table.now c.args.body c.args.code.now c.args.nesting c.requires.known in
     let count = ap length params in
     let few : length (params_of z c.args.body) ≤ f.place.top = omega (arith, count) in
-    let objects = ap (λ ps. has_objects ps (values stack f.place.top)) (sym params) ∙ sym (ap (λ l. has_objects c.facts_of-height.result.0.now (values l f.place.top)) c.as_slice.ensures.value) ∙ sym c.objects_there.ensures.exact ∙ c.if-not-objects_there.true in
+    let objects = ap (λ ps. has_objects ps (values stack f.place.top)) (sym params) ∙ sym (ap (λ l. has_objects c.params-params.result.now (values l f.place.top)) c.as_slice.ensures.value) ∙ sym c.objects_there.ensures.exact ∙ c.if-not-objects_there.true in
     record {
       told = λ w. told_same (λ is. enters_null z code c.args.body stack f.place.top frames (caller_at f) f.place.ticks deep few objects (with_inputs is w));
       fits = tt;
@@ -58,10 +65,10 @@ returns-then-len-nesting c =
     let stack = c.args.stack.now.items in
     let frames = reverse c.args.frames.now.items in
     let deep : f.place.top ≤ length stack = omega (arith, c.requires.fits.values, c.requires.fits.body) in
-    let params = c.facts_of-height.ensures.params ∙ params_known (λ b. b.now) c.args.code c.args.table.now c.args.body c.args.nesting c.requires.known in
+    let params = c.params-params.ensures.exact ∙ params_there c.args.table.now c.args.body c.args.code.now c.args.nesting c.requires.known in
     let count = ap length params in
     let few : length (params_of z c.args.body) ≤ f.place.top = omega (arith, count) in
-    let objects = ap (λ ps. has_objects ps (values stack f.place.top)) (sym params) ∙ sym (ap (λ l. has_objects c.facts_of-height.result.0.now (values l f.place.top)) c.as_slice.ensures.value) ∙ sym c.objects_there.ensures.exact ∙ c.if-not-objects_there.false in
+    let objects = ap (λ ps. has_objects ps (values stack f.place.top)) (sym params) ∙ sym (ap (λ l. has_objects c.params-params.result.now (values l f.place.top)) c.as_slice.ensures.value) ∙ sym c.objects_there.ensures.exact ∙ c.if-not-objects_there.false in
     let callers = length-reverse c.args.frames.now.items in
     record {
       told = λ w. told_same (λ is. enters_deep z code c.args.body stack f.place.top frames (caller_at f) f.place.ticks deep few objects (omega (arith, callers, c.len.ensures, c.args.frames.now.ok.0)) (with_inputs is w));
@@ -79,10 +86,10 @@ returns-then-from-eq0 c =
     let stack = c.args.stack.now.items in
     let frames = reverse c.args.frames.now.items in
     let deep : f.place.top ≤ length stack = omega (arith, c.requires.fits.values, c.requires.fits.body) in
-    let params = c.facts_of-height.ensures.params ∙ params_known (λ b. b.now) c.args.code c.args.table.now c.args.body c.args.nesting c.requires.known in
+    let params = c.params-params.ensures.exact ∙ params_there c.args.table.now c.args.body c.args.code.now c.args.nesting c.requires.known in
     let count = ap length params in
     let few : length (params_of z c.args.body) ≤ f.place.top = omega (arith, count) in
-    let objects = ap (λ ps. has_objects ps (values stack f.place.top)) (sym params) ∙ sym (ap (λ l. has_objects c.facts_of-height.result.0.now (values l f.place.top)) c.as_slice.ensures.value) ∙ sym c.objects_there.ensures.exact ∙ c.if-not-objects_there.false in
+    let objects = ap (λ ps. has_objects ps (values stack f.place.top)) (sym params) ∙ sym (ap (λ l. has_objects c.params-params.result.now (values l f.place.top)) c.as_slice.ensures.value) ∙ sym c.objects_there.ensures.exact ∙ c.if-not-objects_there.false in
     let callers = length-reverse c.args.frames.now.items in
     let nests : length frames + 1 < c.args.nesting = omega (arith, callers, c.len.ensures, c.args.frames.now.ok.0) in
     record {
@@ -101,10 +108,10 @@ returns-in-Err c =
     let stack = c.args.stack.now.items in
     let frames = reverse c.args.frames.now.items in
     let deep : f.place.top ≤ length stack = omega (arith, c.requires.fits.values, c.requires.fits.body) in
-    let params = c.facts_of-height.ensures.params ∙ params_known (λ b. b.now) c.args.code c.args.table.now c.args.body c.args.nesting c.requires.known in
+    let params = c.params-params.ensures.exact ∙ params_there c.args.table.now c.args.body c.args.code.now c.args.nesting c.requires.known in
     let count = ap length params in
     let few : length (params_of z c.args.body) ≤ f.place.top = omega (arith, count) in
-    let objects = ap (λ ps. has_objects ps (values stack f.place.top)) (sym params) ∙ sym (ap (λ l. has_objects c.facts_of-height.result.0.now (values l f.place.top)) c.as_slice.ensures.value) ∙ sym c.objects_there.ensures.exact ∙ c.if-not-objects_there.false in
+    let objects = ap (λ ps. has_objects ps (values stack f.place.top)) (sym params) ∙ sym (ap (λ l. has_objects c.params-params.result.now (values l f.place.top)) c.as_slice.ensures.value) ∙ sym c.objects_there.ensures.exact ∙ c.if-not-objects_there.false in
     let callers = length-reverse c.args.frames.now.items in
     let nests : length frames + 1 < c.args.nesting = omega (arith, callers, c.len.ensures, c.args.frames.now.ok.0) in
     record {
@@ -123,15 +130,15 @@ returns-in-Ok c =
     let stack = c.args.stack.now.items in
     let frames = reverse c.args.frames.now.items in
     let deep : f.place.top ≤ length stack = omega (arith, c.requires.fits.values, c.requires.fits.body) in
-    let params = c.facts_of-height.ensures.params ∙ params_known (λ b. b.now) c.args.code c.args.table.now c.args.body c.args.nesting c.requires.known in
+    let params = c.params-params.ensures.exact ∙ params_there c.args.table.now c.args.body c.args.code.now c.args.nesting c.requires.known in
     let count = ap length params in
     let few : length (params_of z c.args.body) ≤ f.place.top = omega (arith, count) in
-    let objects = ap (λ ps. has_objects ps (values stack f.place.top)) (sym params) ∙ sym (ap (λ l. has_objects c.facts_of-height.result.0.now (values l f.place.top)) c.as_slice.ensures.value) ∙ sym c.objects_there.ensures.exact ∙ c.if-not-objects_there.false in
+    let objects = ap (λ ps. has_objects ps (values stack f.place.top)) (sym params) ∙ sym (ap (λ l. has_objects c.params-params.result.now (values l f.place.top)) c.as_slice.ensures.value) ∙ sym c.objects_there.ensures.exact ∙ c.if-not-objects_there.false in
     let callers = length-reverse c.args.frames.now.items in
     let nests : length frames + 1 < c.args.nesting = omega (arith, callers, c.len.ensures, c.args.frames.now.ok.0) in
     let pushed : reverse c.push.new.self.items ≡ caller_at f ∷ frames = ap reverse c.in-Ok.ensures.items ∙ push_front c.args.frames.now.items (caller_at f) in
     record {
-      told = λ w. told_then (told_same (λ is. enters_begins z code c.args.body stack f.place.top frames (caller_at f) f.place.ticks deep few objects nests (omega arith) (with_inputs is w) ∙ ap (λ fr. begins code c.args.body (values stack f.place.top) fr (f.place.ticks - 1) (with_inputs is w)) (sym pushed))) (c.begin_above.ensures.told code (reverse c.push.new.self.items) w (c.facts_of-height.ensures.height ∙ height_known (λ b. b.now) c.args.code c.args.table.now c.args.body c.requires.known));
+      told = λ w. told_then (told_same (λ is. enters_begins z code c.args.body stack f.place.top frames (caller_at f) f.place.ticks deep few objects nests (omega arith) (with_inputs is w) ∙ ap (λ fr. begins code c.args.body (values stack f.place.top) fr (f.place.ticks - 1) (with_inputs is w)) (sym pushed))) (c.begin_above.ensures.told code (reverse c.push.new.self.items) w (c.height-height.ensures.exact ∙ height_there c.args.table.now c.args.body c.args.code.now c.requires.known));
       fits = fits_begun c.begin_above.result c.begin_above.new.stack.items c.push.new.self.items c.begin_above.ensures.in_room (subst (AllFit (length c.begin_above.new.stack.items)) (sym pushed) (omega (arith, c.requires.fits.body, c.begin_above.ensures.grows), fit_more frames (length stack) (length c.begin_above.new.stack.items) c.begin_above.ensures.grows c.requires.fits.callers));
       body = c.begin_above.ensures.body;
       same = c.begin_above.ensures.same;

@@ -43,8 +43,8 @@ returns-then-params-base g c =
       moves = λ roles. moves_none (λ v. (g.dyn-1.0.entry v).1) roles c.args.store.now;
     }
 
-pub give_top-requires-clause-enough : goal.give_top-requires-clause-enough
-give_top-requires-clause-enough g c =
+pub give_top_in_line-requires-clause-enough : goal.give_top_in_line-requires-clause-enough
+give_top_in_line-requires-clause-enough g c =
     top_can c.args.stack.now c.args.top (world_of (λ v. (g.dyn-1.0.entry v).1) c.args.store.now) (omega arith) c.requires.within c.requires.counted
 
 -- no parameter gives a value back
@@ -55,30 +55,30 @@ returns-then-not-has_outs g c =
     let top = c.args.top in
     let count = c.args.count in
     let w = (world_of (λ v. (g.dyn-1.0.entry v).1) c.args.store.now) in
-    let w' = (world_of (λ v. (g.dyn-1.0.entry v).1) c.give_top.new.store) in
+    let w' = (world_of (λ v. (g.dyn-1.0.entry v).1) c.give_top_in_line.new.store) in
     let none : has_outs params ≡ false = ap has_outs c.params-params.ensures.exact ∙ sym c.has_outs.ensures.exact ∙ c.if-not-has_outs.true in
     let below : top - 1 - (count + length params) ≡ top - 1 - count - length params = omega arith in
     record {
       told = λ z texts f at room frames ticks known. leaves_values z texts f at room stack top count frames ticks c.requires.within
-          c.peek-value.result (omega arith) c.peek-value.ensures.exact params w w' (c.params-params.ensures.exact ∙ known) none (omega arith) (told_same c.give_top.ensures.given);
+          c.peek-value.result (omega arith) c.peek-value.ensures.exact params w w' (c.params-params.ensures.exact ∙ known) none (omega arith) (told_same c.give_top_in_line.ensures.given);
       held = subst (λ n. CanGive (values stack n) w') below
-          (below_can stack (top - 1) (count + length params) w w' (omega arith) (omega (arith, c.requires.within)) (top_can stack top w (omega arith) c.requires.within c.requires.counted) (c.give_top.ensures.given []));
+          (below_can stack (top - 1) (count + length params) w w' (omega arith) (omega (arith, c.requires.within)) (top_can stack top w (omega arith) c.requires.within c.requires.counted) (c.give_top_in_line.ensures.given []));
       fewer = omega arith;
-      moves = c.give_top.ensures.moves;
+      moves = c.give_top_in_line.ensures.moves;
     }
 
 -- a parameter gives a value back
-pub give_top-requires-2-clause-enough : goal.give_top-requires-2-clause-enough
-give_top-requires-2-clause-enough g c =
+pub give_top-requires-clause-enough : goal.give_top-requires-clause-enough
+give_top-requires-clause-enough g c =
     top_can c.args.stack.now c.args.top (world_of (λ v. (g.dyn-1.0.entry v).1) c.args.store.now) (omega arith) c.requires.within c.requires.counted
 
 pub leave_params-kept-requires-clause-ready : goal.leave_params-kept-requires-clause-ready
-leave_params-kept-requires-clause-ready g c = (c.give_top-2.ensures.moves []).ready c.requires.ready
+leave_params-kept-requires-clause-ready g c = (c.give_top.ensures.moves []).ready c.requires.ready
 
 pub leave_params-kept-requires-clause-held : goal.leave_params-kept-requires-clause-held
 leave_params-kept-requires-clause-held g c =
-    below_can c.args.stack.now (c.args.top - 1) c.args.count (world_of (λ v. (g.dyn-1.0.entry v).1) c.args.store.now) (world_of (λ v. (g.dyn-1.0.entry v).1) c.give_top-2.new.store) (omega arith) (omega (arith, c.requires.within))
-    (top_can c.args.stack.now c.args.top (world_of (λ v. (g.dyn-1.0.entry v).1) c.args.store.now) (omega arith) c.requires.within c.requires.counted) (c.give_top-2.ensures.given [])
+    below_can c.args.stack.now (c.args.top - 1) c.args.count (world_of (λ v. (g.dyn-1.0.entry v).1) c.args.store.now) (world_of (λ v. (g.dyn-1.0.entry v).1) c.give_top.new.store) (omega arith) (omega (arith, c.requires.within))
+    (top_can c.args.stack.now c.args.top (world_of (λ v. (g.dyn-1.0.entry v).1) c.args.store.now) (omega arith) c.requires.within c.requires.counted) (c.give_top.ensures.given [])
 
 pub returns : goal.returns
 returns g c =
@@ -90,10 +90,10 @@ returns g c =
     record {
       told = λ z texts f at room frames ticks known. told_then
           (leaves_on z texts f at room c.args.stack.now c.args.top c.args.count frames ticks c.requires.within
-          c.peek-value-2.result (omega arith) c.peek-value-2.ensures.exact c.params-params.result.now ((world_of (λ v. (g.dyn-1.0.entry v).1) c.args.store.now)) (world_of (λ v. (g.dyn-1.0.entry v).1) c.give_top-2.new.store) w2 outs rest
-          (c.params-params.ensures.exact ∙ known) (omega arith) (told_same c.give_top-2.ensures.given) (told_same c.leave_params-kept.ensures.given) refl refl)
+          c.peek-value-2.result (omega arith) c.peek-value-2.ensures.exact c.params-params.result.now ((world_of (λ v. (g.dyn-1.0.entry v).1) c.args.store.now)) (world_of (λ v. (g.dyn-1.0.entry v).1) c.give_top.new.store) w2 outs rest
+          (c.params-params.ensures.exact ∙ known) (omega arith) (told_same c.give_top.ensures.given) (told_same c.leave_params-kept.ensures.given) refl refl)
           (told_same (λ is. back_whole frames c.peek-value-2.result outs rest all ticks (with_inputs is w2) c.leave_params-kept.ensures.kept));
       held = c.leave_params-kept.ensures.held;
       fewer = omega (arith, c.leave_params-kept.ensures.fewer);
-      moves = λ roles. moves_join (λ v. (g.dyn-1.0.entry v).1) roles _ _ _ (c.give_top-2.ensures.moves roles) (c.leave_params-kept.ensures.moves roles);
+      moves = λ roles. moves_join (λ v. (g.dyn-1.0.entry v).1) roles _ _ _ (c.give_top.ensures.moves roles) (c.leave_params-kept.ensures.moves roles);
     }

@@ -5,7 +5,7 @@ use Rattle.ang_meaning.specs.Results.{give_some}
 use Rattle.ang_meaning.specs.Counting.{CanGive}
 use Rattle.ang_heap.specs.Stores.{world_of, IsReady, StoreMoves}
 use Rattle.ang_vm_stack.specs.Stacks.{values}
-use Rattle.ang_vm_steps.proofs.many.give_each.Given as goal
+use Rattle.ang_vm_steps.proofs.many.give_each_in_line.Given as goal
 
 abbrev pub invariant-loop-given : goal.invariant-loop-given
 invariant-loop-given g l = record {

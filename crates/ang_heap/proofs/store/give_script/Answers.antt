@@ -1,5 +1,5 @@
 use Rattle.std.proofs.Common.{arith}
-use Rattle.ang_heap.proofs.store.give_object.Goals as goal
+use Rattle.ang_heap.proofs.store.give_script.Goals as goal
 
 pub give_up-requires-clause-ready : goal.give_up-requires-clause-ready
 give_up-requires-clause-ready g c = record { sound = c.requires.ready.kept.drivers.sound; room = omega (arith, c.requires.ready.room, c.requires.ready.kept.alive) }
