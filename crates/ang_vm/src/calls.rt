@@ -6,7 +6,7 @@ ghost use Rattle.ang_meaning.specs.Told.{Told};
 ghost use Rattle.ang_code.specs.declared.instruction.Frame.{Frame};
 ghost use Rattle.ang_code.specs.Machine.{Texts, begins, enters, found_enters};
 ghost use Rattle.ang_vm_fuse.specs.Parameters.{
-  by_value as are_by_value,
+  want_objects as do_want_objects,
   only_receiver as is_only_receiver,
 };
 ghost use Rattle.ang_heap.specs.Stores.{world_of};
@@ -56,11 +56,10 @@ pub fn have_objects(params: &[Passing], stack: &[Slot], top: usize) -> bool
     true
 }
 
-/// The same, where it is known whether all parameters take values, and whether the first parameter alone takes an
-/// object.
+/// The same, where it is known whether a parameter wants an object, and whether the first parameter alone does.
 #[inline(always)]
 fn objects_there(
-    by_value: bool,
+    wants_objects: bool,
     only_receiver: bool,
     params: &[Passing],
     stack: &[Slot],
@@ -68,11 +67,11 @@ fn objects_there(
 ) -> bool
     requires enough { length params.now ≤ top }
     requires within { top ≤ length stack.now }
-    requires known { by_value ≡ are_by_value params.now }
+    requires known { wants_objects ≡ do_want_objects params.now }
     requires known_receiver { only_receiver ≡ is_only_receiver params.now }
     ensures exact { result ≡ has_objects params.now (values stack.now top) }
 {
-    if by_value {
+    if !wants_objects {
         return true;
     }
     if only_receiver {
@@ -205,7 +204,7 @@ pub fn enter_body(
         return Err(Stop::Lost);
     }
     if !objects_there(
-        code.by_value(),
+        code.wants_objects(),
         code.only_receiver(),
         params,
         stack.as_slice(),

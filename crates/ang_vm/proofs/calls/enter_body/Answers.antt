@@ -9,12 +9,12 @@ use Rattle.ang_vm_stack.specs.Tables.{setting_of, texts_of}
 use Rattle.ang_vm.specs.Legs.{caller_at, AllFit}
 use Rattle.ang_code.specs.Machine.{begins}
 use Rattle.ang_vm.proofs.Calling.{enters_lost, enters_null, enters_deep, enters_spent, enters_begins, begins_refused, fit_more, fits_begun, push_front}
-use Rattle.ang_vm_fuse.specs.Parameters.{by_value, only_receiver}
+use Rattle.ang_vm_fuse.specs.Parameters.{want_objects, only_receiver}
 use Rattle.ang_vm.proofs.Going.{height_there, params_there}
 use Rattle.ang_vm.proofs.calls.enter_body.Goals as goal
 
 pub objects_there-requires-clause-known : goal.objects_there-requires-clause-known
-objects_there-requires-clause-known c = c.by_value.ensures.exact ∙ ap by_value (sym c.params-params.ensures.exact)
+objects_there-requires-clause-known c = c.wants_objects.ensures.exact ∙ ap want_objects (sym c.params-params.ensures.exact)
 
 pub objects_there-requires-clause-known_receiver : goal.objects_there-requires-clause-known_receiver
 objects_there-requires-clause-known_receiver c = c.only_receiver.ensures.exact ∙ ap only_receiver (sym c.params-params.ensures.exact)

@@ -3,11 +3,11 @@ use Rattle.std.specs.Prelude.{not}
 use Rattle.ang_meaning.specs.Setting.{is_null}
 use Rattle.ang_vm_stack.specs.Stacks.{values}
 use Rattle.ang_vm_stack.proofs.Values.{values_length}
-use Rattle.ang_vm.proofs.Calling.{values_there, receiver_some, receiver_there}
+use Rattle.ang_vm.proofs.Calling.{none_wanted, receiver_some, receiver_there}
 use Rattle.ang_vm.proofs.calls.objects_there.Goals as goal
 
-pub returns-then-by_value : goal.returns-then-by_value
-returns-then-by_value c = record { exact = sym (values_there c.args.params.now (values c.args.stack.now c.args.top) (sym c.requires.known ∙ c.if-by_value.true)) }
+pub returns-then-not-wants_objects : goal.returns-then-not-wants_objects
+returns-then-not-wants_objects c = record { exact = sym (none_wanted c.args.params.now (values c.args.stack.now c.args.top) (sym c.requires.known ∙ c.if-not-wants_objects.true)) }
 
 pub returns-then-only_receiver : goal.returns-then-only_receiver
 returns-then-only_receiver c =

@@ -5,7 +5,7 @@ use Rattle.ang_meaning.specs.Results.{give_others}
 use Rattle.ang_meaning.specs.Counting.{CanGive}
 use Rattle.ang_heap.specs.Stores.{world_of, IsReady, StoreMoves}
 use Rattle.ang_vm_stack.specs.Stacks.{values}
-use Rattle.ang_vm.proofs.returns.give_others.Given as goal
+use Rattle.ang_vm.proofs.returns.give_others_apart.Given as goal
 
 abbrev pub invariant-loop-i : goal.invariant-loop-i
 invariant-loop-i g l = record {
