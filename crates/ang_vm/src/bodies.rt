@@ -1,37 +1,23 @@
 //! From body to body, to a run's end.
-ghost use Rattle.std.specs.Prelude.{◌≡◌, ℕ, ◌<◌, ◌≤◌, List, [], ◌∷◌, length, reverse, Err, Some, IfSome, IfOk};
+ghost use Rattle.std.specs.Prelude.{◌≡◌, ℕ, ◌<◌, ◌≤◌, List, [], ◌∷◌, length, reverse, Err, Some, IfSome};
 ghost use Rattle.ang_code.specs.declared.instruction.Frame.{Frame};
 ghost use Rattle.ang_code.specs.declared.instruction.Instruction.TheVariants.{Return};
 ghost use Rattle.ang_meaning.specs.declared.routine.Routine.{Routine};
-ghost use Rattle.ang_meaning.specs.declared.slot.Slot.TheVariants.{Bits};
-ghost use Rattle.ang_meaning.specs.World.{World, with_inputs};
+ghost use Rattle.ang_meaning.specs.World.{World};
 ghost use Rattle.ang_meaning.specs.Setting.{Setting, params_of};
 ghost use Rattle.ang_meaning.specs.Counting.{CanGive};
 ghost use Rattle.ang_code.specs.Machine.{Texts, Over, act, back, fault as faulted};
 ghost use Rattle.ang_heap.specs.Stores.{world_of, IsReady, StoreTold, HasMoved};
 ghost use Rattle.ang_vm_stack.specs.Stacks.{values};
-ghost use Rattle.ang_vm_stack.specs.declared.table.Table.{Table};
-ghost use Rattle.ang_vm_stack.specs.Tables.{body_of, setting_of, texts_of};
-ghost use Rattle.ang_vm.specs.Legs.{
-  AllFit,
-  Fits,
-  begun,
-  given_back,
-  handed,
-  left,
-  outcome,
-  resumed,
-  standing,
-  standing_in,
-};
+ghost use Rattle.ang_vm_stack.specs.Tables.{body_of};
+ghost use Rattle.ang_vm.specs.Legs.{Fits, begun, handed, outcome, resumed, standing};
 ghost use Rattle.ang_vm_body.specs.Crossings.{Comes};
 ghost use Rattle.ang_vm_body.specs.Running.{MayRun, RunMoves};
 ghost use Rattle.ang_vm.specs.Running.{RunReaches};
 ghost use Rattle.ang_vm_steps.specs.Arms.{AreCounted};
-ghost use Rattle.ang_vm_steps.specs.Turns.{Reaches};
 
 use crate::calls::enter;
-use crate::returns::{Parted, leave_body, leave_values, resume, resume_with_nothing};
+use crate::returns::{Parted, leave_body, resume};
 use ang_code::Frame;
 use ang_heap::Store;
 use ang_host::Driver;
@@ -133,33 +119,6 @@ fn leave_within(
     leave_body(code, stack.as_mut_slice(), store, top, count)
 }
 
-/// The values of the running body are left below the number 0, over the whole stack.
-#[inline(always)]
-fn leave_values_within(
-    code: &Body,
-    stack: &mut Vec<Slot>,
-    store: &mut Store,
-    top: usize,
-    count: usize,
-) -> Option<usize>
-    requires within { top ≤ length stack.old.items }
-    requires ready { IsReady ⟦<dyn Driver as Driver>⟧ store.old }
-    requires held { CanGive (values stack.old.items top)
-        (world_of ⟦<dyn Driver as Driver>⟧ store.old) }
-    ensures told { (z : Setting) (texts : Texts) (f : Routine) (at room : ℕ) (frames : List Frame)
-        (ticks : ℕ) → code.now.params.items ≡ params_of z f
-        → StoreTold ⟦<dyn Driver as Driver>⟧ (act z texts (Some (Return count)) f at room
-        (Bits 0 ∷ values stack.old.items top) frames ticks) store.old
-        (given_back (Bits 0) result stack.new.items frames ticks) store.new }
-    ensures held { IfSome result (λ kept. CanGive (values stack.new.items kept)
-        (world_of ⟦<dyn Driver as Driver>⟧ store.new)) }
-    ensures fewer { IfSome result (λ kept. kept ≤ top) }
-    ensures same { length stack.new.items ≡ length stack.old.items }
-    ensures moves { HasMoved ⟦<dyn Driver as Driver>⟧ store.old store.new }
-{
-    leave_values(code, stack.as_mut_slice(), store, top, count)
-}
-
 /// A caller goes on, over the whole stack.
 #[inline(always)]
 fn resume_within(
@@ -178,28 +137,6 @@ fn resume_within(
     resume(stack.as_mut_slice(), caller, parted, ticks)
 }
 
-/// A caller goes on after a function without a value, over the whole stack.
-#[inline(always)]
-fn resume_with_nothing_within(
-    code: &Body,
-    stack: &mut Vec<Slot>,
-    caller: Frame,
-    kept: usize,
-    ticks: u64,
-) -> Option<Standing>
-    requires below { kept < length stack.old.items }
-    ensures reaches { (t : Table) (nesting : ℕ) (frames : List Frame) (w : World)
-        → body_of t caller.of ≡ Some code.now → Reaches (setting_of t nesting) (texts_of t)
-        (λ is. back (caller ∷ frames) (Bits 0) [] (values stack.old.items kept) ticks
-        (with_inputs is w))
-        (λ is. resumed result stack.new.items frames (with_inputs is w)) }
-    ensures fits { IfSome result (λ s. (s.place.top ≤ s.room) × (s.room ≡ caller.room)) }
-    ensures body { IfSome result (λ s. s.body ≡ caller.of) }
-    ensures same { length stack.new.items ≡ length stack.old.items }
-{
-    resume_with_nothing(code, stack.as_mut_slice(), caller, kept, ticks)
-}
-
 /// The end of a run whose last body was left: what it holds besides its value is given up.
 fn finish(stack: &Vec<Slot>, store: &mut Store, parted: Parted, ticks: u64) -> Ending
     requires within { parted.kept ≤ length stack.now.items }
@@ -213,83 +150,6 @@ fn finish(stack: &Vec<Slot>, store: &mut Store, parted: Parted, ticks: u64) -> E
 {
     give_all_in_use(stack.as_slice(), store, parted.kept);
     Ending::Gives(parted.value, ticks)
-}
-
-/// The running body was left with a value: its caller goes on, with that value on top. With where it stands comes its code.
-///
-/// # Errors
-/// How the run ends, where there is no caller.
-#[inline(always)]
-fn go_back<'t>(
-    table: &'t Table,
-    stack: &mut Vec<Slot>,
-    frames: &mut Vec<Frame>,
-    store: &mut Store,
-    parted: Parted,
-    ticks: u64,
-) -> Result<(Standing, &'t Body), Ending>
-    requires below { parted.kept < length stack.old.items }
-    requires fits { AllFit (length stack.old.items) (reverse frames.old.items) }
-    requires ready { IsReady ⟦<dyn Driver as Driver>⟧ store.old }
-    requires held { CanGive (values stack.old.items parted.kept)
-        (world_of ⟦<dyn Driver as Driver>⟧ store.old) }
-    ensures reaches { (nesting : ℕ) → RunReaches ⟦<dyn Driver as Driver>⟧ table.now nesting
-        (back (reverse frames.old.items) parted.value [] (values stack.old.items parted.kept) ticks)
-        store.old (left (standing_in result) stack.new.items (reverse frames.new.items))
-        store.new }
-    ensures fits { IfOk result (λ r. Fits r.0 stack.new.items frames.new.items) }
-    ensures code { IfOk result (λ r. body_of table.now r.0.body ≡ Some r.1.now) }
-    ensures moves { HasMoved ⟦<dyn Driver as Driver>⟧ store.old store.new }
-{
-    let Some(caller) = frames.pop() else {
-        return Err(finish(stack, store, parted, ticks));
-    };
-    let Some(next) = resume_within(stack, caller, parted, ticks) else {
-        return Err(Ending::Lost);
-    };
-    match body_at(table, next.body) {
-        Some(code) => Ok((next, code)),
-        None => Err(Ending::Lost),
-    }
-}
-
-/// The same after a function without a value.
-///
-/// # Errors
-/// How the run ends, where there is no caller.
-#[inline(always)]
-fn go_back_with_nothing<'t>(
-    table: &'t Table,
-    stack: &mut Vec<Slot>,
-    frames: &mut Vec<Frame>,
-    store: &mut Store,
-    kept: usize,
-    ticks: u64,
-) -> Result<(Standing, &'t Body), Ending>
-    requires below { kept < length stack.old.items }
-    requires fits { AllFit (length stack.old.items) (reverse frames.old.items) }
-    requires ready { IsReady ⟦<dyn Driver as Driver>⟧ store.old }
-    requires held { CanGive (values stack.old.items kept)
-        (world_of ⟦<dyn Driver as Driver>⟧ store.old) }
-    ensures reaches { (nesting : ℕ) → RunReaches ⟦<dyn Driver as Driver>⟧ table.now nesting
-        (back (reverse frames.old.items) (Bits 0) [] (values stack.old.items kept) ticks)
-        store.old (left (standing_in result) stack.new.items (reverse frames.new.items))
-        store.new }
-    ensures fits { IfOk result (λ r. Fits r.0 stack.new.items frames.new.items) }
-    ensures code { IfOk result (λ r. body_of table.now r.0.body ≡ Some r.1.now) }
-    ensures moves { HasMoved ⟦<dyn Driver as Driver>⟧ store.old store.new }
-{
-    let Some(caller) = frames.pop() else {
-        let value = Slot::Bits(0);
-        return Err(finish(stack, store, Parted { value, kept }, ticks));
-    };
-    let Some(code) = body_at(table, caller.of) else {
-        return Err(Ending::Lost);
-    };
-    match resume_with_nothing_within(code, stack, caller, kept, ticks) {
-        Some(next) => Ok((next, code)),
-        None => Err(Ending::Lost),
-    }
 }
 
 /// Goes on until the run is over; `nesting` functions may stand one inside the other.
@@ -335,27 +195,14 @@ pub fn run_from(
                 let Some(parted) = leave_within(code, stack, store, place.top, count) else {
                     return Ending::Lost;
                 };
-                let (next, its) = match go_back(table, stack, frames, store, parted, place.ticks) {
-                    Ok(both) => both,
-                    Err(ending) => return ending,
+                let Some(caller) = frames.pop() else {
+                    return finish(stack, store, parted, place.ticks);
                 };
-                here = next;
-                code = its;
-            }
-            Crossing::ReturnsNothing(count) => {
-                let Some(kept) = leave_values_within(code, stack, store, place.top, count) else {
+                let Some(next) = resume_within(stack, caller, parted, place.ticks) else {
                     return Ending::Lost;
                 };
-                let (next, its) = match go_back_with_nothing(
-                    table,
-                    stack,
-                    frames,
-                    store,
-                    kept,
-                    place.ticks,
-                ) {
-                    Ok(both) => both,
-                    Err(ending) => return ending,
+                let Some(its) = body_at(table, next.body) else {
+                    return Ending::Lost;
                 };
                 here = next;
                 code = its;

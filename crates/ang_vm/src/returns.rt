@@ -1,25 +1,8 @@
 //! Where a body is left.
-ghost use Rattle.std.specs.Prelude.{
-  ◌≡◌,
-  ℕ,
-  ◌+◌,
-  ◌-◌,
-  ◌<◌,
-  ◌≤◌,
-  ◌∷◌,
-  ◌++◌,
-  List,
-  [],
-  length,
-  slice_get,
-  Some,
-  IfSome,
-  IsTrue,
-};
+ghost use Rattle.std.specs.Prelude.{◌≡◌, ℕ, ◌+◌, ◌-◌, ◌<◌, ◌≤◌, ◌∷◌, ◌++◌, List, [], length, Some, IfSome};
 ghost use Rattle.ang_meaning.specs.declared.slot.Slot.{Slot};
 ghost use Rattle.ang_meaning.specs.declared.routine.Routine.{Routine};
-ghost use Rattle.ang_meaning.specs.declared.slot.Slot.TheVariants.{Bits};
-ghost use Rattle.ang_meaning.specs.World.{World, with_inputs};
+ghost use Rattle.ang_meaning.specs.World.{World};
 ghost use Rattle.ang_meaning.specs.Setting.{Setting, params_of};
 ghost use Rattle.ang_meaning.specs.Counting.{CanGive};
 ghost use Rattle.ang_meaning.specs.Results.{give_others as others_given, outs_of};
@@ -27,20 +10,9 @@ ghost use Rattle.ang_code.specs.declared.instruction.Instruction.TheVariants.{Re
 ghost use Rattle.ang_code.specs.declared.instruction.Frame.{Frame};
 ghost use Rattle.ang_code.specs.Machine.{Texts, act, back};
 ghost use Rattle.ang_heap.specs.Stores.{world_of, IsReady, StoreTold, HasMoved, StoreBecomes};
-ghost use Rattle.ang_vm_step.specs.declared.step.Step.TheVariants.{Drop as DropStep};
-ghost use Rattle.ang_vm_stack.specs.declared.table.Table.{Table};
 ghost use Rattle.ang_vm_stack.specs.Stacks.{values};
-ghost use Rattle.ang_vm_stack.specs.Tables.{body_of, setting_of, texts_of};
-ghost use Rattle.ang_vm.specs.Legs.{
-  given_by,
-  with_out,
-  Unmoved,
-  given_back,
-  handed,
-  resumed,
-};
+ghost use Rattle.ang_vm.specs.Legs.{given_by, with_out, Unmoved, handed, resumed};
 ghost use Rattle.ang_vm_steps.specs.Arms.{AreCounted};
-ghost use Rattle.ang_vm_steps.specs.Turns.{Reaches};
 
 use ang_code::Frame;
 use ang_heap::{Store, give};
@@ -49,7 +21,6 @@ use ang_meaning::{Passing, Routine, Slot};
 use ang_vm_fuse::body::Body;
 use ang_vm_stack::place::{Place, Standing};
 use ang_vm_stack::stack::{peek, push};
-use ang_vm_step::step::Step;
 use ang_vm_steps::many::{give_top, give_top_in_line, nothing_lives};
 
 /// What a body leaves.
@@ -138,7 +109,6 @@ pub fn keep_outs(params: &[Passing], stack: &mut [Slot], top: usize) -> usize
     requires within { top ≤ length stack.old }
     ensures kept { values stack.new result
         ≡ outs_of params.now (values stack.old top) ++ values stack.old (top - length params.now) }
-    ensures unmoved { Unmoved stack.old stack.new top }
     ensures fewer { result ≤ top }
 {
     let count = params.len();
@@ -164,53 +134,11 @@ fn leave_params(params: &[Passing], stack: &mut [Slot], store: &mut Store, top: 
     ensures held { CanGive (values stack.new result) (world_of ⟦<dyn Driver as Driver>⟧ store.new) }
     ensures kept { values stack.new result
         ≡ outs_of params.now (values stack.old top) ++ values stack.old (top - length params.now) }
-    ensures unmoved { Unmoved stack.old stack.new top }
     ensures fewer { result ≤ top }
     ensures moves { HasMoved ⟦<dyn Driver as Driver>⟧ store.old store.new }
 {
     give_others(params, stack, store, top);
     keep_outs(params, stack, top)
-}
-
-/// The values of a body are left, of which `top` are in use below the one that it gives: it gives up `count` locals and its
-/// parameters, but for the values of `&out` parameters, which move down. How many values are in use then. None where
-/// there are fewer than it takes.
-#[inline(always)]
-pub fn leave_values(
-    code: &Body,
-    stack: &mut [Slot],
-    store: &mut Store,
-    top: usize,
-    count: usize,
-) -> Option<usize>
-    requires within { top ≤ length stack.old }
-    requires ready { IsReady ⟦<dyn Driver as Driver>⟧ store.old }
-    requires held { CanGive (values stack.old top) (world_of ⟦<dyn Driver as Driver>⟧ store.old) }
-    ensures told { (value : Slot) (z : Setting) (texts : Texts) (f : Routine) (at room : ℕ)
-        (frames : List Frame) (ticks : ℕ) → code.now.params.items ≡ params_of z f
-        → StoreTold ⟦<dyn Driver as Driver>⟧ (act z texts (Some (Return count)) f at room
-        (value ∷ values stack.old top) frames ticks) store.old
-        (given_back value result stack.new frames ticks) store.new }
-    ensures held { IfSome result (λ kept. CanGive (values stack.new kept)
-        (world_of ⟦<dyn Driver as Driver>⟧ store.new)) }
-    ensures unmoved { Unmoved stack.old stack.new top }
-    ensures fewer { IfSome result (λ kept. kept ≤ top) }
-    ensures moves { HasMoved ⟦<dyn Driver as Driver>⟧ store.old store.new }
-{
-    if count > top {
-        return None;
-    }
-    let params = code.params();
-    let base = top - count;
-    if params.len() > base {
-        return None;
-    }
-    if !code.has_outs() {
-        give_top_in_line(stack, store, top, count + params.len());
-        return Some(base - params.len());
-    }
-    give_top(stack, store, top, count);
-    Some(leave_params(params, stack, store, base))
 }
 
 /// `Return`: a body with `top` values in use gives up `count` locals and its parameters, and leaves the top value,
@@ -239,10 +167,23 @@ pub fn leave_body(
     if top == 0 {
         return None;
     }
-    let Some(kept) = leave_values(code, stack, store, top - 1, count) else {
+    if count > top - 1 {
         return None;
-    };
+    }
+    let params = code.params();
+    let base = top - 1 - count;
+    if params.len() > base {
+        return None;
+    }
+    if !code.has_outs() {
+        give_top_in_line(stack, store, top - 1, count + params.len());
+        let value = peek(stack, top, 0);
+        let kept = base - params.len();
+        return Some(Parted { value, kept });
+    }
     let value = peek(stack, top, 0);
+    give_top(stack, store, top - 1, count);
+    let kept = leave_params(params, stack, store, base);
     Some(Parted { value, kept })
 }
 
@@ -254,7 +195,6 @@ pub fn resume(stack: &mut [Slot], caller: Frame, parted: Parted, ticks: u64) -> 
         → back (caller ∷ frames) parted.value [] (values stack.old parted.kept) ticks w
         ≡ resumed result stack.new frames w }
     ensures fits { IfSome result (λ s. (s.place.top ≤ s.room) × (s.room ≡ caller.room)) }
-    ensures body { IfSome result (λ s. s.body ≡ caller.of) }
 {
     if parted.kept >= caller.room {
         return None;
@@ -270,55 +210,4 @@ pub fn resume(stack: &mut [Slot], caller: Frame, parted: Parted, ticks: u64) -> 
             ticks,
         },
     })
-}
-
-/// Whether the step at a place is a `Drop`.
-#[inline(always)]
-fn is_drop(steps: &[Step], at: usize) -> bool
-    ensures drops { IsTrue result → slice_get steps.now at ≡ Some DropStep }
-{
-    if at >= steps.len() {
-        return false;
-    }
-    match steps[at] {
-        Step::Drop => true,
-        _ => false,
-    }
-}
-
-/// A caller goes on after a function without a value, if there is room for one: the number 0 goes on top, or where it would
-/// be given up next, the caller goes on after that.
-#[inline(always)]
-pub fn resume_with_nothing(
-    code: &Body,
-    stack: &mut [Slot],
-    caller: Frame,
-    kept: usize,
-    ticks: u64,
-) -> Option<Standing>
-    requires below { kept < length stack.old }
-    ensures reaches { (t : Table) (nesting : ℕ) (frames : List Frame) (w : World)
-        → body_of t caller.of ≡ Some code.now → Reaches (setting_of t nesting) (texts_of t)
-        (λ is. back (caller ∷ frames) (Bits 0) [] (values stack.old kept) ticks (with_inputs is w))
-        (λ is. resumed result stack.new frames (with_inputs is w)) }
-    ensures fits { IfSome result (λ s. (s.place.top ≤ s.room) × (s.room ≡ caller.room)) }
-    ensures body { IfSome result (λ s. s.body ≡ caller.of) }
-{
-    if kept >= caller.room {
-        return None;
-    }
-    if is_drop(code.steps(), caller.at) {
-        let Routine { home, number } = caller.of;
-        return Some(Standing {
-            body: Routine { home, number },
-            room: caller.room,
-            place: Place {
-                at: caller.at + 1,
-                top: kept,
-                ticks,
-            },
-        });
-    }
-    let value = Slot::Bits(0);
-    resume(stack, caller, Parted { value, kept }, ticks)
 }

@@ -1,7 +1,6 @@
 //! Where a run leaves a body: by a call, by a return, or where it ends.
-ghost use Rattle.std.specs.Prelude.{◌≡◌, List};
-ghost use Rattle.ang_meaning.specs.declared.slot.Slot.{Slot};
-ghost use Rattle.ang_vm_body.specs.Crossings.{pause_of, stack_of};
+ghost use Rattle.std.specs.Prelude.{◌≡◌};
+ghost use Rattle.ang_vm_body.specs.Crossings.{pause_of};
 
 use ang_kinds::Fault;
 use ang_meaning::Callee;
@@ -14,8 +13,6 @@ pub enum Crossing {
     Enters(Callee),
     /// The body is left, and gives up that number of locals.
     Returns(usize),
-    /// The body is left as that of a function without a value: the number 0 is pushed, and that number of locals given up.
-    ReturnsNothing(usize),
     /// The script faults, while all values in use at the place are still held.
     Faults(Fault),
     /// An instruction finds less than it takes, or no room. Code that was generated never does that.
@@ -26,7 +23,6 @@ pub enum Crossing {
 #[inline(always)]
 pub fn told(here: Place, pause: Pause) -> (Place, Crossing)
     ensures exact { pause_of result.1 result.0 ≡ pause }
-    ensures as_it_is { (stack : List Slot) → stack_of result.1 result.0.top stack ≡ stack }
 {
     match pause {
         Pause::Enters(place, callee) => (place, Crossing::Enters(callee)),

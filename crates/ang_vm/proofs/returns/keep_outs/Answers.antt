@@ -25,6 +25,5 @@ returns c =
     record {
       kept = k.moved ∙ ap (λ m. outs_of (drop m c.args.params.now) (values c.args.stack.now (base + i)) ++ values c.args.stack.now base) front
           ∙ ap (λ m. outs_of c.args.params.now (values c.args.stack.now m) ++ values c.args.stack.now base) all;
-      unmoved = record { rest = λ m l. k.unmoved.rest m (omega (arith, all, l)) };
       fewer = omega (arith, k.low);
     }
