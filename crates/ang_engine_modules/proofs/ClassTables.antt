@@ -8,7 +8,7 @@ use Rattle.ang_typed.specs.declared.program.Class as families
 use Rattle.ang_meaning.specs.declared.class.Class.{Class}
 use Rattle.ang_source.specs.Meaning.{class_of as class_in, class_among, own_body, body_by, method_among, routine}
 use Rattle.ang_vm_stack.specs.declared.table.ClassCode.{ClassCode}
-use Rattle.ang_vm_stack.specs.declared.table.Method.{Method}
+use Rattle.ang_vm_stack.specs.declared.methods.Method.{Method}
 use Rattle.ang_vm_stack.specs.Tables.{numbered, methods_in, method_in}
 use Rattle.ang_engine_modules.specs.Loaded.{class_of}
 use Rattle.ang_engine_modules.specs.Trees.{own_methods, methods_by, ScriptClass, script_class, classes_from}
@@ -72,14 +72,14 @@ class_as m n all (Some y) (Some c) e =
     let same : class_of y ≡ script_class m all n c = cc in
     in_place n y.class (class_in n c) (ap (λ (x : ScriptClass). x.class) same) refl
 
-methods_as : (m n : ℕ) (all : List families.Class) (o : Option ClassCode) (q : Option families.Class) → option_map class_of o ≡ option_map (script_class m all n) q
-    → methods_in o ≡ methods_by m all (length all) q
-methods_as m n all None None e = refl
-methods_as m n all None (Some c) e = absurd (cc)
-methods_as m n all (Some y) None e = absurd (cc)
-methods_as m n all (Some y) (Some c) e =
+methods_as : (m n s : ℕ) (all : List families.Class) (o : Option ClassCode) (q : Option families.Class) → option_map class_of o ≡ option_map (script_class m all n) q
+    → method_in (methods_in o) s ≡ method_in (methods_by m all (length all) q) s
+methods_as m n s all None None e = refl
+methods_as m n s all None (Some c) e = absurd (cc)
+methods_as m n s all (Some y) None e = absurd (cc)
+methods_as m n s all (Some y) (Some c) e =
     let same : class_of y ≡ script_class m all n c = cc in
-    ap (λ (x : ScriptClass). x.methods) same
+    ap (λ (x : ScriptClass). x.method s) same
 
 module _ (m : ℕ) (all : List families.Class) (ys : List ClassCode) (same : list_map class_of ys ≡ classes_from m all 0 all) where
   there : (n : ℕ) → option_map class_of (slice_get ys n) ≡ option_map (script_class m all n) (slice_get all n)
@@ -90,5 +90,5 @@ module _ (m : ℕ) (all : List families.Class) (ys : List ClassCode) (same : lis
 
   pub method_same : (n s : ℕ) → method_in (methods_in (slice_get ys n)) s ≡ method_among m all n s
   method_same n s =
-      ap (λ l. method_in l s) (methods_as m n all (slice_get ys n) (slice_get all n) (there n))
+      methods_as m n s all (slice_get ys n) (slice_get all n) (there n)
       ∙ method_by m all s (length all) (slice_get all n)

@@ -13,7 +13,7 @@ use Rattle.ang_gen.specs.Compiled.{IsCompiled}
 use Rattle.ang_vm_stack.specs.declared.table.ClassCode.{ClassCode}
 use Rattle.ang_vm_stack.specs.declared.table.ModuleCode.{ModuleCode}
 use Rattle.ang_vm_stack.specs.declared.table.Table.{Table}
-use Rattle.ang_vm_stack.specs.Tables.{module_at as code_at, list_in}
+use Rattle.ang_vm_stack.specs.Tables.{module_at as code_at, list_in, method_in}
 use Rattle.ang_engine_modules.specs.declared.modules.LoadedModule.{LoadedModule}
 use Rattle.ang_engine_modules.specs.Modules.{Module, unbuilt, module_at, unbound_links, AreLinked}
 use Rattle.ang_engine_modules.specs.Trees.{ScriptClass, headings_in, classes_in}
@@ -53,9 +53,10 @@ unbound_in m xs = list_map (option_map (without_links m)) xs
 abbrev pub uses_of : RegistrationList → List (Option HostUse)
 uses_of V = list_map asked_as V
 
--- a class as the tree has it
+-- A class as the tree has it. So two lists of classes are the same where each class is, and where it
+-- has the same method in each slot.
 abbrev pub class_of : ClassCode → ScriptClass
-class_of y = record { class = y.class; methods = y.methods.items }
+class_of y = record { class = y.class; method = λ s. method_in y.methods s }
 
 -- the code of a table's place
 abbrev pub codes_of : Option ModuleCode → List RoutineCode

@@ -5,9 +5,11 @@ use Rattle.ang_typed.specs.declared.program.Class as families
 use Rattle.ang_typed.specs.declared.program.Heading.{Heading}
 use Rattle.ang_typed.specs.Typed as t
 use Rattle.ang_meaning.specs.declared.class.Class.{Class}
+use Rattle.ang_meaning.specs.declared.routine.Routine.{Routine}
 use Rattle.ang_meaning.specs.declared.routine.Passing.{Passing}
 use Rattle.ang_source.specs.Meaning.{passings_of, class_of, routine}
-use Rattle.ang_vm_stack.specs.declared.table.Method.{Method}
+use Rattle.ang_vm_stack.specs.declared.methods.Method.{Method}
+use Rattle.ang_vm_stack.specs.Tables.{method_in}
 
 -- how functions of these headings take their arguments, the last one first
 abbrev pub headings_in : List Heading → List (List Passing)
@@ -25,14 +27,17 @@ methods_by m classes zero (Some c) = own_methods m c.chosen
 methods_by m classes (suc n) (Some c) =
     own_methods m c.chosen ++ methods_by m classes n (option_and_then (slice_get classes) c.base)
 
--- a class, and its methods
+-- a class, and the method that it has in each slot
 pub record ScriptClass : Type 0 where
   pub class : Class
-  pub methods : List Method
+  pub method : ℕ → Option Routine
 
 abbrev pub script_class : ℕ → List families.Class → ℕ → families.Class → ScriptClass
 script_class m classes n c =
-    record { class = class_of n c; methods = methods_by m classes (length classes) (Some c) }
+    record {
+      class = class_of n c;
+      method = λ s. method_in (methods_by m classes (length classes) (Some c)) s;
+    }
 
 -- some of the classes of module m, counted from this number on
 abbrev pub classes_from : ℕ → List families.Class → ℕ → List families.Class → List ScriptClass

@@ -9,7 +9,8 @@ use ang_meaning as meaning;
 use ang_meaning::{Routine, ValueKind};
 use ang_typed::Class;
 use ang_types::ArgType;
-use ang_vm_stack::table::{ClassCode, Method};
+use ang_vm_stack::methods::{Method, Methods};
+use ang_vm_stack::table::ClassCode;
 use std::alloc::{AllocError, Global};
 
 /// What a field of a type holds: a number or truth value, or an object or a handle.
@@ -106,7 +107,7 @@ fn add_chain(
     }
 }
 
-/// The code of a class: what its objects have, and its methods, the nearest one of a slot first.
+/// The code of a class: what its objects have, and its methods, the nearest one of each slot.
 fn class_code(
     alloc: Global,
     home: u32,
@@ -117,8 +118,9 @@ fn class_code(
     ensures exact { IfOk result
         (λ code. spec.class_of code ≡ script_class home classes.now number class.now) }
 {
-    let mut methods = Vec::new(alloc);
-    add_chain(home, classes, classes.len(), class, &mut methods)?;
+    let mut found = Vec::new(alloc);
+    add_chain(home, classes, classes.len(), class, &mut found)?;
+    let methods = Methods::new(found)?;
     let class = class_in(alloc, number, class)?;
     Ok(ClassCode { class, methods })
 }

@@ -1,3 +1,4 @@
+pub mod Slots
 pub mod Stacks
 pub mod Tables
 pub mod Arms

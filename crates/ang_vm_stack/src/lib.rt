@@ -2,6 +2,7 @@
 //! instruction stops it, and the table of all modules' code.
 #![tactic(auto)]
 
+pub mod methods;
 pub mod place;
 pub mod stack;
 pub mod stop;

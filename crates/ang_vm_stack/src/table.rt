@@ -2,6 +2,7 @@
 ghost use Rattle.std.specs.Prelude.{◌≡◌, Some, None, MatchOption, IfSome};
 ghost use Rattle.ang_vm_stack.specs.Tables as spec;
 
+use crate::methods::Methods;
 use ang_kinds::EntityNo;
 use ang_meaning::{Class, HostUse, Passing, Routine};
 use ang_vm_fuse::body::Body;
@@ -15,22 +16,13 @@ pub struct Import {
     pub bound: Option<Routine>,
 }
 
-/// A method of a class: the slot that calls name, and the function that stands in it.
-#[derive(Clone, Copy, PartialEq, Eq, Debug)]
-pub struct Method {
-    /// The slot's number in its module.
-    pub slot: usize,
-    /// The function, the class's own or an inherited one.
-    pub function: Routine,
-}
-
 /// What running code has to know of one class.
 #[derive(Drop)]
 pub struct ClassCode {
     /// What its objects are made of, and what it stands under. Its number is its place in its module.
     pub class: Class,
-    /// Its methods. Where several stand in one slot the first one is called.
-    pub methods: Vec<Method>,
+    /// Its methods, its own and the inherited ones.
+    pub methods: Methods,
 }
 
 /// What running code has to know of one module.
@@ -138,14 +130,7 @@ pub fn method_at(table: &Table, home: u32, class: usize, slot: usize) -> Option<
     ensures exact { result ≡ spec.method_of table.now home class slot }
 {
     let code = class_code_at(table, home, class)?;
-    method_in(&code.methods, slot)
-}
-
-fn method_in(methods: &[Method], slot: usize) -> Option<Routine>
-    ensures exact { result ≡ spec.method_in methods.now slot }
-{
-    let method = methods.iter().find(|method| method.slot == slot)?;
-    Some(method.function)
+    code.methods.find(slot)
 }
 
 /// How the parameters of the methods in a slot take their arguments, the last one first, and so the

@@ -5,7 +5,7 @@ use asrun_session::Status;
 use std::test::Fail;
 
 /// Sections, the lines after their build, what is printed from the build on, and the status.
-const MEANT: [(&str, &str, &str, Status); 32] = [
+const MEANT: [(&str, &str, &str, Status); 33] = [
     (
         "class A { int f() { return 1; } } class B : A { int f() override { return A::f() + 1; } } int m() { A@ a = B(); return a.f(); }",
         "call a () int m()\n",
@@ -76,6 +76,12 @@ const MEANT: [(&str, &str, &str, Status); 32] = [
         "class C { int f() { return 1; } } class B : C { int f() { return 2; } } class A : B { int f() { return 3; } int g() { return C::f() * 100 + B::f() * 10 + f(); } } int m() { A a; return a.g(); }",
         "call a () int m()\n",
         "ok\nok 123\n",
+        Status::AllOk,
+    ),
+    (
+        "class C { int f() { return 1; } int g() { return 2; } int h() { return 3; } } class B : C { int g() override { return 7; } } class X { int p() { return 8; } int q() { return 9; } } class A : B { int j() { return 5; } } int m() { A a; C@ c = a; return c.f() * 1000 + c.g() * 100 + c.h() * 10 + a.j(); }",
+        "call a () int m()\n",
+        "ok\nok 1735\n",
         Status::AllOk,
     ),
     (

@@ -7,7 +7,8 @@ use ang_code::{Instruction, RoutineCode};
 use ang_kinds::{List, Prim};
 use ang_meaning::{Class, Passing, Routine, Slot, ValueKind};
 use ang_vm_fuse::body::Body;
-use ang_vm_stack::table::{ClassCode, Import, Method, ModuleCode, Table};
+use ang_vm_stack::methods::{Method, Methods};
+use ang_vm_stack::table::{ClassCode, Import, ModuleCode, Table};
 use std::alloc::{AllocError, Global};
 
 /// A body: its parameters, the last one first, the most values that it has above them, and its text.
@@ -75,7 +76,7 @@ fn imports(alloc: Global, rows: &[ImportRow]) -> Result<Vec<Import>, AllocError>
     Ok(imports)
 }
 
-fn methods(alloc: Global, home: u32, rows: &[(usize, usize)]) -> Result<Vec<Method>, AllocError> {
+fn methods(alloc: Global, home: u32, rows: &[(usize, usize)]) -> Result<Methods, AllocError> {
     let mut methods = Vec::new(alloc);
     for (slot, number) in rows {
         methods.push(Method {
@@ -86,7 +87,7 @@ fn methods(alloc: Global, home: u32, rows: &[(usize, usize)]) -> Result<Vec<Meth
             },
         })?;
     }
-    Ok(methods)
+    Methods::new(methods)
 }
 
 fn class(alloc: Global, number: usize, row: &ClassRow) -> Result<Class, AllocError> {
