@@ -1,13 +1,17 @@
 -- Tables of one core are the same table.
-use Rattle.std.specs.Prelude.{ℕ, ℤ, ◌≡◌, List, [], ◌∷◌, ◌++◌}
+use Rattle.std.specs.Prelude.{ℕ, ℤ, ◌≡◌, cond, nat_eq, List, [], ◌∷◌, ◌++◌}
 use Rattle.std.specs.FinMap as map
 use Rattle.std.specs.FinMap.{same_entries_map}
-use Rattle.std.proofs.Common.{refl}
+use Rattle.std.proofs.Common.{refl, sym, ◌∙◌, ap}
 use Rattle.ang_kinds.specs.declared.value.Value.TheVariants.{Int}
+use Rattle.ang_drivers.specs.declared.counter.Count.{Count}
+use Rattle.ang_drivers.specs.declared.faulty.Failing.{Failing}
+use Rattle.ang_drivers.specs.declared.faulty.Failing.TheVariants.{Fault, Nothing, Memory, Full}
 use Rattle.ang_drivers.specs.Objects.{Table}
 use Rattle.ang_drivers.specs.Console.{code_of}
 use Rattle.ang_drivers.specs.Tables.{numbers_of, core_of}
 use Rattle.ang_drivers.specs.Counter.{count_code}
+use Rattle.ang_drivers.specs.Faulty.{failing_code, faulty_core}
 use Rattle.ang_drivers.specs.Cell.{value_code}
 use Rattle.ang_drivers.proofs.Codes.{code_of-injective}
 
@@ -50,3 +54,21 @@ pub value-readable : IsReadable value_code
 value-readable v w xs ys h =
     let a : code_of (Int v) ≡ code_of (Int w) = cc in
     let r : xs ≡ ys = cc in (int_differ v w a, r)
+
+-- how an asking fails, read back from its number
+abbrev failing_of : ℕ → Failing
+failing_of n = cond (nat_eq n 0) Fault (cond (nat_eq n 1) Nothing (cond (nat_eq n 2) Memory Full))
+
+read_back : (how : Failing) → failing_of (failing_code how) ≡ how
+read_back Fault = refl
+read_back Nothing = refl
+read_back Memory = refl
+read_back Full = refl
+
+pub faulty_differ : (m n : ℕ) (g h : Failing) (x y : Table Count) → faulty_core m g (core_of count_code x) ≡ faulty_core n h (core_of count_code y)
+    → (m ≡ n) × (g ≡ h) × (x ≡ y)
+faulty_differ m n g h x y e =
+    let left : m ≡ n = cc in
+    let how : failing_code g ≡ failing_code h = cc in
+    let rest : core_of count_code x ≡ core_of count_code y = cc in
+    (left, sym (read_back g) ∙ ap failing_of how ∙ read_back h, cores_differ count_code count-readable x y rest)

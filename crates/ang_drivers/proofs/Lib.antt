@@ -5,3 +5,4 @@ pub mod Moving
 pub mod Counting
 pub mod Celling
 pub mod Cores
+pub mod Trials

@@ -6,5 +6,7 @@ pub mod ObjectsLedger
 pub mod Tables
 pub mod Counter
 pub mod CounterState
+pub mod Faulty
+pub mod FaultyState
 pub mod Cell
 pub mod CellState

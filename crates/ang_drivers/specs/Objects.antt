@@ -30,13 +30,17 @@ pub record Ledger (T : Type 0) : Type 0 where
   pub table : Table T
   pub tally : Tally
 
--- no object was made yet
-abbrev pub fresh : {T : Type 0} → Ledger T
-fresh = record {
+-- no object was made yet, and so many host calls are counted
+abbrev pub begun : {T : Type 0} → ℕ → Ledger T
+begun asked = record {
   counts = map.empty;
   table = record { next = 0; values = map.empty };
-  tally = record { asked = 0; made = 0; added = 0; released = 0 };
+  tally = record { asked = asked; made = 0; added = 0; released = 0 };
 }
+
+-- no object was made yet, and nothing was asked
+abbrev pub fresh : {T : Type 0} → Ledger T
+fresh = begun 0
 
 -- a key with a count
 abbrev pub IsHeld : {T : Type 0} → Ledger T → ℕ → Type 0

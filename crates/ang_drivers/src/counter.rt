@@ -10,7 +10,7 @@ use std::alloc::{AllocError, Global};
 
 /// What an object of a counter keeps.
 #[derive(Clone, Copy)]
-struct Count {
+pub(crate) struct Count {
     value: i32,
     step: i32,
 }
@@ -41,7 +41,7 @@ enum CounterCall {
 /// then each live object's key, value and step.
 #[derive(Drop)]
 pub struct Counter {
-    counts: Objects<Count>,
+    pub(crate) counts: Objects<Count>,
 }
 
 impl Counter {

@@ -1,9 +1,11 @@
-//! Sample drivers, which keep the laws of `Driver`.
+//! Sample drivers, which keep the laws of `Driver`: a `Console` without objects, a `Counter` and a `Cell` with
+//! objects, and a `Faulty`, a counter of which one asking fails.
 #![tactic(auto)]
 
 mod cell;
 mod console;
 mod counter;
+mod faulty;
 pub mod laws;
 mod objects;
 mod values;
@@ -11,3 +13,4 @@ mod values;
 pub use cell::Cell;
 pub use console::Console;
 pub use counter::Counter;
+pub use faulty::{Failing, Faulty};

@@ -4,7 +4,7 @@ ghost use Rattle.std.specs.Ordering.{nat_cmp};
 ghost use Rattle.std.specs.FinMap as map;
 ghost use Rattle.std.specs.BTreeMap.{get};
 ghost use Rattle.ang_host.specs.State.{total, count_at};
-ghost use Rattle.ang_drivers.specs.Objects.{by_key, fresh, one_more, one_less_if, IsHeld, IsRevalued, Asks, Inserts, MakesOne, AddsOne, ReleasesOne};
+ghost use Rattle.ang_drivers.specs.Objects.{by_key, begun, fresh, one_more, one_less_if, IsHeld, IsRevalued, Asks, Inserts, MakesOne, AddsOne, ReleasesOne};
 
 use crate::values::LIMIT;
 use ang_host::Made;
@@ -44,9 +44,17 @@ impl<T: Copy> Objects<T> {
     pub fn new(alloc: Global) -> Objects<T>
         ensures fresh { ledger result ≡ fresh }
     {
+        Objects::begun(alloc, 0)
+    }
+
+    /// No objects, and so many host calls are counted.
+    pub fn begun(alloc: Global, asked: u64) -> Objects<T>
+        requires few { asked < 2 ^ 63 }
+        ensures begun { ledger result ≡ begun asked }
+    {
         Objects {
             live: BTreeMap::new(alloc),
-            asked: 0,
+            asked,
             made: 0,
             added: 0,
             released: 0,
@@ -58,6 +66,14 @@ impl<T: Copy> Objects<T> {
         ensures exact { IsTrue result ↔ ((ledger self.now).counts ≡ map.empty) }
     {
         self.live.is_empty()
+    }
+
+    /// How many host calls are counted.
+    pub fn asked(&self) -> u64
+        ensures exact { result ≡ (ledger self.now).tally.asked }
+        ensures few { result < 2 ^ 63 }
+    {
+        self.asked
     }
 
     /// How many references were added so far.

@@ -1,4 +1,5 @@
 mod asking;
 mod console;
+mod faulty;
 mod listed;
 mod objects;

@@ -77,6 +77,18 @@ pub fn writes(
     status: Status,
 ) -> Result<bool, AllocError> {
     let boxes = all_drivers(alloc)?;
+    Ok(writes_over(alloc, boxes, profile, text, output, status))
+}
+
+/// The same with these drivers.
+pub fn writes_over(
+    alloc: Global,
+    boxes: Vec<Box<dyn Driver>>,
+    profile: &str,
+    text: &str,
+    output: &str,
+    status: Status,
+) -> bool {
     let mut profile = profile.as_bytes();
     let mut text = text.as_bytes();
     let mut written: Vec<u8> = Vec::new(alloc);
@@ -90,7 +102,7 @@ pub fn writes(
     );
     let idle = drivers.iter().all(|driver| driver.idle());
     drop(drivers);
-    Ok(idle && outcome == Ok(status) && written.as_slice() == output.as_bytes())
+    idle && outcome == Ok(status) && written.as_slice() == output.as_bytes()
 }
 
 /// Whether a session that builds a section and does the lines after its build prints this from the build on, and has this

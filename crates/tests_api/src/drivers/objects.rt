@@ -12,12 +12,13 @@ const DONE: Answer = Answer::Void;
 
 const UNKNOWN: Answer = Answer::Fault(1);
 
-fn int(number: i64) -> Answer {
+/// The answer of a signed number.
+pub fn int(number: i64) -> Answer {
     Answer::Gave(Value::Int(number))
 }
 
-// The key of a new object, where one is made.
-fn made<D: Driver>(driver: &mut D, f: u32, args: &[Value]) -> Option<u64>
+/// The key of a new object, where one is made.
+pub fn made<D: Driver>(driver: &mut D, f: u32, args: &[Value]) -> Option<u64>
     requires live { AreLive (D.meaning.state driver.old) args.now }
     ensures live { IfSome result (λ key. IsLive (D.meaning.state driver.new) key) }
 {
@@ -27,8 +28,8 @@ fn made<D: Driver>(driver: &mut D, f: u32, args: &[Value]) -> Option<u64>
     }
 }
 
-// What a call of an object answers.
-fn called<D: Driver>(driver: &mut D, f: u32, key: u64, args: &[Value]) -> Answer
+/// What a call of an object answers.
+pub fn called<D: Driver>(driver: &mut D, f: u32, key: u64, args: &[Value]) -> Answer
     requires object_live { IsLive (D.meaning.state driver.old) key }
     requires args_live { AreLive (D.meaning.state driver.old) args.now }
     ensures live { IsLive (D.meaning.state driver.new) key }
@@ -43,15 +44,16 @@ fn told<D: Driver>(driver: &mut D, f: u32, key: u64) -> Answer
     driver.read(f, Some(key))
 }
 
-fn written<D: Driver>(driver: &mut D, f: u32, key: u64, number: i64) -> Answer
+/// What a write of an object's property answers.
+pub fn written<D: Driver>(driver: &mut D, f: u32, key: u64, number: i64) -> Answer
     requires live { IsLive (D.meaning.state driver.old) key }
     ensures live { IsLive (D.meaning.state driver.new) key }
 {
     driver.write(f, Some(key), Value::Int(number))
 }
 
-// Whether an object ends at the second release, after a reference was added.
-fn ends<D: Driver>(driver: &mut D, key: u64) -> bool
+/// Whether an object ends at the second release, after a reference was added.
+pub fn ends<D: Driver>(driver: &mut D, key: u64) -> bool
     requires live { IsLive (D.meaning.state driver.old) key }
 {
     if !driver.add_ref(key) {
