@@ -18,6 +18,8 @@ pub enum Named {
     Unknown,
     /// The object type of this number: a host type's entry, or 1,024 and the number of a family.
     Object(u32),
+    /// The enumeration of the host of this number, which is that of its entry.
+    Enumeration(u32),
 }
 
 /// The number of the host type of this name that the module sees. It takes no memory.
