@@ -20,4 +20,4 @@ pub use picking::{best_method, best_of_those, types_with_receiver};
 pub use resolving::{resolution_of, why};
 pub use scope::Scope;
 pub use scripts::functions_of;
-pub use uses::{Callable, Called, Reach, Resolution};
+pub use uses::{Callable, Called, EnumerationValue, Reach, Resolution};
