@@ -226,11 +226,14 @@ is_numeric (type.Enumeration n) = true
 is_numeric (type.Object n c) = false
 is_numeric (type.Handle n c) = false
 
--- An enumeration is called with one integer or one of any enumeration.
+-- one integer, or one value of an enumeration
+abbrev pub takes_number : List ArgType → Bool
+takes_number [] = false
+takes_number (ty ∷ []) = is_numeric ty
+takes_number (ty ∷ other ∷ rest) = false
+
 abbrev pub enumeration_called : ℕ → List ArgType → Resolution
-enumeration_called n [] = resolution.Refused kind.NoMatch
-enumeration_called n (ty ∷ []) = if is_numeric ty then resolution.Enumeration n else resolution.Refused kind.NoMatch
-enumeration_called n (ty ∷ other ∷ rest) = resolution.Refused kind.NoMatch
+enumeration_called n args = if takes_number args then resolution.Enumeration n else resolution.Refused kind.NoMatch
 
 abbrev pub functions_of : Scope → List ℕ → List Callable
 functions_of s name = script_callables s.names name ++ map host_callable (host_where (wanted.Function name) s.view)
