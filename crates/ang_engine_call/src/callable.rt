@@ -10,12 +10,13 @@ use ang_types::ArgType;
 /// The driver of values that are no driver's. For a primitive type a driver's number plays no part.
 pub const NO_DRIVER: u32 = 0;
 
-/// The primitive type that it is, if it is one.
+/// The primitive type that it is, if it is one. An enumeration counts as `int`.
 pub fn primitive_of(ty: ArgType) -> Option<Prim>
     ensures exact { result ≡ spec.primitive_of ty }
 {
     match ty {
         ArgType::Plain(primitive) => Some(primitive),
+        ArgType::Enumeration { .. } => Some(Prim::I32),
         ArgType::Void => None,
         ArgType::Null => None,
         ArgType::Object { .. } => None,
