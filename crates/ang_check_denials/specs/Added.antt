@@ -29,7 +29,7 @@ use Rattle.ang_names_host.specs.Host.{found, host_where, is_factory, property_fo
 use Rattle.ang_names_known.specs.Items.{is_empty}
 use Rattle.ang_names_known.specs.Lookup.{global_named}
 use Rattle.ang_names_known.specs.Spaces.{family_of_type, space_of_names, type_of_name}
-use Rattle.ang_check_uses.specs.Uses.{Scope, candidates_of, functions_of, host_methods}
+use Rattle.ang_check_uses.specs.Uses.{Scope, candidates_of, functions_of, host_methods, takes_number, value_in}
 use Rattle.ang_check_denials.specs.Denials.{is_call}
 use Rattle.ang_check_denials.specs.Names.{is_a_type_named}
 
@@ -88,6 +88,12 @@ is_joined s name a = is_call a && not (is_empty (functions_of s name))
 abbrev pub is_shown : RegistrationList → RegistrationList → ℕ → ℕ → Bool
 is_shown R V x k = is_some (entry_at V k) || is_with R x k
 
+abbrev pub is_shown_type : RegistrationList → RegistrationList → List ℕ → ℕ → ℕ → Bool
+is_shown_type R V name x k = is_type_named name (entry_at R k) && is_shown R V x k
+
+abbrev pub is_shown_enumeration : RegistrationList → RegistrationList → List ℕ → ℕ → ℕ → Bool
+is_shown_enumeration R V name x k = is_enumeration_named name (entry_at R k) && is_shown R V x k
+
 -- what a name means as a type where entry x is added
 abbrev pub named_with : RegistrationList → ℕ → Scope → ℕ → List ℕ → Named
 named_with R m s x name = type_of_name (space_of_names (seen_with R m x) s.names) name
@@ -110,9 +116,13 @@ is_property_of x (Some h) = h.entity.0 == x
 abbrev pub property_wins : RegistrationList → ℕ → WantedProperty → Option HostProperty → Bool
 property_wins R x w seen = is_property_of x (added_property (property_found w R x (entry_at R x)) seen)
 
+-- entry x is a value of the name, of some enumeration
+abbrev pub is_value_at : List ℕ → ℕ → Option Entry → Bool
+is_value_at name x o = is_value_named name o && is_some (value_in x o)
+
 -- what a bare name means that no global of the script has: this property, else entry x, where that is the only value of the name
 abbrev pub value_wins : RegistrationList → Scope → List ℕ → ℕ → Option HostProperty → Bool
-value_wins R s name x None = is_value_named name (entry_at R x) && is_empty (values_named s.view name)
+value_wins R s name x None = is_value_at name x (entry_at R x) && is_empty (values_named s.view name)
 value_wins R s name x (Some h) = h.entity.0 == x
 
 -- a function that is found would be the best beside some candidates

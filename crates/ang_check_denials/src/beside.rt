@@ -27,7 +27,7 @@ pub struct Beside {
     pub property: Option<HostProperty>,
     /// Whether there are functions of the name, which a hidden one would join.
     pub joined: bool,
-    /// The types of the name in the whole list, seen or hidden, by their numbers.
+    /// The object types and the enumerations of the name in the whole list, seen or hidden, by their numbers.
     pub named: Vec<u32>,
 }
 
@@ -185,7 +185,7 @@ pub fn beside_of(
             let wanted = WantedProperty::Global(Text::new(name));
             of_property(alloc, scope, property_where(scope.view(), &wanted), named)
         }
-        Asks::Type => of_property(alloc, scope, None, named),
+        Asks::Type | Asks::Enumeration => of_property(alloc, scope, None, named),
         Asks::Call(args) => of_functions(alloc, scope, name, args.as_slice(), named),
         Asks::Make(number, args) => of_factories(alloc, scope, *number, args.as_slice(), named),
         Asks::Default(number) => of_factories(alloc, scope, *number, &[], named),

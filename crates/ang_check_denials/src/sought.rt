@@ -80,7 +80,7 @@ pub fn help_rows(alloc: Global, masked: &Masked<'_>) -> Result<Index<u32>, Alloc
     Ok(rows)
 }
 
-/// The numbers of the types of the list, rising.
+/// The numbers of the object types and the enumerations of the list, rising.
 ///
 /// The only error is want of memory.
 pub fn type_numbers(alloc: Global, masked: &Masked<'_>) -> Result<Vec<u32>, AllocError>
@@ -99,9 +99,12 @@ fn name_sought<'n>(whole: &'n View, name: &'n [u8], asks: &Asks) -> &'n [u8]
 {
     match asks {
         Asks::Make(number, _) | Asks::Default(number) => own_name(whole, *number),
-        Asks::Value | Asks::Type | Asks::Call(_) | Asks::Property(_) | Asks::Method(_, _, _) => {
-            name
-        }
+        Asks::Value
+        | Asks::Type
+        | Asks::Enumeration
+        | Asks::Call(_)
+        | Asks::Property(_)
+        | Asks::Method(_, _, _) => name,
     }
 }
 
