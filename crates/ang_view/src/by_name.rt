@@ -30,10 +30,8 @@ fn scope_of(entry: &Entry) -> Option<u64>
     ensures exact { result ≡ spec.scope_by entry.now.kind entry.now.owner }
 {
     match entry.kind {
-        EntryKind::HostType
-        | EntryKind::Function
-        | EntryKind::Global
-        | EntryKind::Enumeration => Some(BARE),
+        EntryKind::HostType | EntryKind::Function | EntryKind::Global | EntryKind::Enumeration =>
+            Some(BARE),
         EntryKind::Method | EntryKind::Property | EntryKind::EnumValue(_) => {
             Some(member_scope(entry.owner?))
         }
@@ -55,10 +53,7 @@ fn scope_in(entry: &Option<Entry>) -> Option<u64>
 fn value_scope_in(entry: &Option<Entry>) -> Option<u64>
     ensures exact { result ≡ spec.value_scope_in entry.now }
 {
-    let Some(entry) = entry else {
-        return None;
-    };
-    match entry.kind {
+    match entry.as_ref()?.kind {
         EntryKind::EnumValue(_) => Some(BARE),
         _ => None,
     }
@@ -68,10 +63,8 @@ fn name_of(entry: &Entry) -> &[u8]
     ensures exact { result.now ≡ spec.name_by entry.now.kind entry.now.signature.name }
 {
     match entry.kind {
-        EntryKind::HostType
-        | EntryKind::Function
-        | EntryKind::Global
-        | EntryKind::Enumeration => entry.signature.name.as_slice(),
+        EntryKind::HostType | EntryKind::Function | EntryKind::Global | EntryKind::Enumeration =>
+            entry.signature.name.as_slice(),
         EntryKind::Method | EntryKind::Property | EntryKind::EnumValue(_) => {
             entry.signature.name.as_slice()
         }
@@ -130,7 +123,7 @@ fn push_value(
 }
 
 /// Takes the number of an entry out again, which was put in last.
-#[tactic(auto, using(crate::proofs::Named::entry_taken, crate::proofs::Named::entry_not_taken))]
+#[tactic(auto, using(crate::proofs::Named::entry_not_taken))]
 fn take_entry(index: &mut Index<EntityNo>, entry: &Option<Entry>)
     ensures taken { (before : Rows EntityNo) (number : ℕ) →
         spec.PutsEntry spec.scope_in before index.old entry.now number →

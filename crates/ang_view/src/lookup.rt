@@ -31,8 +31,7 @@ pub(crate) fn is_enumeration_named(entry: &Option<Entry>, name: &[u8]) -> bool
     match entry {
         None => false,
         Some(entry) => {
-            matches!(entry.kind, EntryKind::Enumeration)
-                && entry.signature.name.as_slice() == name
+            matches!(entry.kind, EntryKind::Enumeration) && entry.signature.name.as_slice() == name
         }
     }
 }
