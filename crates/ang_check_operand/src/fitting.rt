@@ -135,10 +135,7 @@ pub fn object_of(ty: ArgType) -> Option<(u32, bool)>
         ArgType::Object { number, read_only } | ArgType::Handle { number, read_only } => {
             Some((number, read_only))
         }
-        ArgType::Void
-        | ArgType::Null
-        | ArgType::Plain(_)
-        | ArgType::Enumeration { .. } => None,
+        ArgType::Void | ArgType::Null | ArgType::Plain(_) | ArgType::Enumeration { .. } => None,
     }
 }
 

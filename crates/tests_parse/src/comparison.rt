@@ -269,7 +269,7 @@ const SCRIPTS: [(&str, &str); 13] = [
     ),
     (
         "operands",
-        "void e ( ) { z = cast < T @ > ( p . q ( 1 ) . r ++ ) ; int ( 3 ) ; A :: f ( null , this ) ; ( a ) . b ( ) ; }",
+        "void e ( ) { z = cast < T @ > ( p . q ( 1 ) . r ++ ) ; int ( 3 ) ; A :: f ( null , this ) ; E :: V . w ; ( a ) . b ( ) ; }",
     ),
     (
         "operators",
