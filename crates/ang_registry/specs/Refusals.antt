@@ -10,7 +10,7 @@ use Rattle.ang_registry.specs.declared.error.RegError.TheVariants.{Limit, EmptyM
 use Rattle.ang_view.specs.Registration.{RegistrationList, is_spelled_with}
 use Rattle.ang_registry.specs.Registrations.{Registrations}
 use Rattle.ang_registry.specs.Overloads.{is_factory, is_taken}
-use Rattle.ang_registry.specs.Types.{settled_signature, settled, is_misused, names_unknown, is_wrong_driver, mask_at}
+use Rattle.ang_registry.specs.Types.{settled, is_misused, names_unknown, is_wrong_driver, mask_at}
 use Rattle.ang_view.specs.Types.{type_named, enumeration_named, number_at, driver_at}
 
 -- the error of the first row that applies
@@ -43,12 +43,11 @@ refusal_of_entry list kind owner driver s = first_row (
     (is_taken list kind owner s, Duplicate) ∷
     [])
 
--- ---- the table
+-- ---- the table, for what is declared over the whole list
 
--- Why an entry that belongs to no type is refused, which mostly is one of a driver: the first row that applies. What is
--- declared is settled over the list.
-unfoldable pub refusal_of_settled : EntryKind → Registrations → ℕ → Option Signature → Option RegError
-refusal_of_settled kind r driver declared = first_row (
+-- Why an entry that belongs to no type, as one of a driver, is refused: the first row that applies.
+unfoldable pub refusal_of_own : EntryKind → Registrations → ℕ → Option Signature → Option RegError
+refusal_of_own kind r driver declared = first_row (
     (is_over_limit r.entries declared, Limit) ∷
     (r.default_mask.0 == 0, EmptyMask) ∷
     (is_none declared || where_declared (is_misused r.entries) declared, BadDeclaration) ∷
@@ -57,11 +56,8 @@ refusal_of_settled kind r driver declared = first_row (
     (where_declared (is_taken r.entries kind None) declared, Duplicate) ∷
     [])
 
-abbrev pub refusal_of_own : EntryKind → Registrations → ℕ → Option Signature → Option RegError
-refusal_of_own kind r driver declared = refusal_of_settled kind r driver (settled r.entries declared)
-
 -- Why an entry that belongs to the type of this name, at this place, is refused: the first row that applies. Its driver is
--- the type's. What is declared is settled over the list.
+-- the type's.
 abbrev pub refusal_in_type : EntryKind → Registrations → List ℕ → Option ℕ → Option Signature → Option RegError
 refusal_in_type kind r type_name place declared = first_row (
     (is_over_limit r.entries declared, Limit) ∷
@@ -73,8 +69,7 @@ refusal_in_type kind r type_name place declared = first_row (
     [])
 
 unfoldable pub refusal_of_member : EntryKind → Registrations → List ℕ → Option Signature → Option RegError
-refusal_of_member kind r type_name declared =
-    refusal_in_type kind r type_name (type_named r.entries type_name) (settled r.entries declared)
+refusal_of_member kind r type_name declared = refusal_in_type kind r type_name (type_named r.entries type_name) declared
 
 -- Why a value of the enumeration at this place is refused: the first row that applies. It has the enumeration's mask, whatever
 -- the default one.
@@ -85,6 +80,13 @@ refusal_in_enumeration value r place declared = first_row (
     (is_none place, UnknownType) ∷
     (where_declared (is_taken r.entries (EnumValue value) (number_at place)) declared, Duplicate) ∷
     [])
+
+-- what a call declares is settled over the list
+abbrev pub refusal_of_declared : EntryKind → Registrations → ℕ → Option Signature → Option RegError
+refusal_of_declared kind r driver declared = refusal_of_own kind r driver (settled r.entries declared)
+
+abbrev pub refusal_of_declared_member : EntryKind → Registrations → List ℕ → Option Signature → Option RegError
+refusal_of_declared_member kind r type_name declared = refusal_of_member kind r type_name (settled r.entries declared)
 
 -- ---- what is added
 
@@ -97,19 +99,25 @@ abbrev pub with_entry : Registrations → EntryKind → Option EntityNo → ℕ 
 with_entry r kind owner driver f s =
     with_last r (Some (record { kind = kind; owner = owner; driver = driver; f = f; signature = s; mask = r.default_mask }))
 
--- An entry that belongs to no type. What it declares is settled over the list.
+-- An entry that belongs to no type.
 abbrev pub with_own : EntryKind → Registrations → ℕ → ℕ → Option Signature → Registrations
 with_own kind r driver f None = r
-with_own kind r driver f (Some s) = with_entry r kind None driver f (settled_signature r.entries s)
+with_own kind r driver f (Some s) = with_entry r kind None driver f s
 
 abbrev pub with_entry_in : EntryKind → Registrations → Option ℕ → ℕ → Option Signature → Registrations
 with_entry_in kind r place f None = r
-with_entry_in kind r place f (Some s) =
-    with_entry r kind (number_at place) (driver_at r.entries place) f (settled_signature r.entries s)
+with_entry_in kind r place f (Some s) = with_entry r kind (number_at place) (driver_at r.entries place) f s
 
 -- An entry that belongs to the type of this name. Its driver is the type's.
 abbrev pub with_member : EntryKind → Registrations → List ℕ → ℕ → Option Signature → Registrations
 with_member kind r type_name f declared = with_entry_in kind r (type_named r.entries type_name) f declared
+
+-- What a call declares is settled over the list.
+abbrev pub with_declared : EntryKind → Registrations → ℕ → ℕ → Option Signature → Registrations
+with_declared kind r driver f declared = with_own kind r driver f (settled r.entries declared)
+
+abbrev pub with_declared_member : EntryKind → Registrations → List ℕ → ℕ → Option Signature → Registrations
+with_declared_member kind r type_name f declared = with_member kind r type_name f (settled r.entries declared)
 
 -- A value of the enumeration at this place, under its mask. It has no driver.
 abbrev pub with_value_at : ℤ → Registrations → Option ℕ → Option Signature → Registrations
@@ -121,47 +129,47 @@ with_value_at value r place (Some s) =
 
 -- A type, declared by its name. It has no function of its driver.
 abbrev pub refusal_of_type : Registrations → ℕ → Option Signature → Option RegError
-refusal_of_type = refusal_of_own HostType
+refusal_of_type = refusal_of_declared HostType
 
 abbrev pub with_type : Registrations → ℕ → Option Signature → Registrations
-with_type r driver declared = with_own HostType r driver 0 declared
+with_type r driver declared = with_declared HostType r driver 0 declared
 
 abbrev pub refusal_of_factory : Registrations → List ℕ → Option Signature → Option RegError
-refusal_of_factory = refusal_of_member Factory
+refusal_of_factory = refusal_of_declared_member Factory
 
 abbrev pub with_factory : Registrations → List ℕ → ℕ → Option Signature → Registrations
-with_factory = with_member Factory
+with_factory = with_declared_member Factory
 
 abbrev pub refusal_of_method : Registrations → List ℕ → Option Signature → Option RegError
-refusal_of_method = refusal_of_member Method
+refusal_of_method = refusal_of_declared_member Method
 
 abbrev pub with_method : Registrations → List ℕ → ℕ → Option Signature → Registrations
-with_method = with_member Method
+with_method = with_declared_member Method
 
 abbrev pub refusal_of_property : Registrations → List ℕ → Option Signature → Option RegError
-refusal_of_property = refusal_of_member Property
+refusal_of_property = refusal_of_declared_member Property
 
 abbrev pub with_property : Registrations → List ℕ → ℕ → Option Signature → Registrations
-with_property = with_member Property
+with_property = with_declared_member Property
 
 abbrev pub refusal_of_function : Registrations → ℕ → Option Signature → Option RegError
-refusal_of_function = refusal_of_own Function
+refusal_of_function = refusal_of_declared Function
 
 abbrev pub with_function : Registrations → ℕ → ℕ → Option Signature → Registrations
-with_function = with_own Function
+with_function = with_declared Function
 
 abbrev pub refusal_of_global : Registrations → ℕ → Option Signature → Option RegError
-refusal_of_global = refusal_of_own Global
+refusal_of_global = refusal_of_declared Global
 
 abbrev pub with_global : Registrations → ℕ → ℕ → Option Signature → Registrations
-with_global = with_own Global
+with_global = with_declared Global
 
 -- An enumeration, declared by its name. It has no driver.
 abbrev pub refusal_of_enumeration : Registrations → Option Signature → Option RegError
-refusal_of_enumeration r declared = refusal_of_own Enumeration r 0 declared
+refusal_of_enumeration r declared = refusal_of_declared Enumeration r 0 declared
 
 abbrev pub with_enumeration : Registrations → Option Signature → Registrations
-with_enumeration r declared = with_own Enumeration r 0 0 declared
+with_enumeration r declared = with_declared Enumeration r 0 0 declared
 
 -- A value of the enumeration of this name, declared by its own name.
 unfoldable pub refusal_of_value : Registrations → List ℕ → ℤ → Option Signature → Option RegError

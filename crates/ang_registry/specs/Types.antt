@@ -14,8 +14,8 @@ use Rattle.ang_registry.specs.Overloads.{is_handle}
 
 -- ---- enumerations
 
-abbrev pub is_enumeration : RegistrationList → List ℕ → Bool
-is_enumeration list name = is_some (enumeration_named list name)
+abbrev pub has_enumeration : RegistrationList → List ℕ → Bool
+has_enumeration list name = is_some (enumeration_named list name)
 
 -- The type that is written, over the whole list: a bare name that an enumeration has means the enumeration.
 abbrev pub settled_type : RegistrationList → TypeRef → TypeRef
@@ -23,7 +23,7 @@ settled_type list Void = Void
 settled_type list (Plain p) = Plain p
 settled_type list (Enumeration name) = Enumeration name
 settled_type list (Object name shape const_object const_handle) =
-    if not (is_handle shape) && is_enumeration list name then Enumeration name else Object name shape const_object const_handle
+    if not (is_handle shape) && has_enumeration list name then Enumeration name else Object name shape const_object const_handle
 
 abbrev pub settled_param : RegistrationList → Param → Param
 settled_param list p = record { ty = settled_type list p.ty; pass = p.pass; read_only = p.read_only; name = p.name }
@@ -47,7 +47,7 @@ is_misused_type list Void = false
 is_misused_type list (Plain p) = false
 is_misused_type list (Enumeration name) = false
 is_misused_type list (Object name shape const_object const_handle) =
-    if is_handle shape then is_enumeration list name else is_some (type_named list name)
+    if is_handle shape then has_enumeration list name else is_some (type_named list name)
 
 unfoldable pub is_misused : RegistrationList → Signature → Bool
 is_misused list s = is_misused_type list s.result || list_any (λ p. is_misused_type list p.ty) s.params
@@ -67,7 +67,7 @@ mask_at list (Some n) = mask_by (entry_at list n)
 abbrev pub is_known : RegistrationList → TypeRef → Bool
 is_known list Void = true
 is_known list (Plain p) = true
-is_known list (Enumeration name) = is_enumeration list name
+is_known list (Enumeration name) = has_enumeration list name
 is_known list (Object name shape const_object const_handle) = is_some (type_named list name)
 
 -- Some type that the signature names isn't registered, in the whole list, whatever the masks.
