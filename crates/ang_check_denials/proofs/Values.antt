@@ -106,29 +106,31 @@ module _ (passes : ℕ → Bool) (x : ℕ) where
       none_left true g n le h = absurd (omega (arith, le, h refl))
       none_left false g n le h = refl
 
+      by_place : (n count : ℕ) (t : Bool) → (n == x) ≡ t
+          → (n ≢ x → only passes x (filter q (range_with_len (n + 1) count)) ≡ ((q x && passes x) && is_empty (filter p (range_with_len (n + 1) count))))
+          → only passes x (filter q (range_with_len n (suc count))) ≡ ((q x && passes x) && is_empty (filter p (range_with_len n (suc count))))
+      by_place n count true t after =
+          let is : n ≡ x = search (arith, t) in
+          let up : x < n + 1 = omega (arith, is) in
+          let rest = past (n + 1) count up in
+          let ks : List ℕ = filter p (range_with_len (n + 1) count) in
+          (λ i. only passes x (cond (q (is i)) (n ∷ rest i) (rest i)))
+          ∙ here_by n ks (q x) is (none_of_these (range_with_len (n + 1) count))
+          ∙ sym (ap (λ b. (q x && passes x) && is_empty (cond b (n ∷ ks) ks)) (ap p is ∙ none))
+      by_place n count false t after =
+          let apart : n ≢ x = search (arith, t) in
+          let ks : List ℕ = filter p (range_with_len (n + 1) count) in
+          let qs : List ℕ = filter q (range_with_len (n + 1) count) in
+          ap (λ b. only passes x (cond b (n ∷ qs) qs)) (same n apart)
+          ∙ before_by n ks qs (p n) (q x && passes x) t (after apart)
+
       -- the number is the only one just where it passes and there is no other one
       one_more_only : (n count : ℕ) → n ≤ x → (q x ≡ true → x < n + count)
           → only passes x (filter q (range_with_len n count)) ≡ ((q x && passes x) && is_empty (filter p (range_with_len n count)))
       one_more_only n zero le within = none_left (q x) (passes x) n le within
-      one_more_only n (suc count) le within = by_place (n == x) refl
-        where
-          by_place : (t : Bool) → (n == x) ≡ t
-              → only passes x (filter q (range_with_len n (suc count))) ≡ ((q x && passes x) && is_empty (filter p (range_with_len n (suc count))))
-          by_place true t =
-              let is : n ≡ x = search (arith, t) in
-              let up : x < n + 1 = omega (arith, is) in
-              let rest = past (n + 1) count up in
-              let ks : List ℕ = filter p (range_with_len (n + 1) count) in
-              (λ i. only passes x (cond (q (is i)) (n ∷ rest i) (rest i)))
-              ∙ here_by n ks (q x) is (none_of_these (range_with_len (n + 1) count))
-              ∙ sym (ap (λ b. (q x && passes x) && is_empty (cond b (n ∷ ks) ks)) (ap p is ∙ none))
-          by_place false t =
-              let apart : n ≢ x = search (arith, t) in
-              let ks : List ℕ = filter p (range_with_len (n + 1) count) in
-              let qs : List ℕ = filter q (range_with_len (n + 1) count) in
-              ap (λ b. only passes x (cond b (n ∷ qs) qs)) (same n apart)
-              ∙ before_by n ks qs (p n) (q x && passes x) t
-              (one_more_only (n + 1) count (omega (arith, le, apart)) (λ e. let lt = within e in omega (arith, lt)))
+      one_more_only n (suc count) le within =
+          by_place n count (n == x) refl
+          (λ apart. one_more_only (n + 1) count (omega (arith, le, apart)) (λ e. let lt = within e in omega (arith, lt)))
 
 -- ---- what comes with an entry is no value
 
