@@ -4,6 +4,7 @@
 #[cfg(test)]
 mod calls;
 #[cfg(test)]
+mod enumerations;
 mod errors;
 #[cfg(test)]
 mod harness;
