@@ -5,6 +5,7 @@
 mod calls;
 #[cfg(test)]
 mod enumerations;
+#[cfg(test)]
 mod errors;
 #[cfg(test)]
 mod harness;
