@@ -111,9 +111,7 @@ fn value_wins(
 {
     match property {
         Some(property) => property.entity.0 == added,
-        None => {
-            is_value_at(masked.whole(), added, name) && has_no_values(scope.view(), name)
-        }
+        None => { is_value_at(masked.whole(), added, name) && has_no_values(scope.view(), name) }
     }
 }
 

@@ -35,8 +35,7 @@ pub fn is_enumeration_named(whole: &View, number: u32, name: &[u8]) -> bool
     match whole.get(EntityNo(number)) {
         None => false,
         Some(entry) => {
-            matches!(entry.kind, EntryKind::Enumeration)
-                && entry.signature.name.as_slice() == name
+            matches!(entry.kind, EntryKind::Enumeration) && entry.signature.name.as_slice() == name
         }
     }
 }
@@ -95,13 +94,7 @@ fn is_shown(masked: &Masked<'_>, view: &View, added: u32, number: u32) -> bool
 }
 
 /// Whether an entry is an object type of this name, and is seen or comes with the entry that is added.
-fn is_shown_type(
-    masked: &Masked<'_>,
-    view: &View,
-    name: &[u8],
-    added: u32,
-    number: u32,
-) -> bool
+fn is_shown_type(masked: &Masked<'_>, view: &View, name: &[u8], added: u32, number: u32) -> bool
     ensures exact { result ≡ spec.is_shown_type masked.now.list view.now name.now added number }
 {
     is_type_named(masked.whole(), number, name) && is_shown(masked, view, added, number)
