@@ -14,8 +14,8 @@ use Rattle.ang_lex.specs.declared.token.TokenKind.{TokenKind}
 use Rattle.ang_lex.specs.declared.token.TokenKind.TheVariants as k
 use Rattle.ang_view.specs.declared.entry.Entry.{Entry}
 use Rattle.ang_view.specs.Numbers.{primitive_number, pass_number}
-use Rattle.ang_view.specs.Registration.{RegistrationList, is_enumeration, is_host_type}
-use Rattle.ang_view.specs.Types.{enumeration_named, is_enumeration_named, is_type_named, type_named}
+use Rattle.ang_view.specs.Registration.{RegistrationList, is_host_type}
+use Rattle.ang_view.specs.Types.{enumeration_named, is_enumeration, is_enumeration_named, is_type_named, type_named}
 use Rattle.ang_view.proofs.Lists.{and_gives}
 use Rattle.ang_tree.specs.declared.declaration.Parameter.{Parameter}
 use Rattle.ang_tree.specs.declared.type_name.TypeName.{TypeName}

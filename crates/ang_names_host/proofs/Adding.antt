@@ -9,8 +9,8 @@ use Rattle.ang_kinds.specs.declared.types.TypeRef.TheVariants as ref
 use Rattle.ang_view.specs.declared.entry.Entry.{Entry}
 use Rattle.ang_view.specs.declared.entry.EntryKind.{EntryKind}
 use Rattle.ang_view.specs.declared.entry.EntryKind.TheVariants as entry
-use Rattle.ang_view.specs.Registration.{RegistrationList, entry_at, is_enumeration, is_host_type, is_type, is_function, mentions, is_spelled_with, is_number, is_named_by, is_seen, seen_entry, seen}
-use Rattle.ang_view.specs.Types.{enumeration_named, is_enumeration_named, is_type_named, type_named}
+use Rattle.ang_view.specs.Registration.{RegistrationList, entry_at, is_host_type, is_type, is_function, mentions, is_spelled_with, is_number, is_named_by, is_seen, seen_entry, seen}
+use Rattle.ang_view.specs.Types.{enumeration_named, is_enumeration, is_enumeration_named, is_type_named, type_named}
 use Rattle.ang_view.proofs.Lists.{and_gives}
 use Rattle.ang_view.proofs.Seen.{length-seen, entry_at-seen}
 use Rattle.ang_view.proofs.ViewTypes.{has_mask-named, shown}
