@@ -21,8 +21,8 @@ pub fn one_is_added()
         ≡ added_property (property_found w R x (entry_at R x)) (property_where w (seen R m)) }
 {}
 
-/// The types and enumerations that a seen declaration names keep their numbers in the larger view, which are those of the whole list, and so
-/// have the types that the added one names.
+/// The types and enumerations that a seen declaration names keep their numbers in the larger view, which are
+/// those of the whole list, and so have the ones that the added declaration names.
 pub fn types_stay()
     ensures seen { (R : RegistrationList) (m x : ℕ) (y : Entry) → is_seen R m y ≡ true →
         is_type y.kind ≡ false →
