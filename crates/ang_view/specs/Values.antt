@@ -44,11 +44,6 @@ pub record SignatureTakesValues (kind : EntryKind) (s : Signature) : Type 0 wher
   pub params : AreValues s.params
   pub of_kind : IsOfKind kind s
 
--- nothing is declared, or values alone are taken
-abbrev pub DeclaresValues : EntryKind → Option Signature → Type 0
-DeclaresValues kind None = Unit {0}
-DeclaresValues kind (Some s) = SignatureTakesValues kind s
-
 abbrev pub EntryTakesValues : Option Entry → Type 0
 EntryTakesValues None = Unit {0}
 EntryTakesValues (Some x) = SignatureTakesValues x.kind x.signature
