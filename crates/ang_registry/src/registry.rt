@@ -83,7 +83,8 @@ impl Registry {
     ///
     /// The first of these that applies: `Limit` where 1,024 entries are there; `EmptyMask` where the default
     /// mask is 0; `BadDeclaration` where the name is no identifier; `WrongDriver` where `driver` is above 63
-    /// or has a type already; `Duplicate` where a type, a function or a global property has the name.
+    /// or has a type already; `Duplicate` where a type, an enumeration, a function or a global property has
+    /// the name.
     /// `Memory`, where the allocator refused memory, may come instead of any other answer. After an error the
     /// registry is as it was.
     #[tactic(auto, using(crate::proofs::Values::type_values))]
@@ -532,7 +533,8 @@ impl Registry {
 
     /// What a module of the mask sees of the list: a copy of the list in which each entry that it does not
     /// see is a blank. It has at most 1,024 entries, blanks included. The checker of scripts relies on
-    /// `values`: no declaration in it has an `&out` parameter, and each property is of a primitive type.
+    /// `values`: no declaration in it has an `&out` parameter, and each property is of a primitive type or an
+    /// enumeration.
     ///
     /// # Errors
     ///
