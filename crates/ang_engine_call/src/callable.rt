@@ -36,7 +36,7 @@ fn is_by_value(pass: Pass) -> bool
     matches!(pass, Pass::Value)
 }
 
-/// Whether it is a primitive by value.
+/// Whether it is a primitive or an enumeration by value.
 fn is_plain_parameter(param: &ScriptParameter) -> bool
     ensures exact { result ≡ spec.is_plain_parameter param.now }
 {
@@ -49,8 +49,8 @@ fn are_plain(params: &[ScriptParameter]) -> bool
     params.iter().all(|param| is_plain_parameter(param))
 }
 
-/// Whether the function can be called from outside: each of its parameters is a primitive by value, and its
-/// result is a primitive or `void`. It takes no memory.
+/// Whether the function can be called from outside: each of its parameters is a primitive or an enumeration by
+/// value, and its result is one of these or `void`. It takes no memory.
 #[tactic(auto, unfolding(crate::specs::Calls::is_callable))]
 pub fn is_callable(function: &ScriptFunction) -> bool
     ensures exact { result ≡ spec.is_callable function.now }
