@@ -33,9 +33,10 @@ pub enum RegError {
     /// The list has an entry that this one can't stand beside, whatever the masks of the two.
     ///
     /// Types, enumerations, functions and global properties share one space of names, and so do the methods
-    /// and properties of one type, and the values of one enumeration. But functions of one name can stand side by side where their parameters differ, and
-    /// methods where their parameters or their `const` do. Factories of one type have to differ in their
-    /// parameters, whatever their names. Names of parameters don't count.
+    /// and properties of one type, and the values of one enumeration. But functions of one name can stand
+    /// side by side where their parameters differ, and methods where their parameters or their `const` do.
+    /// Factories of one type have to differ in their parameters, whatever their names. Names of parameters
+    /// don't count.
     #[error("the name is taken")]
     Duplicate,
     /// The allocator refused memory.

@@ -10,8 +10,8 @@ use crate::{Entry, EntryKind};
 use ang_kinds::{EntityNo, Param, Shape, Signature, TypeRef};
 use ang_view::View;
 
-/// The entries of the same name, or of a factory those of the same type: no others can take its name. Methods, properties and
-/// values of enumerations share names with those of their own type or enumeration alone.
+/// The entries of the same name, or of a factory those of the same type: no others can take its name. Methods,
+/// properties and values share names with those of their own type or enumeration alone.
 fn rivals_of<'a>(list: &'a View, entry: &Entry) -> &'a [EntityNo]
     ensures exact { map (λ number. number.0) result.now ≡ among.rivals list.now entry.now.kind
         entry.now.owner entry.now.signature.name }

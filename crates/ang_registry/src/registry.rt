@@ -65,7 +65,7 @@ impl Registry {
     }
 
     /// Sets the mask that the entries registered from now on get, and answers the one before. A mask of 0 is
-    /// taken too; while it is set no entry is accepted (`EmptyMask`).
+    /// taken too; while it is set no entry but values of enumerations is accepted (`EmptyMask`).
     pub fn set_default_mask(&mut self, mask: Mask) -> Mask
         ensures before { result ≡ self.old.default_mask }
         ensures set { self.new.default_mask ≡ mask }
@@ -84,9 +84,8 @@ impl Registry {
     /// The first of these that applies: `Limit` where 1,024 entries are there; `EmptyMask` where the default
     /// mask is 0; `BadDeclaration` where the name is no identifier; `WrongDriver` where `driver` is above 63
     /// or has a type already; `Duplicate` where a type, an enumeration, a function or a global property has
-    /// the name.
-    /// `Memory`, where the allocator refused memory, may come instead of any other answer. After an error the
-    /// registry is as it was.
+    /// the name. `Memory`, where the allocator refused memory, may come instead of any other answer. After an
+    /// error the registry is as it was.
     #[tactic(auto, using(crate::proofs::Values::type_values))]
     pub fn type_(&mut self, name: &[u8], driver: u32) -> Result<EntityNo, RegError>
         ensures accepted { OnOk result
@@ -164,15 +163,15 @@ impl Registry {
 
     /// Registers a property of a type's objects, and answers the entry's number. The type's driver is asked
     /// for it by `read` or `write`, with the number `f`. The declaration is `type NAME`, where the type is a
-    /// primitive one; with `const` in front of it scripts can't write the property.
+    /// primitive one or an enumeration; with `const` in front of it scripts can't write the property.
     ///
     /// # Errors
     ///
     /// The first of these that applies: `Limit` where 1,024 entries are there; `EmptyMask` where the default
-    /// mask is 0; `BadDeclaration` where the text is of another form or its type is no primitive one;
-    /// `UnknownType` where the type of the objects is not registered; `Duplicate` where that type has a
-    /// method or a property of the name. `Memory`, where the allocator refused memory, may come instead of
-    /// any other answer. After an error the registry is as it was.
+    /// mask is 0; `BadDeclaration` where the text is of another form or its type is an object or a handle;
+    /// `UnknownType` where the type of the objects or the one that the text names is not registered;
+    /// `Duplicate` where that type has a method or a property of the name. `Memory`, where the allocator
+    /// refused memory, may come instead of any other answer. After an error the registry is as it was.
     #[tactic(auto, using(crate::proofs::Values::property_values))]
     pub fn property(&mut self, type_name: &[u8], f: u32, decl: &[u8]) -> Result<EntityNo, RegError>
         ensures accepted { OnOk result
@@ -199,9 +198,9 @@ impl Registry {
     /// than 32 parameters; `EmptyMask` where the default mask is 0; `BadDeclaration` where the text is of
     /// another form or is one that hosts can't use; `UnknownType` where it names a type that is not
     /// registered; `WrongDriver` where `driver` is above 63 or the text names a type of another driver;
-    /// `Duplicate` where a type or a global property has the name, or a function of the name has the same
-    /// parameters. `Memory`, where the allocator refused memory, may come instead of any other answer. After
-    /// an error the registry is as it was.
+    /// `Duplicate` where a type, an enumeration or a global property has the name, or a function of the name
+    /// has the same parameters. `Memory`, where the allocator refused memory, may come instead of any other
+    /// answer. After an error the registry is as it was.
     #[tactic(auto, using(crate::proofs::Values::function_values))]
     pub fn function(&mut self, driver: u32, f: u32, decl: &[u8]) -> Result<EntityNo, RegError>
         ensures accepted { OnOk result
@@ -220,15 +219,17 @@ impl Registry {
 
     /// Registers a global property of a driver, and answers the entry's number. The driver is asked for it by
     /// `read` or `write`, with the number `f` and without an object. The declaration is `type NAME`, where
-    /// the type is a primitive one; with `const` in front of it scripts can't write the property.
+    /// the type is a primitive one or an enumeration; with `const` in front of it scripts can't write the
+    /// property.
     ///
     /// # Errors
     ///
     /// The first of these that applies: `Limit` where 1,024 entries are there; `EmptyMask` where the default
-    /// mask is 0; `BadDeclaration` where the text is of another form or its type is no primitive one;
-    /// `WrongDriver` where `driver` is above 63; `Duplicate` where a type, a function or a global property
-    /// has the name. `Memory`, where the allocator refused memory, may come instead of any other answer.
-    /// After an error the registry is as it was.
+    /// mask is 0; `BadDeclaration` where the text is of another form or its type is an object or a handle;
+    /// `UnknownType` where it names a type that is not registered; `WrongDriver` where `driver` is above 63;
+    /// `Duplicate` where a type, an enumeration, a function or a global property has the name. `Memory`,
+    /// where the allocator refused memory, may come instead of any other answer. After an error the registry
+    /// is as it was.
     #[tactic(auto, using(crate::proofs::Values::global_values))]
     pub fn global_property(
         &mut self,
@@ -250,8 +251,9 @@ impl Registry {
         self.add_declared(EntryKind::Global, driver, f, declared)
     }
 
-    /// Registers an enumeration, and answers the entry's number. Declarations name it as they name a primitive type, scripts too. It
-    /// belongs to no driver: at run time its values are numbers of 32 bits with a sign, which a driver is handed as `Int`.
+    /// Registers an enumeration, and answers the entry's number. Its name stands in later declarations as that
+    /// of a primitive type does, and in scripts as `int`. It belongs to no driver: what is of it is a number
+    /// of 32 bits with a sign, which drivers get and give as `Int`.
     ///
     /// # Errors
     ///
@@ -275,8 +277,9 @@ impl Registry {
         self.add_declared(EntryKind::Enumeration, 0, 0, declared)
     }
 
-    /// Registers a value of an enumeration, and answers the entry's number. It has the enumeration's mask, whatever the default one.
-    /// Scripts write it as `ENUM::NAME`, or by its name alone where nothing else that they see has the name.
+    /// Registers a value of an enumeration, and answers the entry's number. It has the enumeration's mask,
+    /// whatever the default one. Scripts write it as `ENUM::NAME`, or by its name alone where nothing else
+    /// that the script sees has the name.
     ///
     /// # Errors
     ///
