@@ -190,9 +190,7 @@ pub fn called_own(
         | Resolution::Property(_)
         | Resolution::Type(_)
         | Resolution::Enumeration(_)
-        | Resolution::Value(_) => {
-            Err(refused(ErrorKind::UnknownName, &site.name))
-        }
+        | Resolution::Value(_) => { Err(refused(ErrorKind::UnknownName, &site.name)) }
     }
 }
 

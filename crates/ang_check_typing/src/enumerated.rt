@@ -12,12 +12,7 @@ use ang_types::ArgType;
 use std::alloc::Global;
 
 /// `E(x)`, which keeps the low 32 bits of a number.
-fn enumerated(
-    alloc: Global,
-    place: Place,
-    number: u32,
-    operand: Operand,
-) -> Result<Operand, Stop>
+fn enumerated(alloc: Global, place: Place, number: u32, operand: Operand) -> Result<Operand, Stop>
     ensures exact { Gives view_operand result
         (spec.enumerated place number (view_operand operand)) }
 {

@@ -114,7 +114,9 @@ pub fn typing(
             scoped_call(alloc, context, class, name, operands)
         }
         Expression::ScopedName {
-            enumeration, name, ..
+            enumeration,
+            name,
+            ..
         } => scoped_name(alloc, context, locals, enumeration, name),
         Expression::Cast { .. } | Expression::Member { .. } | Expression::MethodCall { .. } => {
             typing_over_object(alloc, context, locals, expression)
