@@ -255,7 +255,7 @@ fn enumerations_stand_where_int_does(rt: HostRuntime) -> Result<(), RegError> {
 
 /// The expression that the one statement of the first function returns.
 fn returned(module: &Typed) -> Option<&Expression> {
-    let function = module.functions.first()?;
+    let function = module.functions.as_slice().first()?;
     match function.body.statements.as_slice() {
         [Statement::Return(Some(e))] => Some(e),
         _ => None,
