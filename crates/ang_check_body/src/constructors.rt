@@ -119,9 +119,7 @@ fn super_chosen(
         | Resolution::Property(_)
         | Resolution::Type(_)
         | Resolution::Enumeration(_)
-        | Resolution::Value(_) => {
-            Err(refused(ErrorKind::UnknownName, word))
-        }
+        | Resolution::Value(_) => { Err(refused(ErrorKind::UnknownName, word)) }
     }
 }
 

@@ -135,9 +135,7 @@ fn is_void(ty: ArgType) -> bool
         | ArgType::Plain(_)
         | ArgType::Enumeration { .. }
         | ArgType::Object { .. }
-        | ArgType::Handle { .. } => {
-            false
-        }
+        | ArgType::Handle { .. } => { false }
     }
 }
 

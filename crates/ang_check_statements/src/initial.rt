@@ -86,10 +86,7 @@ fn made_with(
         | ArgType::Null
         | ArgType::Plain(_)
         | ArgType::Enumeration { .. }
-        | ArgType::Handle { .. } => Err(refused(
-            ErrorKind::NoMatch,
-            &declared.name,
-        )),
+        | ArgType::Handle { .. } => Err(refused(ErrorKind::NoMatch, &declared.name)),
     }
 }
 

@@ -137,9 +137,7 @@ fn value_returned(
         | ArgType::Plain(_)
         | ArgType::Enumeration { .. }
         | ArgType::Object { .. }
-        | ArgType::Handle { .. } => fit(
-            alloc, lineage, ty, operand,
-        ),
+        | ArgType::Handle { .. } => fit(alloc, lineage, ty, operand),
     }
 }
 
@@ -152,9 +150,7 @@ fn nothing_returned(ty: ArgType, word: &Token) -> Result<Option<Box<Expression>>
         | ArgType::Plain(_)
         | ArgType::Enumeration { .. }
         | ArgType::Object { .. }
-        | ArgType::Handle { .. } => Err(
-            fault(ErrorKind::BadConversion, word.place),
-        ),
+        | ArgType::Handle { .. } => Err(fault(ErrorKind::BadConversion, word.place)),
     }
 }
 
