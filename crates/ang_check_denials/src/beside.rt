@@ -31,9 +31,7 @@ pub struct Beside {
     pub named: Vec<u32>,
 }
 
-/// The factories of the host type of this number that are seen, as candidates.
-///
-/// The only error is want of memory.
+/// The factories of the host type of this number that are seen, as candidates. The only error is want of memory.
 pub fn factories(alloc: Global, view: &View, number: u32) -> Result<Vec<Candidate>, AllocError>
     ensures exact { IfOk result (λ found. found.items ≡ spec.factories view.now number) }
 {
@@ -160,9 +158,7 @@ fn of_methods(
     of_candidates(alloc, scope, methods.candidates(), types, false, named)
 }
 
-/// What is kept, for a use of this name, of what a module sees.
-///
-/// The only error is want of memory.
+/// What is kept, for a use of this name, of what a module sees. The only error is want of memory.
 pub fn beside_of(
     alloc: Global,
     masked: &Masked<'_>,

@@ -200,7 +200,6 @@ fn helpers_among(
 }
 
 /// The numbers of the hidden entries that would resolve a refused use, rising. `rows` are those of `help_rows`.
-///
 /// The only error is want of memory.
 pub fn helpers(
     alloc: Global,

@@ -72,9 +72,7 @@ fn type_at(whole: &View, name: &[u8], number: EntityNo) -> Option<u32>
     }
 }
 
-/// The numbers of the object types and the enumerations of this name, rising.
-///
-/// The only error is want of memory.
+/// The numbers of the object types and the enumerations of this name, rising. The only error is want of memory.
 pub fn types_named(alloc: Global, whole: &View, name: &[u8]) -> Result<Vec<u32>, AllocError>
     ensures exact { IfOk result (λ numbers. numbers.items ≡ names.types_named whole.now name.now) }
 {

@@ -4,8 +4,6 @@
 #[cfg(test)]
 mod calls;
 #[cfg(test)]
-mod enumerations;
-#[cfg(test)]
 mod errors;
 #[cfg(test)]
 mod harness;
